@@ -1,0 +1,46 @@
+-- The test for interference decides the relation, which is symmetric.
+use Rattle.std.proofs.Common.{◌≡◌, ℕ, ◌<◌, List, [], length, refl, sym, subst, Contains, arith}
+use Rattle.std.specs.Prelude.{◌&&◌, not}
+use Rattle.std.specs.Bool.{Decides}
+use Rattle.std.specs.List.{HoldsAt}
+use Rattle.std.proofs.lemmas.Bool.Decides.{Decides-like, Decides-and, Decides-not, Decides-by_or}
+use Rattle.std.proofs.lemmas.List.Elements.{Decides-contains, Contains-get_or, at_from_Contains}
+use Rattle.ep_base.specs.declared.command.Command.{Command}
+use Rattle.ep_base.specs.declared.command.Command.TheVariants.{Noop}
+use Rattle.ep_base.specs.Attributes.{same_list}
+use Rattle.ep_base.specs.Interference.{keys_of, has_key, share_key, is_get, interfere, Interferes, InterferenceLaw}
+use Rattle.ep_base.proofs.Same.{Decides-same_list}
+
+Decides-has_key : (k : List ℕ) (ls : List (List ℕ)) → Decides (has_key k ls) (Contains ls k)
+Decides-has_key k ls =
+    let one : (l : List ℕ) → Decides (same_list k l) (l ≡ k) = λ l. Decides-like (same_list k l) sym sym (Decides-same_list k l) in
+    Decides-contains ls k (has_key k ls) (Decides-by_or (same_list k) (λ l. l ≡ k) (has_key k) one refl (λ _ _. refl) ls)
+
+abbrev Both : List (List ℕ) → List (List ℕ) → Type 0
+Both ks ls = (k : List ℕ) × Contains ks k × Contains ls k
+
+shared_at : (ks ls : List (List ℕ)) → (i : ℕ) × (i < length ks) × HoldsAt (Contains ls) ks i → Both ks ls
+shared_at ks ls h = (_, Contains-get_or ks h.0 [] h.1, h.2 [])
+
+at_shared : (ks ls : List (List ℕ)) → Both ks ls → (i : ℕ) × (i < length ks) × HoldsAt (Contains ls) ks i
+at_shared ks ls h = let at = at_from_Contains ks h.0 h.1 in (at.0, at.1, λ d. subst (Contains ls) (sym (at.2 d)) h.2)
+
+Decides-share_key : (ks ls : List (List ℕ)) → Decides (share_key ks ls) (Both ks ls)
+Decides-share_key ks ls =
+    let by_recursion = Decides-by_or (λ k. has_key k ls) (Contains ls) (λ xs. share_key xs ls) (λ k. Decides-has_key k ls) refl (λ _ _. refl) ks in
+    Decides-like (share_key ks ls) (shared_at ks ls) (at_shared ks ls) by_recursion
+
+-- the test decides the relation
+pub Decides-interfere : (a b : Command) → Decides (interfere a b) (Interferes a b)
+Decides-interfere a b =
+    let both_gets = Decides-and (is_get a) (is_get b) (λ e. e, λ e. e) (λ e. e, λ e. e) in
+    Decides-and (share_key (keys_of a) (keys_of b)) (not (is_get a && is_get b)) (Decides-share_key (keys_of a) (keys_of b)) (Decides-not (is_get a && is_get b) both_gets)
+
+pub Interferes-symmetric : (a b : Command) → Interferes a b → Interferes b a
+Interferes-symmetric a b h = ((h.0.0, h.0.2, h.0.1), λ gets. h.1 (gets.1, gets.0))
+
+pub Interferes-noop : (a : Command) → ¬ Interferes Noop a
+Interferes-noop a h = let in_none = h.0.1.1 in absurd (omega arith)
+
+pub interference_law_holds : InterferenceLaw
+interference_law_holds = record { symmetric = Interferes-symmetric; noop = Interferes-noop }

@@ -1,0 +1,9 @@
+pub mod Places
+pub mod Union
+pub mod Members
+pub mod Joins
+pub mod Rising
+pub mod Bound
+pub mod Keys
+pub mod Same
+pub mod Interfering

@@ -1,0 +1,99 @@
+-- The tests of equality decide it.
+use Rattle.std.proofs.Common.{◌≡◌, ℕ, List, [], refl, ap, ◌∙◌}
+use Rattle.std.specs.Prelude.{false, ◌&&◌, eqb}
+use Rattle.std.specs.Bool.{Decides}
+use Rattle.std.specs.Cmp.Lexicographic.{pointwise_decides}
+use Rattle.std.proofs.lemmas.Bool.{false≢true, eqb-false}
+use Rattle.std.proofs.lemmas.Bool.Decides.{Decides-like, Decides-and, Decides-eqb}
+use Rattle.ep_base.specs.declared.attrs.Attrs.{Attrs}
+use Rattle.ep_base.specs.declared.command.Command.{Command}
+use Rattle.ep_base.specs.declared.command.Command.TheVariants.{Noop, Get, Put, Del}
+use Rattle.ep_base.specs.declared.decree.Decree.{Decree}
+use Rattle.ep_base.specs.declared.reply.Reply.{Reply}
+use Rattle.ep_base.specs.declared.reply.Reply.TheVariants.{Absent, Present}
+use Rattle.ep_base.specs.declared.reply.Answer.{Answer}
+use Rattle.ep_base.specs.declared.reply.Answer.TheVariants.{Lost, Told}
+use Rattle.ep_base.specs.Attributes.{same_list, same_attrs}
+use Rattle.ep_base.specs.Sameness.{same_command, same_decree, same_reply, same_answer}
+
+pub Decides-same_list : (xs ys : List ℕ) → Decides (same_list xs ys) (xs ≡ ys)
+Decides-same_list xs ys = pointwise_decides Decides-eqb xs ys
+
+pub attrs_from_parts : (a b : Attrs) → a.seq ≡ b.seq → a.deps ≡ b.deps → a ≡ b
+attrs_from_parts a b s d =
+    let first : Attrs → ℕ → Attrs = λ x n. record { seq = n; deps = x.deps } in
+    let second : Attrs → List ℕ → Attrs = λ x is. record { seq = x.seq; deps = is } in
+    ap (first a) s ∙ ap (second b) d
+
+pub Decides-same_attrs : (a b : Attrs) → Decides (same_attrs a b) (a ≡ b)
+Decides-same_attrs a b =
+    let parts = Decides-and (eqb a.seq b.seq) (same_list a.deps b.deps) (Decides-eqb a.seq b.seq) (Decides-same_list a.deps b.deps) in
+    Decides-like (same_attrs a b) (λ h. attrs_from_parts a b h.0 h.1) (λ e. (ap (λ (x : Attrs). x.seq) e, ap (λ (x : Attrs). x.deps) e)) parts
+
+-- values that a mark tells apart are not equal
+apart : {X : Type 0} {x y : X} (mark : X → ℕ) → eqb (mark x) (mark y) ≡ false → Decides false (x ≡ y)
+apart mark differs = (λ e. absurd (false≢true e), λ e. absurd (eqb-false _ _ differs (ap mark e)))
+
+abbrev kind : Command → ℕ
+kind Noop = 0
+kind (Get k) = 1
+kind (Put k v) = 2
+kind (Del k) = 3
+
+abbrev key_or_none : Command → List ℕ
+key_or_none Noop = []
+key_or_none (Get k) = k
+key_or_none (Put k v) = k
+key_or_none (Del k) = k
+
+abbrev value_or_none : Command → List ℕ
+value_or_none Noop = []
+value_or_none (Get k) = []
+value_or_none (Put k v) = v
+value_or_none (Del k) = []
+
+pub Decides-same_command : (a b : Command) → Decides (same_command a b) (a ≡ b)
+Decides-same_command Noop Noop = (λ _. refl, λ _. refl)
+Decides-same_command (Get k) (Get l) = Decides-like (same_list k l) (ap Get) (ap key_or_none) (Decides-same_list k l)
+Decides-same_command (Put k v) (Put l w) =
+    let parts = Decides-and (same_list k l) (same_list v w) (Decides-same_list k l) (Decides-same_list v w) in
+    Decides-like (same_list k l && same_list v w) (λ h. cc) (λ e. (ap key_or_none e, ap value_or_none e)) parts
+Decides-same_command (Del k) (Del l) = Decides-like (same_list k l) (ap Del) (ap key_or_none) (Decides-same_list k l)
+Decides-same_command a b = apart kind refl
+
+pub decree_from_parts : (d e : Decree) → d.command ≡ e.command → d.attrs ≡ e.attrs → d ≡ e
+decree_from_parts d e c a =
+    let first : Decree → Command → Decree = λ x y. record { command = y; attrs = x.attrs } in
+    let second : Decree → Attrs → Decree = λ x y. record { command = x.command; attrs = y } in
+    ap (first d) c ∙ ap (second e) a
+
+pub Decides-same_decree : (d e : Decree) → Decides (same_decree d e) (d ≡ e)
+Decides-same_decree d e =
+    let parts = Decides-and (same_command d.command e.command) (same_attrs d.attrs e.attrs) (Decides-same_command d.command e.command) (Decides-same_attrs d.attrs e.attrs) in
+    Decides-like (same_decree d e) (λ h. decree_from_parts d e h.0 h.1) (λ h. (ap (λ (x : Decree). x.command) h, ap (λ (x : Decree). x.attrs) h)) parts
+
+abbrev reply_kind : Reply → ℕ
+reply_kind Absent = 0
+reply_kind (Present v) = 1
+
+abbrev told_value : Reply → List ℕ
+told_value Absent = []
+told_value (Present v) = v
+
+pub Decides-same_reply : (r s : Reply) → Decides (same_reply r s) (r ≡ s)
+Decides-same_reply Absent Absent = (λ _. refl, λ _. refl)
+Decides-same_reply (Present v) (Present w) = Decides-like (same_list v w) (ap Present) (ap told_value) (Decides-same_list v w)
+Decides-same_reply r s = apart reply_kind refl
+
+abbrev answer_kind : Answer → ℕ
+answer_kind Lost = 0
+answer_kind (Told r) = 1
+
+abbrev told_reply : Answer → Reply
+told_reply Lost = Absent
+told_reply (Told r) = r
+
+pub Decides-same_answer : (a b : Answer) → Decides (same_answer a b) (a ≡ b)
+Decides-same_answer Lost Lost = (λ _. refl, λ _. refl)
+Decides-same_answer (Told r) (Told s) = Decides-like (same_reply r s) (ap Told) (ap told_reply) (Decides-same_reply r s)
+Decides-same_answer a b = apart answer_kind refl

@@ -1,0 +1,11 @@
+pub mod Instances
+pub mod Ballots
+pub mod Quorums
+pub mod Interference
+pub mod Places
+pub mod Deps
+pub mod Attributes
+pub mod Messages
+pub mod Sameness
+pub mod Devices
+pub mod Fitting

@@ -1,0 +1,36 @@
+-- Tests of equality, by cases. That they decide it is proved.
+use Rattle.std.specs.Prelude.{Bool, true, false, ◌&&◌}
+use Rattle.ep_base.specs.declared.command.Command.{Command}
+use Rattle.ep_base.specs.declared.command.Command.TheVariants.{Noop, Get, Put, Del}
+use Rattle.ep_base.specs.declared.decree.Decree.{Decree}
+use Rattle.ep_base.specs.declared.reply.Reply.{Reply}
+use Rattle.ep_base.specs.declared.reply.Reply.TheVariants.{Absent, Present}
+use Rattle.ep_base.specs.declared.reply.Answer.{Answer}
+use Rattle.ep_base.specs.declared.reply.Answer.TheVariants.{Lost, Told}
+use Rattle.ep_base.specs.Attributes.{same_list, same_attrs}
+
+abbrev pub same_command : Command → Command → Bool
+same_command Noop Noop = true
+same_command (Get k) (Get l) = same_list k l
+same_command (Put k v) (Put l w) = same_list k l && same_list v w
+same_command (Del k) (Del l) = same_list k l
+same_command _ _ = false
+
+abbrev pub same_decree : Decree → Decree → Bool
+same_decree d e = same_command d.command e.command && same_attrs d.attrs e.attrs
+
+abbrev pub same_reply : Reply → Reply → Bool
+same_reply Absent Absent = true
+same_reply (Present v) (Present w) = same_list v w
+same_reply _ _ = false
+
+abbrev pub same_answer : Answer → Answer → Bool
+same_answer Lost Lost = true
+same_answer (Told r) (Told s) = same_reply r s
+same_answer _ _ = false
+
+abbrev pub is_noop : Command → Bool
+is_noop Noop = true
+is_noop (Get k) = false
+is_noop (Put k v) = false
+is_noop (Del k) = false

@@ -1,0 +1,14 @@
+//! Why a command was not made.
+
+use thiserror::Error;
+
+/// Why a key, a value or a command was not made.
+#[derive(Clone, Copy, Debug, PartialEq, Eq, Error)]
+pub enum CommandFault {
+    /// Memory was refused.
+    #[error("out of memory")]
+    Memory,
+    /// The key has not 1 to 255 bytes, or the value has more than 1,024.
+    #[error("out of range")]
+    OutOfRange,
+}

@@ -1,0 +1,53 @@
+//! Names, commands, attributes and messages of a replicated key-value core, and the devices that programs read from and write to.
+#![tactic(auto)]
+
+mod attrs;
+mod ballot;
+mod command;
+mod command_fault;
+mod decree;
+mod deps;
+mod fail_at;
+mod instance_id;
+mod key;
+mod message;
+mod noted;
+mod out_of_range;
+mod read_failed;
+mod replica_id;
+mod reply;
+mod seq;
+mod sink;
+mod size;
+mod source;
+mod stamp;
+mod value;
+mod vote;
+mod write_failed;
+
+pub use attrs::Attrs;
+pub use ballot::Ballot;
+pub use command::{Command, interference_law, interferes};
+pub use command_fault::CommandFault;
+pub use decree::Decree;
+pub use deps::Deps;
+pub use fail_at::FailAt;
+pub use instance_id::InstanceId;
+pub use key::Key;
+pub use message::Message;
+pub use noted::Noted;
+pub use out_of_range::OutOfRange;
+pub use read_failed::ReadFailed;
+pub use replica_id::ReplicaId;
+pub use reply::{Answer, Reply};
+pub use seq::Seq;
+pub use sink::Sink;
+pub use size::{BadSize, Size, fast_member};
+pub use source::Source;
+pub use stamp::Stamp;
+pub use value::Value;
+pub use vote::{Status, Vote};
+pub use write_failed::WriteFailed;
+
+#[cfg(test)]
+mod tests;

@@ -1,0 +1,73 @@
+//! Replies and answers.
+
+ghost use Rattle.std.specs.Prelude.{◌≡◌, ◌↔◌, IsTrue, IfOk};
+ghost use Rattle.ep_base.specs.Sameness.{same_reply, same_answer};
+
+use crate::value::Value;
+use std::alloc::{AllocError, Global};
+
+/// What a command's key had just before the command.
+#[derive(Debug, Drop)]
+pub enum Reply {
+    /// The key had no value.
+    Absent,
+    /// The key had this value.
+    Present(Value),
+}
+
+impl Reply {
+    /// The same reply again.
+    pub fn copy(&self, alloc: Global) -> Result<Reply, AllocError>
+        ensures { IfOk result (λ r. r ≡ self.now) }
+    {
+        match self {
+            Reply::Absent => Ok(Reply::Absent),
+            Reply::Present(value) => Ok(Reply::Present(value.copy(alloc)?)),
+        }
+    }
+
+    /// Whether both are one reply.
+    pub fn is_same(&self, other: &Reply) -> bool
+        ensures test { result ≡ same_reply self.now other.now }
+        ensures same { IsTrue result ↔ (self.now ≡ other.now) }
+    {
+        match (self, other) {
+            (Reply::Absent, Reply::Absent) => true,
+            (Reply::Present(value), Reply::Present(other_value)) => value.is_same(other_value),
+            _ => false,
+        }
+    }
+}
+
+/// What an execution answers.
+#[derive(Debug, Drop)]
+pub enum Answer {
+    /// A no-op took the proposal's place.
+    Lost,
+    /// The reply to the command.
+    Told(Reply),
+}
+
+impl Answer {
+    /// The same answer again.
+    pub fn copy(&self, alloc: Global) -> Result<Answer, AllocError>
+        ensures { IfOk result (λ a. a ≡ self.now) }
+    {
+        match self {
+            Answer::Lost => Ok(Answer::Lost),
+            Answer::Told(reply) => Ok(Answer::Told(reply.copy(alloc)?)),
+        }
+    }
+
+    /// Whether both are one answer.
+    pub fn is_same(&self, other: &Answer) -> bool
+        ensures test { result ≡ same_answer self.now other.now }
+        ensures same { IsTrue result ↔ (self.now ≡ other.now) }
+    {
+        match (self, other) {
+            (Answer::Lost, Answer::Lost) => true,
+            (Answer::Told(reply), Answer::Told(other_reply)) => reply.is_same(other_reply),
+            _ => false,
+        }
+    }
+}

@@ -1,0 +1,62 @@
+//! Values.
+
+ghost use Rattle.std.specs.Prelude.{◌≡◌, ◌≤◌, ◌<◌, ◌↔◌, IsTrue, IfOk, List, ℕ, length};
+ghost use Rattle.ep_base.specs.Attributes.{same_list};
+
+use crate::command_fault::CommandFault;
+use std::alloc::{AllocError, Global};
+use std::marker::Model;
+
+/// A value, of 0 to 1,024 bytes.
+#[derive(Debug, Drop)]
+pub struct Value {
+    bytes: Vec<u8>,
+}
+
+impl Model for Value {
+    ghost use Rattle.std.specs.Prelude.{ℕ, ◌≤◌, List, length};
+
+    ghost Value = { List ℕ };
+
+    ghost view = { λ v. v.bytes.items };
+
+    ghost invariant = { λ v. length v.bytes.items ≤ 1024 };
+}
+
+impl Value {
+    /// The value of these bytes; `OutOfRange` where they are more than 1,024.
+    pub fn new(alloc: Global, bytes: &[u8]) -> Result<Value, CommandFault>
+        ensures ok { IfOk result (λ v. v ≡ bytes.now) }
+        ensures out_of_range { result ≡ Err CommandFault.OutOfRange ↔ (1024 < length bytes.now) }
+    {
+        if bytes.len() > 1024 {
+            return Err(CommandFault::OutOfRange);
+        }
+        let bytes = Vec::from_slice(alloc, bytes).map_err(|_| CommandFault::Memory)?;
+        Ok(Value { bytes })
+    }
+
+    /// The same value again.
+    pub fn copy(&self, alloc: Global) -> Result<Value, AllocError>
+        ensures { IfOk result (λ v. v ≡ self.now) }
+    {
+        let bytes = Vec::from_slice(alloc, self.as_slice())?;
+        Ok(Value { bytes })
+    }
+
+    /// The value's bytes.
+    pub fn as_slice(&self) -> &[u8]
+        ensures value { result.now ≡ self.now }
+        ensures in_range { length self.now ≤ 1024 }
+    {
+        self.bytes.as_slice()
+    }
+
+    /// Whether both are one value.
+    pub fn is_same(&self, other: &Value) -> bool
+        ensures test { result ≡ same_list self.now other.now }
+        ensures same { IsTrue result ↔ (self.now ≡ other.now) }
+    {
+        self.as_slice() == other.as_slice()
+    }
+}

@@ -1,0 +1,119 @@
+-- What a table's entries say of its map.
+use Rattle.std.proofs.Common.{◌≡◌, ℕ, suc, ◌+◌, drop, arith, Bool, true, false, true≢false, cond, Option, Some, None, List, [], ◌∷◌, ◌++◌, refl, sym, ap, ◌∙◌}
+use Rattle.std.proofs.lemmas.Cmp.{nat_list_cmp_total}
+use Rattle.std.proofs.lemmas.Map.Lookups.{exact_bytes}
+use Rattle.std.proofs.lemmas.Map.Views.{tells_apart}
+use Rattle.std.specs.Cmp.Lexicographic.{texts_ties, nat_list_eq_equiv}
+use Rattle.std.specs.FinMap.{same_map, get-empty}
+use Rattle.std.specs.Option.{option_copied, option_flatten}
+use Rattle.std.specs.Borrow.{Bor}
+use Rattle.std.proofs.lemmas.Option.{slice_get_within, get_or_from_slice_get}
+use Rattle.std.proofs.Math.Seq.{drop-cons}
+use Rattle.std.specs.Prelude.{Vec, is_some, slice_get}
+use Rattle.std.specs.Global.{Global}
+use Rattle.std.specs.Map.{lookup, KeepsOthers}
+use Rattle.ep_base.specs.Attributes.{same_list}
+use Rattle.ep_rules.specs.OneMap.{Contents, value_at, with_key}
+use Rattle.ep_rules.proofs.Commuting.{is_key, value_with}
+use Rattle.ep_exec.specs.Table.{Entry, HavePlaces, contents_of, has_place, is_at, restored}
+
+-- two maps with one value at each key are one
+pub same_contents : (m n : Contents) → ((q : List ℕ) → value_at m q ≡ value_at n q) → m ≡ n
+same_contents m n h = same_map nat_list_cmp_total exact_bytes m n h
+
+-- a key that is set twice has the second value
+pub with_key_again : (m : Contents) (k : List ℕ) (o p : Option (List ℕ)) → with_key (with_key m k o) k p ≡ with_key m k p
+with_key_again m k o p = same_contents _ _ (λ q.
+    value_with (with_key m k o) k p q ∙ ap (cond (is_key q k) p) (value_with m k o q) ∙ twice (is_key q k) (value_at m q) ∙ sym (value_with m k p q))
+  where
+    twice : (b : Bool) (v : Option (List ℕ)) → cond b p (cond b o v) ≡ cond b p v
+    twice true v = refl
+    twice false v = refl
+
+-- a key that is set to what it has
+pub with_key_own : (m : Contents) (k : List ℕ) → with_key m k (value_at m k) ≡ m
+with_key_own m k = same_contents _ _ (λ q. value_with m k (value_at m k) q ∙ own q (is_key q k) refl)
+  where
+    own : (q : List ℕ) (b : Bool) → is_key q k ≡ b → cond b (value_at m k) (value_at m q) ≡ value_at m q
+    own q true e = ap (value_at m) (sym (tells_apart exact_bytes q k e))
+    own q false e = refl
+
+-- a change is taken back by what the key had
+pub with_key_back : (m : Contents) (k : List ℕ) (o : Option (List ℕ)) → with_key (with_key m k o) k (value_at m k) ≡ m
+with_key_back m k o = with_key_again m k o (value_at m k) ∙ with_key_own m k
+
+pub value_of : (es : List Entry) (q : List ℕ) → value_at (contents_of es) q ≡ option_flatten (lookup (is_at q) es)
+value_of [] q = get-empty _ q
+value_of (e ∷ es) q =
+    value_with (contents_of es) e.0.items e.1 q
+    ∙ ap (cond (is_key q e.0.items) e.1) (value_of es q)
+    ∙ ap (λ b. cond b e.1 (option_flatten (lookup (is_at q) es))) (sym (texts_ties q e.0.items))
+    ∙ pulled (is_at q e.0) e.1 (lookup (is_at q) es)
+  where
+    pulled : (b : Bool) (o : Option (List ℕ)) (l : Option (Option (List ℕ))) → cond b o (option_flatten l) ≡ option_flatten (cond b (Some o) l)
+    pulled true o l = refl
+    pulled false o l = refl
+
+abbrev pub same : Vec ℕ Global → Vec ℕ Global → Bool
+same k l = same_list k.items l.items
+
+-- a table that keeps what other keys have keeps it at each list of bytes
+other_kept : (old new : List Entry) (k q : List ℕ) → KeepsOthers same (is_at k) old new → is_key q k ≡ false → lookup (is_at q) new ≡ lookup (is_at q) old
+unfolding KeepsOthers
+other_kept old new k q keeps e = keeps (is_at q) (λ x y h. nat_list_eq_equiv.congr q x.items y.items h)
+    (λ l h. nat_list_eq_equiv.symm q l.items ∙ sym (nat_list_eq_equiv.congr k l.items q h) ∙ nat_list_eq_equiv.symm k q ∙ texts_ties q k ∙ e)
+
+-- where a look-up is changed at one key alone, so is the map
+pub changed_at : (old new : List Entry) (k : List ℕ) (w : Option (Option (List ℕ))) → lookup (is_at k) new ≡ w → KeepsOthers same (is_at k) old new
+    → contents_of new ≡ with_key (contents_of old) k (option_flatten w)
+changed_at old new k w here keeps = same_contents _ _ (λ q. value_of new q ∙ go q (is_key q k) refl ∙ sym (value_with (contents_of old) k (option_flatten w) q))
+  where
+    go : (q : List ℕ) (b : Bool) → is_key q k ≡ b → option_flatten (lookup (is_at q) new) ≡ cond b (option_flatten w) (value_at (contents_of old) q)
+    go q true e = ap option_flatten (ap (λ z. lookup (is_at z) new) (tells_apart exact_bytes q k e) ∙ here)
+    go q false e = ap option_flatten (other_kept old new k q keeps e) ∙ sym (value_of old q)
+
+-- and the other places stay
+pub place_kept : (old new : List Entry) (k q : List ℕ) (o : Option (List ℕ)) → lookup (is_at k) new ≡ Some o → KeepsOthers same (is_at k) old new → has_place old q ≡ true → has_place new q ≡ true
+place_kept old new k q o here keeps h = go (is_key q k) refl
+  where
+    go : (b : Bool) → is_key q k ≡ b → has_place new q ≡ true
+    go true e = ap is_some (ap (λ z. lookup (is_at z) new) (tells_apart exact_bytes q k e) ∙ here)
+    go false e = ap is_some (other_kept old new k q keeps e) ∙ h
+
+pub restored-push : (us : List Entry) (u : Entry) (m : Contents) → restored (us ++ u ∷ []) m ≡ restored us (with_key m u.0.items u.1)
+restored-push [] u m = refl
+restored-push (v ∷ us) u m = ap (λ n. with_key n v.0.items v.1) (restored-push us u m)
+
+-- a key that is set to none where it had none
+pub with_key_none : (m : Contents) (k : List ℕ) → value_at m k ≡ None → with_key m k None ≡ m
+with_key_none m k e = ap (with_key m k) (sym e) ∙ with_key_own m k
+
+pub value_without_place : (es : List Entry) (k : List ℕ) → has_place es k ≡ false → value_at (contents_of es) k ≡ None
+value_without_place es k h = value_of es k ∙ go (lookup (is_at k) es) h
+  where
+    go : (l : Option (Option (List ℕ))) → is_some l ≡ false → option_flatten l ≡ None
+    go None e = refl
+    go (Some o) e = absurd (true≢false e)
+
+-- places that stay keep those of what is to be put back
+pub have_places : (old new us : List Entry) → ((q : List ℕ) → has_place old q ≡ true → has_place new q ≡ true) → HavePlaces old us → HavePlaces new us
+have_places old new [] h p = p
+have_places old new (u ∷ us) h p = (h u.0.items p.0, have_places old new us h p.1)
+
+pub have_places-push : (es us : List Entry) (u : Entry) → HavePlaces es us → has_place es u.0.items ≡ true → HavePlaces es (us ++ u ∷ [])
+have_places-push es [] u p h = (h, tt)
+have_places-push es (v ∷ us) u p h = (p.0, have_places-push es us u p.1 h)
+
+pub have_places-front : (es us : List Entry) (u : Entry) → HavePlaces es (us ++ u ∷ []) → HavePlaces es us × (has_place es u.0.items ≡ true)
+have_places-front es [] u p = (tt, p.0)
+have_places-front es (v ∷ us) u p = let r = have_places-front es us u p.1 in ((p.0, r.0), r.1)
+
+pub copied_none : {X : Type 0} (o : Option (Bor X)) → is_some o ≡ false → option_copied o ≡ None
+copied_none None e = refl
+copied_none (Some x) e = absurd (true≢false e)
+
+pub drop_here : {X : Type 0} (es : List X) (k : ℕ) (x : X) → slice_get es k ≡ Some x → drop k es ≡ x ∷ drop (k + 1) es
+drop_here es k x h =
+    let cons = drop-cons es k x (slice_get_within es k x h) in
+    let place : suc k ≡ k + 1 = omega arith in
+    cons ∙ (λ t. get_or_from_slice_get es k x x h t ∷ drop (place t) es)

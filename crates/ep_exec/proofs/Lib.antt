@@ -1,0 +1,11 @@
+pub mod Entries
+pub mod Members
+pub mod Counts
+pub mod Least
+pub mod Blocks
+pub mod OverMap
+pub mod Stacks
+pub mod Paths
+pub mod Size
+pub mod Seen
+pub mod Clear

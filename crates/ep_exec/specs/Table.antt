@@ -1,0 +1,37 @@
+-- A table of keys, each with a value or with none, as one map.
+use Rattle.std.specs.Prelude.{◌≡◌, ℕ, Bool, true, List, [], ◌∷◌, Option, Vec, is_some}
+use Rattle.std.specs.Global.{Global}
+use Rattle.std.specs.Coded.{Coded, coded_list, coded_ℕ}
+use Rattle.std.specs.FinMap as map
+use Rattle.std.specs.Map.{lookup}
+use Rattle.ep_base.specs.Attributes.{same_list}
+use Rattle.ep_rules.specs.OneMap.{Contents, empty, with_key}
+
+abbrev pub contents_code : Coded Contents
+contents_code = map.code (coded_list coded_ℕ) (coded_list coded_ℕ)
+
+-- a key, with its value or with a place alone
+abbrev pub Entry : Type 0
+Entry = Vec ℕ Global × Option (List ℕ)
+
+-- what the keys have
+abbrev pub contents_of : List Entry → Contents
+contents_of [] = empty
+contents_of (e ∷ es) = with_key (contents_of es) e.0.items e.1
+
+abbrev pub is_at : List ℕ → Vec ℕ Global → Bool
+is_at k l = same_list k l.items
+
+-- the key has an entry, with a value or with none
+abbrev pub has_place : List Entry → List ℕ → Bool
+has_place es k = is_some (lookup (is_at k) es)
+
+-- the map with each of these put back, the last one first
+abbrev pub restored : List Entry → Contents → Contents
+restored [] m = m
+restored (u ∷ us) m = with_key (restored us m) u.0.items u.1
+
+-- each key that is to be put back has a place
+abbrev pub HavePlaces : List Entry → List Entry → Type 0
+HavePlaces es [] = Unit {0}
+HavePlaces es (u ∷ us) = (has_place es u.0.items ≡ true) × HavePlaces es us

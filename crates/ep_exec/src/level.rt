@@ -1,0 +1,73 @@
+//! A path of components that are not closed yet.
+
+ghost use Rattle.std.specs.Prelude.{◌≡◌, ◌++◌, ◌↔◌, IsTrue, IfOk, OnOk};
+ghost use Rattle.ep_base.specs.Places.{place, Has};
+ghost use Rattle.ep_exec.specs.Walk.{flat, joined, merged, stack};
+
+use ep_base::InstanceId;
+use std::alloc::AllocError;
+
+/// Instances on the path that reach each other, and the dependencies still to follow.
+#[derive(Drop)]
+pub struct Level {
+    pub members: Vec<InstanceId>,
+    pub edges: Vec<InstanceId>,
+}
+
+/// Adds instances at a list's end.
+pub fn append(list: &mut Vec<InstanceId>, more: &[InstanceId]) -> Result<(), AllocError>
+    ensures { OnOk result (list.new.items ≡ list.old.items ++ more.now) }
+{
+    list.extend_from_slice(more)?;
+    Ok(())
+}
+
+/// The place of the instance in the list, or the list's length.
+fn place_of(list: &[InstanceId], instance: InstanceId) -> usize
+    ensures { result ≡ place list.now instance }
+{
+    for (place, other) in list.iter().enumerate() {
+        if *other == instance {
+            return place;
+        }
+    }
+    list.len()
+}
+
+/// Whether the list has the instance.
+pub fn holds(list: &[InstanceId], instance: InstanceId) -> bool
+    ensures { IsTrue result ↔ Has list.now instance }
+{
+    place_of(list, instance) < list.len()
+}
+
+/// One level in place of two.
+fn join(below: Level, top: Level) -> Result<Level, AllocError>
+    ensures { IfOk result (λ l. flat l ≡ joined (flat below) (flat top)) }
+{
+    let Level {
+        mut members,
+        mut edges,
+    } = below;
+    append(&mut members, &top.members)?;
+    append(&mut edges, &top.edges)?;
+    Ok(Level { members, edges })
+}
+
+/// Puts the level on the path, with the levels down to that of the instance joined to it.
+pub fn merge(path: &mut Vec<Level>, top: Level, instance: InstanceId) -> Result<(), AllocError>
+    ensures { OnOk result (stack path.new.items ≡ merged (flat top) (stack path.old.items) instance) }
+{
+    let mut top = top;
+    while !holds(&top.members, instance) {
+        match path.pop() {
+            Some(below) => top = join(below, top)?,
+            None => {
+                path.push(top)?;
+                return Ok(());
+            }
+        }
+    }
+    path.push(top)?;
+    Ok(())
+}

@@ -1,0 +1,107 @@
+//! The components that a root reaches, by one walk with a stack of its own.
+//!
+//! The path is a stack of levels. One turn takes the next dependency of the top level: one that is in a closed component is dropped,
+//! one on the path joins the levels down to its own, and any other begins a level. A level with nothing left to follow is a component.
+
+ghost use Rattle.std.specs.Prelude.{◌≡◌, ◌⊎◌, ◌∷◌, [], ◌++◌, IfOk, OnOk};
+ghost use Rattle.ep_base.specs.Places.{Has};
+ghost use Rattle.ep_rules.specs.States.{graph_in};
+ghost use Rattle.ep_exec.specs.Walk.{flat, stack, members_of, fresh, Follows, Sees, lists, AreComponents};
+
+use crate::graph::deps_at;
+use crate::level::{Level, append, merge};
+use crate::listed::Listed;
+use ep_base::InstanceId;
+use ep_space::Space;
+use std::alloc::{AllocError, Global};
+
+/// Puts a level of one instance on the path.
+fn enter(
+    alloc: Global,
+    space: &Space,
+    path: &mut Vec<Level>,
+    instance: InstanceId,
+) -> Result<(), AllocError>
+    ensures { OnOk result (stack path.new.items ≡ fresh (graph_in space.now.records) instance ∷ stack path.old.items) }
+{
+    let mut members = Vec::new(alloc);
+    members.push(instance)?;
+    let mut edges = Vec::new(alloc);
+    append(&mut edges, deps_at(space, instance))?;
+    path.push(Level { members, edges })?;
+    Ok(())
+}
+
+/// Follows a dependency of the top level.
+fn follow(
+    alloc: Global,
+    space: &Space,
+    closed: &Listed,
+    seen: &mut Listed,
+    path: &mut Vec<Level>,
+    top: Level,
+    instance: InstanceId,
+) -> Result<(), AllocError>
+    requires { Sees seen.old closed.now (flat top ∷ stack path.old.items) }
+    ensures path { OnOk result (Follows (graph_in space.now.records) closed.now (flat top) (stack path.old.items) instance (stack path.new.items)) }
+    ensures seen { OnOk result (Sees seen.new closed.now (stack path.new.items)) }
+{
+    if closed.contains(instance) {
+        path.push(top)?;
+        return Ok(());
+    }
+    if seen.contains(instance) {
+        merge(path, top, instance)?;
+        return Ok(());
+    }
+    path.push(top)?;
+    enter(alloc, space, path, instance)?;
+    seen.push(instance)?;
+    Ok(())
+}
+
+/// Closes a component.
+fn close(
+    closed: &mut Listed,
+    found: &mut Vec<Vec<InstanceId>>,
+    members: Vec<InstanceId>,
+) -> Result<(), AllocError>
+    ensures closed { OnOk result (closed.new ≡ closed.old ++ members.items) }
+    ensures found { OnOk result (lists found.new.items ≡ lists found.old.items ++ members.items ∷ []) }
+{
+    closed.append(&members)?;
+    found.push(members)?;
+    Ok(())
+}
+
+/// The components of what the root reaches, each after those that it depends on.
+pub fn components(
+    alloc: Global,
+    space: &Space,
+    root: InstanceId,
+) -> Result<Vec<Vec<InstanceId>>, AllocError>
+    ensures { IfOk result (λ v. AreComponents (graph_in space.now.records) root (lists v.items)) }
+{
+    let mut closed = Listed::new(alloc);
+    let mut seen = Listed::new(alloc);
+    let mut found = Vec::new(alloc);
+    let mut path = Vec::new(alloc);
+    enter(alloc, space, &mut path, root)?;
+    seen.push(root)?;
+    while let Some(top) = path.pop() {
+        let Level { members, mut edges } = top;
+        match edges.pop() {
+            None => close(&mut closed, &mut found, members)?,
+            Some(instance) => follow(
+                alloc,
+                space,
+                &closed,
+                &mut seen,
+                &mut path,
+                Level { members, edges },
+                instance,
+            )?,
+        }
+    }
+    Ok(found)
+}

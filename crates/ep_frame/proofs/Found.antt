@@ -1,0 +1,387 @@
+-- A frame without a fault is the frame of the message that its parts stand for.
+use Rattle.std.proofs.Common.{◌≡◌, ℕ, zero, suc, ◌^◌, ◌≤◌, ◌<◌, true, false, cond, eqb, leb, List, [], ◌∷◌, length, refl, sym, ap, ◌∙◌, arith}
+use Rattle.std.specs.Prelude.{◌&&◌, not, Some}
+use Rattle.std.specs.List.{AllByRecursion}
+use Rattle.std.proofs.lemmas.Bool.{eqb-true, leb-true, ltb-true, eq-eqb, and_parts}
+use Rattle.std.proofs.lemmas.List.{nil_from_length}
+use Rattle.ep_base.specs.Instances.{leader_of, number_of, IsInstance}
+use Rattle.ep_base.specs.Ballots.{counter_of, owner_of, ballot_of}
+use Rattle.ep_base.specs.Deps.{IsRising, IsBelowFirst}
+use Rattle.ep_base.specs.declared.vote.Status.{Status}
+use Rattle.ep_base.specs.declared.vote.Status.TheVariants.{PreAccepted, Accepted, Committed}
+use Rattle.ep_base.specs.declared.message.Message.{Message}
+use Rattle.ep_base.specs.declared.message.Message.TheVariants.{PrepareOk}
+use Rattle.ep_frame.specs.Faults.{names_rows, ballot_rows, vote_rows, body_rows, within, are_deps, is_instance, precedes_first}
+use Rattle.ep_frame.specs.Spelling.{Parts, parts_of, op_code, key_in, value_in, status_code, IsBallot, IsCommand, AreAttrs, AreBytes, IsDecree, IsMessage, IsOrigin}
+use Rattle.ep_frame.specs.Meaning.{origin_in, instance_in, ballot_in, other_in, attrs_of, command_of, decree_of, message_of}
+use Rattle.ep_frame.proofs.Packing.{leader_again, number_again, counter_again, owner_again}
+use Rattle.ep_frame.proofs.Rows.{AllPass, within-is, apart-is, chosen, other_chosen}
+
+pub record Good (p : Parts) : Type 0 where
+  pub names : AllPass (names_rows p.header)
+  pub ballot : AllPass (ballot_rows p.header)
+  pub vote : AllPass (vote_rows p.header)
+  pub body : AllPass (body_rows p.header)
+  pub key : length p.key ≡ p.header.key_len
+  pub value : length p.value ≡ p.header.value_len
+  pub count : length p.deps ≡ p.header.count
+  pub deps : are_deps p.deps ≡ true
+  pub key_bytes : AreBytes p.key
+  pub value_bytes : AreBytes p.value
+  pub out : p.header.out < 2 ^ 16
+  pub entry : p.header.entry < 2 ^ 32
+
+pub record Found (p : Parts) : Type 0 where
+  pub origin : IsOrigin p.header.from (origin_in p.header)
+  pub message : IsMessage (message_of p)
+  pub is : parts_of p.header.from (origin_in p.header) (message_of p) ≡ p
+
+abbrev with_kind : ℕ → Parts → Parts
+with_kind k p = record p { header = record p.header { kind = k } }
+
+abbrev with_status : ℕ → Parts → Parts
+with_status s p = record p { header = record p.header { kind = 7; status = s } }
+
+-- parts with these in place of its own
+abbrev made : Parts → (magic version leader number counter replica status other_counter other_replica seq op kl vl count : ℕ) (key value deps : List ℕ) → Parts
+made q magic version leader number counter replica status other_counter other_replica seq op kl vl count key value deps = record {
+  header = record q.header {
+    magic = magic;
+    version = version;
+    leader = leader;
+    number = number;
+    counter = counter;
+    replica = replica;
+    status = status;
+    other_counter = other_counter;
+    other_replica = other_replica;
+    seq = seq;
+    op = op;
+    key_len = kl;
+    value_len = vl;
+    count = count;
+  };
+  key = key;
+  value = value;
+  deps = deps;
+}
+
+-- ---- groups of fields
+
+-- what all kinds have
+record Front (p : Parts) : Type 0 where
+  origin : IsOrigin p.header.from (origin_in p.header)
+  magic : 17744 ≡ p.header.magic
+  version : 1 ≡ p.header.version
+  instance : IsInstance (instance_in p.header)
+  leader : leader_of (instance_in p.header) ≡ p.header.leader
+  number : number_of (instance_in p.header) ≡ p.header.number
+  leader_small : p.header.leader ≤ 6
+
+front : (p : Parts) (k : ℕ) → AllPass (names_rows (with_kind k p).header) → leb p.header.leader 6 ≡ true → within 1 1000 p.header.number ≡ true → p.header.out < 2 ^ 16 → p.header.entry < 2 ^ 32 → Front p
+front p k n l m out entry =
+    let to = and_parts (leb p.header.to 6) (not (eqb p.header.to p.header.from)) n.1.1.1.1.0 in
+    let stamp = within-is 1 281474976710655 p.header.stamp n.1.1.1.1.1.1.0 in
+    let small : p.header.leader ≤ 6 = leb-true _ _ l in
+    let number = within-is 1 1000 p.header.number m in
+    let is_leader = leader_again p.header.leader p.header.number (omega (arith, number.1)) in
+    let is_number = number_again p.header.leader p.header.number (omega (arith, number.1)) in
+    record {
+      origin = record {
+        sender = leb-true _ _ n.1.1.1.0;
+        receiver = leb-true _ _ to.0;
+        apart = apart-is p.header.to p.header.from to.1;
+        out = out;
+        entry_low = leb-true _ _ n.1.1.1.1.1.0;
+        entry_high = entry;
+        stamp_low = stamp.0;
+        stamp_high = omega (arith, stamp.1);
+      };
+      magic = sym (eqb-true p.header.magic 17744 n.0);
+      version = sym (eqb-true p.header.version 1 n.1.0);
+      instance = (omega (arith, is_leader, small), omega (arith, is_number, number.0), omega (arith, is_number, number.1));
+      leader = is_leader;
+      number = is_number;
+      leader_small = small;
+    }
+
+record BallotIs (i least counter replica : ℕ) : Type 0 where
+  is : IsBallot i least (ballot_of counter replica)
+  counter_is : counter_of (ballot_of counter replica) ≡ counter
+  replica_is : owner_of (ballot_of counter replica) ≡ replica
+
+ballot_found : (i leader least counter replica : ℕ) → leader_of i ≡ leader → leader ≤ 6 → least ≤ counter → counter ≤ 60000
+    → cond (eqb counter 0) (eqb replica leader) (leb replica 6) ≡ true → BallotIs i least counter replica
+ballot_found i leader least counter replica is le low high e =
+    let small : replica ≤ 6 = elim (eqb counter 0) as (λ b. cond b (eqb replica leader) (leb replica 6) ≡ true → replica ≤ 6) [
+      | true ↦ λ r. let same = eqb-true replica leader r in omega (arith, same)
+      | false ↦ λ r. leb-true _ _ r
+    ] e in
+    let c = counter_again counter replica (omega (arith, small)) in
+    let o = owner_again counter replica (omega (arith, small)) in
+    record {
+      is = record {
+        low = omega (arith, c);
+        high = omega (arith, c);
+        replica = omega (arith, o, small);
+        first = λ z. o ∙ eqb-true replica leader (chosen _ _ _ (eq-eqb counter 0 (sym c ∙ z)) e) ∙ sym is;
+      };
+      counter_is = c;
+      replica_is = o;
+    }
+
+-- a ballot of kinds 1 to 4 and 8
+any_ballot : (p : Parts) → Front p → leb p.header.counter 60000 ≡ true → cond (eqb p.header.counter 0) (eqb p.header.replica p.header.leader) (leb p.header.replica 6) ≡ true
+    → BallotIs (instance_in p.header) 0 p.header.counter p.header.replica
+any_ballot p f c r = ballot_found (instance_in p.header) p.header.leader 0 p.header.counter p.header.replica f.leader f.leader_small (omega arith) (leb-true _ _ c) r
+
+-- a ballot of kinds 6 and 7
+joined_ballot : (p : Parts) → Front p → within 1 60000 p.header.counter ≡ true → cond (eqb p.header.counter 0) (eqb p.header.replica p.header.leader) (leb p.header.replica 6) ≡ true
+    → BallotIs (instance_in p.header) 1 p.header.counter p.header.replica
+joined_ballot p f c r = let n = within-is 1 60000 p.header.counter c in ballot_found (instance_in p.header) p.header.leader 1 p.header.counter p.header.replica f.leader f.leader_small n.0 n.1 r
+
+record CommandIs (op : ℕ) (key value : List ℕ) : Type 0 where
+  is : IsCommand (command_of op key value)
+  op_is : op_code (command_of op key value) ≡ op
+  key_is : key_in (command_of op key value) ≡ key
+  value_is : value_in (command_of op key value) ≡ value
+
+command_found : (op kl vl : ℕ) (key value : List ℕ) → 1 ≤ op → op ≤ 4 → cond (within 2 4 op) (within 1 255 kl) (eqb kl 0) ≡ true → cond (eqb op 3) (leb vl 1024) (eqb vl 0) ≡ true
+    → length key ≡ kl → length value ≡ vl → AreBytes key → AreBytes value → CommandIs op key value
+command_found zero kl vl key value lo hi k v lk lv bk bv = absurd (omega arith)
+command_found (suc zero) kl vl key value lo hi k v lk lv bk bv =
+    record { is = tt; op_is = refl; key_is = sym (nil_from_length key (lk ∙ eqb-true kl 0 k)); value_is = sym (nil_from_length value (lv ∙ eqb-true vl 0 v)) }
+command_found (suc (suc zero)) kl vl key value lo hi k v lk lv bk bv =
+    let n = within-is 1 255 kl k in
+    record { is = (omega (arith, n.0, lk), omega (arith, n.1, lk), bk); op_is = refl; key_is = refl; value_is = sym (nil_from_length value (lv ∙ eqb-true vl 0 v)) }
+command_found (suc (suc (suc zero))) kl vl key value lo hi k v lk lv bk bv =
+    let n = within-is 1 255 kl k in
+    let m = leb-true vl 1024 v in
+    record { is = ((omega (arith, n.0, lk), omega (arith, n.1, lk), bk), omega (arith, m, lv), bv); op_is = refl; key_is = refl; value_is = refl }
+command_found (suc (suc (suc (suc zero)))) kl vl key value lo hi k v lk lv bk bv =
+    let n = within-is 1 255 kl k in
+    record { is = (omega (arith, n.0, lk), omega (arith, n.1, lk), bk); op_is = refl; key_is = refl; value_is = sym (nil_from_length value (lv ∙ eqb-true vl 0 v)) }
+command_found (suc (suc (suc (suc (suc op))))) kl vl key value lo hi k v lk lv bk bv = absurd (omega arith)
+
+record NoCommand (op kl vl : ℕ) (key value : List ℕ) : Type 0 where
+  op_is : 0 ≡ op
+  kl_is : 0 ≡ kl
+  vl_is : 0 ≡ vl
+  key_is : [] ≡ key
+  value_is : [] ≡ value
+
+no_command : (op kl vl : ℕ) (key value : List ℕ) → eqb op 0 ≡ true → cond (within 2 4 op) (within 1 255 kl) (eqb kl 0) ≡ true → cond (eqb op 3) (leb vl 1024) (eqb vl 0) ≡ true
+    → length key ≡ kl → length value ≡ vl → NoCommand op kl vl key value
+no_command zero kl vl key value o k v lk lv =
+    let ek = eqb-true kl 0 k in let ev = eqb-true vl 0 v in
+    record { op_is = refl; kl_is = sym ek; vl_is = sym ev; key_is = sym (nil_from_length key (lk ∙ ek)); value_is = sym (nil_from_length value (lv ∙ ev)) }
+no_command (suc op) kl vl key value o k v lk lv = let e = eqb-true (suc op) 0 o in absurd (omega arith)
+
+pub rising_found : (ds : List ℕ) → are_deps ds ≡ true → IsRising ds × AllByRecursion IsInstance ds
+rising_found [] e = (tt, tt)
+rising_found (i ∷ is) e =
+    let p = and_parts (is_instance i && precedes_first i is) (are_deps is) e in
+    let q = and_parts (is_instance i) (precedes_first i is) p.0 in
+    let r = and_parts (leb (leader_of i) 6) (within 1 1000 (number_of i)) q.0 in
+    let n = within-is 1 1000 (number_of i) r.1 in
+    let rest = rising_found is p.1 in
+    ((below is q.1, rest.0), ((leb-true _ _ r.0, n.0, n.1), rest.1))
+  where
+    below : (is : List ℕ) → precedes_first i is ≡ true → IsBelowFirst i is
+    below [] e = tt
+    below (j ∷ js) e = ltb-true _ _ e
+
+attrs_found : (p : Parts) → within 1 1000000 p.header.seq ≡ true → leb p.header.count 7000 ≡ true → length p.deps ≡ p.header.count → are_deps p.deps ≡ true → AreAttrs (attrs_of p)
+attrs_found p s c len d =
+    let n = within-is 1 1000000 p.header.seq s in let few = leb-true p.header.count 7000 c in let r = rising_found p.deps d in
+    record { low = n.0; high = n.1; few = omega (arith, few, len); rising = r.0; instances = r.1 }
+
+record NoAttrs (seq count : ℕ) (deps : List ℕ) : Type 0 where
+  seq_is : 0 ≡ seq
+  count_is : 0 ≡ count
+  deps_is : [] ≡ deps
+
+no_attrs : (seq count : ℕ) (deps : List ℕ) → eqb seq 0 ≡ true → eqb count 0 ≡ true → length deps ≡ count → NoAttrs seq count deps
+no_attrs seq count deps s c len = let ec = eqb-true count 0 c in record { seq_is = sym (eqb-true seq 0 s); count_is = sym ec; deps_is = sym (nil_from_length deps (len ∙ ec)) }
+
+record DecreeIs (p : Parts) : Type 0 where
+  is : IsDecree (decree_of p)
+  op_is : op_code (decree_of p).command ≡ p.header.op
+  kl_is : length (key_in (decree_of p).command) ≡ p.header.key_len
+  vl_is : length (value_in (decree_of p).command) ≡ p.header.value_len
+  key_is : key_in (decree_of p).command ≡ p.key
+  value_is : value_in (decree_of p).command ≡ p.value
+
+decree_found : (p : Parts) → within 1 1000000 p.header.seq ≡ true → within 1 4 p.header.op ≡ true → cond (within 2 4 p.header.op) (within 1 255 p.header.key_len) (eqb p.header.key_len 0) ≡ true
+    → cond (eqb p.header.op 3) (leb p.header.value_len 1024) (eqb p.header.value_len 0) ≡ true → leb p.header.count 7000 ≡ true
+    → length p.key ≡ p.header.key_len → length p.value ≡ p.header.value_len → length p.deps ≡ p.header.count → are_deps p.deps ≡ true → AreBytes p.key → AreBytes p.value → DecreeIs p
+decree_found p s o k v n lk lv ld d bk bv =
+    let op = within-is 1 4 p.header.op o in
+    let c = command_found p.header.op p.header.key_len p.header.value_len p.key p.value op.0 op.1 k v lk lv bk bv in
+    record {
+      is = record { command = c.is; attrs = attrs_found p s n ld d };
+      op_is = c.op_is;
+      kl_is = ap length c.key_is ∙ lk;
+      vl_is = ap length c.value_is ∙ lv;
+      key_is = c.key_is;
+      value_is = c.value_is;
+    }
+
+-- ---- kinds
+
+kind1 : (p : Parts) → Good (with_kind 1 p) → Found (with_kind 1 p)
+kind1 p g =
+    let f = front p 1 g.names g.ballot.0 g.ballot.1.0 g.out g.entry in
+    let b = any_ballot p f g.ballot.1.1.0 g.ballot.1.1.1.0 in
+    let x = decree_found p g.body.0 g.body.1.0 g.body.1.1.0 g.body.1.1.1.0 g.body.1.1.1.1.0 g.key g.value g.count g.deps g.key_bytes g.value_bytes in
+    let es = eqb-true p.header.status 0 g.vote.0 in let ec = eqb-true p.header.other_counter 0 g.vote.1.0 in let er = eqb-true p.header.other_replica 0 g.vote.1.1.0 in
+    record {
+      origin = f.origin;
+      message = (f.instance, b.is, x.is);
+      is = λ t. made (with_kind 1 p) (f.magic t) (f.version t) (f.leader t) (f.number t) (b.counter_is t) (b.replica_is t) (sym es t) (sym ec t) (sym er t)
+          p.header.seq (x.op_is t) (x.kl_is t) (x.vl_is t) (g.count t) (x.key_is t) (x.value_is t) p.deps;
+    }
+
+kind2 : (p : Parts) → Good (with_kind 2 p) → Found (with_kind 2 p)
+kind2 p g =
+    let f = front p 2 g.names g.ballot.0 g.ballot.1.0 g.out g.entry in
+    let b = any_ballot p f g.ballot.1.1.0 g.ballot.1.1.1.0 in
+    let c = no_command p.header.op p.header.key_len p.header.value_len p.key p.value g.body.1.0 g.body.1.1.0 g.body.1.1.1.0 g.key g.value in
+    let es = eqb-true p.header.status 0 g.vote.0 in let ec = eqb-true p.header.other_counter 0 g.vote.1.0 in let er = eqb-true p.header.other_replica 0 g.vote.1.1.0 in
+    record {
+      origin = f.origin;
+      message = (f.instance, b.is, attrs_found p g.body.0 g.body.1.1.1.1.0 g.count g.deps);
+      is = λ t. made (with_kind 2 p) (f.magic t) (f.version t) (f.leader t) (f.number t) (b.counter_is t) (b.replica_is t) (sym es t) (sym ec t) (sym er t)
+          p.header.seq (c.op_is t) (c.kl_is t) (c.vl_is t) (g.count t) (c.key_is t) (c.value_is t) p.deps;
+    }
+
+kind3 : (p : Parts) → Good (with_kind 3 p) → Found (with_kind 3 p)
+kind3 p g =
+    let f = front p 3 g.names g.ballot.0 g.ballot.1.0 g.out g.entry in
+    let b = any_ballot p f g.ballot.1.1.0 g.ballot.1.1.1.0 in
+    let x = decree_found p g.body.0 g.body.1.0 g.body.1.1.0 g.body.1.1.1.0 g.body.1.1.1.1.0 g.key g.value g.count g.deps g.key_bytes g.value_bytes in
+    let es = eqb-true p.header.status 0 g.vote.0 in let ec = eqb-true p.header.other_counter 0 g.vote.1.0 in let er = eqb-true p.header.other_replica 0 g.vote.1.1.0 in
+    record {
+      origin = f.origin;
+      message = (f.instance, b.is, x.is);
+      is = λ t. made (with_kind 3 p) (f.magic t) (f.version t) (f.leader t) (f.number t) (b.counter_is t) (b.replica_is t) (sym es t) (sym ec t) (sym er t)
+          p.header.seq (x.op_is t) (x.kl_is t) (x.vl_is t) (g.count t) (x.key_is t) (x.value_is t) p.deps;
+    }
+
+kind4 : (p : Parts) → Good (with_kind 4 p) → Found (with_kind 4 p)
+kind4 p g =
+    let f = front p 4 g.names g.ballot.0 g.ballot.1.0 g.out g.entry in
+    let b = any_ballot p f g.ballot.1.1.0 g.ballot.1.1.1.0 in
+    let c = no_command p.header.op p.header.key_len p.header.value_len p.key p.value g.body.1.0 g.body.1.1.0 g.body.1.1.1.0 g.key g.value in
+    let a = no_attrs p.header.seq p.header.count p.deps g.body.0 g.body.1.1.1.1.0 g.count in
+    let es = eqb-true p.header.status 0 g.vote.0 in let ec = eqb-true p.header.other_counter 0 g.vote.1.0 in let er = eqb-true p.header.other_replica 0 g.vote.1.1.0 in
+    record {
+      origin = f.origin;
+      message = (f.instance, b.is);
+      is = λ t. made (with_kind 4 p) (f.magic t) (f.version t) (f.leader t) (f.number t) (b.counter_is t) (b.replica_is t) (sym es t) (sym ec t) (sym er t)
+          (a.seq_is t) (c.op_is t) (c.kl_is t) (c.vl_is t) (a.count_is t) (c.key_is t) (c.value_is t) (a.deps_is t);
+    }
+
+kind5 : (p : Parts) → Good (with_kind 5 p) → Found (with_kind 5 p)
+kind5 p g =
+    let f = front p 5 g.names g.ballot.0 g.ballot.1.0 g.out g.entry in
+    let x = decree_found p g.body.0 g.body.1.0 g.body.1.1.0 g.body.1.1.1.0 g.body.1.1.1.1.0 g.key g.value g.count g.deps g.key_bytes g.value_bytes in
+    let es = eqb-true p.header.status 0 g.vote.0 in let ec = eqb-true p.header.other_counter 0 g.vote.1.0 in let er = eqb-true p.header.other_replica 0 g.vote.1.1.0 in
+    let bc = eqb-true p.header.counter 0 g.ballot.1.1.0 in let br = eqb-true p.header.replica 0 g.ballot.1.1.1.0 in
+    record {
+      origin = f.origin;
+      message = (f.instance, x.is);
+      is = λ t. made (with_kind 5 p) (f.magic t) (f.version t) (f.leader t) (f.number t) (sym bc t) (sym br t) (sym es t) (sym ec t) (sym er t)
+          p.header.seq (x.op_is t) (x.kl_is t) (x.vl_is t) (g.count t) (x.key_is t) (x.value_is t) p.deps;
+    }
+
+kind6 : (p : Parts) → Good (with_kind 6 p) → Found (with_kind 6 p)
+kind6 p g =
+    let f = front p 6 g.names g.ballot.0 g.ballot.1.0 g.out g.entry in
+    let b = joined_ballot p f g.ballot.1.1.0 g.ballot.1.1.1.0 in
+    let c = no_command p.header.op p.header.key_len p.header.value_len p.key p.value g.body.1.0 g.body.1.1.0 g.body.1.1.1.0 g.key g.value in
+    let a = no_attrs p.header.seq p.header.count p.deps g.body.0 g.body.1.1.1.1.0 g.count in
+    let es = eqb-true p.header.status 0 g.vote.0 in let ec = eqb-true p.header.other_counter 0 g.vote.1.0 in let er = eqb-true p.header.other_replica 0 g.vote.1.1.0 in
+    record {
+      origin = f.origin;
+      message = (f.instance, b.is);
+      is = λ t. made (with_kind 6 p) (f.magic t) (f.version t) (f.leader t) (f.number t) (b.counter_is t) (b.replica_is t) (sym es t) (sym ec t) (sym er t)
+          (a.seq_is t) (c.op_is t) (c.kl_is t) (c.vl_is t) (a.count_is t) (c.key_is t) (c.value_is t) (a.deps_is t);
+    }
+
+kind8 : (p : Parts) → Good (with_kind 8 p) → Found (with_kind 8 p)
+kind8 p g =
+    let f = front p 8 g.names g.ballot.0 g.ballot.1.0 g.out g.entry in
+    let b = any_ballot p f g.ballot.1.1.0 g.ballot.1.1.1.0 in
+    let c = no_command p.header.op p.header.key_len p.header.value_len p.key p.value g.body.1.0 g.body.1.1.0 g.body.1.1.1.0 g.key g.value in
+    let a = no_attrs p.header.seq p.header.count p.deps g.body.0 g.body.1.1.1.1.0 g.count in
+    let es = eqb-true p.header.status 0 g.vote.0 in
+    let n = within-is 1 60000 p.header.other_counter g.vote.1.0 in let r = leb-true _ _ g.vote.1.1.0 in
+    let pc = counter_again p.header.other_counter p.header.other_replica (omega (arith, r)) in let pr = owner_again p.header.other_counter p.header.other_replica (omega (arith, r)) in
+    record {
+      origin = f.origin;
+      message = (f.instance, b.is, omega (arith, pc, n.0), omega (arith, pc, n.1), omega (arith, pr, r));
+      is = λ t. made (with_kind 8 p) (f.magic t) (f.version t) (f.leader t) (f.number t) (b.counter_is t) (b.replica_is t) (sym es t) (pc t) (pr t)
+          (a.seq_is t) (c.op_is t) (c.kl_is t) (c.vl_is t) (a.count_is t) (c.key_is t) (c.value_is t) (a.deps_is t);
+    }
+
+status0 : (p : Parts) → Good (with_status 0 p) → Found (with_status 0 p)
+status0 p g =
+    let f = front p 7 g.names g.ballot.0 g.ballot.1.0 g.out g.entry in
+    let b = joined_ballot p f g.ballot.1.1.0 g.ballot.1.1.1.0 in
+    let c = no_command p.header.op p.header.key_len p.header.value_len p.key p.value g.body.1.0 g.body.1.1.0 g.body.1.1.1.0 g.key g.value in
+    let a = no_attrs p.header.seq p.header.count p.deps g.body.0 g.body.1.1.1.1.0 g.count in
+    let ec = eqb-true p.header.other_counter 0 g.vote.1.0 in
+    let er = eqb-true p.header.other_replica p.header.leader (chosen _ _ _ g.vote.1.0 g.vote.1.1.0) in
+    record {
+      origin = f.origin;
+      message = (f.instance, b.is, tt);
+      is = λ t. made (with_status 0 p) (f.magic t) (f.version t) (f.leader t) (f.number t) (b.counter_is t) (b.replica_is t) 0 (sym ec t) ((f.leader ∙ sym er) t)
+          (a.seq_is t) (c.op_is t) (c.kl_is t) (c.vl_is t) (a.count_is t) (c.key_is t) (c.value_is t) (a.deps_is t);
+    }
+
+-- the answer to a Prepare with this vote
+abbrev voted : Parts → Status → Message
+voted p st = PrepareOk (instance_in p.header) (ballot_in p.header) (Some (record { status = st; ballot = other_in p.header; decree = decree_of p }))
+
+record FoundVote (p : Parts) (s : ℕ) (st : Status) : Type 0 where
+  origin : IsOrigin p.header.from (origin_in p.header)
+  message : IsMessage (voted p st)
+  is : parts_of p.header.from (origin_in p.header) (voted p st) ≡ with_status s p
+
+vote_found : (p : Parts) (s : ℕ) (st : Status) → status_code st ≡ s → eqb s 0 ≡ false → Good (with_status s p) → FoundVote p s st
+vote_found p s st code e g =
+    let has = ap not e in
+    let f = front p 7 g.names g.ballot.0 g.ballot.1.0 g.out g.entry in
+    let b = joined_ballot p f g.ballot.1.1.0 g.ballot.1.1.1.0 in
+    let x = decree_found p (chosen _ _ _ has g.body.0) (chosen _ _ _ has g.body.1.0) g.body.1.1.0 g.body.1.1.1.0 (chosen _ _ _ has g.body.1.1.1.1.0) g.key g.value g.count g.deps g.key_bytes g.value_bytes in
+    let v =
+    ballot_found (instance_in p.header) p.header.leader 0 p.header.other_counter p.header.other_replica f.leader f.leader_small (omega arith) (leb-true _ _ (other_chosen _ _ _ e g.vote.1.0)) g.vote.1.1.0 in
+    record {
+      origin = f.origin;
+      message = (f.instance, b.is, (v.is, x.is));
+      is = λ t. made (with_status s p) (f.magic t) (f.version t) (f.leader t) (f.number t) (b.counter_is t) (b.replica_is t) (code t) (v.counter_is t) (v.replica_is t)
+          p.header.seq (x.op_is t) (x.kl_is t) (x.vl_is t) (g.count t) (x.key_is t) (x.value_is t) p.deps;
+    }
+
+at_status : (p : Parts) (s : ℕ) → s ≤ 3 → Good (with_status s p) → Found (with_status s p)
+at_status p zero le g = status0 p g
+at_status p (suc zero) le g = let v = vote_found p 1 PreAccepted refl refl g in record { origin = v.origin; message = v.message; is = v.is }
+at_status p (suc (suc zero)) le g = let v = vote_found p 2 Accepted refl refl g in record { origin = v.origin; message = v.message; is = v.is }
+at_status p (suc (suc (suc zero))) le g = let v = vote_found p 3 Committed refl refl g in record { origin = v.origin; message = v.message; is = v.is }
+at_status p (suc (suc (suc (suc s)))) le g = absurd (omega arith)
+
+at_kind : (p : Parts) (k : ℕ) → 1 ≤ k → k ≤ 8 → Good (with_kind k p) → Found (with_kind k p)
+at_kind p zero low high g = absurd (omega arith)
+at_kind p (suc zero) low high g = kind1 p g
+at_kind p (suc (suc zero)) low high g = kind2 p g
+at_kind p (suc (suc (suc zero))) low high g = kind3 p g
+at_kind p (suc (suc (suc (suc zero)))) low high g = kind4 p g
+at_kind p (suc (suc (suc (suc (suc zero))))) low high g = kind5 p g
+at_kind p (suc (suc (suc (suc (suc (suc zero)))))) low high g = kind6 p g
+at_kind p (suc (suc (suc (suc (suc (suc (suc zero))))))) low high g = at_status p p.header.status (leb-true _ _ g.vote.0) g
+at_kind p (suc (suc (suc (suc (suc (suc (suc (suc zero)))))))) low high g = kind8 p g
+at_kind p (suc (suc (suc (suc (suc (suc (suc (suc (suc k))))))))) low high g = absurd (omega arith)
+
+pub found : (p : Parts) → Good p → Found p
+found p g = let n = within-is 1 8 p.header.kind g.names.1.1.0 in at_kind p p.header.kind n.0 n.1 g

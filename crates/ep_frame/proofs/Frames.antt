@@ -1,0 +1,133 @@
+-- Bytes without a fault spell a message.
+use Rattle.std.proofs.Common.{◌≡◌, ℕ, ◌+◌, ◌*◌, ◌^◌, ◌≤◌, ◌<◌, Bool, true, false, cond, eqb, ltb, leb, List, length, drop, Result, Ok, Err, refl, sym, ap, ◌∙◌, arith}
+use Rattle.std.specs.Prelude.{not}
+use Rattle.std.proofs.lemmas.Bool.{eqb-true, ltb-false, leb-true, and_parts}
+use Rattle.std.proofs.lemmas.List.{length-take, length-drop}
+use Rattle.ep_frame.specs.declared.fault.FrameFault.{FrameFault}
+use Rattle.ep_frame.specs.declared.fault.FrameFault.TheVariants.{Short, Length, Order}
+use Rattle.ep_frame.specs.declared.header.Header.{Header}
+use Rattle.ep_frame.specs.Fields.{header_at, deps_in, number_at}
+use Rattle.ep_frame.specs.Faults.{◌>>◌, checked, names_rows, ballot_rows, vote_rows, body_rows, deps_place, frame_len, are_deps, header_fault, rest_fault, fault_of}
+use Rattle.ep_frame.specs.Spelling.{parts_at, parts_bytes, Spells}
+use Rattle.ep_frame.specs.DepBytes.{AreDepBytes}
+use Rattle.ep_frame.specs.Ranges.{InRange, Readable}
+use Rattle.ep_frame.specs.Meaning.{sender_at, origin_at, message_at}
+use Rattle.ep_frame.proofs.BigEndian.{IsBytes, IsBytes-drop, IsBytes-take}
+use Rattle.ep_frame.proofs.Headers.{parts-found, length-deps_in}
+use Rattle.ep_frame.proofs.Rows.{AllPass, fine, passes, within-is}
+use Rattle.ep_frame.proofs.Found.{Good, found, rising_found}
+use Rattle.ep_frame.proofs.Reading.{readable}
+
+then_fine : (r next : Result (Unit {0}) FrameFault) → (r >> next) ≡ fine → (r ≡ fine) × (next ≡ fine)
+then_fine (Ok x) next e = (refl, e)
+then_fine (Err f) next e = absurd cc
+
+unless_fine : (b : Bool) (f : FrameFault) (r : Result (Unit {0}) FrameFault) → cond b (Err f) r ≡ fine → (b ≡ false) × (r ≡ fine)
+unless_fine true f r e = absurd cc
+unless_fine false f r e = (refl, e)
+
+if_fine : (b : Bool) (f : FrameFault) (r : Result (Unit {0}) FrameFault) → cond b r (Err f) ≡ fine → (b ≡ true) × (r ≡ fine)
+if_fine true f r e = (refl, e)
+if_fine false f r e = absurd cc
+
+record HeaderPasses (h : Header) : Type 0 where
+  names : AllPass (names_rows h)
+  ballot : AllPass (ballot_rows h)
+  vote : AllPass (vote_rows h)
+  body : AllPass (body_rows h)
+
+header_passes : (h : Header) → header_fault h ≡ fine → HeaderPasses h
+unfolding header_fault
+header_passes h e =
+    let a = then_fine (checked (names_rows h)) (checked (ballot_rows h) >> (checked (vote_rows h) >> checked (body_rows h))) e in
+    let b = then_fine (checked (ballot_rows h)) (checked (vote_rows h) >> checked (body_rows h)) a.1 in
+    let c = then_fine (checked (vote_rows h)) (checked (body_rows h)) b.1 in
+    record { names = passes (names_rows h) a.0; ballot = passes (ballot_rows h) b.0; vote = passes (vote_rows h) c.0; body = passes (body_rows h) c.1 }
+
+record Passes (b : List ℕ) : Type 0 where
+  long : 40 ≤ length b
+  header : HeaderPasses (header_at b)
+  len : length b ≡ frame_len (header_at b)
+  deps : are_deps (deps_in (drop (deps_place (header_at b)) b)) ≡ true
+
+frame_passes : (b : List ℕ) → fault_of b ≡ fine → Passes b
+unfolding fault_of rest_fault
+frame_passes b e =
+    let h = header_at b in
+    let a = unless_fine (ltb (length b) 40) Short (header_fault h >> rest_fault h b) e in
+    let c = then_fine (header_fault h) (rest_fault h b) a.1 in
+    let d = if_fine (eqb (length b) (frame_len h)) Length (cond (are_deps (deps_in (drop (deps_place h) b))) (Ok tt) (Err Order)) c.1 in
+    let f = if_fine (are_deps (deps_in (drop (deps_place h) b))) Order (Ok tt) d.1 in
+    record { long = ltb-false _ _ a.0; header = header_passes h c.0; len = eqb-true _ _ d.0; deps = f.0 }
+
+out_fits : (b : List ℕ) → IsBytes b → number_at 6 2 b < 2 ^ 16
+unfolding number_at
+out_fits b fits = omega (arith, fits 6, fits 7)
+
+entry_fits : (b : List ℕ) → IsBytes b → number_at 8 4 b < 2 ^ 32
+unfolding number_at
+entry_fits b fits = omega (arith, fits 8, fits 9, fits 10, fits 11)
+
+is_good : (b : List ℕ) → IsBytes b → Passes b → Good (parts_at b)
+is_good b fits p =
+    let h = header_at b in
+    let len = p.len in
+    record {
+      names = p.header.names;
+      ballot = p.header.ballot;
+      vote = p.header.vote;
+      body = p.header.body;
+      key = omega (arith, len, length-take h.key_len (drop 40 b), length-drop 40 b);
+      value = omega (arith, len, length-take h.value_len (drop (40 + h.key_len) b), length-drop (40 + h.key_len) b);
+      count = length-deps_in (drop (deps_place h) b) h.count (omega (arith, len, length-drop (deps_place h) b));
+      deps = p.deps;
+      key_bytes = IsBytes-take h.key_len (drop 40 b) (IsBytes-drop 40 b fits);
+      value_bytes = IsBytes-take h.value_len (drop (40 + h.key_len) b) (IsBytes-drop (40 + h.key_len) b fits);
+      out = out_fits b fits;
+      entry = entry_fits b fits;
+    }
+
+pub frame_found : (b : List ℕ) → IsBytes b → fault_of b ≡ fine → Spells b (sender_at b) (origin_at b) (message_at b)
+frame_found b fits e =
+    let p = frame_passes b e in
+    let f = found (parts_at b) (is_good b fits p) in
+    record { origin = f.origin; message = f.message; is = sym (parts-found b fits p.long p.len) ∙ sym (ap parts_bytes f.is) }
+
+pub frame_long : (b : List ℕ) → fault_of b ≡ fine → 40 ≤ length b
+frame_long b e = (frame_passes b e).long
+
+pub frame_whole : (b : List ℕ) → fault_of b ≡ fine → length b ≡ frame_len (header_at b)
+frame_whole b e = (frame_passes b e).len
+
+pub frame_ranges : (b : List ℕ) → fault_of b ≡ fine → InRange b
+frame_ranges b e =
+    let p = frame_passes b e in
+    let h = header_at b in
+    let n = p.header.names in
+    let to = and_parts (leb h.to 6) (not (eqb h.to h.from)) n.1.1.1.1.0 in
+    let stamp = within-is 1 281474976710655 h.stamp n.1.1.1.1.1.1.0 in
+    let number = within-is 1 1000 h.number p.header.ballot.1.0 in
+    record {
+      long = p.long;
+      sender = leb-true _ _ n.1.1.1.0;
+      receiver = leb-true _ _ to.0;
+      entry = leb-true _ _ n.1.1.1.1.1.0;
+      stamp_low = stamp.0;
+      stamp_high = stamp.1;
+      leader = leb-true _ _ p.header.ballot.0;
+      number_low = number.0;
+      number_high = number.1;
+    }
+
+pub frame_readable : (b : List ℕ) → IsBytes b → fault_of b ≡ fine → Readable (parts_at b)
+frame_readable b fits e = readable (parts_at b) (is_good b fits (frame_passes b e))
+
+pub frame_deps : (b : List ℕ) → fault_of b ≡ fine → AreDepBytes (drop (deps_place (header_at b)) b)
+frame_deps b e =
+    let p = frame_passes b e in
+    let h = header_at b in
+    let rest = drop (deps_place h) b in
+    let len : length rest ≡ 3 * h.count = omega (arith, p.len, length-drop (deps_place h) b) in
+    let count : length (deps_in rest) ≡ h.count = length-deps_in rest h.count len in
+    let r = rising_found (deps_in rest) p.deps in
+    record { whole = omega (arith, len, count); deps = record { rising = r.0; instances = r.1 } }

@@ -1,0 +1,13 @@
+pub mod Deps
+pub mod Packing
+pub mod BigEndian
+pub mod Headers
+pub mod Again
+pub mod Rows
+pub mod Sound
+pub mod Found
+pub mod Reading
+pub mod Frames
+pub mod Meanings
+pub mod DepBytes
+pub mod Reorigin

@@ -1,0 +1,286 @@
+-- The frame of a message has no fault.
+use Rattle.std.proofs.Common.{◌≡◌, ℕ, ◌≤◌, Bool, true, false, cond, eqb, leb, List, [], ◌∷◌, length, drop, Ok, Err, refl, sym, ap, ◌∙◌, arith}
+use Rattle.std.specs.Prelude.{◌&&◌, not, Some, None}
+use Rattle.std.specs.List.{AllByRecursion}
+use Rattle.std.proofs.lemmas.Bool.{eqb-true, eq-eqb, le-leb, lt-ltb, and_from, le-ltb}
+use Rattle.ep_base.specs.Instances.{leader_of, number_of, IsInstance}
+use Rattle.ep_base.specs.Ballots.{counter_of, owner_of}
+use Rattle.ep_base.specs.Deps.{IsRising, IsBelowFirst}
+use Rattle.ep_base.specs.declared.attrs.Attrs.{Attrs}
+use Rattle.ep_base.specs.declared.decree.Decree.{Decree}
+use Rattle.ep_base.specs.declared.command.Command.{Command}
+use Rattle.ep_base.specs.declared.command.Command.TheVariants.{Noop, Get, Put, Del}
+use Rattle.ep_base.specs.declared.vote.Status.{Status}
+use Rattle.ep_base.specs.declared.vote.Status.TheVariants.{PreAccepted, Accepted, Committed}
+use Rattle.ep_base.specs.declared.message.Message.{Message}
+use Rattle.ep_base.specs.declared.message.Message.TheVariants.{PreAccept, PreAcceptOk, Accept, AcceptOk, Commit, Prepare, PrepareOk, Nack}
+use Rattle.ep_frame.specs.declared.fault.FrameFault.{FrameFault}
+use Rattle.ep_frame.specs.declared.fault.FrameFault.TheVariants.{Short, Field, Length, Order}
+use Rattle.ep_frame.specs.declared.origin.Origin.{Origin}
+use Rattle.ep_frame.specs.Fields.{header_at, deps_in}
+use Rattle.ep_frame.specs.Faults.{◌>>◌, names_rows, ballot_rows, vote_rows, body_rows, within, are_deps, is_instance, precedes_first, header_fault, rest_fault, fault_of, frame_len, deps_place}
+use Rattle.ep_frame.specs.Spelling.{Parts, parts_at, parts_of, op_code, key_in, value_in, status_code, IsBallot, IsCommand, AreAttrs, IsDecree, IsMessage, IsOrigin, Spells}
+use Rattle.ep_frame.proofs.Rows.{AllPass, fine, all_pass, within-from, apart-from, choose, choose_other}
+use Rattle.ep_frame.proofs.Again.{PartsFit, parts_again, length-parts_bytes}
+
+-- parts with these fields
+abbrev frame : (k from : ℕ) (o : Origin) (i counter replica status other_counter other_replica seq op : ℕ) (key value deps : List ℕ) → Parts
+frame k from o i counter replica status other_counter other_replica seq op key value deps = record {
+  header = record {
+    magic = 17744;
+    version = 1;
+    kind = k;
+    from = from;
+    to = o.to;
+    out = o.out;
+    entry = o.entry;
+    stamp = o.stamp;
+    leader = leader_of i;
+    number = number_of i;
+    counter = counter;
+    replica = replica;
+    status = status;
+    other_counter = other_counter;
+    other_replica = other_replica;
+    seq = seq;
+    op = op;
+    key_len = length key;
+    value_len = length value;
+    count = length deps;
+  };
+  key = key;
+  value = value;
+  deps = deps;
+}
+
+pub record Sound (p : Parts) : Type 0 where
+  pub header : header_fault p.header ≡ fine
+  pub fits : PartsFit p
+  pub count : length p.deps ≡ p.header.count
+  pub deps : are_deps p.deps ≡ true
+
+-- three groups of fields, each with its rows
+
+record BallotPart (rows : List (FrameFault × Bool)) (counter replica : ℕ) : Type 0 where
+  pass : AllPass rows
+  counter_small : counter ≤ 60000
+  replica_small : replica ≤ 6
+
+record VotePart (rows : List (FrameFault × Bool)) (status counter replica : ℕ) : Type 0 where
+  pass : AllPass rows
+  status_small : status ≤ 3
+  counter_small : counter ≤ 60000
+  replica_small : replica ≤ 6
+
+record BodyPart (rows : List (FrameFault × Bool)) (seq op : ℕ) (key value deps : List ℕ) : Type 0 where
+  pass : AllPass rows
+  seq_small : seq ≤ 1000000
+  op_small : op ≤ 4
+  key_small : length key ≤ 255
+  value_small : length value ≤ 1024
+  deps_small : length deps ≤ 7000
+  rising : are_deps deps ≡ true
+  instances : AllByRecursion IsInstance deps
+
+sound_frame : (k from : ℕ) (o : Origin) (i counter replica status other_counter other_replica seq op : ℕ) (key value deps : List ℕ) → IsOrigin from o → IsInstance i → 1 ≤ k → k ≤ 8
+    → BallotPart (ballot_rows (frame k from o i counter replica status other_counter other_replica seq op key value deps).header) counter replica
+    → VotePart (vote_rows (frame k from o i counter replica status other_counter other_replica seq op key value deps).header) status other_counter other_replica
+    → BodyPart (body_rows (frame k from o i counter replica status other_counter other_replica seq op key value deps).header) seq op key value deps
+    → Sound (frame k from o i counter replica status other_counter other_replica seq op key value deps)
+unfolding header_fault
+sound_frame k from o i counter replica status other_counter other_replica seq op key value deps g n low high a v y =
+    let h = (frame k from o i counter replica status other_counter other_replica seq op key value deps).header in
+    let to : (leb o.to 6 && not (eqb o.to from)) ≡ true = and_from _ _ (le-leb _ _ g.receiver) (apart-from o.to from g.apart) in
+    let stamp : within 1 281474976710655 o.stamp ≡ true = within-from 1 281474976710655 o.stamp g.stamp_low (omega (arith, g.stamp_high)) in
+    let names : AllPass (names_rows h) = (refl, (refl, (within-from 1 8 k low high, (le-leb _ _ g.sender, (to, (le-leb _ _ g.entry_low, (stamp, tt))))))) in
+    let e0 = all_pass (names_rows h) names in let e1 = all_pass (ballot_rows h) a.pass in let e2 = all_pass (vote_rows h) v.pass in let e3 = all_pass (body_rows h) y.pass in
+    record {
+      header = λ t. e0 t >> (e1 t >> (e2 t >> e3 t));
+      fits = record {
+        header = record {
+          start = (omega arith, (omega arith, (omega arith, (omega (arith, g.sender), tt))));
+          origin = (omega (arith, g.receiver), (omega (arith, g.out), (omega (arith, g.entry_high), (omega (arith, g.stamp_high), tt))));
+          ballot = (omega (arith, n.0), (omega (arith, n.2), (omega (arith, a.counter_small), (omega (arith, a.replica_small), tt))));
+          vote = (omega (arith, v.status_small), (omega (arith, v.counter_small), (omega (arith, v.replica_small), tt)));
+          body = (omega (arith, y.seq_small), (omega (arith, y.op_small), (omega (arith, y.key_small), (omega (arith, y.value_small), (omega (arith, y.deps_small), tt)))));
+        };
+        key = refl;
+        value = refl;
+        deps = y.instances;
+      };
+      count = refl;
+      deps = y.rising;
+    }
+
+-- ---- ballots
+
+replica_from : (i least b : ℕ) → IsBallot i least b → cond (eqb (counter_of b) 0) (eqb (owner_of b) (leader_of i)) (leb (owner_of b) 6) ≡ true
+replica_from i least b h =
+    elim (eqb (counter_of b) 0) as (λ c. eqb (counter_of b) 0 ≡ c → cond c (eqb (owner_of b) (leader_of i)) (leb (owner_of b) 6) ≡ true) [
+      | true ↦ λ t. eq-eqb _ _ (h.first (eqb-true (counter_of b) 0 t))
+      | false ↦ λ t. le-leb _ _ h.replica
+    ] refl
+
+abbrev ballot_rows_of : ℕ → Bool → Bool → List (FrameFault × Bool)
+ballot_rows_of i counter replica = (Field 20, leb (leader_of i) 6) ∷ (Field 21, within 1 1000 (number_of i)) ∷ (Field 23, counter) ∷ (Field 25, replica) ∷ []
+
+ballot_rows_pass : (i : ℕ) (counter replica : Bool) → IsInstance i → counter ≡ true → replica ≡ true → AllPass (ballot_rows_of i counter replica)
+ballot_rows_pass i counter replica n c r = (le-leb _ _ n.0, (within-from 1 1000 (number_of i) n.1 n.2, (c, (r, tt))))
+
+-- any ballot
+any_ballot : (i b : ℕ) → IsInstance i → IsBallot i 0 b
+    → BallotPart (ballot_rows_of i (leb (counter_of b) 60000) (cond (eqb (counter_of b) 0) (eqb (owner_of b) (leader_of i)) (leb (owner_of b) 6))) (counter_of b) (owner_of b)
+any_ballot i b n h = record { pass = ballot_rows_pass i _ _ n (le-leb _ _ h.high) (replica_from i 0 b h); counter_small = h.high; replica_small = h.replica }
+
+-- one of a counter of 1 or more
+joined_ballot : (i b : ℕ) → IsInstance i → IsBallot i 1 b
+    → BallotPart (ballot_rows_of i (within 1 60000 (counter_of b)) (cond (eqb (counter_of b) 0) (eqb (owner_of b) (leader_of i)) (leb (owner_of b) 6))) (counter_of b) (owner_of b)
+joined_ballot i b n h = record { pass = ballot_rows_pass i _ _ n (within-from 1 60000 (counter_of b) h.low h.high) (replica_from i 1 b h); counter_small = h.high; replica_small = h.replica }
+
+no_ballot : (i : ℕ) → IsInstance i → BallotPart (ballot_rows_of i true true) 0 0
+no_ballot i n = record { pass = ballot_rows_pass i true true n refl refl; counter_small = omega arith; replica_small = omega arith }
+
+-- ---- votes
+
+abbrev vote_rows_of : Bool → Bool → Bool → List (FrameFault × Bool)
+vote_rows_of status counter replica = (Field 26, status) ∷ (Field 27, counter) ∷ (Field 29, replica) ∷ []
+
+no_vote : VotePart (vote_rows_of true true true) 0 0 0
+no_vote = record { pass = (refl, (refl, (refl, tt))); status_small = omega arith; counter_small = omega arith; replica_small = omega arith }
+
+pub has_status : (s : Status) → eqb (status_code s) 0 ≡ false
+has_status PreAccepted = refl
+has_status Accepted = refl
+has_status Committed = refl
+
+status_high : (s : Status) → status_code s ≤ 3
+status_high PreAccepted = omega arith
+status_high Accepted = omega arith
+status_high Committed = omega arith
+
+some_vote : (i : ℕ) (s : Status) (b : ℕ) → IsBallot i 0 b
+    → VotePart (vote_rows_of (leb (status_code s) 3) (cond (eqb (status_code s) 0) (eqb (counter_of b) 0) (leb (counter_of b) 60000)) (cond (eqb (counter_of b) 0) (eqb (owner_of b) (leader_of i)) (leb (owner_of b) 6)))
+    (status_code s) (counter_of b) (owner_of b)
+some_vote i s b h =
+    record {
+      pass = (le-leb _ _ (status_high s), (choose_other _ _ _ (has_status s) (le-leb _ _ h.high), (replica_from i 0 b h, tt)));
+      status_small = status_high s;
+      counter_small = h.high;
+      replica_small = h.replica;
+    }
+
+-- ---- commands and attributes
+
+rising_again : (ds : List ℕ) → IsRising ds → AllByRecursion IsInstance ds → are_deps ds ≡ true
+rising_again [] r h = refl
+rising_again (i ∷ is) r h =
+    let one : is_instance i ≡ true = and_from (leb (leader_of i) 6) (within 1 1000 (number_of i)) (le-leb _ _ h.0.0) (within-from 1 1000 (number_of i) h.0.1 h.0.2) in
+    and_from (is_instance i && precedes_first i is) (are_deps is) (and_from (is_instance i) (precedes_first i is) one (first is r.0)) (rising_again is r.1 h.1)
+  where
+    first : (is : List ℕ) → IsBelowFirst i is → precedes_first i is ≡ true
+    first [] h = refl
+    first (j ∷ js) h = lt-ltb _ _ h
+
+record CommandPart (op : ℕ) (key value : List ℕ) : Type 0 where
+  low : 1 ≤ op
+  high : op ≤ 4
+  key_row : cond (within 2 4 op) (within 1 255 (length key)) (eqb (length key) 0) ≡ true
+  value_row : cond (eqb op 3) (leb (length value) 1024) (eqb (length value) 0) ≡ true
+  key_small : length key ≤ 255
+  value_small : length value ≤ 1024
+
+command_part : (c : Command) → IsCommand c → CommandPart (op_code c) (key_in c) (value_in c)
+command_part Noop h = record { low = omega arith; high = omega arith; key_row = refl; value_row = refl; key_small = omega arith; value_small = omega arith }
+command_part (Get k) h = record { low = omega arith; high = omega arith; key_row = within-from 1 255 (length k) h.0 h.1; value_row = refl; key_small = h.1; value_small = omega arith }
+command_part (Put k v) h = record { low = omega arith; high = omega arith; key_row = within-from 1 255 (length k) h.0.0 h.0.1; value_row = le-leb _ _ h.1; key_small = h.0.1; value_small = h.1 }
+command_part (Del k) h = record { low = omega arith; high = omega arith; key_row = within-from 1 255 (length k) h.0 h.1; value_row = refl; key_small = h.1; value_small = omega arith }
+
+-- the rows of a frame that has attributes or not, and a command or not
+abbrev body_rows_of : (attributes command : Bool) (seq op kl vl count : ℕ) → List (FrameFault × Bool)
+body_rows_of attributes command seq op kl vl count =
+    (Field 30, cond attributes (within 1 1000000 seq) (eqb seq 0)) ∷ (Field 34, cond command (within 1 4 op) (eqb op 0))
+    ∷ (Field 35, cond (within 2 4 op) (within 1 255 kl) (eqb kl 0)) ∷ (Field 36, cond (eqb op 3) (leb vl 1024) (eqb vl 0))
+    ∷ (Field 38, cond attributes (leb count 7000) (eqb count 0)) ∷ []
+
+decree_body : (attributes command : Bool) → attributes ≡ true → command ≡ true → (x : Decree) → IsDecree x
+    → BodyPart (body_rows_of attributes command x.attrs.seq (op_code x.command) (length (key_in x.command)) (length (value_in x.command)) (length x.attrs.deps))
+    x.attrs.seq (op_code x.command) (key_in x.command) (value_in x.command) x.attrs.deps
+decree_body attributes command ta tc x h =
+    let c = command_part x.command h.command in let a = h.attrs in
+    record {
+      pass = (
+        choose _ _ _ ta (within-from 1 1000000 x.attrs.seq a.low a.high),
+        (choose _ _ _ tc (within-from 1 4 (op_code x.command) c.low c.high), (c.key_row, (c.value_row, (choose _ _ _ ta (le-leb _ _ a.few), tt)))),
+      );
+      seq_small = a.high;
+      op_small = c.high;
+      key_small = c.key_small;
+      value_small = c.value_small;
+      deps_small = a.few;
+      rising = rising_again x.attrs.deps a.rising a.instances;
+      instances = a.instances;
+    }
+
+attrs_body : (x : Attrs) → AreAttrs x → BodyPart (body_rows_of true false x.seq 0 0 0 (length x.deps)) x.seq 0 [] [] x.deps
+attrs_body x a =
+    record {
+      pass = (within-from 1 1000000 x.seq a.low a.high, (refl, (refl, (refl, (le-leb _ _ a.few, tt)))));
+      seq_small = a.high;
+      op_small = omega arith;
+      key_small = omega arith;
+      value_small = omega arith;
+      deps_small = a.few;
+      rising = rising_again x.deps a.rising a.instances;
+      instances = a.instances;
+    }
+
+no_body : BodyPart (body_rows_of false false 0 0 0 0 0) 0 0 [] [] []
+no_body =
+    record {
+      pass = (refl, (refl, (refl, (refl, (refl, tt)))));
+      seq_small = omega arith;
+      op_small = omega arith;
+      key_small = omega arith;
+      value_small = omega arith;
+      deps_small = omega arith;
+      rising = refl;
+      instances = tt;
+    }
+
+-- ---- messages
+
+pub sound : (from : ℕ) (o : Origin) (m : Message) → IsOrigin from o → IsMessage m → Sound (parts_of from o m)
+sound from o (PreAccept i b x) g m = sound_frame 1 from o i _ _ 0 0 0 _ _ _ _ _ g m.0 (omega arith) (omega arith) (any_ballot i b m.0 m.1) no_vote (decree_body true true refl refl x m.2)
+sound from o (PreAcceptOk i b a) g m = sound_frame 2 from o i _ _ 0 0 0 _ 0 [] [] _ g m.0 (omega arith) (omega arith) (any_ballot i b m.0 m.1) no_vote (attrs_body a m.2)
+sound from o (Accept i b x) g m = sound_frame 3 from o i _ _ 0 0 0 _ _ _ _ _ g m.0 (omega arith) (omega arith) (any_ballot i b m.0 m.1) no_vote (decree_body true true refl refl x m.2)
+sound from o (AcceptOk i b) g m = sound_frame 4 from o i _ _ 0 0 0 0 0 [] [] [] g m.0 (omega arith) (omega arith) (any_ballot i b m.0 m.1) no_vote no_body
+sound from o (Commit i x) g m = sound_frame 5 from o i 0 0 0 0 0 _ _ _ _ _ g m.0 (omega arith) (omega arith) (no_ballot i m.0) no_vote (decree_body true true refl refl x m.1)
+sound from o (Prepare i b) g m = sound_frame 6 from o i _ _ 0 0 0 0 0 [] [] [] g m.0 (omega arith) (omega arith) (joined_ballot i b m.0 m.1) no_vote no_body
+sound from o (PrepareOk i b None) g m =
+    sound_frame 7 from o i _ _ 0 0 (leader_of i) 0 0 [] [] [] g m.0 (omega arith) (omega arith) (joined_ballot i b m.0 m.1)
+    (record { pass = (refl, (refl, (eq-eqb (leader_of i) (leader_of i) refl, tt))); status_small = omega arith; counter_small = omega arith; replica_small = m.0.0 }) no_body
+sound from o (PrepareOk i b (Some v)) g m =
+    let has = ap not (has_status v.status) in
+    sound_frame 7 from o i _ _ (status_code v.status) (counter_of v.ballot) (owner_of v.ballot) _ _ _ _ _ g m.0 (omega arith) (omega arith) (joined_ballot i b m.0 m.1)
+    (some_vote i v.status v.ballot m.2.0) (decree_body (not (eqb (status_code v.status) 0)) (not (eqb (status_code v.status) 0)) has has v.decree m.2.1)
+sound from o (Nack i b p) g m =
+    sound_frame 8 from o i _ _ 0 (counter_of p) (owner_of p) 0 0 [] [] [] g m.0 (omega arith) (omega arith) (any_ballot i b m.0 m.1)
+    (record { pass = (refl, (within-from 1 60000 (counter_of p) m.2 m.3, (le-leb _ _ m.4, tt))); status_small = omega arith; counter_small = m.3; replica_small = m.4 }) no_body
+
+no_fault : (b : List ℕ) (p : Parts) → parts_at b ≡ p → 40 ≤ length b → length b ≡ frame_len p.header → header_fault p.header ≡ fine → are_deps p.deps ≡ true → fault_of b ≡ fine
+unfolding fault_of rest_fault
+no_fault b p is long len header deps =
+    let h : header_at b ≡ p.header = ap (λ q. q.header) is in
+    let d : are_deps (deps_in (drop (deps_place (header_at b)) b)) ≡ true = ap (λ q. are_deps q.deps) is ∙ deps in
+    let l : eqb (length b) (frame_len (header_at b)) ≡ true = eq-eqb _ _ (len ∙ ap frame_len (sym h)) in
+    ap (λ x. cond x (Err Short) (header_fault (header_at b) >> cond (eqb (length b) (frame_len (header_at b))) (cond (are_deps (deps_in (drop (deps_place (header_at b)) b))) (Ok tt) (Err Order)) (Err Length))) (le-ltb _ _ long)
+    ∙ (λ t. (ap header_fault h ∙ header) t >> cond (l t) (cond (d t) (Ok tt) (Err Order)) (Err Length))
+
+-- what is spelled has no fault
+pub frame_again : (b : List ℕ) (from : ℕ) (o : Origin) (m : Message) → Spells b from o m → fault_of b ≡ fine
+frame_again b from o m s =
+    let p = parts_of from o m in
+    let q = sound from o m s.origin s.message in
+    let at : parts_at b ≡ p = ap parts_at s.is ∙ parts_again p q.fits in
+    let len = ap length s.is ∙ length-parts_bytes p q.fits q.count in
+    no_fault b p at (omega (arith, len)) len q.header q.deps

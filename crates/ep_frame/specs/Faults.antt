@@ -1,0 +1,130 @@
+-- What is wrong with the bytes of a frame: the first fault, from left to right.
+use Rattle.std.specs.Prelude.{ℕ, ◌+◌, ◌*◌, List, [], ◌∷◌, Bool, true, ◌&&◌, ◌||◌, not, ◌==◌, nat_le, nat_lt, if◌then◌else◌, length, drop, Result, Ok, Err, ◌≡◌}
+use Rattle.ep_base.specs.Instances.{leader_of, number_of}
+use Rattle.ep_frame.specs.declared.header.Header.{Header}
+use Rattle.ep_frame.specs.declared.fault.FrameFault.{FrameFault}
+use Rattle.ep_frame.specs.declared.fault.FrameFault.TheVariants.{Short, Magic, Version, Kind, Field, Length, Order}
+use Rattle.ep_frame.specs.Fields.{header_at, deps_in}
+
+abbrev pub within : ℕ → ℕ → ℕ → Bool
+within low high n = nat_le low n && nat_le n high
+
+-- kinds 1, 2, 3 and 5, and 7 with a status
+abbrev pub has_attributes : Header → Bool
+has_attributes h = h.kind == 1 || h.kind == 2 || h.kind == 3 || h.kind == 5 || (h.kind == 7 && not (h.status == 0))
+
+-- kinds 1, 3 and 5, and 7 with a status
+abbrev pub has_command : Header → Bool
+has_command h = h.kind == 1 || h.kind == 3 || h.kind == 5 || (h.kind == 7 && not (h.status == 0))
+
+abbrev pub counter_allowed : Header → Bool
+counter_allowed h =
+    if h.kind == 5 then h.counter == 0
+    else if h.kind == 6 || h.kind == 7 then within 1 60000 h.counter
+    else nat_le h.counter 60000
+
+abbrev pub replica_allowed : Header → Bool
+replica_allowed h =
+    if h.kind == 5 then h.replica == 0
+    else if h.counter == 0 then h.replica == h.leader
+    else nat_le h.replica 6
+
+abbrev pub status_allowed : Header → Bool
+status_allowed h = if h.kind == 7 then nat_le h.status 3 else h.status == 0
+
+abbrev pub other_counter_allowed : Header → Bool
+other_counter_allowed h =
+    if h.kind == 7 then (if h.status == 0 then h.other_counter == 0 else nat_le h.other_counter 60000)
+    else if h.kind == 8 then within 1 60000 h.other_counter
+    else h.other_counter == 0
+
+abbrev pub other_replica_allowed : Header → Bool
+other_replica_allowed h =
+    if h.kind == 7 then (if h.other_counter == 0 then h.other_replica == h.leader else nat_le h.other_replica 6)
+    else if h.kind == 8 then nat_le h.other_replica 6
+    else h.other_replica == 0
+
+abbrev pub seq_allowed : Header → Bool
+seq_allowed h = if has_attributes h then within 1 1000000 h.seq else h.seq == 0
+
+abbrev pub op_allowed : Header → Bool
+op_allowed h = if has_command h then within 1 4 h.op else h.op == 0
+
+abbrev pub key_len_allowed : Header → Bool
+key_len_allowed h = if within 2 4 h.op then within 1 255 h.key_len else h.key_len == 0
+
+abbrev pub value_len_allowed : Header → Bool
+value_len_allowed h = if h.op == 3 then nat_le h.value_len 1024 else h.value_len == 0
+
+abbrev pub count_allowed : Header → Bool
+count_allowed h = if has_attributes h then nat_le h.count 7000 else h.count == 0
+
+-- the fields of the header in their order, each with whether it is allowed
+abbrev pub names_rows : Header → List (FrameFault × Bool)
+names_rows h =
+    (Magic, h.magic == 0x4550) ∷ (Version, h.version == 1) ∷ (Kind, within 1 8 h.kind)
+    ∷ (Field 4, nat_le h.from 6) ∷ (Field 5, nat_le h.to 6 && not (h.to == h.from))
+    ∷ (Field 8, nat_le 1 h.entry) ∷ (Field 12, within 1 281474976710655 h.stamp) ∷ []
+
+abbrev pub ballot_rows : Header → List (FrameFault × Bool)
+ballot_rows h =
+    (Field 20, nat_le h.leader 6) ∷ (Field 21, within 1 1000 h.number)
+    ∷ (Field 23, counter_allowed h) ∷ (Field 25, replica_allowed h) ∷ []
+
+abbrev pub vote_rows : Header → List (FrameFault × Bool)
+vote_rows h =
+    (Field 26, status_allowed h) ∷ (Field 27, other_counter_allowed h) ∷ (Field 29, other_replica_allowed h) ∷ []
+
+abbrev pub body_rows : Header → List (FrameFault × Bool)
+body_rows h =
+    (Field 30, seq_allowed h) ∷ (Field 34, op_allowed h) ∷ (Field 35, key_len_allowed h)
+    ∷ (Field 36, value_len_allowed h) ∷ (Field 38, count_allowed h) ∷ []
+
+-- the second where the first finds no fault
+infixr 10 ◌>>◌
+abbrev pub ◌>>◌ : Result (Unit {0}) FrameFault → Result (Unit {0}) FrameFault → Result (Unit {0}) FrameFault
+(Ok x) >> next = next
+(Err e) >> next = Err e
+
+-- the first row that isn't allowed
+abbrev pub checked : List (FrameFault × Bool) → Result (Unit {0}) FrameFault
+checked [] = Ok tt
+checked (row ∷ rows) = if row.1 then checked rows else Err row.0
+
+unfoldable pub header_fault : Header → Result (Unit {0}) FrameFault
+header_fault h = do
+  checked (names_rows h)
+  checked (ballot_rows h)
+  checked (vote_rows h)
+  checked (body_rows h)
+
+abbrev pub deps_place : Header → ℕ
+deps_place h = 40 + h.key_len + h.value_len
+
+abbrev pub frame_len : Header → ℕ
+frame_len h = deps_place h + 3 * h.count
+
+abbrev pub is_instance : ℕ → Bool
+is_instance i = nat_le (leader_of i) 6 && within 1 1000 (number_of i)
+
+abbrev pub precedes_first : ℕ → List ℕ → Bool
+precedes_first i [] = true
+precedes_first i (j ∷ js) = nat_lt i j
+
+-- each is an instance, and greater than the one before it
+abbrev pub are_deps : List ℕ → Bool
+are_deps [] = true
+are_deps (i ∷ is) = is_instance i && precedes_first i is && are_deps is
+
+-- the length is that of the fields, and the deps are in order
+unfoldable pub rest_fault : Header → List ℕ → Result (Unit {0}) FrameFault
+rest_fault h b =
+    if length b == frame_len h then (if are_deps (deps_in (drop (deps_place h) b)) then Ok tt else Err Order) else Err Length
+
+unfoldable pub fault_of : List ℕ → Result (Unit {0}) FrameFault
+fault_of b = if nat_lt (length b) 40 then Err Short else do
+  header_fault (header_at b)
+  rest_fault (header_at b) b
+
+abbrev pub HasNoFault : List ℕ → Type 0
+HasNoFault b = fault_of b ≡ Ok tt

@@ -1,0 +1,13 @@
+-- The parts that the code's structs borrow.
+use Rattle.ep_frame.specs.declared.layout.Layout.{Layout}
+use Rattle.ep_frame.specs.declared.sections.Sections.{Sections}
+use Rattle.ep_frame.specs.Fields.{deps_in}
+use Rattle.ep_frame.specs.Spelling.{Parts}
+
+-- what goes into a frame
+abbrev pub parts_in : Layout → Parts
+parts_in l = record { header = l.header; key = l.key.now; value = l.value.now; deps = l.deps.now }
+
+-- what a frame's bytes have
+abbrev pub parts_read : Sections → Parts
+parts_read s = record { header = s.header; key = s.key.now; value = s.value.now; deps = deps_in s.deps.now }

@@ -1,0 +1,71 @@
+-- What the parts of a frame stand for.
+use Rattle.std.specs.Prelude.{ℕ, List, Option, Some, None, ◌==◌, if◌then◌else◌}
+use Rattle.ep_base.specs.Instances.{instance_of}
+use Rattle.ep_base.specs.Ballots.{ballot_of}
+use Rattle.ep_base.specs.declared.attrs.Attrs.{Attrs}
+use Rattle.ep_base.specs.declared.decree.Decree.{Decree}
+use Rattle.ep_base.specs.declared.command.Command.{Command}
+use Rattle.ep_base.specs.declared.command.Command.TheVariants.{Noop, Get, Put, Del}
+use Rattle.ep_base.specs.declared.vote.Vote.{Vote}
+use Rattle.ep_base.specs.declared.vote.Status.{Status}
+use Rattle.ep_base.specs.declared.vote.Status.TheVariants.{PreAccepted, Accepted, Committed}
+use Rattle.ep_base.specs.declared.message.Message.{Message}
+use Rattle.ep_base.specs.declared.message.Message.TheVariants.{PreAccept, PreAcceptOk, Accept, AcceptOk, Commit, Prepare, PrepareOk, Nack}
+use Rattle.ep_frame.specs.declared.header.Header.{Header}
+use Rattle.ep_frame.specs.declared.origin.Origin.{Origin}
+use Rattle.ep_frame.specs.Spelling.{Parts, parts_at}
+
+abbrev pub origin_in : Header → Origin
+origin_in h = record { to = h.to; out = h.out; entry = h.entry; stamp = h.stamp }
+
+abbrev pub instance_in : Header → ℕ
+instance_in h = instance_of h.leader h.number
+
+-- the ballot that is led, answered or refused
+abbrev pub ballot_in : Header → ℕ
+ballot_in h = ballot_of h.counter h.replica
+
+-- the ballot that was voted at, or is promised
+abbrev pub other_in : Header → ℕ
+other_in h = ballot_of h.other_counter h.other_replica
+
+abbrev pub attrs_of : Parts → Attrs
+attrs_of p = record { seq = p.header.seq; deps = p.deps }
+
+abbrev pub command_of : ℕ → List ℕ → List ℕ → Command
+command_of op key value = if op == 1 then Noop else if op == 2 then Get key else if op == 3 then Put key value else Del key
+
+abbrev pub decree_of : Parts → Decree
+decree_of p = record { command = command_of p.header.op p.key p.value; attrs = attrs_of p }
+
+abbrev pub status_of : ℕ → Status
+status_of n = if n == 1 then PreAccepted else if n == 2 then Accepted else Committed
+
+abbrev pub vote_of : Parts → Option Vote
+vote_of p =
+    if p.header.status == 0 then None else Some (record { status = status_of p.header.status; ballot = other_in p.header; decree = decree_of p })
+
+abbrev pub message_of : Parts → Message
+message_of p =
+    if p.header.kind == 1 then PreAccept (instance_in p.header) (ballot_in p.header) (decree_of p)
+    else if p.header.kind == 2 then PreAcceptOk (instance_in p.header) (ballot_in p.header) (attrs_of p)
+    else if p.header.kind == 3 then Accept (instance_in p.header) (ballot_in p.header) (decree_of p)
+    else if p.header.kind == 4 then AcceptOk (instance_in p.header) (ballot_in p.header)
+    else if p.header.kind == 5 then Commit (instance_in p.header) (decree_of p)
+    else if p.header.kind == 6 then Prepare (instance_in p.header) (ballot_in p.header)
+    else if p.header.kind == 7 then PrepareOk (instance_in p.header) (ballot_in p.header) (vote_of p)
+    else Nack (instance_in p.header) (ballot_in p.header) (other_in p.header)
+
+-- what a frame's bytes stand for
+
+abbrev pub sender_at : List ℕ → ℕ
+sender_at b = (parts_at b).header.from
+
+abbrev pub origin_at : List ℕ → Origin
+origin_at b = origin_in (parts_at b).header
+
+abbrev pub instance_at : List ℕ → ℕ
+instance_at b = instance_in (parts_at b).header
+
+abbrev pub message_at : List ℕ → Message
+message_at b = message_of (parts_at b)

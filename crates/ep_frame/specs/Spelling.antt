@@ -1,0 +1,195 @@
+-- The one spelling of each message.
+use Rattle.std.specs.Prelude.{ℕ, ◌+◌, ◌≡◌, ◌≢◌, ◌≤◌, ◌<◌, ◌^◌, List, [], ◌++◌, length, take, drop, Option, Some, None, slice_index, slice_range}
+use Rattle.std.specs.List.{flat_map}
+use Rattle.ep_base.specs.Instances.{leader_of, number_of, IsInstance}
+use Rattle.ep_base.specs.Ballots.{counter_of, owner_of, highest_counter}
+use Rattle.ep_base.specs.Deps.{IsRising, AreInstances, most_deps}
+use Rattle.ep_base.specs.declared.command.Command.{Command}
+use Rattle.ep_base.specs.declared.command.Command.TheVariants.{Noop, Get, Put, Del}
+use Rattle.ep_base.specs.declared.attrs.Attrs.{Attrs}
+use Rattle.ep_base.specs.declared.decree.Decree.{Decree}
+use Rattle.ep_base.specs.declared.message.Message.{Message}
+use Rattle.ep_base.specs.declared.message.Message.TheVariants.{PreAccept, PreAcceptOk, Accept, AcceptOk, Commit, Prepare, PrepareOk, Nack}
+use Rattle.ep_base.specs.declared.vote.Vote.{Vote}
+use Rattle.ep_base.specs.declared.vote.Status.{Status}
+use Rattle.ep_base.specs.declared.vote.Status.TheVariants.{PreAccepted, Accepted, Committed}
+use Rattle.ep_frame.specs.declared.header.Header.{Header}
+use Rattle.ep_frame.specs.declared.origin.Origin.{Origin}
+use Rattle.ep_frame.specs.Fields.{header_bytes, header_at, dep_bytes, deps_in}
+
+-- a frame's fields, and the bytes and instances after them
+pub record Parts : Type 0 where
+  pub header : Header
+  pub key : List ℕ
+  pub value : List ℕ
+  pub deps : List ℕ
+
+abbrev pub parts_bytes : Parts → List ℕ
+parts_bytes p = header_bytes p.header ++ p.key ++ p.value ++ flat_map dep_bytes p.deps
+
+-- where the key and the value lie
+abbrev pub key_at : List ℕ → List ℕ
+key_at b = slice_range b 40 (40 + (header_at b).key_len)
+
+abbrev pub value_at : List ℕ → List ℕ
+value_at b = slice_range b (40 + (header_at b).key_len) (40 + (header_at b).key_len + (header_at b).value_len)
+
+-- the parts of a frame's bytes
+abbrev pub parts_at : List ℕ → Parts
+parts_at b =
+    let h = header_at b in
+    record { header = h; key = take h.key_len (drop 40 b); value = take h.value_len (drop (40 + h.key_len) b); deps = deps_in (drop (40 + h.key_len + h.value_len) b) }
+
+-- a frame of this kind in which all that a kind may leave out is zero
+abbrev pub blank : ℕ → Origin → ℕ → ℕ → Parts
+blank from o kind i = record {
+  header = record {
+    magic = 0x4550;
+    version = 1;
+    kind = kind;
+    from = from;
+    to = o.to;
+    out = o.out;
+    entry = o.entry;
+    stamp = o.stamp;
+    leader = leader_of i;
+    number = number_of i;
+    counter = 0;
+    replica = 0;
+    status = 0;
+    other_counter = 0;
+    other_replica = 0;
+    seq = 0;
+    op = 0;
+    key_len = 0;
+    value_len = 0;
+    count = 0;
+  };
+  key = [];
+  value = [];
+  deps = [];
+}
+
+abbrev pub with_ballot : ℕ → Parts → Parts
+with_ballot b p = record p { header = record p.header { counter = counter_of b; replica = owner_of b } }
+
+abbrev pub with_other : ℕ → ℕ → ℕ → Parts → Parts
+with_other status counter replica p = record p { header = record p.header { status = status; other_counter = counter; other_replica = replica } }
+
+abbrev pub with_attrs : Attrs → Parts → Parts
+with_attrs a p = record p { header = record p.header { seq = a.seq; count = length a.deps }; deps = a.deps }
+
+abbrev pub with_op : ℕ → List ℕ → List ℕ → Parts → Parts
+with_op op key value p = record p { header = record p.header { op = op; key_len = length key; value_len = length value }; key = key; value = value }
+
+abbrev pub op_code : Command → ℕ
+op_code Noop = 1
+op_code (Get key) = 2
+op_code (Put key value) = 3
+op_code (Del key) = 4
+
+abbrev pub key_in : Command → List ℕ
+key_in Noop = []
+key_in (Get key) = key
+key_in (Put key value) = key
+key_in (Del key) = key
+
+abbrev pub value_in : Command → List ℕ
+value_in Noop = []
+value_in (Get key) = []
+value_in (Put key value) = value
+value_in (Del key) = []
+
+abbrev pub with_decree : Decree → Parts → Parts
+with_decree x p = with_attrs x.attrs (with_op (op_code x.command) (key_in x.command) (value_in x.command) p)
+
+abbrev pub status_code : Status → ℕ
+status_code PreAccepted = 1
+status_code Accepted = 2
+status_code Committed = 3
+
+-- without a vote the voted ballot is written as the one that the instance's leader begins with
+abbrev pub with_vote : ℕ → Option Vote → Parts → Parts
+with_vote i None p = with_other 0 0 (leader_of i) p
+with_vote i (Some v) p = with_decree v.decree (with_other (status_code v.status) (counter_of v.ballot) (owner_of v.ballot) p)
+
+-- the parts of the message's frame
+abbrev pub parts_of : ℕ → Origin → Message → Parts
+parts_of from o (PreAccept i b x) = with_decree x (with_ballot b (blank from o 1 i))
+parts_of from o (PreAcceptOk i b a) = with_attrs a (with_ballot b (blank from o 2 i))
+parts_of from o (Accept i b x) = with_decree x (with_ballot b (blank from o 3 i))
+parts_of from o (AcceptOk i b) = with_ballot b (blank from o 4 i)
+parts_of from o (Commit i x) = with_decree x (blank from o 5 i)
+parts_of from o (Prepare i b) = with_ballot b (blank from o 6 i)
+parts_of from o (PrepareOk i b v) = with_vote i v (with_ballot b (blank from o 7 i))
+parts_of from o (Nack i refused promised) = with_other 0 (counter_of promised) (owner_of promised) (with_ballot refused (blank from o 8 i))
+
+-- the bytes of the message's frame
+abbrev pub spelling : ℕ → Origin → Message → List ℕ
+spelling from o m = parts_bytes (parts_of from o m)
+
+-- what has a spelling
+
+-- the ballot of counter 0 is the leader's
+pub record IsBallot (i : ℕ) (least : ℕ) (b : ℕ) : Type 0 where
+  pub low : least ≤ counter_of b
+  pub high : counter_of b ≤ highest_counter
+  pub replica : owner_of b ≤ 6
+  pub first : counter_of b ≡ 0 → owner_of b ≡ leader_of i
+
+abbrev pub AreBytes : List ℕ → Type 0
+AreBytes bs = (k : ℕ) → slice_index bs k < 256
+
+abbrev pub IsKey : List ℕ → Type 0
+IsKey k = (1 ≤ length k) × (length k ≤ 255) × AreBytes k
+
+abbrev pub IsCommand : Command → Type 0
+IsCommand Noop = Unit {0}
+IsCommand (Get key) = IsKey key
+IsCommand (Put key value) = IsKey key × (length value ≤ 1024) × AreBytes value
+IsCommand (Del key) = IsKey key
+
+pub record AreAttrs (a : Attrs) : Type 0 where
+  pub low : 1 ≤ a.seq
+  pub high : a.seq ≤ 1000000
+  pub few : length a.deps ≤ most_deps
+  pub rising : IsRising a.deps
+  pub instances : AreInstances a.deps
+
+pub record IsDecree (x : Decree) : Type 0 where
+  pub command : IsCommand x.command
+  pub attrs : AreAttrs x.attrs
+
+abbrev pub IsVote : ℕ → Option Vote → Type 0
+IsVote i None = Unit {0}
+IsVote i (Some v) = IsBallot i 0 v.ballot × IsDecree v.decree
+
+abbrev pub IsMessage : Message → Type 0
+IsMessage (PreAccept i b x) = IsInstance i × IsBallot i 0 b × IsDecree x
+IsMessage (PreAcceptOk i b a) = IsInstance i × IsBallot i 0 b × AreAttrs a
+IsMessage (Accept i b x) = IsInstance i × IsBallot i 0 b × IsDecree x
+IsMessage (AcceptOk i b) = IsInstance i × IsBallot i 0 b
+IsMessage (Commit i x) = IsInstance i × IsDecree x
+IsMessage (Prepare i b) = IsInstance i × IsBallot i 1 b
+IsMessage (PrepareOk i b v) = IsInstance i × IsBallot i 1 b × IsVote i v
+IsMessage (Nack i refused promised) = IsInstance i × IsBallot i 0 refused × (1 ≤ counter_of promised) × (counter_of promised ≤ highest_counter) × (owner_of promised ≤ 6)
+
+pub record IsOrigin (from : ℕ) (o : Origin) : Type 0 where
+  pub sender : from ≤ 6
+  pub receiver : o.to ≤ 6
+  pub apart : o.to ≢ from
+  pub out : o.out < 2 ^ 16
+  pub entry_low : 1 ≤ o.entry
+  pub entry_high : o.entry < 2 ^ 32
+  pub stamp_low : 1 ≤ o.stamp
+  pub stamp_high : o.stamp < 2 ^ 48
+
+-- the bytes are the frame that the sender `from` sends with this origin for the message m
+pub record Spells (bytes : List ℕ) (from : ℕ) (o : Origin) (m : Message) : Type 0 where
+  pub origin : IsOrigin from o
+  pub message : IsMessage m
+  pub is : bytes ≡ spelling from o m
+
+-- the bytes are the frame of some message
+abbrev pub IsFrame : List ℕ → Type 0
+IsFrame b = (from : ℕ) × (o : Origin) × (m : Message) × Spells b from o m

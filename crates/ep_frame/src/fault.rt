@@ -1,0 +1,29 @@
+//! Why bytes are no frame.
+
+use thiserror::Error;
+
+/// What is wrong with the bytes: the first fault, from left to right.
+#[derive(Clone, Copy, Debug, PartialEq, Eq, Error)]
+pub enum FrameFault {
+    /// Fewer than 40 bytes.
+    #[error("fewer than 40 bytes")]
+    Short,
+    /// The first two bytes are not `EP`.
+    #[error("not a frame")]
+    Magic,
+    /// Byte 2 is not 1.
+    #[error("unknown version")]
+    Version,
+    /// Byte 3 is not 1 to 8.
+    #[error("unknown kind")]
+    Kind,
+    /// A field of the header is not allowed; the place of the first such field.
+    #[error("the field at {0} is not allowed")]
+    Field(u8),
+    /// The length is not that of the header, the key, the value and three bytes to each dependency.
+    #[error("wrong length")]
+    Length,
+    /// A dependency is no instance, or is not above the one before it.
+    #[error("the dependencies are not in order")]
+    Order,
+}

@@ -1,0 +1,300 @@
+//! Reading a frame.
+
+ghost use Rattle.std.specs.Prelude.{◌≡◌, ◌≤◌, ◌+◌, ◌*◌, ◌↔◌, Ok, Err, IfOk, IsOk, IfSome, IsSome, IsTrue, MatchResult, length, drop};
+ghost use Rattle.ep_base.specs.Instances.{instance_of, highest_number};
+ghost use Rattle.ep_base.specs.Messages.{instance_of_message};
+ghost use Rattle.ep_frame.specs.Faults.{HasNoFault, are_deps, fault_of, is_instance, rest_fault, deps_place, frame_len};
+ghost use Rattle.ep_frame.specs.DepBytes.{deps_at};
+ghost use Rattle.ep_frame.specs.Fields.{deps_in, header_at, number_at};
+ghost use Rattle.ep_frame.specs.Spelling.{IsFrame, Spells, key_at, value_at, parts_at};
+ghost use Rattle.ep_frame.specs.Layouts.{parts_read};
+ghost use Rattle.ep_frame.specs.Ranges.{InRange};
+ghost use Rattle.ep_frame.specs.Meaning.{sender_at, origin_at, instance_at, message_at};
+
+use crate::deps_view::DepsView;
+use crate::fault::FrameFault;
+use crate::header::Header;
+use crate::numbers::{u8_at, u16_at, u32_at, u64_at};
+use crate::origin::Origin;
+use crate::sections::Sections;
+use ep_base::{InstanceId, Message, ReplicaId, Stamp};
+use std::alloc::{AllocError, Global};
+use std::marker::Model;
+
+/// The bytes of a frame, borrowed. A frame spells one message, from one sender and with one origin.
+#[derive(Drop)]
+pub struct FrameView<'a> {
+    bytes: &'a [u8],
+}
+
+impl<'a> Model for FrameView<'a> {
+    ghost use Rattle.std.specs.Prelude.{◌≡◌, List, ℕ, Ok};
+    ghost use Rattle.ep_frame.specs.Faults.{HasNoFault};
+
+    ghost Value = { List ℕ };
+
+    ghost view = { λ v. v.bytes.now };
+
+    ghost invariant = { λ v. HasNoFault v.bytes.now };
+}
+
+/// The instance that these fields name.
+#[tactic(auto, using(crate::proofs::Packing::leader_again, crate::proofs::Packing::number_again))]
+pub(crate) fn dep_of(replica: u8, number: u16) -> Option<InstanceId>
+    ensures found { IfSome result (λ i. i ≡ instance_of replica number) }
+    ensures only { IsTrue (is_instance (instance_of replica number)) ↔ IsSome result }
+{
+    let replica = ReplicaId::new(replica).ok()?;
+    InstanceId::new(replica, number).ok()
+}
+
+/// Whether they are dependencies in rising order.
+fn deps_rise(bytes: &[u8]) -> bool
+    ensures { result ≡ are_deps (deps_in bytes.now) }
+{
+    let mut rest = bytes;
+    let mut last = None;
+    while let [replica, high, low, after @ ..] = rest {
+        let number = u16::from_be_bytes([*high, *low]);
+        let Some(dep) = dep_of(*replica, number) else {
+            return false;
+        };
+        if let Some(before) = last
+            && before >= dep
+        {
+            return false;
+        }
+        last = Some(dep);
+        rest = after;
+    }
+    true
+}
+
+/// Whether the length is that of the fields, and the dependencies are in order.
+#[tactic(auto, using(crate::proofs::Deps::rest_of), unfolding(crate::specs::Faults::rest_fault))]
+fn check_rest(header: &Header, bytes: &[u8]) -> Result<(), FrameFault>
+    ensures { result ≡ rest_fault header.now bytes.now }
+{
+    if bytes.len() != header.len() {
+        return Err(FrameFault::Length);
+    }
+    if !deps_rise(&bytes[header.deps_place()..]) {
+        return Err(FrameFault::Order);
+    }
+    Ok(())
+}
+
+/// The first fault of the bytes.
+#[tactic(auto, unfolding(crate::specs::Faults::fault_of))]
+pub(crate) fn check_frame(bytes: &[u8]) -> Result<(), FrameFault>
+    ensures { result ≡ fault_of bytes.now }
+{
+    if bytes.len() < 40 {
+        return Err(FrameFault::Short);
+    }
+    let header = Header::parse(bytes);
+    header.check()?;
+    check_rest(&header, bytes)
+}
+
+fn key_in(bytes: &[u8]) -> &[u8]
+    requires long { 40 ≤ length bytes.now }
+    requires whole { length bytes.now ≡ frame_len (header_at bytes.now) }
+    ensures { result.now ≡ key_at bytes.now }
+{
+    let end = 40 + u8_at(bytes, 35) as usize;
+    &bytes[40..end]
+}
+
+fn value_in(bytes: &[u8]) -> &[u8]
+    requires long { 40 ≤ length bytes.now }
+    requires whole { length bytes.now ≡ frame_len (header_at bytes.now) }
+    ensures { result.now ≡ value_at bytes.now }
+{
+    let start = 40 + u8_at(bytes, 35) as usize;
+    let end = start + u16_at(bytes, 36) as usize;
+    &bytes[start..end]
+}
+
+/// The replica of this number.
+pub(crate) fn made_replica(index: u8) -> ReplicaId
+    requires { index ≤ 6 }
+    ensures { result ≡ index }
+{
+    match ReplicaId::new(index) {
+        Ok(replica) => replica,
+        Err(_) => unreachable!(),
+    }
+}
+
+/// The instance of this leader and number.
+pub(crate) fn made_instance(leader: u8, number: u16) -> InstanceId
+    requires leader { leader ≤ 6 }
+    requires low { 1 ≤ number }
+    requires high { number ≤ highest_number }
+    ensures { result ≡ instance_of leader number }
+{
+    match InstanceId::new(made_replica(leader), number) {
+        Ok(instance) => instance,
+        Err(_) => unreachable!(),
+    }
+}
+
+fn replica_at(bytes: &[u8], place: usize) -> ReplicaId
+    requires long { place + 1 ≤ length bytes.now }
+    requires in_range { number_at place 1 bytes.now ≤ 6 }
+    ensures { result ≡ number_at place 1 bytes.now }
+{
+    made_replica(u8_at(bytes, place))
+}
+
+fn stamp_at(bytes: &[u8], place: usize) -> Stamp
+    requires long { place + 8 ≤ length bytes.now }
+    requires low { 1 ≤ number_at place 8 bytes.now }
+    requires high { number_at place 8 bytes.now ≤ 281474976710655 }
+    ensures { result ≡ number_at place 8 bytes.now }
+{
+    match Stamp::new(u64_at(bytes, place)) {
+        Ok(stamp) => stamp,
+        Err(_) => unreachable!(),
+    }
+}
+
+fn instance_in(bytes: &[u8]) -> InstanceId
+    requires { InRange bytes.now }
+    ensures { result ≡ instance_at bytes.now }
+{
+    made_instance(u8_at(bytes, 20), u16_at(bytes, 21))
+}
+
+fn sender_in(bytes: &[u8]) -> ReplicaId
+    requires { InRange bytes.now }
+    ensures { result ≡ sender_at bytes.now }
+{
+    replica_at(bytes, 4)
+}
+
+fn origin_in(bytes: &[u8]) -> Origin
+    requires { InRange bytes.now }
+    ensures { result ≡ origin_at bytes.now }
+{
+    Origin {
+        to: replica_at(bytes, 5),
+        out: u16_at(bytes, 6),
+        entry: u32_at(bytes, 8),
+        stamp: stamp_at(bytes, 12),
+    }
+}
+
+// The fields, and the bytes after them.
+fn sections_in(bytes: &[u8]) -> Sections<'_>
+    requires long { 40 ≤ length bytes.now }
+    requires whole { length bytes.now ≡ frame_len (header_at bytes.now) }
+    ensures { parts_read result ≡ parts_at bytes.now }
+{
+    let header = Header::parse(bytes);
+    Sections {
+        header,
+        key: key_in(bytes),
+        value: value_in(bytes),
+        deps: &bytes[header.deps_place()..],
+    }
+}
+
+// What stands after the value.
+#[tactic(auto, using(crate::proofs::Deps::rest_of))]
+fn rest_in(bytes: &[u8]) -> &[u8]
+    requires long { 40 ≤ length bytes.now }
+    requires whole { length bytes.now ≡ frame_len (header_at bytes.now) }
+    ensures { result.now ≡ drop (deps_place (header_at bytes.now)) bytes.now }
+{
+    let place = Header::parse(bytes).deps_place();
+    &bytes[place..]
+}
+
+// The message that the bytes spell.
+fn message_in(alloc: Global, bytes: &[u8]) -> Result<Message, AllocError>
+    requires { HasNoFault bytes.now }
+    ensures value { IfOk result (λ m. m ≡ message_at bytes.now) }
+    ensures spelled { IfOk result (λ m. Spells bytes.now (sender_at bytes.now) (origin_at bytes.now) m) }
+{
+    let message = sections_in(bytes).message(alloc)?;
+    Ok(message)
+}
+
+impl<'a> FrameView<'a> {
+    /// The frame that the bytes are; otherwise the first fault from left to right.
+    pub fn read(bytes: &'a [u8]) -> Result<FrameView<'a>, FrameFault>
+        ensures exact { MatchResult result (λ v. fault_of bytes.now ≡ Ok tt) (λ f. fault_of bytes.now ≡ Err f) }
+        // What is read spells the message that its fields tell.
+        ensures found { IfOk result (λ _. Spells bytes.now (sender_at bytes.now) (origin_at bytes.now) (message_at bytes.now)) }
+        // What spells a message is read.
+        ensures only { IsFrame bytes.now → IsOk result }
+        ensures view { IfOk result (λ v. v ≡ bytes.now) }
+    {
+        check_frame(bytes)?;
+        Ok(FrameView { bytes })
+    }
+
+    /// The fields of the first 40 bytes.
+    pub fn header(&self) -> Header
+        ensures { result ≡ header_at self.now }
+    {
+        Header::parse(self.bytes)
+    }
+
+    #[tactic(auto, using(crate::proofs::Frames::frame_ranges))]
+    /// The replica that sent the frame.
+    pub fn from(&self) -> ReplicaId
+        ensures { result ≡ sender_at self.now }
+    {
+        sender_in(self.bytes)
+    }
+
+    #[tactic(auto, using(crate::proofs::Frames::frame_ranges))]
+    /// Where the frame goes, and which one it is.
+    pub fn origin(&self) -> Origin
+        ensures { result ≡ origin_at self.now }
+    {
+        origin_in(self.bytes)
+    }
+
+    #[tactic(auto, using(crate::proofs::Frames::frame_ranges, crate::proofs::Meanings::instance_named))]
+    /// The instance that the message is about.
+    pub fn instance(&self) -> InstanceId
+        ensures value { result ≡ instance_at self.now }
+        ensures message { result ≡ instance_of_message (message_at self.now) }
+    {
+        instance_in(self.bytes)
+    }
+
+    /// The bytes of the key: those from place 40 on that the header counts. None where the frame has no key.
+    pub fn key(&self) -> &'a [u8]
+        ensures { result.now ≡ key_at self.now }
+    {
+        key_in(self.bytes)
+    }
+
+    /// The bytes of the value: those after the key that the header counts.
+    pub fn value(&self) -> &'a [u8]
+        ensures { result.now ≡ value_at self.now }
+    {
+        value_in(self.bytes)
+    }
+
+    #[tactic(auto, using(crate::proofs::Frames::frame_long, crate::proofs::Frames::frame_whole, crate::proofs::Frames::frame_deps))]
+    /// The dependencies: what stands after the value.
+    pub fn deps(&self) -> DepsView<'a>
+        ensures { result ≡ deps_at self.now }
+    {
+        DepsView::of(rest_in(self.bytes))
+    }
+
+    /// The message that the bytes spell.
+    pub fn to_message(&self, alloc: Global) -> Result<Message, AllocError>
+        ensures value { IfOk result (λ m. m ≡ message_at self.now) }
+        ensures spelled { IfOk result (λ m. Spells self.now (sender_at self.now) (origin_at self.now) m) }
+    {
+        message_in(alloc, self.bytes)
+    }
+}

@@ -1,0 +1,6 @@
+pub mod Fresh
+pub mod DoneBy
+pub mod Spelling
+pub mod Refusals
+pub mod Back
+pub mod Writable

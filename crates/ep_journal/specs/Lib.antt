@@ -1,0 +1,6 @@
+pub mod Executing
+pub mod Events
+pub mod Refused
+pub mod Parts
+pub mod Inputs
+pub mod Stepping

@@ -1,0 +1,69 @@
+//! Executing an instance, and all that it waits for.
+
+ghost use Rattle.std.specs.Prelude.{◌≡◌, ◌≤◌, ◌∷◌, [], ◌++◌, ◌+◌, IfOk, OnErr, OnOk, length};
+ghost use Rattle.ep_exec.specs.Tries.{tried};
+ghost use Rattle.ep_rules.specs.OneMap.{answer, after_all};
+ghost use Rattle.ep_rules.specs.States.{command_in};
+ghost use Rattle.ep_journal.specs.Executing.{done_by};
+
+use crate::executions::Executions;
+use ep_base::{Answer, Command, InstanceId};
+use ep_exec::{Store, Trial};
+use ep_space::Space;
+use std::alloc::{AllocError, Global};
+
+/// Does what is committed in the instance: nothing where nothing is.
+fn try_one(space: &Space, trial: &mut Trial, id: InstanceId) -> Result<Answer, AllocError>
+    ensures answer { IfOk result (λ a. a ≡ answer trial.old.current (command_in space.now.records id)) }
+    ensures ok { OnOk result (trial.new ≡ tried trial.old (command_in space.now.records id)) }
+    ensures err { OnErr result (trial.new ≡ trial.old) }
+    ensures start { trial.new.start ≡ trial.old.start }
+{
+    match space.committed(id) {
+        None => trial.apply(&Command::noop()),
+        Some(decree) => trial.apply(&decree.command),
+    }
+}
+
+/// Does what is committed in the instances, in turn.
+fn try_all(
+    alloc: Global,
+    space: &Space,
+    trial: &mut Trial,
+    order: &[InstanceId],
+) -> Result<Executions, AllocError>
+    ensures done { IfOk result (λ d. d ≡ done_by (command_in space.now.records) trial.old.current order.now) }
+    ensures current { OnOk result (trial.new.current ≡ after_all (command_in space.now.records) trial.old.current order.now) }
+    ensures start { trial.new.start ≡ trial.old.start }
+{
+    let mut done = Vec::new(alloc);
+    for id in order {
+        let answer = try_one(space, trial, *id)?;
+        done.push((*id, answer))?;
+    }
+    Ok(Executions::new(done))
+}
+
+/// Does all of the instances' commands on the map, or none.
+fn do_all(
+    alloc: Global,
+    space: &Space,
+    store: &mut Store,
+    order: &[InstanceId],
+) -> Result<Executions, AllocError>
+    ensures done { IfOk result (λ d. d ≡ done_by (command_in space.now.records) store.old order.now) }
+    ensures ok { OnOk result (store.new ≡ after_all (command_in space.now.records) store.old order.now) }
+    ensures err { OnErr result (store.new ≡ store.old) }
+{
+    let mut trial = std::mem::replace(store, Store::new(alloc)).try_out();
+    match try_all(alloc, space, &mut trial, order) {
+        Ok(done) => {
+            *store = trial.keep();
+            Ok(done)
+        }
+        Err(fault) => {
+            *store = trial.take_back();
+            Err(fault)
+        }
+    }
+}

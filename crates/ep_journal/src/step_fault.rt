@@ -1,0 +1,99 @@
+//! Why an event was not taken.
+
+ghost use Rattle.std.specs.Prelude.{◌≡◌};
+ghost use Rattle.ep_journal.specs.Refused.{of_phase, of_prepare, of_plan};
+ghost use Rattle.ep_journal.specs.declared.step_fault.StepFault.TheVariants.{Memory};
+
+use ep_base::InstanceId;
+use ep_exec::PlanFault;
+use ep_frame::FrameFault;
+use ep_phase::PhaseFault;
+use ep_prepare::PrepareFault;
+use std::alloc::AllocError;
+use thiserror::Error;
+
+/// Why an event was not taken. The replica's state is then as it was.
+#[derive(Clone, Copy, Debug, PartialEq, Eq, Error)]
+pub enum StepFault {
+    #[error("E1 memory")]
+    Memory,
+    /// The bytes handled are no frame.
+    #[error("E14 bad frame")]
+    BadFrame(FrameFault),
+    /// A replica's number is not below the cluster's size, a no-op is proposed, or a client or a request is 0.
+    #[error("E3 out of range")]
+    OutOfRange,
+    /// The frame is for another replica.
+    #[error("E13 not mine")]
+    NotMine,
+    /// The entry's stamp or number would pass its limit.
+    #[error("E15 stamp full")]
+    StampFull,
+    /// The replica has a record of each of its 1,000 instances.
+    #[error("E4 space full")]
+    SpaceFull,
+    /// The sequence number would pass 1,000,000.
+    #[error("E5 seq exhausted")]
+    SeqExhausted,
+    /// The replica does not lead the instance's default ballot in phase 1, has promised another ballot, or has committed.
+    #[error("E6 not leading")]
+    NotLeading,
+    /// Fewer replicas have answered than may fail.
+    #[error("E7 too few answers")]
+    TooFewAnswers,
+    /// The replica has committed the instance.
+    #[error("E8 already committed")]
+    AlreadyCommitted,
+    /// The counter of the new ballot would pass 60,000.
+    #[error("E9 ballots exhausted")]
+    BallotsExhausted,
+    /// The least instance that the root reaches and that is not committed.
+    #[error("E10 not committed")]
+    NotCommitted(InstanceId),
+}
+
+impl From<AllocError> for StepFault {
+    ghost from_gives = { λ _ e. e ≡ Memory };
+
+    fn from(_fault: AllocError) -> StepFault {
+        StepFault::Memory
+    }
+}
+
+impl From<PhaseFault> for StepFault {
+    ghost from_gives = { λ f e. e ≡ of_phase f };
+
+    fn from(fault: PhaseFault) -> StepFault {
+        match fault {
+            PhaseFault::Memory => StepFault::Memory,
+            PhaseFault::SeqExhausted => StepFault::SeqExhausted,
+            PhaseFault::NotLeading => StepFault::NotLeading,
+            PhaseFault::TooFewAnswers => StepFault::TooFewAnswers,
+            PhaseFault::SpaceFull => StepFault::SpaceFull,
+        }
+    }
+}
+
+impl From<PrepareFault> for StepFault {
+    ghost from_gives = { λ f e. e ≡ of_prepare f };
+
+    fn from(fault: PrepareFault) -> StepFault {
+        match fault {
+            PrepareFault::Memory => StepFault::Memory,
+            PrepareFault::SeqExhausted => StepFault::SeqExhausted,
+            PrepareFault::AlreadyCommitted => StepFault::AlreadyCommitted,
+            PrepareFault::BallotsExhausted => StepFault::BallotsExhausted,
+        }
+    }
+}
+
+impl From<PlanFault> for StepFault {
+    ghost from_gives = { λ f e. e ≡ of_plan f };
+
+    fn from(fault: PlanFault) -> StepFault {
+        match fault {
+            PlanFault::Memory => StepFault::Memory,
+            PlanFault::NotCommitted(instance) => StepFault::NotCommitted(instance),
+        }
+    }
+}

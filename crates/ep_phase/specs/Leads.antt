@@ -1,0 +1,30 @@
+-- What a replica leads, and the counters that Nacks told it.
+use Rattle.std.specs.Prelude.{ℕ, refl, Option}
+use Rattle.std.specs.Coded.{Coded, code_by, coded×, coded_ℕ}
+use Rattle.std.specs.FinMap as map
+use Rattle.std.specs.FinSet as set
+use Rattle.ep_rules.specs.Maps.{Map}
+use Rattle.ep_rules.specs.States.{with_held}
+use Rattle.ep_rules.specs.contracts.led.Led as led_facts
+use Rattle.ep_rules.specs.declared.led.Led.{Led}
+use Rattle.ep_space.specs.Held.{Places}
+
+pub record Leads : Type 0 where
+  pub leads : Map Led
+  -- the greatest counter told, where one was
+  pub told : Map ℕ
+  -- the instances that have a place for both
+  pub places : Places
+
+abbrev pub leads_code : Coded Leads
+leads_code =
+    code_by (Map Led × (Map ℕ × Places)) (coded× (map.code coded_ℕ led_facts.the_row.coded) (coded× (map.code coded_ℕ coded_ℕ) (set.code coded_ℕ)))
+    (λ l. (l.leads, (l.told, l.places))) (λ p. record { leads = p.0; told = p.1.0; places = p.1.1 }) (λ _. refl)
+
+-- the same, with this led in i, or with nothing
+abbrev pub with_lead : Leads → ℕ → Option Led → Leads
+with_lead l i o = record l { leads = with_held l.leads i o }
+
+-- the same, with this counter told of i, or with none
+abbrev pub with_told : Leads → ℕ → Option ℕ → Leads
+with_told l i o = record l { told = with_held l.told i o }

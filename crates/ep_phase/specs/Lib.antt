@@ -1,0 +1,3 @@
+pub mod Leads
+pub mod Does
+pub mod Refused

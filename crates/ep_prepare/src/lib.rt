@@ -1,0 +1,23 @@
+//! Explicit prepare: the recovery of an instance whose leader may have failed (EPaxos, figure 3; Sutra, 2019).
+//!
+//! Each call takes one event of one instance, which has a place in both tables. It changes the records and what is led,
+//! and gives the messages to send, with their receivers. Where it answers an error, nothing has changed.
+#![tactic(auto)]
+
+mod choice;
+mod choosing;
+mod counting;
+mod own_vote;
+mod prepare_fault;
+mod preparing;
+mod recovering;
+
+pub use choice::Choice;
+pub use choosing::{PrepareAnswer, choose};
+pub use counting::on_prepare_ok;
+pub use prepare_fault::PrepareFault;
+pub use preparing::{on_nack, on_prepare};
+pub use recovering::recover;
+
+#[cfg(test)]
+mod tests;

@@ -1,0 +1,145 @@
+//! What a replica does with the answers to its Prepare.
+
+use crate::tests::samples::{ballot, decree, instance, replica, vote};
+use crate::tests::trial::{Kind, Trial, assert_decree, assert_sent};
+use ep_base::{Ballot, Command, Decree, Status, Vote};
+use ep_rules::{Led, Outgoing};
+use std::alloc::Global;
+use std::process::Abort;
+
+/// What the replica does with this answer at its ballot.
+fn answered(
+    rt: &impl Abort,
+    alloc: Global,
+    it: &mut Trial,
+    from: u8,
+    vote: &Option<Vote>,
+) -> Outgoing {
+    it.answered(rt, alloc, replica(rt, from), ballot(rt, 1, 2), vote)
+}
+
+/// A replica that has begun to recover 0.1, at ballot (1, 2).
+fn recovering(rt: &impl Abort, alloc: Global, size: u8) -> Trial {
+    let mut it = Trial::new(rt, alloc, size, 2, instance(rt, 0));
+    let out = it.recovers(alloc).expect(rt, "a recovery");
+    assert_sent(rt, &out, others(size), Kind::Prepare, ballot(rt, 1, 2));
+    it
+}
+
+/// All but replica 2.
+fn others(size: u8) -> &'static [u8] {
+    match size {
+        3 => &[0, 1],
+        5 => &[0, 1, 3, 4],
+        _ => &[0, 1, 3, 4, 5, 6],
+    }
+}
+
+/// These answer in turn; the last one of them is the one that the replica waited for, and a no-op is proposed.
+fn counts(rt: &impl Abort, alloc: Global, size: u8, early: &[u8], last: u8, late: u8) {
+    let mut it = recovering(rt, alloc, size);
+    for from in early {
+        let first = answered(rt, alloc, &mut it, *from, &None);
+        let second = answered(rt, alloc, &mut it, *from, &None);
+        assert!(rt; first.as_slice().is_empty() && second.as_slice().is_empty());
+    }
+    let out = answered(rt, alloc, &mut it, last, &None);
+    assert_sent(rt, &out, others(size), Kind::PreAccept, ballot(rt, 1, 2));
+    let out = answered(rt, alloc, &mut it, late, &None);
+    assert!(rt; out.as_slice().is_empty());
+}
+
+/// The first F+1 answers count, each replica's once: then the replica begins the phase, and uses no further answer.
+#[test]
+fn counts_the_first_answers(rt: HostRuntime) {
+    counts(&rt, rt.alloc(), 3, &[], 0, 1);
+    counts(&rt, rt.alloc(), 5, &[0], 1, 3);
+    counts(&rt, rt.alloc(), 7, &[0, 4], 3, 6);
+}
+
+/// An answer at another ballot is not used.
+#[test]
+fn uses_no_answer_elsewhere(rt: HostRuntime) {
+    let mut it = recovering(&rt, rt.alloc(), 3);
+    let out = it.answered(&rt, rt.alloc(), replica(&rt, 0), ballot(&rt, 2, 2), &None);
+    assert!(rt; out.as_slice().is_empty());
+    assert_eq!(rt; led_at(&it), Some((Kind::Prepare, ballot(&rt, 1, 2))));
+}
+
+/// Nor is one after a higher promise.
+#[test]
+fn uses_no_answer_after_a_promise(rt: HostRuntime) {
+    let mut it = recovering(&rt, rt.alloc(), 3);
+    let out = it.asked(&rt, rt.alloc(), replica(&rt, 1), ballot(&rt, 2, 1));
+    assert_sent(&rt, &out, &[1], Kind::PrepareOk, ballot(&rt, 2, 1));
+    let out = answered(&rt, rt.alloc(), &mut it, 0, &None);
+    assert!(rt; out.as_slice().is_empty());
+}
+
+/// The phase that is led, and its ballot.
+fn led_at(it: &Trial) -> Option<(Kind, Ballot)> {
+    match it.lead.get(it.id) {
+        None => None,
+        Some(Led::Proposing(ballot, _)) => Some((Kind::PreAccept, *ballot)),
+        Some(Led::Accepting(ballot, _)) => Some((Kind::Accept, *ballot)),
+        Some(Led::Preparing(ballot, _)) => Some((Kind::Prepare, *ballot)),
+    }
+}
+
+/// A committed answer is committed, and all others are told.
+#[test]
+fn commits_what_was_committed(rt: HostRuntime) {
+    let mut it = recovering(&rt, rt.alloc(), 3);
+    let vote = vote(&rt, rt.alloc(), Status::Committed, ballot(&rt, 0, 0), true);
+    let out = answered(&rt, rt.alloc(), &mut it, 1, &vote);
+    assert_sent(&rt, &out, &[0, 1], Kind::Commit, ballot(&rt, 0, 0));
+    assert_decree(&rt, &out, &decree(&rt, rt.alloc(), true));
+    assert!(rt; it.space.is_committed(it.id));
+    assert_eq!(rt; led_at(&it), None);
+}
+
+/// The decree of an answer of this status is accepted at the new ballot.
+fn accepts(rt: &impl Abort, alloc: Global, status: Status) {
+    let mut it = recovering(rt, alloc, 3);
+    let vote = vote(rt, alloc, status, ballot(rt, 0, 0), true);
+    let out = answered(rt, alloc, &mut it, 1, &vote);
+    assert_sent(rt, &out, &[0, 1], Kind::Accept, ballot(rt, 1, 2));
+    assert_decree(rt, &out, &decree(rt, alloc, true));
+    assert_eq!(rt; led_at(&it), Some((Kind::Accept, ballot(rt, 1, 2))));
+}
+
+/// What may have been committed on the fast path, or was accepted, is accepted at the new ballot.
+#[test]
+fn accepts_what_may_be_committed(rt: HostRuntime) {
+    accepts(&rt, rt.alloc(), Status::PreAccepted);
+    accepts(&rt, rt.alloc(), Status::Accepted);
+}
+
+/// After this answer of the leader's the command is proposed anew, with this replica's attributes.
+fn proposes(rt: &impl Abort, alloc: Global, vote: &Option<Vote>, command: Command) {
+    let mut it = recovering(rt, alloc, 3);
+    let out = answered(rt, alloc, &mut it, 0, vote);
+    assert_sent(rt, &out, &[0, 1], Kind::PreAccept, ballot(rt, 1, 2));
+    let attrs = decree(rt, alloc, false).attrs;
+    assert_decree(rt, &out, &Decree { command, attrs });
+    assert_eq!(rt; led_at(&it), Some((Kind::PreAccept, ballot(rt, 1, 2))));
+}
+
+/// What the leader alone pre-accepted is proposed anew; where nobody voted, a no-op is.
+#[test]
+fn proposes_anew(rt: HostRuntime) {
+    let vote = vote(
+        &rt,
+        rt.alloc(),
+        Status::PreAccepted,
+        ballot(&rt, 0, 0),
+        true,
+    );
+    proposes(
+        &rt,
+        rt.alloc(),
+        &vote,
+        decree(&rt, rt.alloc(), true).command,
+    );
+    proposes(&rt, rt.alloc(), &None, Command::noop());
+}

@@ -1,0 +1,122 @@
+-- Worked runs, computed from the definitions.
+use Rattle.std.proofs.Common.{◌≡◌, ℕ, List, [], ◌∷◌, map, Option, Some, None, slice_get, refl}
+use Rattle.ep_base.specs.Ballots.{ballot_of}
+use Rattle.ep_base.specs.Instances.{instance_of}
+use Rattle.ep_base.specs.declared.command.Command.{Command}
+use Rattle.ep_base.specs.declared.command.Command.TheVariants.{Noop, Put, Get}
+use Rattle.ep_base.specs.declared.decree.Decree.{Decree}
+use Rattle.ep_base.specs.declared.message.Message.TheVariants.{PrepareOk, Nack}
+use Rattle.ep_base.specs.declared.vote.Status.TheVariants.{PreAccepted}
+use Rattle.ep_rules.specs.Cells.{TooFewAnswers}
+use Rattle.ep_rows.specs.States.{committed_in}
+use Rattle.ep_rows.proofs.Playing.{Line, Proposal, Resignation, Recovery, Deliver, Played, play, fresh, given}
+
+abbrev committed : Played → ℕ → ℕ → Option Decree
+committed p r i = committed_in (p.world.states r).records i
+
+abbrev put_x : ℕ → Command
+put_x n = Put (120 ∷ []) (n ∷ [])
+
+abbrev get_x : Command
+get_x = Get (120 ∷ [])
+
+abbrev decree : Command → ℕ → List ℕ → Decree
+decree c seq deps = record { command = c; attrs = record { seq = seq; deps = deps } }
+
+-- one put, three replicas: the fast path, and all three commit
+abbrev one_put : Played
+one_put = play 1 fresh (Proposal 0 (put_x 49) ∷ given (1 ∷ 2 ∷ 3 ∷ 4 ∷ []) [])
+
+one_put_commits : map (λ r. committed one_put r (instance_of 0 1)) (0 ∷ 1 ∷ 2 ∷ []) ≡ Some (decree (put_x 49) 1 []) ∷ Some (decree (put_x 49) 1 []) ∷ Some (decree (put_x 49) 1 []) ∷ []
+one_put_commits = refl
+
+-- two puts of one key at once: the second leader's PreAccept comes too late to see the first
+abbrev two_puts : Played
+two_puts = play 1 fresh (Proposal 0 (put_x 49) ∷ (Proposal 1 (put_x 50) ∷ given (1 ∷ 2 ∷ 3 ∷ 4 ∷ 5 ∷ 6 ∷ 7 ∷ 8 ∷ []) []))
+
+two_puts_commit : map (λ i. committed two_puts 2 i) (instance_of 0 1 ∷ instance_of 1 1 ∷ [])
+    ≡ Some (decree (put_x 49) 2 (instance_of 1 1 ∷ [])) ∷ Some (decree (put_x 50) 1 []) ∷ []
+two_puts_commit = refl
+
+-- three that depend on one another in a ring
+abbrev ring : Played
+ring = play 1 fresh (Proposal 0 (put_x 49) ∷ (Proposal 1 (put_x 50) ∷ (Proposal 2 (put_x 51) ∷ given (1 ∷ 2 ∷ 3 ∷ 4 ∷ 5 ∷ 6 ∷ 7 ∷ 8 ∷ 9 ∷ 10 ∷ 11 ∷ 12 ∷ []) [])))
+
+ring_commits : map (λ i. committed ring 0 i) (instance_of 0 1 ∷ instance_of 1 1 ∷ instance_of 2 1 ∷ [])
+    ≡ Some (decree (put_x 49) 2 (instance_of 1 1 ∷ [])) ∷ Some (decree (put_x 50) 2 (instance_of 2 1 ∷ [])) ∷ Some (decree (put_x 51) 2 (instance_of 0 1 ∷ [])) ∷ []
+ring_commits = refl
+
+-- five replicas, answers that differ: the slow path
+abbrev slow : Played
+slow = play 2 fresh (Proposal 0 (put_x 49) ∷ (Proposal 1 (put_x 50) ∷ given (1 ∷ 2 ∷ 3 ∷ 8 ∷ 7 ∷ 9 ∷ 10 ∷ 11 ∷ 14 ∷ 15 ∷ []) []))
+
+slow_commits : committed slow 0 (instance_of 0 1) ≡ Some (decree (put_x 49) 2 (instance_of 1 1 ∷ []))
+slow_commits = refl
+
+-- the leader gives up on the fast path, at first with too few answers
+abbrev given_up : Played
+given_up =
+    play 2 fresh (Proposal 0 (put_x 49) ∷ (Proposal 1 (put_x 50) ∷ given (1 ∷ 2 ∷ 7 ∷ [])
+    (Resignation 0 (instance_of 0 1) ∷ (Deliver 8 ∷ (Resignation 0 (instance_of 0 1) ∷ given (10 ∷ 11 ∷ 13 ∷ 14 ∷ []) [])))))
+
+given_up_commits : committed given_up 0 (instance_of 0 1) ≡ Some (decree (put_x 49) 2 (instance_of 1 1 ∷ []))
+given_up_commits = refl
+
+given_up_too_early : given_up.refused ≡ TooFewAnswers ∷ []
+given_up_too_early = refl
+
+-- recovery by the vote of the fast quorum, and then the fast path by an answer that comes late
+abbrev recovered : Played
+recovered = play 1 fresh (Proposal 0 (put_x 49) ∷ (Deliver 1 ∷ (Recovery 2 (instance_of 0 1) ∷ given (4 ∷ 5 ∷ 7 ∷ 8 ∷ 2 ∷ []) [])))
+
+recovered_commits : map (λ r. committed recovered r (instance_of 0 1)) (0 ∷ 2 ∷ []) ≡ Some (decree (put_x 49) 1 []) ∷ Some (decree (put_x 49) 1 []) ∷ []
+recovered_commits = refl
+
+-- recovery of an instance that nobody else knows of: a no-op, and the late PreAccept is refused
+abbrev lost : Played
+lost = play 1 fresh (Proposal 0 (put_x 49) ∷ (Recovery 2 (instance_of 0 1) ∷ given (3 ∷ 4 ∷ 6 ∷ 7 ∷ 9 ∷ 10 ∷ 1 ∷ 11 ∷ []) []))
+
+lost_commits : committed lost 0 (instance_of 0 1) ≡ Some (decree Noop 1 [])
+lost_commits = refl
+
+lost_nack : slice_get lost.world.sent 12 ≡ Some (record { from = 1; to = 0; message = Nack (instance_of 0 1) (ballot_of 0 0) (ballot_of 1 2) })
+lost_nack = refl
+
+-- a leader that has promised a higher ballot uses no answer; then a recovery by phase 1
+abbrev promised : List Line → List Line
+promised ls = Proposal 0 (put_x 49) ∷ given (1 ∷ 2 ∷ 3 ∷ 4 ∷ 5 ∷ []) (Recovery 4 (instance_of 0 1) ∷ given (7 ∷ 6 ∷ []) ls)
+
+promised_commits_nothing : map (λ r. committed (play 2 fresh (promised [])) r (instance_of 0 1)) (0 ∷ 1 ∷ 2 ∷ 3 ∷ 4 ∷ []) ≡ None ∷ None ∷ None ∷ None ∷ None ∷ []
+promised_commits_nothing = refl
+
+promised_commits : committed (play 2 fresh (promised (given (8 ∷ 11 ∷ 12 ∷ 14 ∷ 15 ∷ 17 ∷ 18 ∷ 20 ∷ 21 ∷ 23 ∷ 24 ∷ 25 ∷ []) []))) 0 (instance_of 0 1) ≡ Some (decree (put_x 49) 1 [])
+promised_commits = refl
+
+-- the answer to a second prepare bears the ballot of the vote, and not the one promised
+abbrev prepared_twice : Played
+prepared_twice = play 2 fresh (Proposal 0 (put_x 49) ∷ (Deliver 3 ∷ (Recovery 1 (instance_of 0 1) ∷ (Deliver 7 ∷ (Recovery 2 (instance_of 0 1) ∷ (Deliver 12 ∷ []))))))
+
+prepared_twice_answer : slice_get prepared_twice.world.sent 13
+    ≡ Some (record { from = 3; to = 2; message = PrepareOk (instance_of 0 1) (ballot_of 1 2) (Some (record { status = PreAccepted; ballot = ballot_of 0 0; decree = decree (put_x 49) 1 [] })) })
+prepared_twice_answer = refl
+
+-- messages that come often change nothing more
+abbrev repeated : Played
+repeated = play 1 fresh (Proposal 0 (put_x 49) ∷ given (1 ∷ 1 ∷ 1 ∷ 2 ∷ 2 ∷ 2 ∷ 4 ∷ 4 ∷ 4 ∷ 3 ∷ 3 ∷ 3 ∷ []) [])
+
+repeated_sends : slice_get repeated.world.sent 4 ≡ None
+repeated_sends = refl
+
+-- two gets don't interfere
+abbrev gets : Played
+gets = play 1 fresh (Proposal 0 (put_x 49) ∷ given (1 ∷ 2 ∷ 3 ∷ 4 ∷ []) (Proposal 0 get_x ∷ (Proposal 1 get_x ∷ given (5 ∷ 6 ∷ 7 ∷ 8 ∷ 9 ∷ 10 ∷ 11 ∷ 12 ∷ []) [])))
+
+gets_commit : map (λ i. committed gets 2 i) (instance_of 0 2 ∷ instance_of 1 1 ∷ []) ≡ Some (decree get_x 2 (instance_of 0 1 ∷ [])) ∷ Some (decree get_x 2 (instance_of 0 1 ∷ [])) ∷ []
+gets_commit = refl
+
+-- two that depend on one another, one of them recovered
+abbrev both : Played
+both = play 1 fresh (Proposal 0 (put_x 49) ∷ (Proposal 1 (put_x 50) ∷ given (1 ∷ 3 ∷ []) (Recovery 0 (instance_of 1 1) ∷ given (6 ∷ 8 ∷ 9 ∷ 11 ∷ 12 ∷ 14 ∷ []) [])))
+
+both_commit : map (λ i. committed both 0 i) (instance_of 0 1 ∷ instance_of 1 1 ∷ []) ≡ Some (decree (put_x 49) 2 (instance_of 1 1 ∷ [])) ∷ Some (decree (put_x 50) 3 (instance_of 0 1 ∷ [])) ∷ []
+both_commit = refl

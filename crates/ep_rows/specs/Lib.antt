@@ -1,0 +1,5 @@
+pub mod Maps
+pub mod InterferenceSet
+pub mod States
+pub mod Steps
+pub mod Worlds

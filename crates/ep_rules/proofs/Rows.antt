@@ -1,0 +1,148 @@
+-- Worked choices and worked steps of phase 1 about instance 0.1, computed from the definitions.
+use Rattle.std.proofs.Common.{◌≡◌, ℕ, [], ◌∷◌, Option, Some, None, Ok, Err, refl}
+use Rattle.ep_base.specs.Ballots.{ballot_of}
+use Rattle.ep_base.specs.Instances.{instance_of}
+use Rattle.ep_base.specs.declared.attrs.Attrs.{Attrs}
+use Rattle.ep_base.specs.declared.command.Command.{Command}
+use Rattle.ep_base.specs.declared.command.Command.TheVariants.{Put}
+use Rattle.ep_base.specs.declared.decree.Decree.{Decree}
+use Rattle.ep_base.specs.declared.message.Message.TheVariants.{PreAcceptOk, Accept, Commit, Nack}
+use Rattle.ep_base.specs.declared.vote.Status.{Status}
+use Rattle.ep_base.specs.declared.vote.Status.TheVariants.{PreAccepted, Accepted, Committed}
+use Rattle.ep_base.specs.declared.vote.Vote.{Vote}
+use Rattle.ep_rules.specs.Answers.{Answers, answer}
+use Rattle.ep_rules.specs.Cells.{nothing, voted, fresh_record, NotLeading, TooFewAnswers}
+use Rattle.ep_rules.specs.Phases.{on_pre_accept, on_pre_accept_ok, give_up}
+use Rattle.ep_rules.specs.Recovery.{Choice, CommitIt, AcceptFast, ProposeIt, ProposeNoop, choose}
+use Rattle.ep_rules.specs.declared.led.Led.{Led}
+use Rattle.ep_rules.specs.declared.led.Led.TheVariants.{Proposing, Accepting}
+use Rattle.ep_rules.specs.declared.record.Record.{Record}
+
+-- the instance, and the command in it
+abbrev i : ℕ
+i = instance_of 0 1
+
+abbrev put_x : Command
+put_x = Put (120 ∷ []) (49 ∷ [])
+
+-- the leader's own attributes, those of a replica that knows of 1.1 as well, and the command with each
+abbrev alone : Attrs
+alone = record { seq = 1; deps = [] }
+
+abbrev behind : Attrs
+behind = record { seq = 2; deps = instance_of 1 1 ∷ [] }
+
+abbrev put_alone : Decree
+put_alone = record { command = put_x; attrs = alone }
+
+abbrev put_behind : Decree
+put_behind = record { command = put_x; attrs = behind }
+
+-- The choice.
+
+abbrev vote : Status → ℕ → Decree → Option Vote
+vote s b x = Some (record { status = s; ballot = b; decree = x })
+
+abbrev chosen : ℕ → Answers (Option Vote) → Choice
+chosen f answers = choose f 0 (λ r. answer answers r)
+
+-- an answer is committed: it is committed
+committed_chosen : chosen 2 ((4, None) ∷ (1, vote PreAccepted (ballot_of 0 0) put_alone) ∷ (2, vote Committed (ballot_of 0 0) put_alone) ∷ []) ≡ CommitIt put_alone
+committed_chosen = refl
+
+-- accepted, but below the greatest ballot: the command that was pre-accepted at the greatest one
+accepted_too_low : chosen 2 ((1, vote Accepted (ballot_of 1 1) put_alone) ∷ (2, vote PreAccepted (ballot_of 2 2) put_behind) ∷ (3, None) ∷ []) ≡ ProposeIt put_x
+accepted_too_low = refl
+
+-- as many equal answers as replicas may fail: the fast path may have committed them
+fast_chosen : chosen 2 ((1, vote PreAccepted (ballot_of 0 0) put_alone) ∷ (2, vote PreAccepted (ballot_of 0 0) put_alone) ∷ (4, None) ∷ []) ≡ AcceptFast put_alone
+fast_chosen = refl
+
+-- the leader's own answer doesn't count there
+leader_not_fast : chosen 2 ((0, vote PreAccepted (ballot_of 0 0) put_alone) ∷ (1, vote PreAccepted (ballot_of 0 0) put_alone) ∷ (4, None) ∷ []) ≡ ProposeIt put_x
+leader_not_fast = refl
+
+-- nobody voted: a no-op
+noop_chosen : chosen 2 ((1, None) ∷ (3, None) ∷ (4, None) ∷ []) ≡ ProposeNoop
+noop_chosen = refl
+
+-- among three replicas one answer is enough
+one_of_three : chosen 1 ((1, vote PreAccepted (ballot_of 0 0) put_behind) ∷ (2, None) ∷ []) ≡ AcceptFast put_behind
+one_of_three = refl
+
+-- of two such answers that of the least replica
+least_of_two : chosen 1 ((1, vote PreAccepted (ballot_of 0 0) put_alone) ∷ (2, vote PreAccepted (ballot_of 0 0) put_behind) ∷ []) ≡ AcceptFast put_alone
+least_of_two = refl
+
+-- Phase 1 among five replicas; the default ballot is (0, 0).
+
+-- nothing is known of the instance but the promised ballot (1, 4)
+abbrev joined : Record
+joined = record { promised = ballot_of 1 4; vote = None }
+
+-- a replica that knows of 1.1 votes with it as a dependency
+votes_behind : on_pre_accept i 0 (ballot_of 0 0) put_alone behind (fresh_record i)
+    ≡ Ok (record { entry = Some (voted (ballot_of 0 0) PreAccepted put_behind); led = None; told = None; out = (0, PreAcceptOk i (ballot_of 0 0) behind) ∷ [] })
+votes_behind = refl
+
+-- and not again
+votes_once : on_pre_accept i 0 (ballot_of 0 0) put_alone behind (voted (ballot_of 0 0) PreAccepted put_behind) ≡ Ok nothing
+votes_once = refl
+
+-- a replica that has promised more refuses, and says what
+refuses : on_pre_accept i 0 (ballot_of 0 0) put_alone alone joined
+    ≡ Ok (record { entry = None; led = None; told = None; out = (0, Nack i (ballot_of 0 0) (ballot_of 1 4)) ∷ [] })
+refuses = refl
+
+-- the leader's record of its own vote
+abbrev own : Record
+own = voted (ballot_of 0 0) PreAccepted put_alone
+
+-- the same, where it has promised a higher ballot since
+abbrev own_joined : Record
+own_joined = record { promised = ballot_of 1 4; vote = own.vote }
+
+abbrev leads : Answers Attrs → Option Led
+leads answers = Some (Proposing (ballot_of 0 0) answers)
+
+-- answers that differ: the accept phase with all of them joined
+slow_path : on_pre_accept_ok 2 i 0 3 (ballot_of 0 0) alone own (leads ((2, behind) ∷ (1, alone) ∷ []))
+    ≡ record {
+      entry = Some (voted (ballot_of 0 0) Accepted put_behind);
+      led = Some (Some (Accepting (ballot_of 0 0) []));
+      told = None;
+      out = (1, Accept i (ballot_of 0 0) put_behind) ∷ (2, Accept i (ballot_of 0 0) put_behind) ∷ (3, Accept i (ballot_of 0 0) put_behind) ∷ (4, Accept i (ballot_of 0 0) put_behind) ∷ [];
+    }
+slow_path = refl
+
+-- equal answers: committed, though the leader's own attributes are others
+fast_path : on_pre_accept_ok 2 i 0 3 (ballot_of 0 0) behind own (leads ((2, behind) ∷ (1, behind) ∷ []))
+    ≡ record {
+      entry = Some (voted (ballot_of 0 0) Committed put_behind);
+      led = Some None;
+      told = None;
+      out = (1, Commit i put_behind) ∷ (2, Commit i put_behind) ∷ (3, Commit i put_behind) ∷ (4, Commit i put_behind) ∷ [];
+    }
+fast_path = refl
+
+-- one answer is too few to give up the fast path
+too_few_to_give_up : give_up 2 i 0 own (leads ((1, alone) ∷ [])) ≡ Err TooFewAnswers
+too_few_to_give_up = refl
+
+-- a leader that has promised a higher ballot has nothing to give up
+no_longer_leading : give_up 2 i 0 own_joined (leads ((2, behind) ∷ (1, alone) ∷ [])) ≡ Err NotLeading
+no_longer_leading = refl
+
+-- and uses no answer at the lower one
+uses_no_answer : on_pre_accept_ok 2 i 0 3 (ballot_of 0 0) alone own_joined (leads ((2, behind) ∷ (1, alone) ∷ [])) ≡ nothing
+uses_no_answer = refl
+
+-- equal answers at a recovery ballot: the accept phase all the same
+no_fast_path_in_recovery : on_pre_accept_ok 2 i 1 2 (ballot_of 1 1) alone (voted (ballot_of 1 1) PreAccepted put_alone) (Some (Proposing (ballot_of 1 1) ((0, alone) ∷ [])))
+    ≡ record {
+      entry = Some (voted (ballot_of 1 1) Accepted put_alone);
+      led = Some (Some (Accepting (ballot_of 1 1) []));
+      told = None;
+      out = (0, Accept i (ballot_of 1 1) put_alone) ∷ (2, Accept i (ballot_of 1 1) put_alone) ∷ (3, Accept i (ballot_of 1 1) put_alone) ∷ (4, Accept i (ballot_of 1 1) put_alone) ∷ [];
+    }
+no_fast_path_in_recovery = refl

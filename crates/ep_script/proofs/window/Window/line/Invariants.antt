@@ -1,0 +1,10 @@
+use Rattle.std.proofs.Common.{◌≡◌, ℕ, List, length}
+use Rattle.ep_script.specs.Window.{HasLeft}
+use Rattle.ep_script.specs.SoFar.{SoFar}
+use Rattle.ep_script.proofs.window.Window.line.Given as goal
+
+abbrev pub invariant-loop : goal.invariant-loop
+invariant-loop g l = record {
+  bytes : (zs : List ℕ) → HasLeft l.initial.self (g.S.Source.left l.initial.source) zs → SoFar zs l.line.items l.self (g.S.Source.left l.source);
+  len : length l.line.items ≡ l.counter;
+}

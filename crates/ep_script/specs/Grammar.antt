@@ -1,0 +1,123 @@
+-- What the words of a line say, in a cluster of n replicas.
+use Rattle.std.specs.Prelude.{ℕ, ◌==◌, ◌&&◌, nat_le, nat_lt, Bool, false, List, [], ◌∷◌, ◌++◌, Option, Some, None, length, if◌then◌else◌, codes, option_map, option_and_then}
+use Rattle.std.specs.Str.{bytes_eq}
+use Rattle.std.specs.List.{slice_split}
+use Rattle.ep_base.specs.Instances.{instance_of}
+use Rattle.ep_base.specs.declared.command.Command.{Command}
+use Rattle.ep_base.specs.declared.command.Command.TheVariants.{Get, Put, Del}
+use Rattle.ep_script.specs.Word.{bytes_of}
+use Rattle.ep_script.specs.Parts.{number_of}
+use Rattle.ep_script.specs.declared.line.Line.{Line}
+use Rattle.ep_script.specs.declared.line.Line.TheVariants.{Propose, GiveUp, Recover, Execute, Deliver, Flush}
+
+abbrev pub starts_comment : List ℕ → Bool
+starts_comment [] = false
+starts_comment (b ∷ bs) = b == 35
+
+-- how many replicas of a cluster of this size may fail
+abbrev pub faults_of : ℕ → Option ℕ
+faults_of n = if n == 3 then Some 1 else if n == 5 then Some 2 else if n == 7 then Some 3 else None
+
+abbrev pub size_word : List (List ℕ) → Option ℕ
+size_word [] = None
+size_word (w ∷ []) = option_and_then faults_of (number_of w)
+size_word (w ∷ v ∷ more) = None
+
+-- `replicas N`
+abbrev pub size_of : List (List ℕ) → Option ℕ
+size_of [] = None
+size_of (w ∷ ws) = if bytes_eq w (codes "replicas") then size_word ws else None
+
+-- a number with a range
+abbrev pub number_in : ℕ → ℕ → List ℕ → Option ℕ
+number_in least most w = option_and_then (λ x. if nat_le least x && nat_le x most then Some x else None) (number_of w)
+
+-- a client, a message or a place
+abbrev pub count_of : List ℕ → Option ℕ
+count_of w = number_in 1 4294967295 w
+
+abbrev pub replica_of : ℕ → List ℕ → Option ℕ
+replica_of n w = option_and_then (λ r. if nat_lt r n then Some r else None) (number_of w)
+
+abbrev pub instance_parts : ℕ → List (List ℕ) → Option ℕ
+instance_parts n [] = None
+instance_parts n (r ∷ []) = None
+instance_parts n (r ∷ i ∷ []) = option_and_then (λ leader. option_map (instance_of leader) (number_in 1 1000 i)) (replica_of n r)
+instance_parts n (r ∷ i ∷ w ∷ more) = None
+
+-- `R.I`
+abbrev pub parts_of : List ℕ → List (List ℕ)
+parts_of w = slice_split (λ b. b == 46) w
+
+abbrev pub key_word : List ℕ → Option (List ℕ)
+key_word w = option_and_then (λ k. if nat_le 1 (length k) && nat_le (length k) 255 then Some k else None) (bytes_of w)
+
+abbrev pub value_word : List ℕ → Option (List ℕ)
+value_word w = option_and_then (λ v. if nat_le (length v) 1024 then Some v else None) (bytes_of w)
+
+abbrev pub key_only : List (List ℕ) → Option (List ℕ)
+key_only [] = None
+key_only (k ∷ []) = key_word k
+key_only (k ∷ v ∷ more) = None
+
+-- `get K`
+abbrev pub get_of : List (List ℕ) → Option Command
+get_of ws = option_map (λ k. Get k) (key_only ws)
+
+-- `del K`
+abbrev pub del_of : List (List ℕ) → Option Command
+del_of ws = option_map (λ k. Del k) (key_only ws)
+
+-- `put K V`
+abbrev pub put_of : List (List ℕ) → Option Command
+put_of [] = None
+put_of (k ∷ []) = None
+put_of (k ∷ v ∷ []) = option_and_then (λ key. option_map (λ value. Put key value) (value_word v)) (key_word k)
+put_of (k ∷ v ∷ w ∷ more) = None
+
+abbrev pub command_of : List (List ℕ) → Option Command
+command_of [] = None
+command_of (w ∷ ws) =
+    if bytes_eq w (codes "get") then get_of ws
+    else if bytes_eq w (codes "put") then put_of ws
+    else if bytes_eq w (codes "del") then del_of ws
+    else None
+
+-- `propose R C` and a command
+abbrev pub propose_of : ℕ → List (List ℕ) → Option Line
+propose_of n [] = None
+propose_of n (r ∷ []) = None
+propose_of n (r ∷ c ∷ command) = option_and_then (λ replica. option_and_then (λ client. option_map (λ x. Propose replica client x) (command_of command)) (count_of c)) (replica_of n r)
+
+-- a replica and an instance
+abbrev pub place_of : ℕ → List (List ℕ) → Option (ℕ × ℕ)
+place_of n [] = None
+place_of n (r ∷ []) = None
+place_of n (r ∷ i ∷ []) = option_and_then (λ replica. option_map (λ instance. (replica, instance)) (instance_parts n (parts_of i))) (replica_of n r)
+place_of n (r ∷ i ∷ w ∷ more) = None
+
+-- numbers of messages, after those that were read before
+abbrev pub counts_after : List ℕ → List (List ℕ) → Option (List ℕ)
+counts_after done [] = Some done
+counts_after done (w ∷ ws) = option_and_then (λ m. counts_after (done ++ m ∷ []) ws) (count_of w)
+
+-- `deliver M ..`
+abbrev pub deliver_of : List (List ℕ) → Option Line
+deliver_of [] = None
+deliver_of (w ∷ ws) = option_map (λ ms. Deliver ms) (counts_after [] (w ∷ ws))
+
+abbrev pub flush_of : List (List ℕ) → Option Line
+flush_of [] = Some Flush
+flush_of (w ∷ ws) = None
+
+-- a line of a replay, other than `replicas N`; none where it is refused
+abbrev pub replay_line : ℕ → List (List ℕ) → Option Line
+replay_line n [] = None
+replay_line n (w ∷ ws) =
+    if bytes_eq w (codes "propose") then propose_of n ws
+    else if bytes_eq w (codes "giveup") then option_map (λ p. GiveUp p.0 p.1) (place_of n ws)
+    else if bytes_eq w (codes "recover") then option_map (λ p. Recover p.0 p.1) (place_of n ws)
+    else if bytes_eq w (codes "execute") then option_map (λ p. Execute p.0 p.1) (place_of n ws)
+    else if bytes_eq w (codes "deliver") then deliver_of ws
+    else if bytes_eq w (codes "flush") then flush_of ws
+    else None

@@ -1,0 +1,9 @@
+pub mod Word
+pub mod Parts
+pub mod Grammar
+pub mod Window
+pub mod RawLines
+pub mod SoFar
+pub mod Plan
+pub mod Outcome
+pub mod Faults

@@ -1,0 +1,204 @@
+//! Numbers, names and commands within a line.
+
+ghost use Rattle.std.specs.Prelude.{◌≡◌, ◌≤◌, IfOk, IfSome, map};
+ghost use Rattle.ep_base.specs.Quorums.{size as size_with};
+ghost use Rattle.ep_base.specs.Instances.{instance_of};
+ghost use Rattle.ep_script.specs.Grammar.{number_in, count_of, replica_of, instance_parts, parts_of, key_word, value_word, key_only, get_of, put_of, del_of, command_of, place_of};
+
+use crate::numbers::number;
+use crate::word::read_word;
+use crate::words::{is_word, parts};
+use ep_base::{Command, CommandFault, InstanceId, Key, ReplicaId, Size, Value};
+use std::alloc::{AllocError, Global};
+
+/// A number from 1 to 4,294,967,295: a client, a message or a place.
+pub(crate) fn count(word: &[u8]) -> Option<u32>
+    ensures { result ≡ count_of word.now }
+{
+    let count = number(word)?;
+    if count >= 1 && count <= 4_294_967_295 {
+        Some(count as u32)
+    } else {
+        None
+    }
+}
+
+/// A replica of a cluster of this size.
+pub(crate) fn replica(size: Size, word: &[u8]) -> Option<ReplicaId>
+    ensures { result ≡ replica_of (size_with size) word.now }
+{
+    let index = number(word)?;
+    let count = size.count();
+    if index < u64::from(count) {
+        Some(made_replica(index as u8))
+    } else {
+        None
+    }
+}
+
+fn made_replica(index: u8) -> ReplicaId
+    requires { index ≤ 6 }
+    ensures { result ≡ index }
+{
+    match ReplicaId::new(index) {
+        Ok(replica) => replica,
+        Err(_) => unreachable!(),
+    }
+}
+
+fn instance_number(word: &[u8]) -> Option<u16>
+    ensures value { result ≡ number_in 1 1000 word.now }
+    ensures in_range { IfSome result (λ i. (1 ≤ i) × (i ≤ 1000)) }
+{
+    let number = number(word)?;
+    if number >= 1 && number <= 1000 {
+        Some(number as u16)
+    } else {
+        None
+    }
+}
+
+fn made_instance(leader: ReplicaId, number: u16) -> InstanceId
+    requires low { 1 ≤ number }
+    requires high { number ≤ 1000 }
+    ensures { result ≡ instance_of leader number }
+{
+    match InstanceId::new(leader, number) {
+        Ok(instance) => instance,
+        Err(_) => unreachable!(),
+    }
+}
+
+fn instance_of_parts(size: Size, parts: &[&[u8]]) -> Option<InstanceId>
+    ensures { result ≡ instance_parts (size_with size) (map (λ w. w.now) parts.now) }
+{
+    let [leader, number] = parts else {
+        return None;
+    };
+    let leader = replica(size, leader)?;
+    let number = instance_number(number)?;
+    Some(made_instance(leader, number))
+}
+
+fn instance(alloc: Global, size: Size, word: &[u8]) -> Result<Option<InstanceId>, AllocError>
+    ensures { IfOk result (λ i. i ≡ instance_parts (size_with size) (parts_of word.now)) }
+{
+    let parts = parts(alloc, word)?;
+    Ok(instance_of_parts(size, parts.as_slice()))
+}
+
+/// A replica of a cluster of this size, and an instance of one of its replicas.
+pub(crate) fn place(
+    alloc: Global,
+    size: Size,
+    words: &[&[u8]],
+) -> Result<Option<(ReplicaId, InstanceId)>, AllocError>
+    ensures { IfOk result (λ p. p ≡ place_of (size_with size) (map (λ w. w.now) words.now)) }
+{
+    let [first, second] = words else {
+        return Ok(None);
+    };
+    let Some(replica) = replica(size, first) else {
+        return Ok(None);
+    };
+    let Some(instance) = instance(alloc, size, second)? else {
+        return Ok(None);
+    };
+    Ok(Some((replica, instance)))
+}
+
+fn read_key(alloc: Global, word: &[u8]) -> Result<Option<Key>, AllocError>
+    ensures { IfOk result (λ k. k ≡ key_word word.now) }
+{
+    let Some(bytes) = read_word(alloc, word)? else {
+        return Ok(None);
+    };
+    match Key::new(alloc, bytes.as_slice()) {
+        Ok(key) => Ok(Some(key)),
+        Err(CommandFault::OutOfRange) => Ok(None),
+        Err(CommandFault::Memory) => Err(AllocError),
+    }
+}
+
+fn read_value(alloc: Global, word: &[u8]) -> Result<Option<Value>, AllocError>
+    ensures { IfOk result (λ v. v ≡ value_word word.now) }
+{
+    let Some(bytes) = read_word(alloc, word)? else {
+        return Ok(None);
+    };
+    match Value::new(alloc, bytes.as_slice()) {
+        Ok(value) => Ok(Some(value)),
+        Err(CommandFault::OutOfRange) => Ok(None),
+        Err(CommandFault::Memory) => Err(AllocError),
+    }
+}
+
+fn one_key(alloc: Global, words: &[&[u8]]) -> Result<Option<Key>, AllocError>
+    ensures { IfOk result (λ k. k ≡ key_only (map (λ w. w.now) words.now)) }
+{
+    let Some((first, rest)) = words.split_first() else {
+        return Ok(None);
+    };
+    if rest.split_first().is_some() {
+        return Ok(None);
+    }
+    read_key(alloc, first)
+}
+
+fn get(alloc: Global, words: &[&[u8]]) -> Result<Option<Command>, AllocError>
+    ensures { IfOk result (λ c. c ≡ get_of (map (λ w. w.now) words.now)) }
+{
+    let Some(key) = one_key(alloc, words)? else {
+        return Ok(None);
+    };
+    Ok(Some(Command::Get(key)))
+}
+
+fn del(alloc: Global, words: &[&[u8]]) -> Result<Option<Command>, AllocError>
+    ensures { IfOk result (λ c. c ≡ del_of (map (λ w. w.now) words.now)) }
+{
+    let Some(key) = one_key(alloc, words)? else {
+        return Ok(None);
+    };
+    Ok(Some(Command::Del(key)))
+}
+
+fn put(alloc: Global, words: &[&[u8]]) -> Result<Option<Command>, AllocError>
+    ensures { IfOk result (λ c. c ≡ put_of (map (λ w. w.now) words.now)) }
+{
+    let Some((first, after)) = words.split_first() else {
+        return Ok(None);
+    };
+    let Some((second, rest)) = after.split_first() else {
+        return Ok(None);
+    };
+    if rest.split_first().is_some() {
+        return Ok(None);
+    }
+    let Some(key) = read_key(alloc, first)? else {
+        return Ok(None);
+    };
+    let Some(value) = read_value(alloc, second)? else {
+        return Ok(None);
+    };
+    Ok(Some(Command::Put(key, value)))
+}
+
+/// A get, a put or a del.
+pub(crate) fn read_command(alloc: Global, words: &[&[u8]]) -> Result<Option<Command>, AllocError>
+    ensures { IfOk result (λ c. c ≡ command_of (map (λ w. w.now) words.now)) }
+{
+    let Some((first, rest)) = words.split_first() else {
+        return Ok(None);
+    };
+    if is_word(first, b"get") {
+        return get(alloc, rest);
+    }
+    if is_word(first, b"put") {
+        return put(alloc, rest);
+    }
+    if is_word(first, b"del") {
+        return del(alloc, rest);
+    }
+    Ok(None)
+}

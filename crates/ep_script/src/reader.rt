@@ -1,0 +1,44 @@
+//! Whole scripts from a source.
+
+ghost use Rattle.std.specs.Prelude.{◌≡◌, ℕ, List, Some, true, IfErr};
+ghost use Rattle.ep_script.specs.Plan.{script_of};
+ghost use Rattle.ep_script.specs.Outcome.{IsScript};
+ghost use Rattle.ep_script.specs.declared.script_fault.ScriptFault.TheVariants.{ReadFailed};
+
+use crate::draft::Draft;
+use crate::got::Got;
+use crate::script::Script;
+use crate::script_fault::ScriptFault;
+use crate::window::Window;
+use ep_base::Source;
+use std::alloc::Global;
+
+/// The most lines that a script can have.
+const LINES: u32 = 100_000;
+
+/// Reads a script for a replay to the end of the source. `Refused` tells the first line at fault, `ReadFailed` that the
+/// source failed, `Memory` that memory was refused. Past that line, or past 100,000 lines, nothing is read: so a source
+/// without an end is refused too.
+pub fn read_script<S: Source>(alloc: Global, source: &mut S) -> Result<Script, ScriptFault>
+    ensures bytes { (zs : List ℕ) → S.left source.old ≡ Some zs → IsScript result (script_of zs) }
+    ensures failed { IfErr result (λ e. e ≡ ReadFailed → S.has_failed source.new ≡ true) }
+{
+    let mut window = Window::new();
+    let mut line = Vec::new(alloc);
+    let mut draft = Draft::new(alloc);
+    for number in 1..=LINES {
+        match window.line(source, &mut line)? {
+            Got::End => return draft.end(number),
+            Got::TooLong => return Err(ScriptFault::Refused(number)),
+            Got::Line => {
+                if !draft.take_line(alloc, number, line.as_slice())? {
+                    return Err(ScriptFault::Refused(number));
+                }
+            }
+        }
+    }
+    match window.line(source, &mut line)? {
+        Got::End => draft.end(LINES + 1),
+        _ => Err(ScriptFault::Refused(LINES + 1)),
+    }
+}

@@ -1,0 +1,4 @@
+pub mod Held
+pub mod Entries
+pub mod Records
+pub mod Gathering

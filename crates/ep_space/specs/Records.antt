@@ -1,0 +1,33 @@
+-- The records of a replica, and the instances that have a place for one.
+use Rattle.std.specs.Prelude.{ℕ, refl, Option}
+use Rattle.std.specs.Coded.{Coded, code_by, coded×, coded_ℕ}
+use Rattle.std.specs.FinMap as map
+use Rattle.std.specs.FinSet as set
+use Rattle.ep_rules.specs.Cells.{record_or_fresh}
+use Rattle.ep_rules.specs.Maps.{Map, get, insert}
+use Rattle.ep_rules.specs.States.{with_held}
+use Rattle.ep_rules.specs.contracts.record.Record as record_facts
+use Rattle.ep_rules.specs.declared.record.Record.{Record}
+use Rattle.ep_space.specs.Held.{Places}
+
+pub record Records : Type 0 where
+  -- how many replicas may fail
+  pub faults : ℕ
+  pub records : Map Record
+  pub places : Places
+
+abbrev pub records_code : Coded Records
+records_code =
+    code_by (ℕ × (Map Record × Places)) (coded× coded_ℕ (coded× (map.code coded_ℕ record_facts.the_row.coded) (set.code coded_ℕ)))
+    (λ s. (s.faults, (s.records, s.places))) (λ p. record { faults = p.0; records = p.1.0; places = p.1.1 }) (λ _. refl)
+
+-- what is recorded of i
+abbrev pub record_at : Records → ℕ → Record
+record_at s i = record_or_fresh i (get s.records i)
+
+abbrev pub with_record : Records → ℕ → Record → Records
+with_record s i r = record s { records = insert s.records i r }
+
+-- the same with this record of i, or with none
+abbrev pub with_earlier : Records → ℕ → Option Record → Records
+with_earlier s i o = record s { records = with_held s.records i o }

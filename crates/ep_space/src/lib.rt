@@ -1,0 +1,15 @@
+//! The records of a replica, and the interference set of a command.
+#![tactic(auto)]
+
+mod gathered;
+mod interference_fault;
+mod space;
+mod space_full;
+mod table;
+#[cfg(test)]
+mod tests;
+
+pub use interference_fault::InterferenceFault;
+pub use space::Space;
+pub use space_full::SpaceFull;
+pub use table::Table;

@@ -1,0 +1,318 @@
+//! The records of a replica.
+
+ghost use Rattle.std.specs.Prelude.{◌≡◌, ◌≤◌, ◌<◌, ◌-◌, true, Ok, Err, Some, None, IfOk, IsErr, OnOk, OnErr};
+ghost use Rattle.std.specs.Option.{option_copied};
+ghost use Rattle.std.specs.FinSet as set;
+ghost use Rattle.ep_rules.specs.Cells.{record_or_fresh, is_committed, is_done_at, is_settled_at, voted, voted_ballot};
+ghost use Rattle.ep_rules.specs.InterferenceSet.{interference};
+ghost use Rattle.ep_rules.specs.Maps.{none, get};
+ghost use Rattle.ep_rules.specs.Phases.{with_commit};
+ghost use Rattle.ep_rules.specs.States.{is_free, free_number, committed_in};
+ghost use Rattle.ep_space.specs.Gathering.{next_attrs};
+ghost use Rattle.ep_space.specs.Held.{HasPlace};
+ghost use Rattle.ep_space.specs.Records.{record_at, with_record, with_earlier};
+
+use crate::gathered::{Gathered, gathered_from};
+use crate::interference_fault::InterferenceFault;
+use crate::space_full::SpaceFull;
+use crate::table::Table;
+use ep_base::{Attrs, Ballot, Command, Decree, InstanceId, ReplicaId, Seq, Size, Status, Vote};
+use ep_rules::Record;
+use std::alloc::{AllocError, Global};
+use std::marker::Model;
+
+/// The records of a replica, one for each instance of which it knows anything (EPaxos, section 4.3: the `cmds` array).
+/// An instance first gets a place, which takes memory; its record is then written there without.
+#[derive(Drop)]
+pub struct Space {
+    size: Size,
+    table: Table<Record>,
+}
+
+impl Model for Space {
+    ghost use Rattle.ep_space.specs.Records.{Records, records_code};
+
+    ghost Value = { Records };
+
+    ghost coded = { records_code };
+
+    ghost view = { λ s. record { faults = s.size; records = s.table.held; places = s.table.places } };
+}
+
+impl Space {
+    /// No records, of a cluster of this size.
+    pub fn new(alloc: Global, size: Size) -> Space
+        ensures { result ≡ record { faults = size; records = none; places = set.empty } }
+    {
+        Space {
+            size,
+            table: Table::new(alloc),
+        }
+    }
+
+    /// The size of the cluster.
+    pub fn size(&self) -> Size
+        ensures { result ≡ self.now.faults }
+    {
+        self.size
+    }
+
+    /// The record of the instance, if there is one.
+    pub fn get(&self, id: InstanceId) -> Option<&Record>
+        ensures { option_copied result ≡ get self.now.records id }
+    {
+        self.table.get(id)
+    }
+
+    /// The record again, if there is one: what a later `put_back` may put back.
+    pub fn copy(&self, alloc: Global, id: InstanceId) -> Result<Option<Record>, AllocError>
+        ensures { IfOk result (λ o. o ≡ get self.now.records id) }
+    {
+        match self.get(id) {
+            None => Ok(None),
+            Some(record) => Ok(Some(record.copy(alloc)?)),
+        }
+    }
+
+    /// Makes a place for the instance's record, if it has none. It counts as no record, and nothing else takes memory in the table.
+    pub fn reserve(&mut self, id: InstanceId) -> Result<(), AllocError>
+        ensures ok { OnOk result (self.new ≡ record { faults = self.old.faults; records = self.old.records; places = set.insert self.old.places id }) }
+        ensures place { OnOk result (HasPlace self.new.places id) }
+        ensures err { OnErr result (self.new ≡ self.old) }
+    {
+        self.table.reserve(id)
+    }
+
+    /// Puts back an earlier record, or that there was none, and gives what there is now. It takes no memory.
+    pub fn put_back(&mut self, id: InstanceId, earlier: Option<Record>) -> Option<Record>
+        requires { HasPlace self.old.places id }
+        ensures old { result ≡ get self.old.records id }
+        ensures new { self.new ≡ with_earlier self.old id earlier }
+    {
+        self.table.put_back(id, earlier)
+    }
+
+    // What is recorded.
+
+    /// The ballot that the replica joined last in the instance.
+    pub fn promised(&self, id: InstanceId) -> Ballot
+        ensures { result ≡ (record_at self.now id).promised }
+    {
+        match self.get(id) {
+            None => Ballot::default_of(id.replica()),
+            Some(record) => record.promised,
+        }
+    }
+
+    /// The replica's last vote in the instance, if it voted.
+    pub fn vote(&self, id: InstanceId) -> Option<&Vote>
+        ensures { option_copied result ≡ (record_at self.now id).vote }
+    {
+        match self.get(id) {
+            None => None,
+            Some(record) => record.vote.as_ref(),
+        }
+    }
+
+    /// The ballot of the last vote: the default one where there is none.
+    pub fn voted_ballot(&self, id: InstanceId) -> Ballot
+        ensures { result ≡ voted_ballot id (record_at self.now id).vote }
+    {
+        match self.vote(id) {
+            None => Ballot::default_of(id.replica()),
+            Some(vote) => vote.ballot,
+        }
+    }
+
+    /// Whether the replica has committed the instance.
+    pub fn is_committed(&self, id: InstanceId) -> bool
+        ensures { result ≡ is_committed (record_at self.now id).vote }
+    {
+        match self.vote(id) {
+            None => false,
+            Some(vote) => matches!(vote.status, Status::Committed),
+        }
+    }
+
+    /// Whether the replica has committed the instance, or voted at this ballot.
+    pub fn is_done_at(&self, id: InstanceId, ballot: Ballot) -> bool
+        ensures { result ≡ is_done_at ballot (record_at self.now id).vote }
+    {
+        match self.vote(id) {
+            None => false,
+            Some(vote) => matches!(vote.status, Status::Committed) || vote.ballot == ballot,
+        }
+    }
+
+    /// Whether the replica has committed the instance, or accepted at this ballot.
+    pub fn is_settled_at(&self, id: InstanceId, ballot: Ballot) -> bool
+        ensures { result ≡ is_settled_at ballot (record_at self.now id).vote }
+    {
+        match self.vote(id) {
+            None => false,
+            Some(vote) => match vote.status {
+                Status::PreAccepted => false,
+                Status::Accepted => vote.ballot == ballot,
+                Status::Committed => true,
+            },
+        }
+    }
+
+    /// What is committed in the instance, if something is.
+    pub fn committed(&self, id: InstanceId) -> Option<&Decree>
+        ensures { option_copied result ≡ committed_in self.now.records id }
+    {
+        match self.vote(id) {
+            None => None,
+            Some(vote) => match vote.status {
+                Status::Committed => Some(&vote.decree),
+                _ => None,
+            },
+        }
+    }
+
+    // What is written. It takes no memory.
+
+    #[tactic(auto, using(crate::proofs::Twice::insert_after_remove))]
+    /// Joins the ballot (Sutra, 2019): the last vote stays.
+    pub fn join_ballot(&mut self, id: InstanceId, ballot: Ballot)
+        requires { HasPlace self.old.places id }
+        ensures { self.new ≡ with_record self.old id (record { promised = ballot; vote = (record_at self.old id).vote }) }
+    {
+        let earlier = self.table.put_back(id, None);
+        let vote = vote_of(id, earlier);
+        self.table.write(
+            id,
+            Some(Record {
+                promised: ballot,
+                vote,
+            }),
+        );
+    }
+
+    /// Pre-accepts the decree at the ballot.
+    pub fn vote_pre(&mut self, id: InstanceId, ballot: Ballot, decree: Decree)
+        requires { HasPlace self.old.places id }
+        ensures { self.new ≡ with_record self.old id (voted ballot Status.PreAccepted decree) }
+    {
+        self.write_vote(id, ballot, Status::PreAccepted, decree);
+    }
+
+    /// Accepts the decree at the ballot.
+    pub fn vote_accept(&mut self, id: InstanceId, ballot: Ballot, decree: Decree)
+        requires { HasPlace self.old.places id }
+        ensures { self.new ≡ with_record self.old id (voted ballot Status.Accepted decree) }
+    {
+        self.write_vote(id, ballot, Status::Accepted, decree);
+    }
+
+    /// Commits the decree: both ballots stay.
+    pub fn commit(&mut self, id: InstanceId, decree: Decree)
+        requires { HasPlace self.old.places id }
+        ensures { self.new ≡ with_record self.old id (with_commit id (record_at self.old id) decree) }
+    {
+        let promised = self.promised(id);
+        let ballot = self.voted_ballot(id);
+        let vote = Vote {
+            status: Status::Committed,
+            ballot,
+            decree,
+        };
+        self.table.write(
+            id,
+            Some(Record {
+                promised,
+                vote: Some(vote),
+            }),
+        );
+    }
+
+    fn write_vote(&mut self, id: InstanceId, ballot: Ballot, status: Status, decree: Decree)
+        requires { HasPlace self.old.places id }
+        ensures { self.new ≡ with_record self.old id (voted ballot status decree) }
+    {
+        let promised = ballot;
+        let vote = Vote {
+            status,
+            ballot,
+            decree,
+        };
+        self.table.write(
+            id,
+            Some(Record {
+                promised,
+                vote: Some(vote),
+            }),
+        );
+    }
+
+    // What is free, and what interferes.
+
+    /// The least number from 1 to 1,000 of an instance that the replica leads and of which nothing is recorded;
+    /// `SpaceFull` where there is none.
+    pub fn free_number(&self, replica: ReplicaId) -> Result<u16, SpaceFull>
+        ensures free { IfOk result (λ n. (1 ≤ n) × (n ≤ 1000) × (free_number self.now.records replica ≡ Some (n - 1))) }
+        ensures full { IsErr result → free_number self.now.records replica ≡ None }
+    {
+        for place in 0..1000 {
+            if self.is_free(replica, place) {
+                return Ok(place + 1);
+            }
+        }
+        Err(SpaceFull)
+    }
+
+    fn is_free(&self, replica: ReplicaId, place: u16) -> bool
+        requires { place < 1000 }
+        ensures { result ≡ is_free self.now.records replica place }
+    {
+        let id = InstanceId::new(replica, place + 1).unwrap();
+        self.get(id).is_none()
+    }
+
+    /// The command's interference set in the instance (EPaxos, figure 2): the other instances whose recorded commands interfere with it,
+    /// and one more than their greatest sequence number; `SeqExhausted` where that passes 1,000,000.
+    pub fn interference(
+        &self,
+        alloc: Global,
+        command: &Command,
+        except: InstanceId,
+    ) -> Result<Attrs, InterferenceFault>
+        ensures ok { IfOk result (λ a. a ≡ interference self.now.records except command.now) }
+        ensures in_range { IfOk result (λ a. a.seq ≤ 1000000) }
+        ensures exhausted { result ≡ Err InterferenceFault.SeqExhausted → 1000000 < (interference self.now.records except command.now).seq }
+    {
+        let Ok(gathered) = self.gather(alloc, command, except) else {
+            return Err(InterferenceFault::Memory);
+        };
+        if gathered.seq >= 1_000_000 {
+            return Err(InterferenceFault::SeqExhausted);
+        }
+        let seq = Seq::new(1 + gathered.seq).unwrap();
+        Ok(Attrs {
+            seq,
+            deps: gathered.deps,
+        })
+    }
+
+    fn gather(
+        &self,
+        alloc: Global,
+        command: &Command,
+        except: InstanceId,
+    ) -> Result<Gathered, AllocError>
+        ensures { IfOk result (λ g. next_attrs g ≡ interference self.now.records except command.now) }
+    {
+        gathered_from(alloc, self.table.entries(), command, except)
+    }
+}
+
+/// The vote of a record, if there is one.
+fn vote_of(_id: InstanceId, earlier: Option<Record>) -> Option<Vote>
+    ensures { result ≡ (record_or_fresh _id earlier).vote }
+{
+    match earlier {
+        None => None,
+        Some(record) => record.vote,
+    }
+}
