@@ -13,7 +13,8 @@ use Rattle.ep_rules.specs.States.{State, fresh_state, command_of}
 use Rattle.ep_rules.specs.Steps.{Event, Propose, Handle, GiveUp, Recover, Execute, order_of, Executes}
 use Rattle.ep_rules.specs.Worlds.{World, opening, Act, In, moved, IsRun, ends, Committed}
 use Rattle.ep_rules.specs.Journals.{Entry, left, Journals, Scheduled, of, Rises, act_of, acts_of}
-use Rattle.ep_rules.specs.Verdicts.{agreed, command_at, merged_of, history_of, Receipt, Agrees}
+use Rattle.ep_rules.specs.Verdicts.{agreed, command_at, merged_of, history_of, Agrees}
+use Rattle.ep_rules.specs.declared.receipt.Receipt.{Receipt}
 use Rattle.ep_rules.specs.Merging.{Merges, CallerOrder}
 use Rattle.ep_rules.proofs.Places.{place_head, has_tail, has_filter}
 use Rattle.ep_rules.proofs.Earlier.{earlier_first_lem}

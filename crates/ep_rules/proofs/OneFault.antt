@@ -4,7 +4,8 @@ use Rattle.std.proofs.lemmas.Bool.{cases_order}
 use Rattle.ep_rules.specs.Steps.{Frame, Handle}
 use Rattle.ep_rules.specs.Worlds.{In}
 use Rattle.ep_rules.specs.Journals.{Entry, Journals, WasSent, IsMatched}
-use Rattle.ep_rules.specs.Verdicts.{Receipt, IsKnown, Agrees}
+use Rattle.ep_rules.specs.Verdicts.{IsKnown, Agrees}
+use Rattle.ep_rules.specs.declared.receipt.Receipt.{Receipt}
 use Rattle.ep_rules.specs.Audits.{IsAccepted, Fault, UnsentFrame, ChangedFrame, StampOrder, UnknownReceipt, CallerOrder, HasOrigin, IsFine, IsFirstHandling, IsFirstReceipt, IsFault, unsent, changed, early, unknown, order}
 use Rattle.ep_rules.specs.Merging.{PlayedAccepted, FaultsAreFirst}
 use Rattle.ep_rules.proofs.Merged.{in_right}

@@ -3,7 +3,8 @@ use Rattle.std.specs.Prelude.{◌≡◌, ℕ, ◌+◌, ◌<◌, List, ◌∷◌,
 use Rattle.ep_rules.specs.Steps.{Frame, Handle}
 use Rattle.ep_rules.specs.Worlds.{In}
 use Rattle.ep_rules.specs.Journals.{Entry, Journals, WasSent, IsMatched}
-use Rattle.ep_rules.specs.Verdicts.{Receipt, IsKnown, Agrees}
+use Rattle.ep_rules.specs.Verdicts.{IsKnown, Agrees}
+use Rattle.ep_rules.specs.declared.receipt.Receipt.{Receipt}
 
 -- each handled frame was sent, by an entry of a lower stamp, and each receipt agrees with the journals
 pub record IsAccepted (f : ℕ) (journal : Journals) (receipts : List Receipt) : Type 0 where

@@ -14,7 +14,8 @@ use Rattle.ep_rules.specs.Steps.{Propose, Handle, Frame}
 use Rattle.ep_rules.specs.Worlds.{opening, In, IsRun, ends}
 use Rattle.ep_rules.specs.Journals.{Entry, messages_of, IsEntry, AreSteps, left, AreMarked, AreNumbered, IsLocalRun, last_stamp, heard, AreClocked, Journals, AreLocalRuns, WasSent, IsMatched, Scheduled, of, IsSchedule, acts_of, Plays, ArePlayed, frames_of}
 use Rattle.ep_rules.specs.Audits.{HasOrigin, IsAccepted, Fault, IsFault}
-use Rattle.ep_rules.specs.Verdicts.{committed_by, agreed, command_at, IsTable, history_of, IsReply, Receipt, Proposes, TellsOf, HasDone, IsKnown, Agrees, IsOwn}
+use Rattle.ep_rules.specs.Verdicts.{committed_by, agreed, command_at, IsTable, history_of, IsReply, Proposes, TellsOf, HasDone, IsKnown, Agrees, IsOwn}
+use Rattle.ep_rules.specs.declared.receipt.Receipt.{Receipt}
 
 -- Journals that match are one run.
 

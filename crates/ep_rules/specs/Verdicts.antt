@@ -17,6 +17,7 @@ use Rattle.ep_rules.specs.States.{fresh_state, free_number, committed_in, comman
 use Rattle.ep_rules.specs.Steps.{Propose, Frame, order_of}
 use Rattle.ep_rules.specs.Worlds.{In}
 use Rattle.ep_rules.specs.Journals.{Entry, left, Journals, Scheduled}
+use Rattle.ep_rules.specs.declared.receipt.Receipt.{Receipt}
 
 -- What is committed.
 
@@ -66,17 +67,6 @@ abbrev pub IsReply : (ℕ → Command) → List ℕ → ℕ → Answer → Type 
 IsReply c h i x = ((is_noop (c i) ≡ true) × (x ≡ Lost)) ⊎ (Has h i × (x ≡ Told (get_or (replies empty (map c h)) (place h i) Absent)))
 
 -- Receipts.
-
--- a client's command, the greatest stamp that the client knew of when it proposed, and an execution with its answer
-pub record Receipt : Type 0 where
-  pub client : ℕ
-  pub request : ℕ
-  pub instance : ℕ
-  pub seen : ℕ
-  pub replica : ℕ
-  pub entry : ℕ
-  pub stamp : ℕ
-  pub answer : Answer
 
 -- the entries of a replica propose a command as instance i, the least one that is free, for this client and request
 pub record Proposes (f me : ℕ) (es : List Entry) (i client request : ℕ) : Type 0 where

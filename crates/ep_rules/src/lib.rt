@@ -7,6 +7,7 @@ pub mod history;
 mod led;
 pub mod merging;
 mod outgoing;
+mod receipt;
 mod record;
 pub mod safety;
 
@@ -14,4 +15,5 @@ pub use answers::Answers;
 pub use duplicate::Duplicate;
 pub use led::Led;
 pub use outgoing::Outgoing;
+pub use receipt::Receipt;
 pub use record::Record;

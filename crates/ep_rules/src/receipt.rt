@@ -1,0 +1,46 @@
+//! What a client is told of its command.
+
+ghost use Rattle.std.specs.Prelude.{◌≡◌, IfOk};
+
+use ep_base::{Answer, InstanceId, ReplicaId, Stamp};
+use std::alloc::{AllocError, Global};
+
+/// A client's command, the greatest stamp that the client knew of when it proposed, and an execution with its answer.
+#[derive(Drop)]
+pub struct Receipt {
+    /// The client, from 1 in what a replica gives.
+    pub client: u32,
+    /// The client's request, from 1 in what a replica gives.
+    pub request: u32,
+    /// The instance as which the command was proposed.
+    pub instance: InstanceId,
+    /// The stamp that the client handed in with its command, 0 where it knew of none.
+    pub seen: u64,
+    /// The replica that executed the instance.
+    pub replica: ReplicaId,
+    /// The number of the entry that executed it, from 1 in what a replica gives.
+    pub entry: u32,
+    /// The stamp of that entry.
+    pub stamp: Stamp,
+    /// What that execution answered.
+    pub answer: Answer,
+}
+
+impl Receipt {
+    /// The same receipt again.
+    pub fn copy(&self, alloc: Global) -> Result<Receipt, AllocError>
+        ensures { IfOk result (λ r. r ≡ self.now) }
+    {
+        let answer = self.answer.copy(alloc)?;
+        Ok(Receipt {
+            client: self.client,
+            request: self.request,
+            instance: self.instance,
+            seen: self.seen,
+            replica: self.replica,
+            entry: self.entry,
+            stamp: self.stamp,
+            answer,
+        })
+    }
+}
