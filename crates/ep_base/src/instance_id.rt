@@ -57,9 +57,11 @@ impl InstanceId {
     }
 }
 
-/// What a place of a short list holds before it is used.
+/// What a place of a short list holds before it is used: the first instance of replica 0.
 impl MadeWith<Global> for InstanceId {
-    fn made_with(_alloc: Global) -> InstanceId {
+    fn made_with(_alloc: Global) -> InstanceId
+        ensures { result ≡ instance_of 0 1 }
+    {
         InstanceId {
             replica: ReplicaId::first(),
             number: 1,
