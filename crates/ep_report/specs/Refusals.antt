@@ -1,0 +1,43 @@
+-- What causes and faults are printed as.
+use Rattle.std.specs.Prelude.{ℕ, List, ◌++◌, codes, decimal}
+use Rattle.ep_report.specs.Parts.{instance_text}
+use Rattle.ep_report.specs.declared.cause.Cause.{Cause}
+use Rattle.ep_report.specs.declared.cause.Cause.TheVariants.{Memory, OutOfRange, SpaceFull, SeqExhausted, NotLeading, TooFewAnswers, AlreadyCommitted, BallotsExhausted, NotCommitted, NotMine, BadFrame, StampFull, NoSuchMessage}
+use Rattle.ep_report.specs.declared.audit_fault.AuditFault.{AuditFault}
+use Rattle.ep_rules.specs.Audits.{Fault, UnsentFrame, ChangedFrame, StampOrder, UnknownReceipt, CallerOrder}
+
+-- why an event was refused
+abbrev pub cause_text : Cause → List ℕ
+cause_text Memory = codes "E1 memory"
+cause_text OutOfRange = codes "E3 out of range"
+cause_text SpaceFull = codes "E4 space full"
+cause_text SeqExhausted = codes "E5 seq exhausted"
+cause_text NotLeading = codes "E6 not leading"
+cause_text TooFewAnswers = codes "E7 too few answers"
+cause_text AlreadyCommitted = codes "E8 already committed"
+cause_text BallotsExhausted = codes "E9 ballots exhausted"
+cause_text (NotCommitted instance) = codes "E10 not committed " ++ instance_text instance
+cause_text NotMine = codes "E13 not mine"
+cause_text BadFrame = codes "E14 bad frame"
+cause_text StampFull = codes "E15 stamp full"
+cause_text (NoSuchMessage message) = codes "E18 no such message " ++ decimal message
+
+-- an entry of a replica
+abbrev pub entry_text : ℕ → ℕ → List ℕ
+entry_text replica entry = codes "replica " ++ decimal replica ++ codes " entry " ++ decimal entry
+
+-- why the audit refuses
+abbrev pub fault_text : Fault → List ℕ
+fault_text (UnsentFrame replica entry) = codes "A1 unsent frame at " ++ entry_text replica entry
+fault_text (ChangedFrame replica entry) = codes "A2 changed frame at " ++ entry_text replica entry
+fault_text (StampOrder replica entry) = codes "A3 stamp order at " ++ entry_text replica entry
+fault_text (UnknownReceipt place) = codes "A4 unknown receipt " ++ decimal place
+fault_text (CallerOrder place) = codes "A5 caller order at receipt " ++ decimal place
+
+-- the rule book's fault
+abbrev pub fault_of : AuditFault → Fault
+fault_of (AuditFault.UnsentFrame replica entry) = UnsentFrame replica entry
+fault_of (AuditFault.ChangedFrame replica entry) = ChangedFrame replica entry
+fault_of (AuditFault.StampOrder replica entry) = StampOrder replica entry
+fault_of (AuditFault.UnknownReceipt place) = UnknownReceipt place
+fault_of (AuditFault.CallerOrder place) = CallerOrder place

@@ -1,0 +1,55 @@
+-- What the program prints of a run.
+use Rattle.std.specs.Prelude.{ℕ, ◌+◌, List, [], ◌∷◌, ◌++◌, length, map, codes, decimal}
+use Rattle.ep_base.specs.declared.decree.Decree.{Decree}
+use Rattle.ep_rules.specs.Audits.{Fault}
+use Rattle.ep_rules.specs.declared.receipt.Receipt.{Receipt}
+use Rattle.ep_report.specs.Parts.{instance_text, deps_text, command_text, reply_text, answer_text}
+use Rattle.ep_report.specs.Refusals.{cause_text, fault_text}
+use Rattle.ep_report.specs.declared.cause.Cause.{Cause}
+use Rattle.ep_report.specs.declared.happening.Happening.{Happening}
+
+-- each line ends by a line feed
+abbrev pub text_of : List (List ℕ) → List ℕ
+text_of [] = []
+text_of (line ∷ lines) = line ++ codes "\n" ++ text_of lines
+
+-- a name and how many lines follow, and these
+abbrev pub counted : List ℕ → List (List ℕ) → List (List ℕ)
+counted name lines = (name ++ codes " " ++ decimal (length lines)) ∷ lines
+
+-- an instance that is committed, with its attributes and its command
+abbrev pub committed_line : ℕ × Decree → List ℕ
+committed_line e = instance_text e.0 ++ codes " seq " ++ decimal e.1.attrs.seq ++ codes " deps " ++ deps_text e.1.attrs.deps ++ codes " " ++ command_text e.1.command
+
+-- a command of the history, with its place there and its reply
+abbrev pub history_line : ℕ → Happening → List ℕ
+history_line place h = decimal place ++ codes " " ++ instance_text h.instance ++ codes " " ++ command_text h.command ++ codes " -> " ++ reply_text h.reply
+
+-- the history from this place on
+abbrev pub history_lines : ℕ → List Happening → List (List ℕ)
+history_lines place [] = []
+history_lines place (h ∷ hs) = history_line place h ∷ history_lines (place + 1) hs
+
+-- what a client was told
+abbrev pub receipt_line : Receipt → List ℕ
+receipt_line t = codes "client " ++ decimal t.client ++ codes " request " ++ decimal t.request ++ codes " " ++ instance_text t.instance ++ codes " " ++ answer_text t.answer
+
+-- the event at this line of the script was refused
+abbrev pub refused_line : ℕ × Cause → List ℕ
+refused_line e = codes "line " ++ decimal e.0 ++ codes " " ++ cause_text e.1
+
+-- what the audit accepts: what is committed, the history, and the receipts
+abbrev pub accepted_lines : List (ℕ × Decree) → List Happening → List Receipt → List (List ℕ)
+accepted_lines committed history receipts =
+    codes "verdict accepted"
+    ∷ counted (codes "committed") (map committed_line committed)
+    ++ counted (codes "history") (history_lines 1 history)
+    ++ counted (codes "receipts") (map receipt_line receipts)
+
+-- the events that were refused
+abbrev pub refused_lines : List (ℕ × Cause) → List (List ℕ)
+refused_lines refused = counted (codes "refused") (map refused_line refused)
+
+-- the audit's refusal
+abbrev pub refusal_lines : Fault → List (List ℕ)
+refusal_lines fault = codes "verdict refused" ∷ fault_text fault ∷ []

@@ -1,0 +1,93 @@
+//! Lines of a report, each ended by a line feed.
+
+ghost use Rattle.std.specs.Prelude.{◌≡◌, ◌++◌, OnOk, codes, decimal};
+ghost use Rattle.ep_report.specs.Reports.{committed_line, history_line, receipt_line, refused_line};
+
+use crate::cause::Cause;
+use crate::happening::Happening;
+use crate::parts::{push_answer, push_command, push_deps, push_instance, push_number, push_reply};
+use ep_base::{Decree, InstanceId};
+use ep_rules::Receipt;
+use std::alloc::{AllocError, Global};
+
+/// Appends a name and a count.
+pub(crate) fn push_heading(text: &mut Vec<u8>, name: &[u8], count: usize) -> Result<(), AllocError>
+    ensures { OnOk result (text.new.items ≡ text.old.items ++ name.now ++ codes " " ++ decimal count ++ codes "\n") }
+{
+    text.extend_from_slice(name)?;
+    text.push(b' ')?;
+    push_number(text, count as u64)?;
+    text.push(b'\n')?;
+    Ok(())
+}
+
+/// Appends the line of an instance that is committed.
+pub(crate) fn push_committed_line(
+    text: &mut Vec<u8>,
+    instance: InstanceId,
+    decree: &Decree,
+) -> Result<(), AllocError>
+    ensures { OnOk result (text.new.items ≡ text.old.items ++ committed_line (instance, decree.now) ++ codes "\n") }
+{
+    push_instance(text, instance)?;
+    text.extend_from_slice(b" seq ")?;
+    push_number(text, u64::from(decree.attrs.seq.number()))?;
+    text.extend_from_slice(b" deps ")?;
+    push_deps(text, &decree.attrs.deps)?;
+    text.push(b' ')?;
+    push_command(text, &decree.command)?;
+    text.push(b'\n')?;
+    Ok(())
+}
+
+/// Appends the line of a command of the history, at this place of it.
+pub(crate) fn push_history_line(
+    text: &mut Vec<u8>,
+    place: u64,
+    happening: &Happening,
+) -> Result<(), AllocError>
+    ensures { OnOk result (text.new.items ≡ text.old.items ++ history_line place happening.now ++ codes "\n") }
+{
+    push_number(text, place)?;
+    text.push(b' ')?;
+    push_instance(text, happening.instance)?;
+    text.push(b' ')?;
+    push_command(text, &happening.command)?;
+    text.extend_from_slice(b" -> ")?;
+    push_reply(text, &happening.reply)?;
+    text.push(b'\n')?;
+    Ok(())
+}
+
+/// Appends the line of a receipt.
+pub(crate) fn push_receipt_line(text: &mut Vec<u8>, receipt: &Receipt) -> Result<(), AllocError>
+    ensures { OnOk result (text.new.items ≡ text.old.items ++ receipt_line receipt.now ++ codes "\n") }
+{
+    text.extend_from_slice(b"client ")?;
+    push_number(text, u64::from(receipt.client))?;
+    text.extend_from_slice(b" request ")?;
+    push_number(text, u64::from(receipt.request))?;
+    text.push(b' ')?;
+    push_instance(text, receipt.instance)?;
+    text.push(b' ')?;
+    push_answer(text, &receipt.answer)?;
+    text.push(b'\n')?;
+    Ok(())
+}
+
+/// Appends the line of an event that was refused, at this line of the script.
+pub(crate) fn push_refused_line(
+    alloc: Global,
+    text: &mut Vec<u8>,
+    line: u32,
+    cause: Cause,
+) -> Result<(), AllocError>
+    ensures { OnOk result (text.new.items ≡ text.old.items ++ refused_line (line, cause) ++ codes "\n") }
+{
+    text.extend_from_slice(b"line ")?;
+    push_number(text, u64::from(line))?;
+    text.push(b' ')?;
+    text.extend_from_slice(cause.to_string(alloc)?.as_bytes())?;
+    text.push(b'\n')?;
+    Ok(())
+}

@@ -1,0 +1,96 @@
+//! The parts of which lines are made.
+
+ghost use Rattle.std.specs.Prelude.{◌≡◌, ◌++◌, OnOk, decimal};
+ghost use Rattle.ep_report.specs.Parts.{instance_text, deps_text, more_deps, command_text, reply_text, answer_text};
+ghost use Rattle.ep_script.specs.Word.{word_of};
+
+use ep_base::{Answer, Command, Deps, InstanceId, Reply};
+use ep_script::push_word;
+use itoa::Buffer;
+use std::alloc::AllocError;
+
+/// Appends a number in decimal digits.
+pub(crate) fn push_number(text: &mut Vec<u8>, number: u64) -> Result<(), AllocError>
+    ensures { OnOk result (text.new.items ≡ text.old.items ++ decimal number) }
+{
+    let mut buffer = Buffer::new();
+    text.extend_from_slice(buffer.format(number).as_bytes())
+}
+
+/// Appends an instance.
+pub(crate) fn push_instance(text: &mut Vec<u8>, instance: InstanceId) -> Result<(), AllocError>
+    ensures { OnOk result (text.new.items ≡ text.old.items ++ instance_text instance) }
+{
+    push_number(text, u64::from(instance.replica().index()))?;
+    text.push(b'.')?;
+    push_number(text, u64::from(instance.number()))
+}
+
+/// Appends a set of instances.
+pub(crate) fn push_deps(text: &mut Vec<u8>, deps: &Deps) -> Result<(), AllocError>
+    ensures { OnOk result (text.new.items ≡ text.old.items ++ deps_text deps.now) }
+{
+    let [first, rest @ ..] = deps.as_slice() else {
+        text.push(b'-')?;
+        return Ok(());
+    };
+    push_instance(text, *first)?;
+    push_more_deps(text, rest)
+}
+
+fn push_more_deps(text: &mut Vec<u8>, deps: &[InstanceId]) -> Result<(), AllocError>
+    ensures { OnOk result (text.new.items ≡ text.old.items ++ more_deps deps.now) }
+{
+    for instance in deps {
+        text.push(b',')?;
+        push_instance(text, *instance)?;
+    }
+    Ok(())
+}
+
+/// Appends a command.
+pub(crate) fn push_command(text: &mut Vec<u8>, command: &Command) -> Result<(), AllocError>
+    ensures { OnOk result (text.new.items ≡ text.old.items ++ command_text command.now) }
+{
+    match command {
+        Command::Noop => text.extend_from_slice(b"noop"),
+        Command::Get(key) => push_spelled(text, b"get ", key.as_slice()),
+        Command::Put(key, value) => push_put(text, key.as_slice(), value.as_slice()),
+        Command::Del(key) => push_spelled(text, b"del ", key.as_slice()),
+    }
+}
+
+fn push_put(text: &mut Vec<u8>, key: &[u8], value: &[u8]) -> Result<(), AllocError>
+    ensures { OnOk result (text.new.items ≡ text.old.items ++ command_text (Command.Put key.now value.now)) }
+{
+    push_spelled(text, b"put ", key)?;
+    push_spelled(text, b" ", value)
+}
+
+// Appends a text, and then a word of bytes.
+fn push_spelled(text: &mut Vec<u8>, before: &[u8], bytes: &[u8]) -> Result<(), AllocError>
+    ensures { OnOk result (text.new.items ≡ text.old.items ++ before.now ++ word_of bytes.now) }
+{
+    text.extend_from_slice(before)?;
+    push_word(text, bytes)
+}
+
+/// Appends a reply.
+pub(crate) fn push_reply(text: &mut Vec<u8>, reply: &Reply) -> Result<(), AllocError>
+    ensures { OnOk result (text.new.items ≡ text.old.items ++ reply_text reply.now) }
+{
+    match reply {
+        Reply::Absent => text.extend_from_slice(b"absent"),
+        Reply::Present(value) => push_spelled(text, b"present ", value.as_slice()),
+    }
+}
+
+/// Appends an answer.
+pub(crate) fn push_answer(text: &mut Vec<u8>, answer: &Answer) -> Result<(), AllocError>
+    ensures { OnOk result (text.new.items ≡ text.old.items ++ answer_text answer.now) }
+{
+    match answer {
+        Answer::Lost => text.extend_from_slice(b"lost"),
+        Answer::Told(reply) => push_reply(text, reply),
+    }
+}

@@ -1,0 +1,109 @@
+//! Whole reports.
+
+ghost use Rattle.std.specs.Prelude.{◌≡◌, ◌++◌, OnOk, IfOk, codes, map};
+ghost use Rattle.ep_report.specs.Refusals.{fault_of};
+ghost use Rattle.ep_report.specs.Reports.{text_of, counted, committed_line, history_lines, receipt_line, accepted_lines, refused_lines, refusal_lines};
+
+use crate::audit_fault::AuditFault;
+use crate::cause::Cause;
+use crate::happening::Happening;
+use crate::lines::{
+    push_committed_line, push_heading, push_history_line, push_receipt_line, push_refused_line,
+};
+use ep_base::{Decree, InstanceId};
+use ep_rules::Receipt;
+use std::alloc::{AllocError, Global};
+
+fn push_committed(text: &mut Vec<u8>, committed: &[(InstanceId, Decree)]) -> Result<(), AllocError>
+    ensures { OnOk result (text.new.items ≡ text.old.items ++ text_of (counted (codes "committed") (map committed_line committed.now))) }
+{
+    push_heading(text, b"committed", committed.len())?;
+    for (instance, decree) in committed {
+        push_committed_line(text, *instance, decree)?;
+    }
+    Ok(())
+}
+
+fn push_history(text: &mut Vec<u8>, history: &[Happening]) -> Result<(), AllocError>
+    ensures { OnOk result (text.new.items ≡ text.old.items ++ text_of (counted (codes "history") (history_lines 1 history.now))) }
+{
+    push_heading(text, b"history", history.len())?;
+    push_history_lines(text, history)?;
+    Ok(())
+}
+
+fn push_history_lines(text: &mut Vec<u8>, history: &[Happening]) -> Result<(), AllocError>
+    ensures { OnOk result (text.new.items ≡ text.old.items ++ text_of (history_lines 1 history.now)) }
+{
+    for (index, happening) in history.iter().enumerate() {
+        push_history_line(text, index as u64 + 1, happening)?;
+    }
+    Ok(())
+}
+
+fn push_receipts(text: &mut Vec<u8>, receipts: &[Receipt]) -> Result<(), AllocError>
+    ensures { OnOk result (text.new.items ≡ text.old.items ++ text_of (counted (codes "receipts") (map receipt_line receipts.now))) }
+{
+    push_heading(text, b"receipts", receipts.len())?;
+    for receipt in receipts {
+        push_receipt_line(text, receipt)?;
+    }
+    Ok(())
+}
+
+fn push_refused(
+    alloc: Global,
+    text: &mut Vec<u8>,
+    refused: &[(u32, Cause)],
+) -> Result<(), AllocError>
+    ensures { OnOk result (text.new.items ≡ text.old.items ++ text_of (refused_lines refused.now)) }
+{
+    push_heading(text, b"refused", refused.len())?;
+    for (line, cause) in refused {
+        push_refused_line(alloc, text, *line, *cause)?;
+    }
+    Ok(())
+}
+
+/// The report of what an audit accepts: the committed instances with their decrees, the history, and the receipts, each
+/// in the order given.
+pub fn accepted(
+    alloc: Global,
+    committed: &[(InstanceId, Decree)],
+    history: &[Happening],
+    receipts: &[Receipt],
+) -> Result<Vec<u8>, AllocError>
+    ensures { IfOk result (λ t. t.items ≡ text_of (accepted_lines committed.now history.now receipts.now)) }
+{
+    let mut text = Vec::from_slice(alloc, b"verdict accepted\n")?;
+    push_committed(&mut text, committed)?;
+    push_history(&mut text, history)?;
+    push_receipts(&mut text, receipts)?;
+    Ok(text)
+}
+
+/// The report of a script's run that the audit accepts: `accepted`, and then the lines of the script whose events were
+/// refused, each with its cause, in the order given.
+pub fn report(
+    alloc: Global,
+    committed: &[(InstanceId, Decree)],
+    history: &[Happening],
+    receipts: &[Receipt],
+    refused: &[(u32, Cause)],
+) -> Result<Vec<u8>, AllocError>
+    ensures { IfOk result (λ t. t.items ≡ text_of (accepted_lines committed.now history.now receipts.now ++ refused_lines refused.now)) }
+{
+    let mut text = accepted(alloc, committed, history, receipts)?;
+    push_refused(alloc, &mut text, refused)?;
+    Ok(text)
+}
+
+/// The report of what an audit refuses: its first fault, and nothing else.
+pub fn refusal(alloc: Global, fault: AuditFault) -> Result<Vec<u8>, AllocError>
+    ensures { IfOk result (λ t. t.items ≡ text_of (refusal_lines (fault_of fault))) }
+{
+    let mut text = Vec::from_slice(alloc, b"verdict refused\n")?;
+    text.extend_from_slice(fault.to_string(alloc)?.as_bytes())?;
+    text.push(b'\n')?;
+    Ok(text)
+}
