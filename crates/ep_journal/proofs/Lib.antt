@@ -4,3 +4,4 @@ pub mod Spelling
 pub mod Refusals
 pub mod Back
 pub mod Writable
+pub mod Screened
