@@ -5,3 +5,4 @@ pub mod Refusals
 pub mod Back
 pub mod Writable
 pub mod Screened
+pub mod Execution

@@ -1,14 +1,17 @@
 //! Executing an instance, and all that it waits for.
 
-ghost use Rattle.std.specs.Prelude.{◌≡◌, ◌≤◌, ◌∷◌, [], ◌++◌, ◌+◌, IfOk, OnErr, OnOk, length};
+ghost use Rattle.std.specs.Prelude.{◌≡◌, ◌≤◌, ◌++◌, IfOk, IfErr, OnErr, OnOk, length};
 ghost use Rattle.ep_exec.specs.Tries.{tried};
 ghost use Rattle.ep_rules.specs.OneMap.{answer, after_all};
 ghost use Rattle.ep_rules.specs.States.{command_in};
-ghost use Rattle.ep_journal.specs.Executing.{done_by};
+ghost use Rattle.ep_journal.specs.Executing.{done_by, AreFresh, IsExecuted, IsExecuteFault};
+ghost use Rattle.ep_journal.specs.Stepping.{MarkedBy};
 
 use crate::executions::Executions;
+use crate::mark::Mark;
+use crate::step_fault::StepFault;
 use ep_base::{Answer, Command, InstanceId};
-use ep_exec::{Store, Trial};
+use ep_exec::{Executed, Store, Trial, plan};
 use ep_space::Space;
 use std::alloc::{AllocError, Global};
 
@@ -66,4 +69,46 @@ fn do_all(
             Err(fault)
         }
     }
+}
+
+/// Adds the instances to what is executed.
+fn add_all(executed: &mut Executed, order: &[InstanceId])
+    requires room { length order.now ≤ executed.old.room }
+    requires fresh { AreFresh executed.old.list order.now }
+    ensures { executed.new.list ≡ executed.old.list ++ order.now }
+{
+    for id in order {
+        executed.add(*id);
+    }
+}
+
+/// Executes the root and all that it waits for, or nothing.
+///
+/// In this order: `OutOfRange` where the root's leader is no replica of the cluster, `StampFull` where there is no mark for the entry, and
+/// `NotCommitted` where the root reaches an instance that is not committed, with the least of them. At any refusal, want of memory among them,
+/// what is executed and the map are as they were.
+#[tactic(auto, using(crate::proofs::Execution::out_of_range, crate::proofs::Execution::unmarked, crate::proofs::Execution::unplanned))]
+pub(crate) fn take_execute(
+    alloc: Global,
+    space: &Space,
+    executed: &mut Executed,
+    store: &mut Store,
+    root: InstanceId,
+    mark: Option<Mark>,
+) -> Result<Executions, StepFault>
+    ensures ok { IfOk result (λ done. MarkedBy (λ m. IsExecuted space.now root done executed.old.list store.old executed.new.list store.new) mark) }
+    ensures refused { IfErr result (λ e. IsExecuteFault space.now root mark executed.old.list e) }
+    ensures err { OnErr result ((executed.new.list ≡ executed.old.list) × (store.new ≡ store.old)) }
+{
+    if root.replica().index() >= space.size().count() {
+        return Err(StepFault::OutOfRange);
+    }
+    let Some(_) = mark else {
+        return Err(StepFault::StampFull);
+    };
+    let order = plan(alloc, space, executed, root)?;
+    executed.reserve(order.len())?;
+    let done = do_all(alloc, space, store, &order)?;
+    add_all(executed, &order);
+    Ok(done)
 }
