@@ -1,58 +1,82 @@
 //! Rows of the execution order, long chains and components, the store, and each call with ample memory.
+//! A call that finds no memory is made again on what it left, so that all of them end alike whichever allocation is refused.
 
 mod executing;
 mod ordering;
 mod storing;
 
+ghost use Rattle.std.specs.Prelude.{◌≡◌, ◌<◌};
+
 use crate::{Executed, PlanFault, plan};
 use ep_base::{Attrs, Command, Decree, Deps, InstanceId, ReplicaId, Seq, Size};
 use ep_space::Space;
-use std::test::Fail;
+use std::alloc::{AllocError, Global};
+use std::process::Abort;
 
 /// A replica, and a number of its own.
 type Place = (u8, u16);
 
-fn at(place: Place) -> Result<InstanceId, Fail> {
-    let replica = ReplicaId::new(place.0)?;
-    Ok(InstanceId::new(replica, place.1)?)
+/// A row of a table: an instance, its seq and its dependencies, which rise.
+type Row<'a> = (Place, u32, &'a [Place]);
+
+fn at(rt: &impl Abort, place: Place) -> InstanceId {
+    let replica = ReplicaId::new(place.0).expect(rt, "a replica");
+    InstanceId::new(replica, place.1).expect(rt, "an instance")
 }
 
-fn all_at(rt: &HostRuntime, places: &[Place]) -> Result<Vec<InstanceId>, Fail> {
-    let mut instances = Vec::new(rt.alloc());
-    for place in places {
-        instances.push(at(*place)?)?;
+fn add(rt: &impl Abort, instances: &mut Vec<InstanceId>, instance: InstanceId) {
+    if instances.push(instance).is_err() {
+        instances.push(instance).expect(rt, "memory");
     }
-    Ok(instances)
 }
 
-fn set_of(rt: &HostRuntime, instances: &[InstanceId]) -> Result<Deps, Fail> {
-    let mut set = Deps::new(rt.alloc());
+fn all_at(rt: &impl Abort, alloc: Global, places: &[Place]) -> Vec<InstanceId> {
+    let mut instances = Vec::new(alloc);
+    for place in places {
+        add(rt, &mut instances, at(rt, *place));
+    }
+    instances
+}
+
+/// Room for one more; where there is none, nothing is lost.
+fn reserve(rt: &impl Abort, executed: &mut Executed)
+    ensures { 0 < executed.new.room }
+{
+    let before = executed.as_slice().len();
+    if executed.reserve(1).is_err() {
+        assert_eq!(rt; executed.as_slice().len(), before);
+        executed.reserve(1).expect(rt, "memory");
+    }
+}
+
+fn executed_of(rt: &impl Abort, alloc: Global, places: &[Place]) -> Executed {
+    let mut executed = Executed::new(alloc);
+    for place in places {
+        reserve(rt, &mut executed);
+        executed.add(at(rt, *place));
+    }
+    executed
+}
+
+fn set_of(rt: &impl Abort, alloc: Global, instances: &[InstanceId]) -> Result<Deps, AllocError> {
+    let mut set = Deps::new(alloc);
     for instance in instances {
-        set.insert(rt.alloc(), *instance)?;
+        assert!(rt; set.push_last(*instance)?);
     }
     Ok(set)
 }
 
-fn executed_of(rt: &HostRuntime, places: &[Place]) -> Result<Executed, Fail> {
-    let mut executed = Executed::new(rt.alloc());
-    for place in places {
-        executed.reserve(1)?;
-        executed.add(at(*place)?);
-    }
-    Ok(executed)
-}
-
-/// Commits a no-op with these attributes.
-fn commit(
-    rt: &HostRuntime,
+fn commit_once(
+    rt: &impl Abort,
+    alloc: Global,
     space: &mut Space,
     instance: InstanceId,
     seq: u32,
     deps: &[InstanceId],
-) -> Result<(), Fail> {
-    let seq = Seq::new(seq)?;
+) -> Result<(), AllocError> {
+    let seq = Seq::new(seq).expect(rt, "a sequence number");
+    let deps = set_of(rt, alloc, deps)?;
     space.reserve(instance)?;
-    let deps = set_of(rt, deps)?;
     space.commit(
         instance,
         Decree {
@@ -63,39 +87,42 @@ fn commit(
     Ok(())
 }
 
-/// A row of a table: an instance, its seq and its dependencies.
-type Row<'a> = (Place, u32, &'a [Place]);
-
-fn space_of(rt: &HostRuntime, rows: &[Row<'_>]) -> Result<Space, Fail> {
-    let mut space = Space::new(rt.alloc(), Size::new(3)?);
-    for row in rows {
-        let deps = all_at(rt, row.2)?;
-        commit(rt, &mut space, at(row.0)?, row.1, &deps)?;
+/// Commits a no-op with these attributes.
+fn commit(
+    rt: &impl Abort,
+    alloc: Global,
+    space: &mut Space,
+    instance: InstanceId,
+    seq: u32,
+    deps: &[InstanceId],
+) {
+    if commit_once(rt, alloc, space, instance, seq, deps).is_err() {
+        commit_once(rt, alloc, space, instance, seq, deps).expect(rt, "memory");
     }
-    Ok(space)
 }
 
-/// The root's order over the rows, after these were executed.
-fn order_of(
-    rt: &HostRuntime,
-    rows: &[Row<'_>],
-    done: &[Place],
-    root: Place,
-) -> Result<Result<Vec<InstanceId>, PlanFault>, Fail> {
-    let space = space_of(rt, rows)?;
-    let executed = executed_of(rt, done)?;
-    Ok(plan(rt.alloc(), &space, &executed, at(root)?))
+fn space(rt: &impl Abort, alloc: Global) -> Space {
+    Space::new(alloc, Size::new(3).expect(rt, "a size"))
 }
 
-/// Whether the root's order over the rows is this one.
-fn orders(
-    rt: &HostRuntime,
-    rows: &[Row<'_>],
-    done: &[Place],
-    root: Place,
-    places: &[Place],
-) -> Result<bool, Fail> {
-    let order = order_of(rt, rows, done, root)??;
-    let expected = all_at(rt, places)?;
-    Ok(order.as_slice() == expected.as_slice())
+fn space_of(rt: &impl Abort, alloc: Global, rows: &[Row<'_>]) -> Space {
+    let mut space = space(rt, alloc);
+    for row in rows {
+        let deps = all_at(rt, alloc, row.2);
+        commit(rt, alloc, &mut space, at(rt, row.0), row.1, &deps);
+    }
+    space
+}
+
+/// The root's order.
+fn planned(
+    alloc: Global,
+    space: &Space,
+    executed: &Executed,
+    root: InstanceId,
+) -> Result<Vec<InstanceId>, PlanFault> {
+    match plan(alloc, space, executed, root) {
+        Err(PlanFault::Memory) => plan(alloc, space, executed, root),
+        order => order,
+    }
 }

@@ -1,123 +1,126 @@
 //! Execution orders: the rows, a long chain, a large component.
 
-use super::{at, commit, order_of, orders};
-use crate::{Executed, PlanFault, plan};
-use ep_base::{InstanceId, Size};
+use super::{Place, Row, add, all_at, at, commit, executed_of, planned, space, space_of};
+use crate::{Executed, PlanFault};
+use ep_base::InstanceId;
 use ep_space::Space;
-use std::test::Fail;
+use std::alloc::Global;
+use std::process::Abort;
+
+/// How many instances a long chain and a large component have.
+const MANY: u16 = 300;
+
+/// The root's order over the rows, after these were executed, is this one.
+fn assert_order(
+    rt: &impl Abort,
+    alloc: Global,
+    rows: &[Row<'_>],
+    done: &[Place],
+    root: Place,
+    places: &[Place],
+) {
+    let space = space_of(rt, alloc, rows);
+    let executed = executed_of(rt, alloc, done);
+    let order = planned(alloc, &space, &executed, at(rt, root)).expect(rt, "an order");
+    let expected = all_at(rt, alloc, places);
+    assert!(rt; order.as_slice() == expected.as_slice());
+}
 
 #[test]
-fn a_circle_of_one_seq(rt: HostRuntime) -> Result<(), Fail> {
+fn a_circle_of_one_seq(rt: HostRuntime) {
     let rows = [
         ((0, 1), 2, [(1, 1)].as_slice()),
         ((1, 1), 2, &[(2, 1)]),
         ((2, 1), 2, &[(0, 1)]),
     ];
-    assert!(rt; orders(&rt, &rows, &[], (0, 1), &[(0, 1), (1, 1), (2, 1)])?);
-    Ok(())
+    assert_order(
+        &rt,
+        rt.alloc(),
+        &rows,
+        &[],
+        (0, 1),
+        &[(0, 1), (1, 1), (2, 1)],
+    );
 }
 
 #[test]
-fn a_circle_of_two_seqs(rt: HostRuntime) -> Result<(), Fail> {
+fn a_circle_of_two_seqs(rt: HostRuntime) {
     let rows = [((0, 1), 3, [(1, 1)].as_slice()), ((1, 1), 2, &[(0, 1)])];
-    assert!(rt; orders(&rt, &rows, &[], (0, 1), &[(1, 1), (0, 1)])?);
-    Ok(())
+    assert_order(&rt, rt.alloc(), &rows, &[], (0, 1), &[(1, 1), (0, 1)]);
 }
 
 #[test]
-fn a_dependency_goes_first(rt: HostRuntime) -> Result<(), Fail> {
+fn a_dependency_goes_first(rt: HostRuntime) {
     let rows = [((0, 1), 2, [(1, 1)].as_slice()), ((1, 1), 5, &[])];
-    assert!(rt; orders(&rt, &rows, &[], (0, 1), &[(1, 1), (0, 1)])?);
-    assert!(rt; orders(&rt, &rows, &[(1, 1)], (0, 1), &[(0, 1)])?);
-    assert!(rt; orders(&rt, &rows, &[(1, 1), (0, 1)], (0, 1), &[])?);
-    Ok(())
+    assert_order(&rt, rt.alloc(), &rows, &[], (0, 1), &[(1, 1), (0, 1)]);
+    assert_order(&rt, rt.alloc(), &rows, &[(1, 1)], (0, 1), &[(0, 1)]);
+    assert_order(&rt, rt.alloc(), &rows, &[(1, 1), (0, 1)], (0, 1), &[]);
 }
 
 #[test]
-fn of_two_ready_ones_the_least(rt: HostRuntime) -> Result<(), Fail> {
+fn of_two_ready_ones_the_least(rt: HostRuntime) {
     let rows = [
         ((2, 1), 3, [(0, 1), (1, 1)].as_slice()),
         ((0, 1), 2, &[]),
         ((1, 1), 1, &[]),
     ];
-    assert!(rt; orders(&rt, &rows, &[], (2, 1), &[(0, 1), (1, 1), (2, 1)])?);
-    Ok(())
-}
-
-/// Whether the order waits for this instance.
-fn waits_for(order: &Result<Vec<InstanceId>, PlanFault>, instance: InstanceId) -> bool {
-    match order {
-        Err(PlanFault::NotCommitted(missing)) => *missing == instance,
-        _ => false,
-    }
+    assert_order(
+        &rt,
+        rt.alloc(),
+        &rows,
+        &[],
+        (2, 1),
+        &[(0, 1), (1, 1), (2, 1)],
+    );
 }
 
 #[test]
-fn the_least_that_is_missing(rt: HostRuntime) -> Result<(), Fail> {
+fn the_least_that_is_missing(rt: HostRuntime) {
     let rows = [((0, 1), 2, [(1, 1), (1, 2)].as_slice())];
-    let least = at((1, 1))?;
-    let order = order_of(&rt, &rows, &[], (0, 1))?;
-    assert!(rt; waits_for(&order, least));
-    Ok(())
+    let space = space_of(&rt, rt.alloc(), &rows);
+    let executed = Executed::new(rt.alloc());
+    let fault = planned(rt.alloc(), &space, &executed, at(&rt, (0, 1))).err();
+    assert_eq!(rt; fault, Some(PlanFault::NotCommitted(at(&rt, (1, 1)))));
 }
 
 /// Each instance depends on all before it.
-fn chain(
-    rt: &HostRuntime,
-    space: &mut Space,
-    before: &mut Vec<InstanceId>,
-    number: u16,
-) -> Result<(), Fail> {
-    let instance = at((0, number))?;
-    commit(rt, space, instance, u32::from(number), before)?;
-    before.push(instance)?;
-    Ok(())
+fn chain(rt: &impl Abort, alloc: Global, space: &mut Space) -> Vec<InstanceId> {
+    let mut before = Vec::new(alloc);
+    for number in 1..MANY + 1 {
+        let instance = at(rt, (0, number));
+        commit(rt, alloc, space, instance, u32::from(number), &before);
+        add(rt, &mut before, instance);
+    }
+    before
 }
 
 #[test]
-fn a_chain_of_300(rt: HostRuntime) -> Result<(), Fail> {
-    let root = at((0, 300))?;
-    let mut space = Space::new(rt.alloc(), Size::new(3)?);
-    let mut expected = Vec::new(rt.alloc());
-    for number in 1..301u16 {
-        chain(&rt, &mut space, &mut expected, number)?;
-    }
+fn a_chain_of_many(rt: HostRuntime) {
+    let mut space = space(&rt, rt.alloc());
+    let expected = chain(&rt, rt.alloc(), &mut space);
     let executed = Executed::new(rt.alloc());
-    let order = plan(rt.alloc(), &space, &executed, root)?;
+    let order = planned(rt.alloc(), &space, &executed, at(&rt, (0, MANY))).expect(&rt, "an order");
     assert!(rt; order.as_slice() == expected.as_slice());
-    Ok(())
 }
 
 /// Each instance depends on the next, and the last on the first; they rank from the last to the first.
-fn circle(
-    rt: &HostRuntime,
-    space: &mut Space,
-    backward: &mut Vec<InstanceId>,
-    number: u16,
-) -> Result<(), Fail> {
-    let instance = at((1, number))?;
-    let next = at((1, number % 300 + 1))?;
-    commit(
-        rt,
-        space,
-        instance,
-        1000 - u32::from(number % 1000),
-        &[next],
-    )?;
-    backward.insert(0, instance)?;
-    Ok(())
+fn circle(rt: &impl Abort, alloc: Global, space: &mut Space) -> Vec<InstanceId> {
+    let mut backward = Vec::new(alloc);
+    for passed in 0..MANY {
+        let number = MANY - passed;
+        let instance = at(rt, (1, number));
+        let next = at(rt, (1, number % MANY + 1));
+        commit(rt, alloc, space, instance, 1 + u32::from(passed), &[next]);
+        add(rt, &mut backward, instance);
+    }
+    backward
 }
 
 #[test]
-fn a_component_of_300(rt: HostRuntime) -> Result<(), Fail> {
-    let root = at((1, 7))?;
-    let mut space = Space::new(rt.alloc(), Size::new(3)?);
-    let mut expected = Vec::new(rt.alloc());
-    for number in 1..301u16 {
-        circle(&rt, &mut space, &mut expected, number)?;
-    }
+fn a_component_of_many(rt: HostRuntime) {
+    let mut space = space(&rt, rt.alloc());
+    let expected = circle(&rt, rt.alloc(), &mut space);
     let executed = Executed::new(rt.alloc());
-    let order = plan(rt.alloc(), &space, &executed, root)?;
+    let order = planned(rt.alloc(), &space, &executed, at(&rt, (1, 2))).expect(&rt, "an order");
     assert!(rt; order.as_slice() == expected.as_slice());
-    Ok(())
 }

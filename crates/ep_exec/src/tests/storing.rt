@@ -1,17 +1,48 @@
 //! The store, alone and under a trial.
 
+ghost use Rattle.std.specs.Prelude.{◌≡◌, false, IfOk};
+ghost use Rattle.ep_base.specs.Sameness.{is_noop};
+
 use crate::{Store, Trial};
-use ep_base::{Answer, Command, Key, Reply};
-use std::test::Fail;
+use ep_base::{Answer, Command, CommandFault, Key, Reply};
+use std::alloc::Global;
+use std::process::Abort;
 
 /// A get, put or del (g, p, d) of a key of one byte, with the value for a put; and what is told, of one byte, or that nothing was there.
 type Step = (u8, u8, u8, Option<u8>);
 
-fn command(rt: &HostRuntime, step: Step) -> Result<Command, Fail> {
+fn command_once(alloc: Global, step: Step) -> Result<Command, CommandFault>
+    ensures { IfOk result (λ c. is_noop c ≡ false) }
+{
     match step.0 {
-        b'g' => Ok(Command::get(rt.alloc(), &[step.1])?),
-        b'p' => Ok(Command::put(rt.alloc(), &[step.1], &[step.2])?),
-        _ => Ok(Command::del(rt.alloc(), &[step.1])?),
+        b'g' => Command::get(alloc, &[step.1]),
+        b'p' => Command::put(alloc, &[step.1], &[step.2]),
+        _ => Command::del(alloc, &[step.1]),
+    }
+}
+
+fn command(rt: &impl Abort, alloc: Global, step: Step) -> Command
+    ensures { is_noop result ≡ false }
+{
+    match command_once(alloc, step) {
+        Ok(command) => command,
+        Err(_) => command_once(alloc, step).expect(rt, "memory"),
+    }
+}
+
+fn reply(rt: &impl Abort, store: &mut Store, command: &Command) -> Reply
+    requires { is_noop command.now ≡ false }
+{
+    match store.apply(command) {
+        Ok(reply) => reply,
+        Err(_) => store.apply(command).expect(rt, "memory"),
+    }
+}
+
+fn answer(rt: &impl Abort, trial: &mut Trial, command: &Command) -> Answer {
+    match trial.apply(command) {
+        Ok(answer) => answer,
+        Err(_) => trial.apply(command).expect(rt, "memory"),
     }
 }
 
@@ -22,52 +53,48 @@ fn is_told(reply: &Reply, byte: Option<u8>) -> bool {
     }
 }
 
-fn replies(rt: &HostRuntime, store: &mut Store, step: Step) -> Result<bool, Fail> {
-    let command = command(rt, step)?;
-    if matches!(command, Command::Noop) {
-        return Ok(false);
-    }
-    let reply = store.apply(&command)?;
-    Ok(is_told(&reply, step.3))
-}
-
-fn answers(rt: &HostRuntime, trial: &mut Trial, step: Step) -> Result<bool, Fail> {
-    let command = command(rt, step)?;
-    match trial.apply(&command)? {
-        Answer::Lost => Ok(false),
-        Answer::Told(reply) => Ok(is_told(&reply, step.3)),
+fn is_answer(answer: &Answer, byte: Option<u8>) -> bool {
+    match answer {
+        Answer::Lost => false,
+        Answer::Told(reply) => is_told(reply, byte),
     }
 }
 
-/// Whether each key of one byte has this one.
-fn has(rt: &HostRuntime, store: &Store, pairs: &[(u8, Option<u8>)]) -> Result<bool, Fail> {
+/// Each step is told what was there.
+fn assert_replies(rt: &impl Abort, alloc: Global, store: &mut Store, steps: &[Step]) {
+    for step in steps {
+        let command = command(rt, alloc, *step);
+        assert!(rt; is_told(&reply(rt, store, &command), step.3));
+    }
+}
+
+fn assert_answers(rt: &impl Abort, alloc: Global, trial: &mut Trial, steps: &[Step]) {
+    for step in steps {
+        let command = command(rt, alloc, *step);
+        assert!(rt; is_answer(&answer(rt, trial, &command), step.3));
+    }
+}
+
+fn key(rt: &impl Abort, alloc: Global, name: u8) -> Key {
+    match Key::new(alloc, &[name]) {
+        Ok(key) => key,
+        Err(_) => Key::new(alloc, &[name]).expect(rt, "memory"),
+    }
+}
+
+fn byte_at(store: &Store, key: &Key) -> Option<u8> {
+    match store.get(key) {
+        None => None,
+        Some(value) => value.as_slice().first().copied(),
+    }
+}
+
+/// Each key of one byte has this one.
+fn assert_has(rt: &impl Abort, alloc: Global, store: &Store, pairs: &[(u8, Option<u8>)]) {
     for (name, byte) in pairs {
-        let key = Key::new(rt.alloc(), &[*name])?;
-        let found = store.get(&key);
-        if found.map_or(None, |value| value.as_slice().first().copied()) != *byte {
-            return Ok(false);
-        }
+        let key = key(rt, alloc, *name);
+        assert_eq!(rt; byte_at(store, &key), *byte);
     }
-    Ok(true)
-}
-
-/// Whether each step is told what was there.
-fn all_reply(rt: &HostRuntime, store: &mut Store, steps: &[Step]) -> Result<bool, Fail> {
-    for step in steps {
-        if !replies(rt, store, *step)? {
-            return Ok(false);
-        }
-    }
-    Ok(true)
-}
-
-fn all_answer(rt: &HostRuntime, trial: &mut Trial, steps: &[Step]) -> Result<bool, Fail> {
-    for step in steps {
-        if !answers(rt, trial, *step)? {
-            return Ok(false);
-        }
-    }
-    Ok(true)
 }
 
 const FIRST: [Step; 2] = [(b'p', b'a', b'1', None), (b'p', b'b', b'2', None)];
@@ -81,68 +108,57 @@ const LATER: [Step; 6] = [
     (b'g', b'a', 0, Some(b'3')),
 ];
 
-#[test]
-fn replies_tell_what_was(rt: HostRuntime) -> Result<(), Fail> {
-    let mut store = Store::new(rt.alloc());
-    assert!(rt; all_reply(&rt, &mut store, &FIRST)?);
-    assert!(rt; all_reply(&rt, &mut store, &LATER)?);
-    Ok(())
+/// What the keys have after the first steps, and after the later ones.
+const EARLIER: [(u8, Option<u8>); 3] = [(b'a', Some(b'1')), (b'b', Some(b'2')), (b'c', None)];
+
+const LAST: [(u8, Option<u8>); 3] = [(b'a', Some(b'3')), (b'b', Some(b'4')), (b'c', Some(b'5'))];
+
+fn first_store(rt: &impl Abort, alloc: Global) -> Store {
+    let mut store = Store::new(alloc);
+    assert_replies(rt, alloc, &mut store, &FIRST);
+    store
 }
 
 #[test]
-fn a_copy_stays(rt: HostRuntime) -> Result<(), Fail> {
-    let mut store = Store::new(rt.alloc());
-    assert!(rt; all_reply(&rt, &mut store, &FIRST)?);
-    let copy = store.copy()?;
-    assert!(rt; all_reply(&rt, &mut store, &LATER)?);
-    assert!(rt;
-        has(
-            &rt,
-            &copy,
-            &[(b'a', Some(b'1')), (b'b', Some(b'2')), (b'c', None)]
-        )?
-    );
-    Ok(())
+fn replies_tell_what_was(rt: HostRuntime) {
+    let mut store = first_store(&rt, rt.alloc());
+    assert_has(&rt, rt.alloc(), &store, &EARLIER);
+    assert_replies(&rt, rt.alloc(), &mut store, &LATER);
+    assert_has(&rt, rt.alloc(), &store, &LAST);
+}
+
+fn copy(rt: &impl Abort, store: &Store) -> Store {
+    match store.copy() {
+        Ok(copy) => copy,
+        Err(_) => store.copy().expect(rt, "memory"),
+    }
 }
 
 #[test]
-fn a_trial_is_taken_back(rt: HostRuntime) -> Result<(), Fail> {
-    let mut store = Store::new(rt.alloc());
-    assert!(rt; all_reply(&rt, &mut store, &FIRST)?);
-    let mut trial = store.try_out();
-    assert!(rt; all_answer(&rt, &mut trial, &LATER)?);
-    let store = trial.take_back();
-    assert!(rt;
-        has(
-            &rt,
-            &store,
-            &[(b'a', Some(b'1')), (b'b', Some(b'2')), (b'c', None)]
-        )?
-    );
-    Ok(())
+fn a_copy_stays(rt: HostRuntime) {
+    let mut store = first_store(&rt, rt.alloc());
+    let copy = copy(&rt, &store);
+    assert_replies(&rt, rt.alloc(), &mut store, &LATER);
+    assert_has(&rt, rt.alloc(), &copy, &EARLIER);
 }
 
 #[test]
-fn a_trial_is_kept(rt: HostRuntime) -> Result<(), Fail> {
-    let mut store = Store::new(rt.alloc());
-    assert!(rt; all_reply(&rt, &mut store, &FIRST)?);
-    let mut trial = store.try_out();
-    assert!(rt; all_answer(&rt, &mut trial, &LATER)?);
-    let store = trial.keep();
-    assert!(rt;
-        has(
-            &rt,
-            &store,
-            &[(b'a', Some(b'3')), (b'b', Some(b'4')), (b'c', Some(b'5'))]
-        )?
-    );
-    Ok(())
+fn a_trial_is_taken_back(rt: HostRuntime) {
+    let mut trial = first_store(&rt, rt.alloc()).try_out();
+    assert_answers(&rt, rt.alloc(), &mut trial, &LATER);
+    assert_has(&rt, rt.alloc(), &trial.take_back(), &EARLIER);
 }
 
 #[test]
-fn a_noop_answers_lost(rt: HostRuntime) -> Result<(), Fail> {
+fn a_trial_is_kept(rt: HostRuntime) {
+    let mut trial = first_store(&rt, rt.alloc()).try_out();
+    assert_answers(&rt, rt.alloc(), &mut trial, &LATER);
+    assert_has(&rt, rt.alloc(), &trial.keep(), &LAST);
+}
+
+#[test]
+fn a_noop_answers_lost(rt: HostRuntime) {
     let mut trial = Store::new(rt.alloc()).try_out();
-    let answer = trial.apply(&Command::noop())?;
+    let answer = trial.apply(&Command::noop()).expect(&rt, "an answer");
     assert!(rt; matches!(answer, Answer::Lost));
-    Ok(())
 }
