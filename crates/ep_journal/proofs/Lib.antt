@@ -6,3 +6,5 @@ pub mod Back
 pub mod Writable
 pub mod Screened
 pub mod Execution
+pub mod Whole
+pub mod InOrder

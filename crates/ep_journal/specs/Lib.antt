@@ -4,3 +4,5 @@ pub mod Refused
 pub mod Parts
 pub mod Inputs
 pub mod Stepping
+pub mod Entries
+pub mod Standing

@@ -10,7 +10,7 @@ use Rattle.ep_space.specs.Records.{Records}
 use Rattle.ep_journal.specs.Events.{event_of, IsReadable, AreSpelled}
 use Rattle.ep_journal.specs.Parts.{known}
 use Rattle.ep_journal.specs.declared.event.Event.{Event as Happening}
-use Rattle.ep_journal.specs.declared.event.Event.TheVariants.{Handle}
+use Rattle.ep_journal.specs.declared.event.Event.TheVariants.{Propose, Handle, GiveUp, Recover, Execute}
 use Rattle.ep_journal.specs.declared.mark.Mark.{Mark}
 use Rattle.ep_journal.specs.declared.step_fault.StepFault.{StepFault}
 use Rattle.ep_journal.specs.declared.step_fault.StepFault.TheVariants.{Memory, BadFrame, OutOfRange, NotMine, StampFull, SpaceFull, SeqExhausted, NotLeading, TooFewAnswers, AlreadyCommitted, BallotsExhausted, NotCommitted}
@@ -63,3 +63,11 @@ IsFault me s l e mark TooFewAnswers = RefusedBy me s l e mark rules.TooFewAnswer
 IsFault me s l e mark AlreadyCommitted = RefusedBy me s l e mark rules.AlreadyCommitted
 IsFault me s l e mark BallotsExhausted = RefusedBy me s l e mark rules.BallotsExhausted
 IsFault me s l e mark (NotCommitted i) = ⊥
+
+-- the event executes nothing
+abbrev pub IsOfProtocol : Happening → Type 0
+IsOfProtocol (Propose client request command seen) = Unit {0}
+IsOfProtocol (Handle b) = Unit {0}
+IsOfProtocol (GiveUp i) = Unit {0}
+IsOfProtocol (Recover i) = Unit {0}
+IsOfProtocol (Execute i) = ⊥
