@@ -1,4 +1,5 @@
-//! Numbers at their limits, each call once with ample memory.
+//! Numbers at their limits, each call once with ample memory, and each with an allocation refused:
+//! what is refused is asked again, and what is known is then as before.
 
 ghost use Rattle.std.specs.Prelude.{◌≡◌, true};
 ghost use Rattle.std.specs.FinSet as set;
@@ -6,6 +7,7 @@ ghost use Rattle.ep_space.specs.Held.{HasPlace};
 
 use super::*;
 use ep_base::{Attrs, Ballot, Command, Decree, Deps, InstanceId, ReplicaId, Seq, Size};
+use ep_rules::Record;
 use std::alloc::Global;
 use std::process::Abort;
 
@@ -14,33 +16,92 @@ fn instance(rt: &impl Abort, leader: u8, number: u16) -> InstanceId {
     InstanceId::new(leader, number).expect(rt, "an instance")
 }
 
+fn ballot(rt: &impl Abort, counter: u16, leader: u8) -> Ballot {
+    let leader = ReplicaId::new(leader).expect(rt, "a replica");
+    Ballot::new(counter, leader).expect(rt, "a ballot")
+}
+
 fn put(rt: &impl Abort, alloc: Global) -> Command {
-    Command::put(alloc, b"x", b"1").expect(rt, "memory for a command")
+    match Command::put(alloc, b"x", b"1") {
+        Ok(command) => command,
+        Err(_) => Command::put(alloc, b"x", b"1").expect(rt, "memory for a command"),
+    }
+}
+
+/// `put x 1` with this sequence number, and no dependencies.
+fn decree(rt: &impl Abort, alloc: Global, seq: u32) -> Decree {
+    let attrs = Attrs {
+        seq: Seq::new(seq).expect(rt, "a sequence number"),
+        deps: Deps::new(alloc),
+    };
+    Decree {
+        command: put(rt, alloc),
+        attrs,
+    }
 }
 
 fn empty(rt: &impl Abort, alloc: Global) -> Space {
     Space::new(alloc, Size::new(5).expect(rt, "a size"))
 }
 
-/// With `put x 1`, pre-accepted with this sequence number.
-fn hold(rt: &impl Abort, alloc: Global, space: &mut Space, id: InstanceId, seq: u32) {
-    space.reserve(id).expect(rt, "memory for a place");
-    let attrs = Attrs {
-        seq: Seq::new(seq).expect(rt, "a sequence number"),
-        deps: Deps::new(alloc),
-    };
-    let command = put(rt, alloc);
-    let ballot = Ballot::default_of(id.replica());
-    space.vote_pre(id, ballot, Decree { command, attrs });
+/// A place for the instance; where memory is refused, the records are as they were.
+fn place(rt: &impl Abort, space: &mut Space, id: InstanceId)
+    ensures { HasPlace space.new.places id }
+{
+    let before = known(space, id);
+    match space.reserve(id) {
+        Ok(()) => (),
+        Err(_) => {
+            assert_eq!(rt; known(space, id), before);
+            space.reserve(id).expect(rt, "memory for a place");
+        }
+    }
+    assert_eq!(rt; known(space, id), before);
 }
 
-/// The sequence number that `put x 1` gets in the instance, and how many it depends on.
-fn found(rt: &impl Abort, alloc: Global, space: &Space, except: InstanceId) -> (u32, usize) {
+/// The promised ballot, the voted one, and whether it is committed; taken without memory.
+fn known(space: &Space, id: InstanceId) -> (Ballot, Ballot, bool) {
+    (
+        space.promised(id),
+        space.voted_ballot(id),
+        space.is_committed(id),
+    )
+}
+
+/// With `put x 1`, pre-accepted with this sequence number.
+fn hold(rt: &impl Abort, alloc: Global, space: &mut Space, id: InstanceId, seq: u32) {
+    place(rt, space, id);
+    let held = decree(rt, alloc, seq);
+    let ballot = Ballot::default_of(id.replica());
+    space.vote_pre(id, ballot, held);
+}
+
+/// The sequence number that `put x 1` gets in the instance, and how many it depends on; none where it would pass its limit.
+fn found(
+    rt: &impl Abort,
+    alloc: Global,
+    space: &Space,
+    except: InstanceId,
+) -> Option<(u32, usize)> {
     let command = put(rt, alloc);
-    match space.interference(alloc, &command, except) {
-        Ok(attrs) => (attrs.seq.number(), attrs.deps.as_slice().len()),
-        Err(InterferenceFault::SeqExhausted) => (0, 0),
-        Err(InterferenceFault::Memory) => (0, 1),
+    let attrs = match space.interference(alloc, &command, except) {
+        Err(InterferenceFault::Memory) => space.interference(alloc, &command, except),
+        other => other,
+    };
+    match attrs {
+        Ok(attrs) => Some((attrs.seq.number(), attrs.deps.as_slice().len())),
+        Err(fault) => {
+            assert_eq!(rt; fault, InterferenceFault::SeqExhausted);
+            None
+        }
+    }
+}
+
+/// The record again.
+fn again(rt: &impl Abort, alloc: Global, space: &Space, id: InstanceId) -> Option<Record> {
+    match space.copy(alloc, id) {
+        Ok(record) => record,
+        Err(_) => space.copy(alloc, id).expect(rt, "memory for a copy"),
     }
 }
 
@@ -51,30 +112,53 @@ fn a_sequence_number_stays_in_range(rt: HostRuntime) {
     let second = instance(&rt, 1, 1);
     let third = instance(&rt, 2, 7);
     let mut space = empty(&rt, alloc);
-    assert_eq!(rt; found(&rt, alloc, &space, first), (1, 0));
+    assert_eq!(rt; found(&rt, alloc, &space, first), Some((1, 0)));
     hold(&rt, alloc, &mut space, second, 999_999);
-    assert_eq!(rt; found(&rt, alloc, &space, first), (1_000_000, 1));
-    assert_eq!(rt; found(&rt, alloc, &space, second), (1, 0));
+    assert_eq!(rt; found(&rt, alloc, &space, first), Some((1_000_000, 1)));
+    assert_eq!(rt; found(&rt, alloc, &space, second), Some((1, 0)));
     hold(&rt, alloc, &mut space, third, 1_000_000);
-    assert_eq!(rt; found(&rt, alloc, &space, first), (0, 0));
-    assert_eq!(rt; found(&rt, alloc, &space, third), (1_000_000, 1));
+    assert_eq!(rt; found(&rt, alloc, &space, first), None);
+    assert_eq!(rt; found(&rt, alloc, &space, third), Some((1_000_000, 1)));
+}
+
+/// Seven dependencies take memory: a short list holds six.
+#[test]
+fn a_command_depends_on_all_that_interfere(rt: HostRuntime) {
+    let alloc = rt.alloc();
+    let mut space = empty(&rt, alloc);
+    for number in 1..=7 {
+        let id = instance(&rt, 1, number);
+        hold(&rt, alloc, &mut space, id, 9 - u32::from(number));
+    }
+    assert_eq!(rt;
+        found(&rt, alloc, &space, instance(&rt, 0, 1)),
+        Some((9, 7))
+    );
+    assert_eq!(rt;
+        found(&rt, alloc, &space, instance(&rt, 1, 1)),
+        Some((8, 6))
+    );
 }
 
 #[test]
 fn a_promise_takes_a_number(rt: HostRuntime) {
     let alloc = rt.alloc();
     let me = ReplicaId::new(2).expect(&rt, "a replica");
-    let ballot = Ballot::new(1, me).expect(&rt, "a ballot");
+    let ballot = ballot(&rt, 1, 2);
     let mut space = empty(&rt, alloc);
+    assert_eq!(rt; space.free_number(me), Ok(1));
     for number in 1..=1000 {
         let id = instance(&rt, 2, number);
-        space.reserve(id).expect(&rt, "memory for a place");
-        assert_eq!(rt; space.free_number(me), Ok(number));
+        place(&rt, &mut space, id);
         space.join_ballot(id, ballot);
     }
     assert_eq!(rt; space.free_number(me), Err(SpaceFull));
+    let last = instance(&rt, 2, 1000);
+    place(&rt, &mut space, last);
+    space.put_back(last, None);
+    assert_eq!(rt; space.free_number(me), Ok(1000));
     let third = instance(&rt, 2, 3);
-    space.reserve(third).expect(&rt, "memory for a place");
+    place(&rt, &mut space, third);
     space.put_back(third, None);
     assert_eq!(rt; space.free_number(me), Ok(3));
 }
@@ -84,14 +168,84 @@ fn a_place_is_no_record(rt: HostRuntime) {
     let alloc = rt.alloc();
     let id = instance(&rt, 0, 1);
     let mut space = empty(&rt, alloc);
-    if space.reserve(id).is_err() {
-        assert!(rt; space.get(id).is_none());
-        space.reserve(id).expect(&rt, "memory for a place");
-    }
+    place(&rt, &mut space, id);
     assert!(rt; space.get(id).is_none());
+    assert!(rt; space.vote(id).is_none());
     assert!(rt; !space.is_committed(id));
     hold(&rt, alloc, &mut space, id, 1);
-    let earlier = space.copy(alloc, id).expect(&rt, "memory for a copy");
-    assert!(rt; earlier.is_some());
+    assert!(rt; again(&rt, alloc, &space, id).is_some());
     assert!(rt; space.committed(id).is_none());
+}
+
+#[test]
+fn an_accepted_vote_settles_its_ballot(rt: HostRuntime) {
+    let alloc = rt.alloc();
+    let id = instance(&rt, 0, 1);
+    let low = ballot(&rt, 1, 3);
+    let high = ballot(&rt, 2, 4);
+    let mut space = empty(&rt, alloc);
+    place(&rt, &mut space, id);
+    let value = decree(&rt, alloc, 1);
+    space.vote_accept(id, low, value);
+    assert!(rt; space.is_settled_at(id, low) && space.is_done_at(id, low));
+    assert!(rt; !space.is_settled_at(id, high) && !space.is_done_at(id, high));
+    hold(&rt, alloc, &mut space, id, 1);
+    let default = Ballot::default_of(id.replica());
+    assert!(rt; !space.is_settled_at(id, default) && space.is_done_at(id, default));
+}
+
+#[test]
+fn a_commit_keeps_both_ballots(rt: HostRuntime) {
+    let alloc = rt.alloc();
+    let id = instance(&rt, 0, 1);
+    let low = ballot(&rt, 1, 3);
+    let high = ballot(&rt, 2, 4);
+    let mut space = empty(&rt, alloc);
+    assert_eq!(rt; space.size().count(), 5);
+    place(&rt, &mut space, id);
+    let value = decree(&rt, alloc, 1);
+    space.vote_accept(id, low, value);
+    space.join_ballot(id, high);
+    assert_eq!(rt; known(&space, id), (high, low, false));
+    let value = decree(&rt, alloc, 5);
+    space.commit(id, value);
+    assert_eq!(rt; known(&space, id), (high, low, true));
+    assert!(rt; space.is_settled_at(id, high) && space.is_done_at(id, high));
+    let seq = space.committed(id).map(|decree| decree.attrs.seq.number());
+    assert_eq!(rt; seq, Some(5));
+}
+
+#[test]
+fn an_earlier_record_is_put_back(rt: HostRuntime) {
+    let alloc = rt.alloc();
+    let id = instance(&rt, 0, 1);
+    let mut space = empty(&rt, alloc);
+    place(&rt, &mut space, id);
+    hold(&rt, alloc, &mut space, id, 1);
+    let earlier = again(&rt, alloc, &space, id);
+    let before = known(&space, id);
+    place(&rt, &mut space, id);
+    space.join_ballot(id, ballot(&rt, 1, 4));
+    let there = space.put_back(id, earlier);
+    assert_eq!(rt; known(&space, id), before);
+    assert_eq!(rt;
+        there.map(|record| record.promised),
+        Some(ballot(&rt, 1, 4))
+    );
+}
+
+#[test]
+fn a_table_writes_at_its_places(rt: HostRuntime) {
+    let id = instance(&rt, 6, 1000);
+    let other = instance(&rt, 0, 1);
+    let mut table: Table<u16> = Table::new(rt.alloc());
+    if table.reserve(id).is_err() {
+        assert_eq!(rt; table.get(id).copied(), None);
+        table.reserve(id).expect(&rt, "memory for a place");
+    }
+    table.write(id, Some(7));
+    assert_eq!(rt; table.get(id).copied(), Some(7));
+    assert_eq!(rt; table.get(other).copied(), None);
+    assert_eq!(rt; table.put_back(id, None), Some(7));
+    assert_eq!(rt; table.get(id).copied(), None);
 }
