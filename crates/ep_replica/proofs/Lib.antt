@@ -1,0 +1,7 @@
+pub mod Growing
+pub mod Declined
+pub mod Noted
+pub mod Own
+pub mod Outcomes
+pub mod Settled
+pub mod Given

@@ -3,7 +3,7 @@ use Rattle.std.specs.Prelude.{◌≡◌, ℕ, ◌+◌, ◌&&◌, ltb, max, lengt
 use Rattle.ep_rules.specs.Journals.{IsEntry, AreMarked, last_stamp, heard}
 use Rattle.ep_journal.specs.Entries.{entry_of, entries_of, AreFrames}
 use Rattle.ep_journal.specs.Events.{event_of, IsReadable}
-use Rattle.ep_journal.specs.Standing.{IsRefused}
+use Rattle.ep_journal.specs.Standing.{Standing, IsRefused}
 use Rattle.ep_journal.specs.declared.entry.Entry.{Entry}
 use Rattle.ep_journal.specs.declared.event.Event.{Event as Happening}
 use Rattle.ep_journal.specs.declared.mark.Mark.{Mark}
@@ -23,10 +23,10 @@ abbrev pub mark_after : List Entry → Happening → Option Mark
 mark_after es event = mark_of (length es + 1) (next_stamp es event)
 
 -- the entry is the event's step from what the journal leaves, numbered next and stamped by the clock, and was appended
-pub record Applied (k : Kept) (event : Happening) (e : Entry) (k' : Kept) : Type 0 where
-  pub event : e.event ≡ event
+pub record Applied (k : Kept) (taken : Happening) (e : Entry) (k' : Kept) : Type 0 where
+  pub event : e.event ≡ taken
   pub number : e.number ≡ length k.entries + 1
-  pub stamp : e.stamp ≡ next_stamp k.entries event
+  pub stamp : e.stamp ≡ next_stamp k.entries taken
   pub step : IsEntry k.faults k.me (state_left k.faults k.me k.entries) (entry_of e)
   pub marked : AreMarked (entry_of e) 0 (entry_of e).out
   pub readable : IsReadable e.event
@@ -36,3 +36,10 @@ pub record Applied (k : Kept) (event : Happening) (e : Entry) (k' : Kept) : Type
 -- why the event was not taken: want of memory, or the first reason, in the order of the step that has the clock's mark
 abbrev pub IsDeclined : Kept → Happening → StepFault → Type 0
 IsDeclined k event fault = IsRefused (standing k) event (mark_after k.entries event) fault
+
+-- an entry was made and appended; the state is what the journal leaves, and the stamp is the entry's
+pub record Advanced (k : Kept) (event : Happening) (k' : Kept) (s' : Standing) (stamp : ℕ) : Type 0 where
+  pub entry : Entry
+  pub applied : Applied k event entry k'
+  pub leaves : s' ≡ standing k'
+  pub stamped : stamp ≡ entry.stamp

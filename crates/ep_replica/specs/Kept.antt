@@ -1,9 +1,9 @@
 -- A replica: its journal, and the state that this leaves.
-use Rattle.std.specs.Prelude.{◌≡◌, ℕ, List, refl}
+use Rattle.std.specs.Prelude.{ℕ, List, refl}
 use Rattle.std.specs.Coded.{Coded, code_by, coded×, coded_ℕ, coded_list}
 use Rattle.ep_rules.specs.Journals.{left}
 use Rattle.ep_rules.specs.States.{State, fresh_state}
-use Rattle.ep_journal.specs.Entries.{entries_of}
+use Rattle.ep_journal.specs.Entries.{Log, entries_of}
 use Rattle.ep_journal.specs.Standing.{Standing}
 use Rattle.ep_journal.specs.contracts.entry.Entry as entry_facts
 use Rattle.ep_journal.specs.declared.entry.Entry.{Entry}
@@ -26,3 +26,7 @@ state_left f me es = left f me fresh_state (entries_of es)
 -- what the replica knows, has executed and stores
 abbrev pub standing : Kept → Standing
 standing k = record { faults = k.faults; me = k.me; state = state_left k.faults k.me k.entries }
+
+-- the replica whose journal it is
+abbrev pub kept_of : Log → Kept
+kept_of l = record { faults = l.faults; me = l.me; entries = l.entries }

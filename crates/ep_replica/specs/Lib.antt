@@ -1,3 +1,5 @@
 pub mod Kept
 pub mod Applied
 pub mod Receipts
+pub mod Slots
+pub mod Outcomes

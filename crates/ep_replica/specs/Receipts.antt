@@ -1,10 +1,11 @@
 -- The receipts that a replica gives: of what it proposed itself, for each execution.
-use Rattle.std.specs.Prelude.{ℕ, eqb, drop, cond, List, [], ◌∷◌, ◌++◌, Option, Some, None}
+use Rattle.std.specs.Prelude.{◌≡◌, ℕ, eqb, drop, cond, List, [], ◌∷◌, ◌++◌, Option, Some, None}
 use Rattle.ep_base.specs.Instances.{leader_of}
 use Rattle.ep_base.specs.Messages.{instance_of_message}
 use Rattle.ep_base.specs.declared.reply.Answer.{Answer}
 use Rattle.ep_rules.specs.Journals.{Entry}
 use Rattle.ep_rules.specs.Steps.{Frame, Event, Propose, Handle, GiveUp, Recover, Execute}
+use Rattle.ep_rules.specs.Verdicts.{Proposes, HasDone}
 use Rattle.ep_rules.specs.declared.receipt.Receipt.{Receipt}
 use Rattle.ep_replica.specs.declared.proposal.Proposal.{Proposal}
 
@@ -52,3 +53,23 @@ receipts_by me es (e ∷ these) = receipts_of me es e ++ receipts_by me es these
 -- the receipts of the executions after the first n entries, in order
 abbrev pub receipts_after : ℕ → ℕ → List Entry → List Receipt
 receipts_after me n es = receipts_by me es (drop n es)
+
+-- the first receipt of instance i
+abbrev pub first_about : ℕ → List Receipt → Option Receipt
+first_about i [] = None
+first_about i (t ∷ ts) = cond (eqb t.instance i) (Some t) (first_about i ts)
+
+-- the receipt of the first execution of instance i, where replica me proposed it
+abbrev pub outcome_of : ℕ → List Entry → ℕ → Option Receipt
+outcome_of me es i = first_about i (receipts_after me 0 es)
+
+-- replica me proposed its own instance i, and executed it
+pub record IsSettled (f me : ℕ) (es : List Entry) (i : ℕ) : Type 0 where
+  pub leader : leader_of i ≡ me
+  pub client : ℕ
+  pub request : ℕ
+  pub proposed : Proposes f me es i client request
+  pub number : ℕ
+  pub stamp : ℕ
+  pub answer : Answer
+  pub executed : HasDone es number stamp i answer

@@ -1,0 +1,19 @@
+use Rattle.ep_replica.proofs.Noted.{tells_more, still_tells, others_tell}
+use Rattle.std.proofs.Common.{◌∙◌, sym, subst, ◌<◌, length, List, Option}
+use Rattle.std.proofs.lemmas.Bool.{eqb-true, eqb-false}
+use Rattle.ep_base.specs.Instances.{highest_number, instance_of}
+use Rattle.ep_replica.specs.Slots.{Tells}
+use Rattle.ep_replica.specs.declared.proposal.Proposal.{Proposal}
+use Rattle.ep_replica.proofs.slots.Slots.note.Goals as goal
+
+pub returns-then-eq : goal.returns-then-eq
+returns-then-eq c = λ es tells.
+    tells_more c.args.me es c.args.entry.now c.self.inside.items.items _ c.number.result _ (subst (λ (xs : List (Option Proposal)). highest_number < length xs) (sym c.self.view_is) c.requires.room)
+    (sym c.replica.ensures ∙ eqb-true c.replica.result c.args.me (sym c.eq.ensures ∙ c.if-eq.true)) c.number.ensures.value c.number.ensures.in_range.2 c.in-Some.ensures (subst (λ (xs : List (Option Proposal)). Tells c.args.me es xs) (sym c.self.view_is) tells)
+
+pub returns-in_default : goal.returns-in_default
+returns-in_default c = λ es tells. still_tells c.args.me es c.args.entry.now c.args.self.now (λ number limit. c.in_default.ensures (instance_of c.args.me number)) tells
+
+pub returns-else-eq : goal.returns-else-eq
+returns-else-eq c = λ es tells.
+    others_tell c.args.me es c.args.entry.now c.args.self.now _ _ (λ same. eqb-false c.replica.result c.args.me (sym c.eq.ensures ∙ c.if-eq.false) (c.replica.ensures ∙ same)) c.in-Some.ensures tells

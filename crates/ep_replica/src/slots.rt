@@ -1,0 +1,102 @@
+//! The index of what a replica proposed.
+
+ghost use Rattle.std.specs.Prelude.{◌≡◌, ◌<◌, ◌≤◌, ◌++◌, ◌∷◌, [], ℕ, List, Option, Some, length, OnOk};
+ghost use Rattle.ep_base.specs.Instances.{highest_number, number_of};
+ghost use Rattle.ep_journal.specs.Entries.{AreFrames, frames_at};
+ghost use Rattle.ep_journal.specs.Events.{event_of};
+ghost use Rattle.ep_journal.specs.declared.entry.Entry.{Entry};
+ghost use Rattle.ep_replica.specs.Receipts.{proposed_by};
+ghost use Rattle.ep_replica.specs.Slots.{found, named, Tells};
+
+use crate::proposal::Proposal;
+use ep_base::{InstanceId, ReplicaId};
+use ep_frame::FrameView;
+use ep_journal::{Entry, Event};
+use std::alloc::{AllocError, Global};
+use std::marker::Model;
+
+/// What an entry proposes, and as which instance: the one that its first frame is about.
+fn proposal_in(entry: &Entry) -> Option<(InstanceId, Proposal)>
+    requires readable { AreFrames entry.now.frames }
+    ensures { (i : ℕ) → proposed_by (event_of entry.now.event) (frames_at entry.now.frames) i ≡ named result i }
+{
+    let Event::Propose {
+        client,
+        request,
+        command: _,
+        seen,
+    } = &entry.event
+    else {
+        return None;
+    };
+    let Some(frame) = entry.frames.as_slice().first() else {
+        return None;
+    };
+    let Ok(view) = FrameView::read(frame) else {
+        return None;
+    };
+    let proposal = Proposal {
+        client: *client,
+        request: *request,
+        seen: *seen,
+    };
+    Some((view.instance(), proposal))
+}
+
+/// A replica's proposals, each at the number of its instance. It has places for all of them or for none.
+#[derive(Drop)]
+pub(crate) struct Slots {
+    items: Vec<Option<Proposal>>,
+}
+
+impl Model for Slots {
+    ghost use Rattle.std.specs.Prelude.{List, Option};
+    ghost use Rattle.ep_replica.specs.declared.proposal.Proposal.{Proposal};
+
+    ghost Value = { List (Option Proposal) };
+
+    ghost view = { λ s. s.items.items };
+}
+
+impl Slots {
+    /// No proposals.
+    pub(crate) fn new(alloc: Global) -> Slots
+        ensures { result ≡ [] }
+    {
+        Slots {
+            items: Vec::new(alloc),
+        }
+    }
+
+    /// Makes a place for each instance that the replica may propose.
+    pub(crate) fn reserve(&mut self) -> Result<(), AllocError>
+        ensures room { OnOk result (highest_number < length self.new) }
+        ensures same { (number : ℕ) → found self.new number ≡ found self.old number }
+    {
+        for _ in self.items.len()..1001 {
+            self.items.push(None)?;
+        }
+        Ok(())
+    }
+
+    /// The proposal of the instance of this number.
+    pub(crate) fn get(&self, number: u16) -> Option<Proposal>
+        ensures { result ≡ found self.now number }
+    {
+        *self.items.get(number as usize)?
+    }
+
+    /// Keeps what the entry of this replica proposes. It takes no memory.
+    pub(crate) fn note(&mut self, me: ReplicaId, entry: &Entry)
+        requires room { highest_number < length self.old }
+        requires readable { AreFrames entry.now.frames }
+        ensures { (es : List Entry) → Tells me es self.old → Tells me (es ++ entry.now ∷ []) self.new }
+    {
+        let Some((instance, proposal)) = proposal_in(entry) else {
+            return;
+        };
+        if instance.replica() == me {
+            self.items[instance.number() as usize] = Some(proposal);
+        }
+    }
+}
