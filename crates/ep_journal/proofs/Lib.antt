@@ -8,3 +8,4 @@ pub mod Screened
 pub mod Execution
 pub mod Whole
 pub mod InOrder
+pub mod Collected

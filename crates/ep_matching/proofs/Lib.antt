@@ -1,0 +1,5 @@
+pub mod Shown
+pub mod Spelled
+pub mod Sending
+pub mod Handled
+pub mod Claimed

@@ -1,0 +1,28 @@
+use Rattle.std.proofs.Common.{◌≡◌, ◌<◌, ◌≤◌, None, sym, ap, subst, ◌∙◌, arith}
+use Rattle.ep_base.specs.Quorums.{size}
+use Rattle.ep_journal.specs.Entries.{Collected, journals_of}
+use Rattle.ep_rules.specs.Journals.{IsMatched}
+use Rattle.ep_matching.specs.Handlings.{first_below}
+use Rattle.ep_matching.proofs.Handled.{matched, handled_wrong}
+use Rattle.ep_matching.proofs.Claimed.{accepted_if, wrong_if}
+use Rattle.ep_matching.proofs.matching.first_fault.Goals as goal
+
+pub returns-in-Some-clause-fault : goal.returns-in-Some-clause-fault
+returns-in-Some-clause-fault c =
+    handled_wrong c.args.journals.now.faults c.args.journals.now c.args.receipts.now c.count-count.result c.in-Some.fault c.are_journals.ensures (sym c.in-Some.ensures)
+
+pub returns-in-None-clause-accepted : goal.returns-in-None-clause-accepted
+returns-in-None-clause-accepted c =
+    let j : Collected = c.args.journals.now in
+    let three : 3 ≤ size j.faults = subst (λ n. 3 ≤ n) (c.count-count.ensures.value ∙ ap size c.size.ensures) c.count-count.ensures.in_range.0 in
+    let some : 0 < j.faults = omega arith in
+    let none : first_below j (size j.faults) ≡ None = subst (λ n. first_below j n ≡ None) (c.count-count.ensures.value ∙ ap size c.size.ensures) (sym c.in-None.ensures) in
+    accepted_if j c.args.receipts.now c.are_journals.ensures some (matched j c.are_journals.ensures none) c.first_claim.result c.first_claim.ensures
+
+pub returns-in-None-clause-fault : goal.returns-in-None-clause-fault
+returns-in-None-clause-fault c =
+    let j : Collected = c.args.journals.now in
+    let three : 3 ≤ size j.faults = subst (λ n. 3 ≤ n) (c.count-count.ensures.value ∙ ap size c.size.ensures) c.count-count.ensures.in_range.0 in
+    let some : 0 < j.faults = omega arith in
+    let none : first_below j (size j.faults) ≡ None = subst (λ n. first_below j n ≡ None) (c.count-count.ensures.value ∙ ap size c.size.ensures) (sym c.in-None.ensures) in
+    wrong_if j c.args.receipts.now c.are_journals.ensures some (matched j c.are_journals.ensures none) c.first_claim.result c.first_claim.ensures

@@ -1,0 +1,9 @@
+//! The audit of journals and receipts: their first fault.
+#![tactic(auto)]
+
+mod claims;
+mod handlings;
+mod lookups;
+mod matching;
+
+pub use matching::first_fault;
