@@ -76,7 +76,8 @@ tells x (Propose k n command seen) (b ∷ bs) i client request is out names asks
     let t = both (eqb k client) (eqb n request) asks in
     let s : Some (instance_of_message (message_at b)) ≡ Some i = names in
     record {
-      command = command; seen = seen;
+      command = command;
+      seen = seen;
       event = is ∙ ap (λ z. Proposal z n command seen) (eqb-true k client t.0) ∙ ap (λ z. Proposal client z command seen) (eqb-true n request t.1);
       frame = frame_at b;
       first = ap (λ ms. slice_get ms 0) out;
@@ -256,9 +257,14 @@ record FirstOf (c : Collected) (place : ℕ) (ts : List Receipt) (x : AuditFault
 
 first_more : (c : Collected) (place : ℕ) (u : Receipt) (ts : List Receipt) (x : AuditFault) → receipt_fault c place u ≡ None → FirstOf c (suc place) ts x → FirstOf c place (u ∷ ts) x
 first_more c place u ts x none t = record {
-  before = u ∷ t.before; receipt = t.receipt; rest = t.rest; split = ap (λ ys. u ∷ ys) t.split; at = t.at;
+  before = u ∷ t.before;
+  receipt = t.receipt;
+  rest = t.rest;
+  split = ap (λ ys. u ∷ ys) t.split;
+  at = t.at;
   counted = (let q : t.at ≡ suc place + length t.before = t.counted in omega arith);
-  fault = t.fault; fine = go;
+  fault = t.fault;
+  fine = go;
 }
   where
     go : (d : Receipt) → In d (u ∷ t.before) → (n : ℕ) × (receipt_fault c n d ≡ None)
@@ -280,7 +286,10 @@ claimed_wrong c receipts x h some matched is =
     let t = some_of c 1 receipts x is in
     receipt_wrong c h some receipts t.at t.receipt
     (record {
-      matched = matched; before = t.before; rest = t.rest; split = t.split;
+      matched = matched;
+      before = t.before;
+      rest = t.rest;
+      split = t.split;
       counted = (let q : t.at ≡ 1 + length t.before = t.counted in omega arith);
       agree = λ u there. let n = t.fine u there in agrees c h some n.0 u n.1;
     })

@@ -110,7 +110,11 @@ none_in c r (x ∷ es) none e (inr there) = none_in c r es (or_none (entry_fault
 
 first_more : (c : Collected) (r : ℕ) (e : Entry) (es : List Entry) (x : AuditFault) → entry_fault c r e ≡ None → FirstIn c r es x → FirstIn c r (e ∷ es) x
 first_more c r e es x none t = record {
-  before = e ∷ t.before; entry = t.entry; rest = t.rest; split = ap (λ ys. e ∷ ys) t.split; fault = t.fault;
+  before = e ∷ t.before;
+  entry = t.entry;
+  rest = t.rest;
+  split = ap (λ ys. e ∷ ys) t.split;
+  fault = t.fault;
   fine = go;
 }
   where
@@ -175,7 +179,8 @@ handled_wrong f c receipts n x h some =
     let there : In u.entry (entries_at c t.replica) = subst (λ es. In u.entry es) u.split (in_middle u.before u.entry u.rest) in
     event_wrong f c receipts h t.replica u.entry u.entry.event (readable_in (entries_at c t.replica) u.entry (readable_of c h t.replica) there).0
     (λ m is. record {
-      before = entries_of u.before; rest = entries_of u.rest;
+      before = entries_of u.before;
+      rest = entries_of u.rest;
       split = sym (shown_append u.before (u.entry ∷ u.rest)) ∙ ap entries_of u.split;
       handles = is;
       fine = record { lower = λ q e lt k. journal_fine c q h (t.lower q lt) e k; earlier = before_fine c t.replica u.before h u.fine };

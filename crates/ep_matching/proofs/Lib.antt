@@ -3,3 +3,4 @@ pub mod Spelled
 pub mod Sending
 pub mod Handled
 pub mod Claimed
+pub mod Rows

@@ -1,3 +1,4 @@
 pub mod Lookups
 pub mod Handlings
 pub mod Claims
+pub mod Proposing

@@ -5,5 +5,9 @@ mod claims;
 mod handlings;
 mod lookups;
 mod matching;
+mod proposals;
 
 pub use matching::first_fault;
+
+#[cfg(test)]
+mod tests;

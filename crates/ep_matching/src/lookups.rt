@@ -1,11 +1,11 @@
 //! What is looked up in journals, by places.
 
-ghost use Rattle.std.specs.Prelude.{◌≡◌, option_copied};
+ghost use Rattle.std.specs.Prelude.{◌≡◌, option_copied, slice_get};
 ghost use Rattle.ep_base.specs.Messages.{instance_of_message};
 ghost use Rattle.ep_frame.specs.Meaning.{message_at};
 ghost use Rattle.ep_frame.specs.Spelling.{IsFrame};
-ghost use Rattle.ep_journal.specs.Entries.{AreJournals, AreFrames, AreReadable, entries_at};
-ghost use Rattle.ep_matching.specs.Lookups.{entry_at, sent_there, proposed, is_this, proposal_in, is_request, has_answer, has_done};
+ghost use Rattle.ep_journal.specs.Entries.{AreJournals, AreFrames, entries_at};
+ghost use Rattle.ep_matching.specs.Lookups.{entry_at, sent_there, proposed, is_request, has_answer, has_done};
 
 use bytes::Bytes;
 use ep_base::{Answer, InstanceId, ReplicaId, Stamp};
@@ -21,6 +21,13 @@ pub(crate) fn entries_of(journals: &Journals, replica: ReplicaId) -> &[Entry]
         Some(journal) => journal.entries(),
         None => &[],
     }
+}
+
+/// The entry at this place.
+pub(crate) fn entry_in(entries: &[Entry], place: usize) -> Option<&Entry>
+    ensures { option_copied result ≡ slice_get entries.now place }
+{
+    entries.get(place)
 }
 
 /// The entry of this number, from 1.
@@ -63,7 +70,7 @@ fn about(bytes: &Bytes) -> InstanceId
 }
 
 /// The instance as which the entry proposes a command: the one that its first frame is about.
-fn proposed(entry: &Entry) -> Option<InstanceId>
+pub(crate) fn proposed(entry: &Entry) -> Option<InstanceId>
     requires { AreFrames entry.now.frames }
     ensures { result ≡ proposed entry.now.event entry.now.frames }
 {
@@ -74,30 +81,6 @@ fn proposed(entry: &Entry) -> Option<InstanceId>
         }
         _ => None,
     }
-}
-
-/// Whether the entry proposes a command as this instance.
-fn proposes(entry: &Entry, instance: InstanceId) -> bool
-    requires { AreFrames entry.now.frames }
-    ensures { result ≡ is_this instance (proposed entry.now.event entry.now.frames) }
-{
-    match proposed(entry) {
-        Some(other) => other == instance,
-        None => false,
-    }
-}
-
-/// The first entry that proposes a command as this instance.
-pub(crate) fn proposal_in(entries: &[Entry], instance: InstanceId) -> Option<&Entry>
-    requires { AreReadable entries.now }
-    ensures { option_copied result ≡ proposal_in entries.now instance }
-{
-    for entry in entries {
-        if proposes(entry, instance) {
-            return Some(entry);
-        }
-    }
-    None
 }
 
 /// Whether the event is this client's request.

@@ -1,6 +1,6 @@
 //! The first fault of journals and receipts.
 
-ghost use Rattle.std.specs.Prelude.{IfNone, IfSome};
+ghost use Rattle.std.specs.Prelude.{IfNone, IfOk, IfSome};
 ghost use Rattle.ep_journal.specs.Entries.{journals_of};
 ghost use Rattle.ep_report.specs.Refusals.{fault_of};
 ghost use Rattle.ep_rules.specs.Audits.{IsAccepted, IsFault};
@@ -10,18 +10,23 @@ use crate::handlings::first_handling;
 use ep_journal::Journals;
 use ep_report::AuditFault;
 use ep_rules::Receipt;
+use std::alloc::{AllocError, Global};
 
 /// The first fault of the journals and the receipts: of handled frames by replica and entry, then of receipts in
 /// their order. None where each handled frame was sent, by an entry of a lower stamp, and each receipt agrees with the
 /// journals.
-pub fn first_fault(journals: &Journals, receipts: &[Receipt]) -> Option<AuditFault>
-    ensures accepted { IfNone result (IsAccepted journals.now.faults (journals_of journals.now) receipts.now) }
-    ensures fault { IfSome result (λ fault. IsFault journals.now.faults (journals_of journals.now) receipts.now (fault_of fault)) }
+pub fn first_fault(
+    alloc: Global,
+    journals: &Journals,
+    receipts: &[Receipt],
+) -> Result<Option<AuditFault>, AllocError>
+    ensures accepted { IfOk result (λ found. IfNone found (IsAccepted journals.now.faults (journals_of journals.now) receipts.now)) }
+    ensures fault { IfOk result (λ found. IfSome found (λ fault. IsFault journals.now.faults (journals_of journals.now) receipts.now (fault_of fault))) }
 {
     journals.are_journals();
     let count = journals.size().count();
     match first_handling(journals, count) {
-        Some(fault) => Some(fault),
-        None => first_claim(journals, receipts),
+        Some(fault) => Ok(Some(fault)),
+        None => first_claim(alloc, journals, count, receipts),
     }
 }

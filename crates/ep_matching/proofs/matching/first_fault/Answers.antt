@@ -1,7 +1,10 @@
-use Rattle.std.proofs.Common.{◌≡◌, ◌<◌, ◌≤◌, None, sym, ap, subst, ◌∙◌, arith}
+use Rattle.std.proofs.Common.{◌≡◌, ◌<◌, ◌≤◌, None, IfNone, IfSome, sym, ap, subst, ◌∙◌, arith}
+use Rattle.std.proofs.lemmas.Result.{IfOk-weaker}
 use Rattle.ep_base.specs.Quorums.{size}
 use Rattle.ep_journal.specs.Entries.{Collected, journals_of}
-use Rattle.ep_rules.specs.Journals.{IsMatched}
+use Rattle.ep_report.specs.Refusals.{fault_of}
+use Rattle.ep_rules.specs.Audits.{IsAccepted, IsFault}
+use Rattle.ep_matching.specs.Claims.{first_of}
 use Rattle.ep_matching.specs.Handlings.{first_below}
 use Rattle.ep_matching.proofs.Handled.{matched, handled_wrong}
 use Rattle.ep_matching.proofs.Claimed.{accepted_if, wrong_if}
@@ -17,7 +20,8 @@ returns-in-None-clause-accepted c =
     let three : 3 ≤ size j.faults = subst (λ n. 3 ≤ n) (c.count-count.ensures.value ∙ ap size c.size.ensures) c.count-count.ensures.in_range.0 in
     let some : 0 < j.faults = omega arith in
     let none : first_below j (size j.faults) ≡ None = subst (λ n. first_below j n ≡ None) (c.count-count.ensures.value ∙ ap size c.size.ensures) (sym c.in-None.ensures) in
-    accepted_if j c.args.receipts.now c.are_journals.ensures some (matched j c.are_journals.ensures none) c.first_claim.result c.first_claim.ensures
+    IfOk-weaker c.first_claim.result (λ found. found ≡ first_of j 1 c.args.receipts.now) (λ found. IfNone found (IsAccepted j.faults (journals_of j) c.args.receipts.now))
+    (λ found is. accepted_if j c.args.receipts.now c.are_journals.ensures some (matched j c.are_journals.ensures none) found is) c.first_claim.ensures
 
 pub returns-in-None-clause-fault : goal.returns-in-None-clause-fault
 returns-in-None-clause-fault c =
@@ -25,4 +29,5 @@ returns-in-None-clause-fault c =
     let three : 3 ≤ size j.faults = subst (λ n. 3 ≤ n) (c.count-count.ensures.value ∙ ap size c.size.ensures) c.count-count.ensures.in_range.0 in
     let some : 0 < j.faults = omega arith in
     let none : first_below j (size j.faults) ≡ None = subst (λ n. first_below j n ≡ None) (c.count-count.ensures.value ∙ ap size c.size.ensures) (sym c.in-None.ensures) in
-    wrong_if j c.args.receipts.now c.are_journals.ensures some (matched j c.are_journals.ensures none) c.first_claim.result c.first_claim.ensures
+    IfOk-weaker c.first_claim.result (λ found. found ≡ first_of j 1 c.args.receipts.now) (λ found. IfSome found (λ fault. IsFault j.faults (journals_of j) c.args.receipts.now (fault_of fault)))
+    (λ found is. wrong_if j c.args.receipts.now c.are_journals.ensures some (matched j c.are_journals.ensures none) found is) c.first_claim.ensures
