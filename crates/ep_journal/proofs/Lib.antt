@@ -9,3 +9,4 @@ pub mod Execution
 pub mod Whole
 pub mod InOrder
 pub mod Collected
+pub mod Collecting

@@ -1,0 +1,123 @@
+-- A table that is made instance by instance has all that is agreed on.
+use Rattle.std.proofs.Common.{◌≡◌, ℕ, zero, suc, ◌+◌, ◌<◌, ◌≤◌, inl, inr, Option, Some, None, List, [], ◌∷◌, ◌++◌, refl, sym, ap, subst, ◌∙◌, arith}
+use Rattle.std.proofs.lemmas.Bool.{cases_eq, cases_lt}
+use Rattle.ep_base.specs.Deps.{IsRising}
+use Rattle.ep_base.specs.Instances.{instance_of, number_of}
+use Rattle.ep_base.specs.Quorums.{size}
+use Rattle.ep_base.specs.declared.decree.Decree.{Decree}
+use Rattle.ep_rules.specs.Journals.{Journals, left}
+use Rattle.ep_rules.specs.States.{fresh_state, committed_in}
+use Rattle.ep_rules.specs.Verdicts.{or_else, instances_of, agreed_below, agreed, IsTable}
+use Rattle.ep_rules.specs.Worlds.{In}
+use Rattle.ep_rules.proofs.Merged.{in_left, in_right, in_split}
+use Rattle.ep_journal.specs.Standing.{Standing}
+use Rattle.ep_verdict.specs.Replays.{IsNamed, standings}
+use Rattle.ep_verdict.specs.Tables.{first_of, and_row, Covers, Holds}
+
+-- The first that commits.
+
+or_else_both : (a b c : Option Decree) → or_else (or_else a b) c ≡ or_else a (or_else b c)
+or_else_both None b c = refl
+or_else_both (Some x) b c = refl
+
+or_else_none : (a : Option Decree) → or_else a None ≡ a
+or_else_none None = refl
+or_else_none (Some x) = refl
+
+first_append : (ss : List Standing) (s : Standing) (i : ℕ) → first_of (ss ++ (s ∷ [])) i ≡ or_else (first_of ss i) (committed_in s.state.records i)
+first_append [] s i = or_else_none (committed_in s.state.records i)
+first_append (x ∷ ss) s i = ap (or_else (committed_in x.state.records i)) (first_append ss s i) ∙ sym (or_else_both (committed_in x.state.records i) (first_of ss i) (committed_in s.state.records i))
+
+pub first_agreed : (n f : ℕ) (journal : Journals) (i : ℕ) → first_of (standings f journal n) i ≡ agreed_below n f journal i
+first_agreed zero f journal i = refl
+first_agreed (suc n) f journal i =
+    first_append (standings f journal n) (record { faults = f; me = n; state = left f n fresh_state (journal n) }) i
+    ∙ ap (λ o. or_else o (committed_in (left f n fresh_state (journal n)).records i)) (first_agreed n f journal i)
+
+-- Rows in rising order.
+
+rising_append : (t : List (ℕ × Decree)) (i : ℕ) (x : Decree) → IsRising (instances_of t) → ((j : ℕ) (y : Decree) → In (j, y) t → j < i) → IsRising (instances_of (t ++ ((i, x) ∷ [])))
+rising_append [] i x rs h = (tt, tt)
+rising_append (e ∷ []) i x rs h = (h e.0 e.1 (inl refl), (tt, tt))
+rising_append (e ∷ d ∷ t) i x rs h = (rs.0, rising_append (d ∷ t) i x rs.1 (λ j y k. h j y (inr k)))
+
+same_row : (i j : ℕ) (x y : Decree) → ◌≡◌ {A = ℕ × Decree} (i, x) (j, y) → (i ≡ j) × (x ≡ y)
+same_row i j x y e = (ap (λ p. p.0) e, ap (λ p. p.1) e)
+
+some_same : (x y : Decree) → Some x ≡ Some y → x ≡ y
+some_same x y e = cc
+
+none_some : {A : Type 0} (x : Decree) → None ≡ Some x → A
+none_some x e = absurd (cc)
+
+module _ (agreed : ℕ → Option Decree) (bound : ℕ) (table : List (ℕ × Decree)) (h : Covers agreed bound table) where
+  with_row : (o : Option Decree) → agreed bound ≡ o → Covers agreed (bound + 1) (and_row table bound o)
+  with_row None e = record {
+    rises = h.rises;
+    below = λ i x. (
+      (λ k. let t = (h.below i x).0 k in (omega (arith, t.0), t.1)),
+      (λ k. elim (cases_eq i bound) [
+        | inl is ↦ none_some x (sym e ∙ ap agreed (sym is) ∙ k.1)
+        | inr ne ↦ (h.below i x).1 (let l = k.0 in omega arith, k.1)
+      ]),
+    );
+  }
+  with_row (Some y) e = record {
+    rises = rising_append table bound y h.rises (λ j z k. ((h.below j z).0 k).0);
+    below = λ i x. (
+      (λ k. elim (in_split (i, x) table ((bound, y) ∷ []) k) [
+        | inl old ↦ (let t = (h.below i x).0 old in (omega (arith, t.0), t.1))
+        | inr new ↦ (elim new [
+          | inl is ↦ (let p = same_row bound i y x is in (let q = p.0 in omega arith, ap agreed (sym p.0) ∙ e ∙ ap Some p.1))
+          | inr none ↦ absurd none
+        ])
+      ]),
+      (λ k. elim (cases_eq i bound) [
+        | inl is ↦ (let same : y ≡ x = some_same y x (sym e ∙ ap agreed (sym is) ∙ k.1) in in_right (i, x) table ((bound, y) ∷ []) (inl (λ t. (sym is t, same t))))
+        | inr ne ↦ in_left (i, x) table ((bound, y) ∷ []) ((h.below i x).1 (let l = k.0 in omega arith, k.1))
+      ]),
+    );
+  }
+
+  pub covers_next : Covers agreed (bound + 1) (and_row table bound (agreed bound))
+  covers_next = with_row (agreed bound) refl
+
+  -- nothing is agreed on from the bound up to c
+  pub covers_gap : (c : ℕ) → bound ≤ c → ((i : ℕ) (x : Decree) → bound ≤ i → i < c → agreed i ≡ Some x → ⊥) → Covers agreed c table
+  covers_gap c le none = record {
+    rises = h.rises;
+    below = λ i x. (
+      (λ k. let t = (h.below i x).0 k in (omega (arith, t.0), t.1)),
+      (λ k. elim (cases_lt i bound) [
+        | inl lt ↦ (h.below i x).1 (lt, k.1)
+        | inr ge ↦ absurd (none i x ge k.0 k.1)
+      ]),
+    );
+  }
+
+pub covers_none : (agreed : ℕ → Option Decree) → ((i : ℕ) (x : Decree) → agreed i ≡ Some x → 1 ≤ number_of i) → Covers agreed (instance_of 0 1) []
+covers_none agreed named = record {
+  rises = tt;
+  below = λ i x. ((λ k. absurd k), (λ k. absurd (let l = named i x k.1 in let lt = k.0 in let z : i ≡ 0 = omega arith in let m : 1 ≤ number_of 0 = subst (λ j. 1 ≤ number_of j) z l in omega arith)));
+}
+
+-- from one replica's instances to those of the next
+pub covers_leader : (f leader : ℕ) (agreed : ℕ → Option Decree) (table : List (ℕ × Decree)) → ((i : ℕ) (x : Decree) → agreed i ≡ Some x → IsNamed f i) →
+    Covers agreed (instance_of leader 1001) table → Covers agreed (instance_of (leader + 1) 1) table
+covers_leader f leader agreed table named h =
+    covers_gap agreed (instance_of leader 1001) table h (instance_of (leader + 1) 1) (omega arith) (λ i x ge lt e. let n = named i x e in not_between leader i ge lt n.1 n.2)
+  where
+    not_between : (leader i : ℕ) → instance_of leader 1001 ≤ i → i < instance_of (leader + 1) 1 → 1 ≤ number_of i → number_of i ≤ 1000 → ⊥
+    not_between leader i ge lt low high = omega arith
+
+pub covers_all : (f : ℕ) (agreed : ℕ → Option Decree) (table : List (ℕ × Decree)) → ((i : ℕ) (x : Decree) → agreed i ≡ Some x → IsNamed f i) → Covers agreed (instance_of (size f) 1) table → Holds agreed table
+covers_all f agreed table named h = record {
+  rises = h.rises;
+  all = λ i x. ((λ k. ((h.below i x).0 k).1), (λ e. (h.below i x).1 (let n = (named i x e).0 in omega arith, e)));
+}
+
+pub table_is : (f : ℕ) (journal : Journals) (table : List (ℕ × Decree)) → Holds (first_of (standings f journal (size f))) table → IsTable f journal table
+table_is f journal table h = record {
+  rises = h.rises;
+  holds = λ i x. let same = first_agreed (size f) f journal i in ((λ k. sym same ∙ (h.all i x).0 k), (λ e. (h.all i x).1 (same ∙ e)));
+}

@@ -1,0 +1,5 @@
+mod Covering
+mod Lining
+mod Replaying
+mod Saying
+mod Turning

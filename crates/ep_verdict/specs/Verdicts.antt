@@ -1,0 +1,41 @@
+-- What journals say, as the code tells it.
+use Rattle.std.specs.Prelude.{◌≡◌, ℕ, List, [], ◌∷◌, map}
+use Rattle.ep_base.specs.declared.command.Command.{Command}
+use Rattle.ep_base.specs.declared.reply.Reply.{Reply}
+use Rattle.ep_rules.specs.Journals.{Journals, Scheduled, IsSchedule}
+use Rattle.ep_rules.specs.Merging.{Merges}
+use Rattle.ep_rules.specs.OneMap.{empty, replies}
+use Rattle.ep_rules.specs.Verdicts.{command_at, history_of, IsTable}
+use Rattle.ep_report.specs.declared.happening.Happening.{Happening}
+use Rattle.ep_verdict.specs.declared.verdict.Verdict.{Verdict}
+
+-- the replica of each entry, with the entry's number
+abbrev pub places_of : List Scheduled → List (ℕ × ℕ)
+places_of [] = []
+places_of (a ∷ schedule) = (a.replica, a.entry.number) ∷ places_of schedule
+
+abbrev pub instances_in : List Happening → List ℕ
+instances_in [] = []
+instances_in (h ∷ hs) = h.instance ∷ instances_in hs
+
+abbrev pub commands_in : List Happening → List Command
+commands_in [] = []
+commands_in (h ∷ hs) = h.command ∷ commands_in hs
+
+abbrev pub replies_in : List Happening → List Reply
+replies_in [] = []
+replies_in (h ∷ hs) = h.reply ∷ replies_in hs
+
+-- the history of a schedule: each command once, at its first execution, no-ops left out, with the replies of one map where the journals match
+pub record IsHistory (f : ℕ) (journal : Journals) (schedule : List Scheduled) (lines : List Happening) : Type 0 where
+  pub instances : instances_in lines ≡ history_of (command_at f journal) schedule
+  pub commands : commands_in lines ≡ map (command_at f journal) (instances_in lines)
+  pub replies : Merges f journal schedule → replies_in lines ≡ replies empty (commands_in lines)
+
+-- the schedule of the journals, all that they commit, and their history
+pub record IsVerdict (f : ℕ) (journal : Journals) (verdict : Verdict) : Type 0 where
+  pub order : List Scheduled
+  pub scheduled : IsSchedule journal order
+  pub schedule : verdict.schedule.items ≡ places_of order
+  pub committed : IsTable f journal verdict.committed.items
+  pub history : IsHistory f journal order verdict.history.items

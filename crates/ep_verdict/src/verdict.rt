@@ -1,0 +1,45 @@
+//! What journals say.
+
+ghost use Rattle.std.specs.Prelude.{IfOk};
+ghost use Rattle.ep_journal.specs.Entries.{journals_of};
+ghost use Rattle.ep_verdict.specs.Verdicts.{IsVerdict};
+
+use crate::history::history_of;
+use crate::in_order::schedule;
+use crate::replay::replayed_all;
+use crate::table::table_of;
+use ep_base::{Decree, InstanceId, ReplicaId};
+use ep_journal::Journals;
+use ep_report::Happening;
+use std::alloc::{AllocError, Global};
+
+/// What the journals of a cluster say.
+#[derive(Drop)]
+pub struct Verdict {
+    /// All entries, each as its replica with its number, by stamp and replica.
+    pub schedule: Vec<(ReplicaId, u32)>,
+    /// All that is committed, no-ops too, in rising order of instances.
+    pub committed: Vec<(InstanceId, Decree)>,
+    /// The commands that were executed, each once, in the order of first executions, with their replies.
+    pub history: Vec<Happening>,
+}
+
+impl Verdict {
+    /// What the journals say; where several commit in an instance, what the least of these replicas commits.
+    ///
+    /// The replies are those of one map to the history where the journals match, which an audit finds out.
+    pub fn of(alloc: Global, journals: &Journals) -> Result<Verdict, AllocError>
+        ensures { IfOk result (λ v. IsVerdict journals.now.faults (journals_of journals.now) v) }
+    {
+        journals.are_local_runs();
+        let schedule = schedule(alloc, journals)?;
+        let states = replayed_all(alloc, journals)?;
+        let committed = table_of(alloc, journals.size(), &states)?;
+        let history = history_of(alloc, journals, &states, &schedule)?;
+        Ok(Verdict {
+            schedule,
+            committed,
+            history,
+        })
+    }
+}
