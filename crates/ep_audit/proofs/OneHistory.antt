@@ -1,0 +1,36 @@
+-- Journals that are accepted make one history.
+use Rattle.std.proofs.Common.{◌≡◌, ℕ, ◌+◌, ◌<◌, ◌≤◌, List, sym, subst, refl, arith}
+use Rattle.ep_base.specs.Quorums.{size}
+use Rattle.ep_rules.specs.Audits.{IsAccepted}
+use Rattle.ep_rules.specs.Journals.{Journals, Scheduled, AreLocalRuns}
+use Rattle.ep_rules.specs.Merging.{Merges}
+use Rattle.ep_rules.specs.Verdicts.{command_at, history_of}
+use Rattle.ep_rules.specs.declared.receipt.Receipt.{Receipt}
+use Rattle.ep_rules.proofs.JournalsCallers.{caller_order_lem}
+use Rattle.ep_rules.proofs.JournalsCommitted.{journals_agree_lem, journals_depend_lem}
+use Rattle.ep_rules.proofs.JournalsOrders.{journals_order_lem}
+use Rattle.ep_rules.proofs.JournalsReplies.{each_reply_lem}
+use Rattle.ep_rules.proofs.Merged.{merged_is_a_run_lem}
+use Rattle.ep_verdict.specs.Verdicts.{instances_in, IsVerdict}
+use Rattle.ep_verdict.specs.declared.verdict.Verdict.{Verdict}
+use Rattle.ep_audit.specs.Audited.{IsOneHistory, IsAudited}
+
+-- the history of the schedule
+one_history : (f : ℕ) (journal : Journals) (receipts : List Receipt) (schedule : List Scheduled) → Merges f journal schedule → IsAccepted f journal receipts →
+    IsOneHistory f journal receipts schedule (history_of (command_at f journal) schedule)
+one_history f journal receipts schedule m a =
+    record {
+      scheduled = m.scheduled;
+      history = refl;
+      run = merged_is_a_run_lem f journal schedule m.local m.matched m.scheduled;
+      agreement = journals_agree_lem f journal schedule m;
+      dependency = journals_depend_lem f journal schedule m;
+      replies = each_reply_lem f journal schedule m;
+      order = journals_order_lem f journal schedule m;
+      callers = λ t u there here. caller_order_lem f journal schedule m t u (a.agree t there) (a.agree u here);
+    }
+
+pub audited : (f : ℕ) (journal : Journals) (receipts : List Receipt) (v : Verdict) → 1 ≤ f → f ≤ 3 → AreLocalRuns f journal → IsAccepted f journal receipts → IsVerdict f journal v → IsAudited f journal receipts v
+audited f journal receipts v some few local a is =
+    let m : Merges f journal is.order = record { some = omega arith; few = omega arith; local = local; matched = a.matched; scheduled = is.scheduled } in
+    record { accepted = a; verdict = is; history = subst (λ h. IsOneHistory f journal receipts is.order h) (sym is.history.instances) (one_history f journal receipts is.order m a) }

@@ -1,0 +1,51 @@
+-- What holds of journals and receipts that an audit accepts.
+use Rattle.std.specs.Prelude.{◌≡◌, ◌≢◌, ◌⊎◌, ◌↔◌, ℕ, ◌<◌, ◌≤◌, true, List, Some}
+use Rattle.ep_base.specs.Interference.{interfere}
+use Rattle.ep_base.specs.Places.{place, Has}
+use Rattle.ep_base.specs.declared.decree.Decree.{Decree}
+use Rattle.ep_base.specs.declared.reply.Answer.{Answer}
+use Rattle.ep_rules.specs.Audits.{IsAccepted, IsFault}
+use Rattle.ep_rules.specs.Journals.{Journals, Scheduled, IsSchedule, acts_of, left}
+use Rattle.ep_rules.specs.States.{fresh_state}
+use Rattle.ep_rules.specs.Verdicts.{committed_by, command_at, history_of, IsReply}
+use Rattle.ep_rules.specs.Worlds.{In, IsRun, opening}
+use Rattle.ep_rules.specs.declared.receipt.Receipt.{Receipt}
+use Rattle.ep_report.specs.Refusals.{fault_of}
+use Rattle.ep_verdict.specs.Verdicts.{places_of, instances_in, IsVerdict}
+use Rattle.ep_verdict.specs.declared.verdict.Verdict.{Verdict}
+use Rattle.ep_audit.specs.declared.refusal.Refusal.{Refusal}
+use Rattle.ep_audit.specs.declared.refusal.Refusal.TheVariants.{Memory, Fault}
+
+-- The journals, merged in the schedule's order, are a run of the protocol; h is their one history.
+pub record IsOneHistory (f : ℕ) (journal : Journals) (receipts : List Receipt) (schedule : List Scheduled) (h : List ℕ) : Type 0 where
+  pub scheduled : IsSchedule journal schedule
+  pub history : h ≡ history_of (command_at f journal) schedule
+  -- merged, they are a run
+  pub run : IsRun f opening (acts_of schedule)
+  -- no two replicas commit different commands or attributes in an instance
+  pub agreement : (i r q : ℕ) (x y : Decree) → committed_by f journal r i ≡ Some x → committed_by f journal q i ≡ Some y → x ≡ y
+  -- of two interfering committed commands one depends on the other
+  pub dependency :
+      (i j r q : ℕ) (x y : Decree) → i ≢ j → committed_by f journal r i ≡ Some x → committed_by f journal q j ≡ Some y →
+      interfere x.command y.command ≡ true → Has x.attrs.deps j ⊎ Has y.attrs.deps i
+  -- each answer of each execution is one map's reply at the command's place in the history; a no-op answers lost, and has no place
+  pub replies : (a : Scheduled) (i : ℕ) (x : Answer) → In a schedule → In (i, x) a.entry.done → IsReply (command_at f journal) h i x
+  -- each replica executes two interfering commands in the history's order
+  pub order :
+      (r i j : ℕ) → Has (left f r fresh_state (journal r)).executed i → Has (left f r fresh_state (journal r)).executed j → i ≢ j →
+      interfere (command_at f journal i) (command_at f journal j) ≡ true →
+      (place (left f r fresh_state (journal r)).executed i < place (left f r fresh_state (journal r)).executed j) ↔ (place h i < place h j)
+  -- what a client proposes after it saw a receipt's stamp stands after that receipt's command
+  pub callers :
+      (t u : Receipt) → In t receipts → In u receipts → u.stamp ≤ t.seen → Has h t.instance → Has h u.instance → place h u.instance < place h t.instance
+
+-- the verdict of journals and receipts that are accepted: its schedule and its history are those of the run
+pub record IsAudited (f : ℕ) (journal : Journals) (receipts : List Receipt) (v : Verdict) : Type 0 where
+  pub accepted : IsAccepted f journal receipts
+  pub verdict : IsVerdict f journal v
+  pub history : IsOneHistory f journal receipts verdict.order (instances_in v.history.items)
+
+-- why there is no verdict: want of memory, or the first fault
+abbrev pub IsRefused : ℕ → Journals → List Receipt → Refusal → Type 0
+IsRefused f journal receipts Memory = Unit {0}
+IsRefused f journal receipts (Fault fault) = IsFault f journal receipts (fault_of fault)
