@@ -10,7 +10,7 @@ use super::*;
 use ep_base::{
     Attrs, Ballot, Command, Decree, Deps, InstanceId, Message, ReplicaId, Seq, Size, Status,
 };
-use ep_rules::{Led, Outgoing};
+use ep_rules::{Led, Outgoing, Record};
 use ep_space::Space;
 use std::alloc::{AllocError, Global};
 use std::process::Abort;
@@ -35,7 +35,10 @@ fn first_of(rt: &impl Abort, leader: u8) -> InstanceId {
 }
 
 fn put(rt: &impl Abort, alloc: Global) -> Command {
-    Command::put(alloc, b"x", b"1").expect(rt, "memory for a command")
+    match Command::put(alloc, b"x", b"1") {
+        Ok(command) => command,
+        Err(_) => Command::put(alloc, b"x", b"1").expect(rt, "memory for a command"),
+    }
 }
 
 /// (1, {}), or (2, {1.1}).
@@ -56,21 +59,65 @@ fn put_one(rt: &impl Abort, alloc: Global) -> Decree {
     }
 }
 
+/// With (2, {1.1}).
+fn put_two(rt: &impl Abort, alloc: Global) -> Decree {
+    Decree {
+        command: put(rt, alloc),
+        attrs: attrs(rt, alloc, 2),
+    }
+}
+
 fn space(rt: &impl Abort, alloc: Global, id: InstanceId) -> Space
     ensures { HasPlace result.places id }
 {
     let size = Size::new(5).expect(rt, "a size");
     let mut space = Space::new(alloc, size);
-    space.reserve(id).expect(rt, "memory for a place");
+    place(rt, &mut space, id);
     space
+}
+
+/// A place for the instance; where memory is refused, there is no record of it as before.
+fn place(rt: &impl Abort, space: &mut Space, id: InstanceId)
+    ensures { HasPlace space.new.places id }
+{
+    match space.reserve(id) {
+        Ok(()) => (),
+        Err(_) => {
+            assert!(rt; space.get(id).is_none());
+            space.reserve(id).expect(rt, "memory for a place");
+        }
+    }
 }
 
 fn lead(rt: &impl Abort, alloc: Global, id: InstanceId) -> Lead
     ensures { HasPlace result.places id }
 {
     let mut lead = Lead::new(alloc);
-    lead.reserve(id).expect(rt, "memory for a place");
+    match lead.reserve(id) {
+        Ok(()) => (),
+        Err(_) => {
+            assert!(rt; lead.get(id).is_none());
+            assert_eq!(rt; lead.earlier_told(id), None);
+            lead.reserve(id).expect(rt, "memory for a place");
+        }
+    }
     lead
+}
+
+/// The record again.
+fn again(rt: &impl Abort, alloc: Global, space: &Space, id: InstanceId) -> Option<Record> {
+    match space.copy(alloc, id) {
+        Ok(record) => record,
+        Err(_) => space.copy(alloc, id).expect(rt, "memory for a copy"),
+    }
+}
+
+/// What is led again.
+fn led_again(rt: &impl Abort, alloc: Global, lead: &Lead, id: InstanceId) -> Option<Led> {
+    match lead.copy(alloc, id) {
+        Ok(led) => led,
+        Err(_) => lead.copy(alloc, id).expect(rt, "memory for a copy"),
+    }
 }
 
 fn attrs_text(alloc: Global, attrs: &Attrs) -> Result<String, AllocError> {
@@ -133,7 +180,10 @@ fn lines(alloc: Global, out: &Outgoing) -> Result<String, AllocError> {
 
 /// A line for each message: its receiver, and what it says.
 fn text(rt: &impl Abort, alloc: Global, out: &Outgoing) -> String {
-    lines(alloc, out).expect(rt, "memory for a text")
+    match lines(alloc, out) {
+        Ok(text) => text,
+        Err(_) => lines(alloc, out).expect(rt, "memory for a text"),
+    }
 }
 
 fn led(lead: &Lead, id: InstanceId) -> u8 {
@@ -351,6 +401,59 @@ fn accepted(
     }
 }
 
+/// The accept phase of `put x 1` with (2, {1.1}).
+fn accept_two(
+    rt: &impl Abort,
+    alloc: Global,
+    space: &mut Space,
+    lead: &mut Lead,
+    id: InstanceId,
+    ballot: Ballot,
+) -> String
+    requires place { HasPlace space.old.places id }
+    requires led { HasPlace lead.old.places id }
+    ensures kept { Keeps space.old lead.old space.new lead.new }
+{
+    let me = ballot.replica();
+    let before = known(space, lead, id);
+    let decree = put_two(rt, alloc);
+    match begin_accept(alloc, space, lead, me, id, ballot, decree) {
+        Ok(out) => text(rt, alloc, &out),
+        Err(_) => {
+            assert_eq!(rt; known(space, lead, id), before);
+            let decree = put_two(rt, alloc);
+            let out = begin_accept(alloc, space, lead, me, id, ballot, decree).expect(rt, "memory");
+            text(rt, alloc, &out)
+        }
+    }
+}
+
+/// The commit of `put x 1` with (2, {1.1}).
+fn commit_two(
+    rt: &impl Abort,
+    alloc: Global,
+    space: &mut Space,
+    lead: &mut Lead,
+    me: ReplicaId,
+    id: InstanceId,
+) -> String
+    requires place { HasPlace space.old.places id }
+    requires led { HasPlace lead.old.places id }
+    ensures kept { Keeps space.old lead.old space.new lead.new }
+{
+    let before = known(space, lead, id);
+    let decree = put_two(rt, alloc);
+    match begin_commit(alloc, space, lead, me, id, decree) {
+        Ok(out) => text(rt, alloc, &out),
+        Err(_) => {
+            assert_eq!(rt; known(space, lead, id), before);
+            let decree = put_two(rt, alloc);
+            let out = begin_commit(alloc, space, lead, me, id, decree).expect(rt, "memory");
+            text(rt, alloc, &out)
+        }
+    }
+}
+
 #[test]
 fn a_pre_accept_is_voted_for_once(rt: HostRuntime) {
     let alloc = rt.alloc();
@@ -359,7 +462,7 @@ fn a_pre_accept_is_voted_for_once(rt: HostRuntime) {
     let mut space = space(&rt, alloc, other);
     let held = put_one(&rt, alloc);
     space.vote_pre(other, ballot(&rt, 0, 1), held);
-    space.reserve(id).expect(&rt, "memory for a place");
+    place(&rt, &mut space, id);
     let mut lead = lead(&rt, alloc, id);
     let out = pre_accept(&rt, alloc, &mut space, &mut lead, id);
     assert_eq!(rt; out.as_str(), "0 pre-accepted (0,0) seq 2 deps 1.1\n");
@@ -440,7 +543,7 @@ fn giving_up_needs_the_lead_first_and_then_answers(rt: HostRuntime) {
     let out = give(&rt, alloc, &mut space, &mut lead, me, id);
     assert_eq!(rt; out.err(), Some(PhaseFault::TooFewAnswers));
     answer(&rt, alloc, &mut space, &mut lead, id, default, 2, 2);
-    let earlier = space.copy(alloc, id).expect(&rt, "memory for a copy");
+    let earlier = again(&rt, alloc, &space, id);
     space.join_ballot(id, ballot(&rt, 1, 4));
     let out = give(&rt, alloc, &mut space, &mut lead, me, id);
     assert_eq!(rt; out.err(), Some(PhaseFault::NotLeading));
@@ -491,4 +594,95 @@ fn a_receiver_accepts_and_commits(rt: HostRuntime) {
     let out = on_commit(alloc, &mut space, &mut lead, id, decree);
     assert_eq!(rt; text(&rt, alloc, &out).as_str(), "");
     assert_eq!(rt; known(&space, &lead, id), ((1, 2), (3, 1), 0));
+}
+
+#[test]
+fn an_accept_phase_votes_and_asks_all_others(rt: HostRuntime) {
+    let alloc = rt.alloc();
+    let id = first_of(&rt, 0);
+    let recovery = ballot(&rt, 3, 4);
+    let mut space = space(&rt, alloc, id);
+    let mut lead = lead(&rt, alloc, id);
+    let out = accept_two(&rt, alloc, &mut space, &mut lead, id, recovery);
+    assert_eq!(rt;
+        out.as_str(),
+        "0 accept (3,4) seq 2 deps 1.1\n1 accept (3,4) seq 2 deps 1.1\n2 accept (3,4) seq 2 deps 1.1\n3 accept (3,4) seq 2 deps 1.1\n"
+    );
+    assert_eq!(rt; known(&space, &lead, id), ((3, 4), (2, 2), 2));
+    assert_eq!(rt; space.voted_ballot(id), recovery);
+    let out = accepted(&rt, alloc, &mut space, &mut lead, id, recovery, 4);
+    assert_eq!(rt; out.as_str(), "");
+    let out = accepted(&rt, alloc, &mut space, &mut lead, id, recovery, 0);
+    assert_eq!(rt; out.as_str(), "");
+    assert_eq!(rt; known(&space, &lead, id), ((3, 4), (2, 2), 2));
+}
+
+#[test]
+fn a_commit_phase_keeps_both_ballots(rt: HostRuntime) {
+    let alloc = rt.alloc();
+    let me = replica(&rt, 0);
+    let id = first_of(&rt, 0);
+    let mut space = space(&rt, alloc, id);
+    let mut lead = lead(&rt, alloc, id);
+    begin(&rt, alloc, &mut space, &mut lead, id);
+    space.join_ballot(id, ballot(&rt, 2, 3));
+    let out = commit_two(&rt, alloc, &mut space, &mut lead, me, id);
+    assert_eq!(rt; out.as_str(), TOLD_BY_0);
+    assert_eq!(rt; known(&space, &lead, id), ((2, 3), (3, 2), 0));
+    assert_eq!(rt; space.voted_ballot(id), ballot(&rt, 0, 0));
+}
+
+#[test]
+fn a_committed_replica_refuses_a_lower_ballot(rt: HostRuntime) {
+    let alloc = rt.alloc();
+    let id = first_of(&rt, 0);
+    let mut space = space(&rt, alloc, id);
+    let mut lead = lead(&rt, alloc, id);
+    space.join_ballot(id, ballot(&rt, 1, 4));
+    let decree = put_one(&rt, alloc);
+    on_commit(alloc, &mut space, &mut lead, id, decree);
+    let out = pre_accept(&rt, alloc, &mut space, &mut lead, id);
+    assert_eq!(rt; out.as_str(), "0 refused (0,0) promised (1,4)\n");
+    let out = accept(&rt, alloc, &mut space, &mut lead, id, ballot(&rt, 1, 3));
+    assert_eq!(rt; out.as_str(), "3 refused (1,3) promised (1,4)\n");
+    let out = accept(&rt, alloc, &mut space, &mut lead, id, ballot(&rt, 2, 3));
+    assert_eq!(rt; out.as_str(), "");
+    assert_eq!(rt; known(&space, &lead, id), ((1, 4), (3, 1), 0));
+    assert_eq!(rt; space.voted_ballot(id), ballot(&rt, 0, 0));
+}
+
+#[test]
+fn a_counter_is_told_and_put_back(rt: HostRuntime) {
+    let id = first_of(&rt, 0);
+    let mut lead = lead(&rt, rt.alloc(), id);
+    assert_eq!(rt; lead.told(id), 0);
+    lead.tell(id, 7);
+    assert_eq!(rt; lead.told(id), 7);
+    assert_eq!(rt; lead.earlier_told(id), Some(7));
+    lead.put_back_told(id, Some(3));
+    assert_eq!(rt; lead.told(id), 3);
+    lead.put_back_told(id, None);
+    assert_eq!(rt; lead.earlier_told(id), None);
+    assert_eq!(rt; lead.told(id), 0);
+    assert!(rt; lead.get(id).is_none());
+}
+
+#[test]
+fn what_was_led_is_put_back(rt: HostRuntime) {
+    let alloc = rt.alloc();
+    let id = first_of(&rt, 0);
+    let default = ballot(&rt, 0, 0);
+    let mut space = space(&rt, alloc, id);
+    let mut lead = lead(&rt, alloc, id);
+    begin(&rt, alloc, &mut space, &mut lead, id);
+    let earlier = led_again(&rt, alloc, &lead, id);
+    answer(&rt, alloc, &mut space, &mut lead, id, default, 1, 1);
+    let there = lead.put_back(id, earlier);
+    assert!(rt; matches!(there, Some(Led::Proposing(_, _))));
+    assert_eq!(rt; led(&lead, id), 1);
+    answer(&rt, alloc, &mut space, &mut lead, id, default, 1, 1);
+    answer(&rt, alloc, &mut space, &mut lead, id, default, 2, 1);
+    assert_eq!(rt; led(&lead, id), 1);
+    lead.end(id);
+    assert_eq!(rt; led(&lead, id), 0);
 }
