@@ -1,6 +1,7 @@
 -- A world of replicas: their journals, and in which order it played their entries.
-use Rattle.std.specs.Prelude.{◌≡◌, ℕ, zero, suc, ◌<◌, List, [], ◌∷◌, ◌++◌, Option, Some, None, refl, slice_get}
+use Rattle.std.specs.Prelude.{◌≡◌, ℕ, zero, suc, List, [], ◌∷◌, Option, Some, None, refl, length, slice_get}
 use Rattle.std.specs.Coded.{Coded, code_by, coded×, coded_ℕ, coded_list}
+use Rattle.ep_base.specs.Quorums.{size}
 use Rattle.ep_rules.specs.Journals as rules
 use Rattle.ep_rules.specs.Journals.{Scheduled, of, acts_of, ArePlayed, AreClocked, frames_of, messages_of}
 use Rattle.ep_rules.specs.Steps.{Frame}
@@ -86,7 +87,7 @@ pub record IsPlayed (w : Played) : Type 0 where
 
 -- all that a world keeps to
 pub record IsWorld (w : Played) : Type 0 where
-  pub some : 0 < w.faults
+  pub all : length w.entries ≡ size w.faults
   pub schedule : List Scheduled
   pub shows : Shows w schedule
   pub journals : AreJournals (collected w)

@@ -6,7 +6,7 @@ use crate::advance::advance;
 use crate::cause::Cause;
 use crate::place::Place;
 use crate::refused::Refused;
-use crate::replicas::{all_fresh, find, frame_at, into_journals, receiver};
+use crate::replicas::{all_fresh, find, frame_at, into_journals, numbered_place, receiver};
 use crate::world_event::WorldEvent;
 use bytes::Bytes;
 use ep_base::{ReplicaId, Size};
@@ -27,26 +27,28 @@ pub struct World {
 
 impl Model for World {
     ghost use Rattle.ep_world.specs.Played.{Played, played_code, IsWorld};
-    ghost use Rattle.ep_world.specs.Replicas.{all_kept, AreReplicas};
+    ghost use Rattle.ep_world.specs.Replicas.{AreReplicas, world_of};
 
     ghost Value = { Played };
 
     ghost coded = { played_code };
 
-    ghost view = { λ w. record { faults = w.size; entries = all_kept w.replicas.items; steps = w.steps.items; messages = w.messages.items } };
+    ghost view = { λ w. world_of w.size w.replicas.items w.steps.items w.messages.items };
 
-    ghost invariant = { λ w. AreReplicas w.size 0 w.replicas.items × IsWorld (record { faults = w.size; entries = all_kept w.replicas.items; steps = w.steps.items; messages = w.messages.items }) };
+    ghost invariant = { λ w. AreReplicas w.size 0 w.replicas.items × IsWorld (world_of w.size w.replicas.items w.steps.items w.messages.items) };
 }
 
 impl World {
-    ghost use Rattle.std.specs.Prelude.{◌≡◌, ◌<◌, ◌≤◌, ◌⊎◌, ℕ, [], None, length, option_copied, IsSome, IfSome, IfOk, IfErr, OnOk, OnErr};
+    ghost use Rattle.std.specs.Prelude.{◌≡◌, ◌<◌, ◌≤◌, ◌⊎◌, ℕ, List, [], Some, None, length, option_copied, IsSome, IfSome, IfOk, IfErr, OnOk, OnErr};
     ghost use Rattle.ep_base.specs.Quorums.{size};
     ghost use Rattle.ep_rules.specs.Audits.{IsAccepted};
     ghost use Rattle.ep_rules.specs.Verdicts.{IsOwn};
     ghost use Rattle.ep_rules.specs.Worlds.{In};
     ghost use Rattle.ep_rules.specs.declared.receipt.Receipt.{Receipt};
-    ghost use Rattle.ep_world.specs.Played.{collected, entries_in, replica_in, journals_in, message_in, IsPlayed};
-    ghost use Rattle.ep_world.specs.Playing.{Happens, IsNotEnabled, Happen, Ends};
+    ghost use Rattle.ep_frame.specs.Spelling.{IsFrame};
+    ghost use Rattle.ep_world.specs.Played.{collected, entries_in, replica_in, journals_in, message_in, IsPlayed, IsWorld};
+    ghost use Rattle.ep_world.specs.Playing.{asked, Happens, IsNotEnabled, Happen, Ends};
+    ghost use Rattle.ep_world.specs.declared.world_event.WorldEvent.TheVariants.{Deliver};
     ghost use Rattle.ep_world.specs.Safe.{Agree, Keeps, WereProposed, Depend};
 
     /// A world of this many replicas, before any event.
@@ -87,7 +89,10 @@ impl World {
     }
 
     /// The replica that handles a message, and the message's frame.
-    fn receive(&self, message: u64) -> Result<(ReplicaId, Event), Cause> {
+    fn receive(&self, message: u64) -> Result<(ReplicaId, Event), Cause>
+        ensures ok { IfOk result (λ p. asked self.now (Deliver message) ≡ Some p) }
+        ensures refused { IfErr result (λ cause. IsNotEnabled self.now (Deliver message) cause) }
+    {
         let Some(frame) = self.message(message) else {
             return Err(Cause::NoSuchMessage(message));
         };
@@ -97,7 +102,10 @@ impl World {
     }
 
     /// The replica that the event is for, and what happens to it.
-    fn ask(&self, event: WorldEvent) -> Result<(ReplicaId, Event), Cause> {
+    fn ask(&self, event: WorldEvent) -> Result<(ReplicaId, Event), Cause>
+        ensures ok { IfOk result (λ p. asked self.now event ≡ Some p) }
+        ensures refused { IfErr result (λ cause. IsNotEnabled self.now event cause) }
+    {
         match event {
             WorldEvent::Propose {
                 replica,
@@ -122,7 +130,11 @@ impl World {
     }
 
     /// Plays a copy of the event.
-    fn step_copy(&mut self, event: &WorldEvent) -> Result<(), Cause> {
+    fn step_copy(&mut self, event: &WorldEvent) -> Result<(), Cause>
+        ensures ok { OnOk result (Happens self.old event.now self.new) }
+        ensures refused { IfErr result (λ cause. IsNotEnabled self.old event.now cause) }
+        ensures err { OnErr result (self.new ≡ self.old) }
+    {
         let event = event.copy(self.alloc)?;
         self.step(event)
     }
@@ -141,6 +153,16 @@ impl World {
         ensures validity { WereProposed self.new }
         ensures dependency { Depend self.new }
     {
+        let played = self.play_all(events);
+        self.keeps_to();
+        played
+    }
+
+    /// Plays events in order, up to the first that isn't enabled.
+    fn play_all(&mut self, events: &[WorldEvent]) -> Result<(), Refused>
+        ensures ok { OnOk result (Happen self.old events.now self.new) }
+        ensures refused { IfErr result (λ refused. Ends self.old events.now refused self.new) }
+    {
         for (index, event) in events.iter().enumerate() {
             match self.step_copy(event) {
                 Ok(()) => {}
@@ -148,6 +170,15 @@ impl World {
             }
         }
         Ok(())
+    }
+
+    /// All that a world keeps to: a law, which costs nothing to call.
+    fn keeps_to(&self)
+        ensures world { IsWorld self.now }
+        ensures some { 1 ≤ self.now.faults }
+        ensures few { self.now.faults ≤ 3 }
+    {
+        let _faults = self.size.faults();
     }
 
     /// The cluster's size.
@@ -177,11 +208,11 @@ impl World {
     pub fn message(&self, message: u64) -> Option<&Bytes>
         ensures value { option_copied result ≡ message_in self.now message }
         ensures none { result ≡ None → (message ≡ 0) ⊎ (length self.now.messages < message) }
+        ensures frame { IfSome result (λ b. IsFrame b.now) }
     {
-        if message == 0 || message > self.messages.len() as u64 {
+        let Some(place) = numbered_place(self.messages.as_slice(), message) else {
             return None;
-        }
-        let place = self.messages[message as usize - 1];
+        };
         frame_at(self.replicas.as_slice(), place)
     }
 
