@@ -1,13 +1,15 @@
 -- The replicas of a world as its parts.
-use Rattle.std.proofs.Common.{◌≡◌, ℕ, zero, suc, ◌+◌, ◌<◌, ◌≤◌, Option, Some, None, List, [], ◌∷◌, ◌++◌, length, get_or, set, slice_get, refl, sym, ap, subst, ◌∙◌, arith, append-nil, append_assoc}
+use Rattle.std.proofs.Common.{◌≡◌, ℕ, zero, suc, ◌+◌, ◌<◌, ◌≤◌, Option, Some, None, List, [], ◌∷◌, ◌++◌, length, get_or, set, slice_get, refl, sym, ap, subst, ◌∙◌, arith, append-nil, append_assoc, Bor, IfSome, option_copied}
 use Rattle.ep_base.specs.Quorums.{size}
-use Rattle.ep_rules.specs.Worlds.{opening}
-use Rattle.ep_journal.specs.Entries.{Log, entries_of, entry_of, IsJournal, IsOf, AreInOrder, all_entries, Collected}
+use Rattle.ep_rules.specs.Journals.{AreClocked}
+use Rattle.ep_journal.specs.Entries.{Log, entries_of, IsJournal, AreInOrder, all_entries, Collected}
 use Rattle.ep_journal.specs.declared.entry.Entry.{Entry}
 use Rattle.ep_replica.specs.Kept.{Kept}
-use Rattle.ep_world.specs.Played.{Played, collected, journals_in, entries_in, numbered, frame_of, IsWorld}
+use Rattle.ep_journal.proofs.InOrder.{named}
+use Rattle.ep_world.specs.Played.{collected, replica_in, numbered, frame_of, IsWorld}
 use Rattle.ep_world.specs.Playing.{with_entry}
 use Rattle.ep_world.specs.Replicas.{all_kept, AreReplicas, world_of, AreTheirs}
+use Rattle.ep_world.specs.declared.place.Place.{Place}
 
 pub count_all : (ks : List Kept) → length (all_kept ks) ≡ length ks
 count_all [] = refl
@@ -83,3 +85,82 @@ still_none f r ks more k is fresh old q = subst (λ (xs : List Kept). get_or (al
 
 pub whole : (f r : ℕ) (ks : List Kept) → r ≡ size f → ((rest : List Kept) → AreReplicas f r rest → AreReplicas f 0 (ks ++ rest)) → AreReplicas f 0 ks
 whole f r ks is h = subst (λ (xs : List Kept). AreReplicas f 0 xs) (append-nil ks) (h [] is)
+
+-- What a look-up lends, by what it finds.
+
+pub if_copied : {X : Type 0} (P : X → Type 0) (o : Option (Bor X)) (m : Option X) → option_copied o ≡ m → ((x : X) → m ≡ Some x → P x) → IfSome o (λ b. P b.now)
+if_copied P None m is h = tt
+if_copied P (Some b) m is h = h b.now (sym is)
+
+pub none_copied : {X : Type 0} (o : Option (Bor X)) (m : Option X) → option_copied o ≡ m → o ≡ None → m ≡ None
+none_copied o m is none = sym is ∙ ap option_copied none
+
+past : (ks : List Kept) (r : ℕ) → slice_get ks r ≡ None → length ks ≤ r
+past [] r is = omega arith
+past (x ∷ ks) zero is = absurd (cc)
+past (x ∷ ks) (suc r) is = let q = past ks r is in omega arith
+
+pub no_replica : (f r : ℕ) (ks : List Kept) → AreReplicas f 0 ks → slice_get ks r ≡ None → size f ≤ r
+no_replica f r ks h is = let n = as_many f ks h in let p = past ks r is in omega arith
+
+within : (ks : List Kept) (r : ℕ) (k : Kept) → slice_get ks r ≡ Some k → r < length ks
+within [] r k is = absurd (cc)
+within (x ∷ ks) zero k is = omega arith
+within (x ∷ ks) (suc r) k is = let q = within ks r k is in omega arith
+
+pub this_replica : (f r : ℕ) (ks : List Kept) (steps : List (ℕ × ℕ)) (messages : List Place) (k : Kept) → AreReplicas f 0 ks → slice_get ks r ≡ Some k → (r < size f) × (k ≡ replica_in (world_of f ks steps messages) r)
+this_replica f r ks steps messages k h is =
+    let t = kept_at f 0 r ks k h is in
+    let n = as_many f ks h in
+    let l = within ks r k is in
+    let me : k.me ≡ r = (let q = t.1 in omega arith) in
+    (omega arith, λ i. record { faults = t.0 i; me = me i; entries = sym t.2 i })
+
+-- A world before any event.
+
+pub new_world : (f : ℕ) (ks : List Kept) (steps : List (ℕ × ℕ)) (messages : List Place) → AreReplicas f 0 ks → ((r : ℕ) → get_or (all_kept ks) r [] ≡ []) → steps ≡ [] → messages ≡ [] → IsWorld (world_of f ks steps messages)
+new_world f ks steps messages h none no_steps no_messages = record {
+  all = count_all ks ∙ as_many f ks h;
+  schedule = [];
+  shows = record { journals = λ r. ap entries_of (sym (none r)); steps = no_steps; messages = no_messages; played = tt };
+  journals = record { journal = λ r lt. subst (λ (es : List Entry). IsJournal f r es) (sym (none r)) (record { run = (tt, tt); readable = tt }); others = λ r ge. none r };
+  clocked = λ r. subst (λ (es : List Entry). AreClocked 0 (entries_of es)) (sym (none r)) tt;
+}
+
+pub same_world : (f : ℕ) (ks js : List Kept) (steps other_steps : List (ℕ × ℕ)) (messages others : List Place) → (js ≡ ks) × (other_steps ≡ steps) × (others ≡ messages) → IsWorld (world_of f ks steps messages) → IsWorld (world_of f js other_steps others)
+same_world f ks js steps other_steps messages others is h = subst IsWorld (λ i. world_of f (sym is.0 i) (sym is.1 i) (sym is.2 i)) h
+
+-- The journals of the replicas.
+
+pub theirs_more : (ks : List Kept) (ls more : List Log) (k : Kept) (l : Log) → more ≡ ls ++ l ∷ [] → l.faults ≡ k.faults → l.me ≡ k.me → l.entries ≡ k.entries → IsJournal l.faults l.me l.entries → AreTheirs ks ls → AreTheirs (ks ++ k ∷ []) more
+theirs_more ks ls more k l is faults me entries run h = subst (λ (xs : List Log). AreTheirs (ks ++ k ∷ []) xs) (sym is) (go ks ls h)
+  where
+    go : (ks : List Kept) (ls : List Log) → AreTheirs ks ls → AreTheirs (ks ++ k ∷ []) (ls ++ l ∷ [])
+    go [] [] h = (faults, me, entries, run, tt)
+    go [] (x ∷ ls) h = absurd h
+    go (x ∷ ks) [] h = absurd h
+    go (x ∷ ks) (y ∷ ls) h = (h.0, h.1, h.2, h.3, go ks ls h.4)
+
+theirs_entries : (ks : List Kept) (ls : List Log) → AreTheirs ks ls → all_entries ls ≡ all_kept ks
+theirs_entries [] [] h = refl
+theirs_entries [] (l ∷ ls) h = absurd h
+theirs_entries (k ∷ ks) [] h = absurd h
+theirs_entries (k ∷ ks) (l ∷ ls) h = λ i. h.2 i ∷ theirs_entries ks ls h.4 i
+
+theirs_in_order : (f r : ℕ) (ks : List Kept) (ls : List Log) → AreReplicas f r ks → AreTheirs ks ls → AreInOrder f r ls
+theirs_in_order f r [] [] all h = all
+theirs_in_order f r [] (l ∷ ls) all h = absurd h
+theirs_in_order f r (k ∷ ks) [] all h = absurd h
+theirs_in_order f r (k ∷ ks) (l ∷ ls) all h = (named f r l (h.0 ∙ all.0) h.3 (h.1 ∙ all.1), theirs_in_order f (suc r) ks ls all.2 h.4)
+
+pub in_order : (f : ℕ) (ks : List Kept) (ls : List Log) → AreReplicas f 0 ks → AreTheirs ks ls → (n : ℕ) × AreInOrder n 0 ls
+in_order f ks ls all h = (f, theirs_in_order f 0 ks ls all h)
+
+same_faults : (f n : ℕ) (ks : List Kept) (ls : List Log) → AreReplicas f 0 ks → AreTheirs ks ls → AreInOrder n 0 ls → n ≡ f
+same_faults f n [] [] all h o = let a : 0 ≡ size f = all in absurd (omega arith)
+same_faults f n [] (l ∷ ls) all h o = absurd h
+same_faults f n (k ∷ ks) [] all h o = absurd h
+same_faults f n (k ∷ ks) (l ∷ ls) all h o = sym o.0.faults ∙ h.0 ∙ all.0
+
+pub collects : (f : ℕ) (ks : List Kept) (steps : List (ℕ × ℕ)) (messages : List Place) (ls : List Log) (j : Collected) → AreReplicas f 0 ks → AreTheirs ks ls → AreInOrder j.faults 0 ls → j.entries ≡ all_entries ls → j ≡ collected (world_of f ks steps messages)
+collects f ks steps messages ls j all h o is = λ i. record { faults = same_faults f j.faults ks ls all h o i; entries = (is ∙ theirs_entries ks ls h) i }

@@ -1,6 +1,8 @@
 -- What holds of a world: it is a run, and its journals match.
-use Rattle.std.proofs.Common.{◌≡◌, ◌≢◌, ℕ, ◌+◌, ◌<◌, ◌≤◌, List, [], ◌∷◌, ◌++◌, Option, Some, None, Result, Ok, Err, OnOk, IfErr, take, inl, inr, refl, sym, ap, subst, ◌∙◌, arith}
+use Rattle.std.proofs.Common.{◌≡◌, ◌≢◌, ℕ, ◌+◌, ◌<◌, ◌≤◌, List, [], ◌∷◌, ◌++◌, Option, Some, None, Result, Ok, Err, OnOk, IfErr, length, get_or, take, inl, inr, refl, sym, ap, subst, ◌∙◌, arith}
 use Rattle.std.proofs.lemmas.Bool.{cases_eq}
+use Rattle.std.proofs.lemmas.List.{take_more, take_all}
+use Rattle.std.proofs.lemmas.Option.{slice_get-get_or}
 use Rattle.ep_base.specs.Quorums.{size}
 use Rattle.ep_base.specs.declared.decree.Decree.{Decree}
 use Rattle.ep_rules.specs.Audits.{IsAccepted}
@@ -22,8 +24,9 @@ use Rattle.ep_journal.specs.declared.entry.Entry.{Entry}
 use Rattle.ep_replica.specs.Kept.{Kept}
 use Rattle.ep_replica.proofs.Growing.{entries_grow}
 use Rattle.ep_world.specs.Played.{Played, collected, journals_in, entries_in, IsPlayed, IsWorld}
-use Rattle.ep_world.specs.Playing.{Happens, Happen, Ends, grown}
+use Rattle.ep_world.specs.Playing.{Happens, Happen, Ends, IsNotEnabled}
 use Rattle.ep_world.specs.Safe.{committed, Agree, Keeps, WereProposed, Depend}
+use Rattle.ep_world.specs.declared.cause.Cause.{Cause}
 use Rattle.ep_world.specs.declared.refused.Refused.{Refused}
 use Rattle.ep_world.specs.declared.world_event.WorldEvent.{WorldEvent}
 use Rattle.ep_world.proofs.Grown.{with_other}
@@ -83,3 +86,24 @@ keeps_all w (event ∷ events) w' h i r x is = keeps_all h.0 events w' h.2 i r x
 pub keeps : (w : Played) (events : List WorldEvent) (w' : Played) (answer : Result (Unit {0}) Refused) → OnOk answer (Happen w events w') → IfErr answer (λ refused. Ends w events refused w') → Keeps w w'
 keeps w events w' (Ok u) h refused = keeps_all w events w' h
 keeps w events w' (Err refused) h e = keeps_all w (take refused.index events) w' e.before
+
+-- Events one after another.
+
+pub happen_more : (w v w' : Played) (events : List WorldEvent) (i n : ℕ) (event d : WorldEvent) → n ≡ i + 1 → i < length events → event ≡ get_or events i d → Happen w (take i events) v → Happens v event w' → Happen w (take n events) w'
+happen_more w v w' events i n event d next less is h one = subst (λ (xs : List WorldEvent). Happen w xs w') (sym (ap (λ k. take k events) next ∙ take_more events i d less ∙ ap (λ (x : WorldEvent). take i events ++ x ∷ []) (sym is))) (go w (take i events) h)
+  where
+    go : (u : Played) (xs : List WorldEvent) → Happen u xs v → Happen u (xs ++ event ∷ []) w'
+    go u [] same = (w', subst (λ (z : Played). Happens z event w') same one, refl)
+    go u (x ∷ xs) k = (k.0, k.1, go k.0 xs k.2)
+
+pub happened : (w w' : Played) (events : List WorldEvent) (i : ℕ) → length events ≤ i → Happen w (take i events) w' → Happen w events w'
+happened w w' events i all h = subst (λ (xs : List WorldEvent). Happen w xs w') (take_all i events all) h
+
+pub ends_at : (w v w' : Played) (events : List WorldEvent) (i : ℕ) (event d : WorldEvent) (cause : Cause) → i < length events → event ≡ get_or events i d → w' ≡ v → Happen w (take i events) v → IsNotEnabled v event cause →
+    Ends w events (record { index = i; cause = cause }) w'
+ends_at w v w' events i event d cause less is same h why = record {
+  event = event;
+  stands = slice_get-get_or events i d less ∙ ap Some (sym is);
+  before = subst (λ (z : Played). Happen w (take i events) z) (sym same) h;
+  cause = subst (λ (z : Played). IsNotEnabled z event cause) (sym same) why;
+}

@@ -9,12 +9,15 @@ use Rattle.ep_journal.specs.declared.event.Event.{Event as Happening}
 use Rattle.ep_journal.specs.declared.step_fault.StepFault.{StepFault}
 use Rattle.ep_replica.specs.Applied.{Applied, IsDeclined}
 use Rattle.ep_replica.specs.Kept.{Kept, state_left}
-use Rattle.ep_world.specs.Played.{Played, replica_in, places_of}
-use Rattle.ep_world.specs.Playing.{with_entry, grown}
+use Rattle.ep_world.specs.Played.{Played, replica_in, places_of, IsWorld}
+use Rattle.ep_world.specs.Playing.{asked, with_entry, IsNotEnabled}
 use Rattle.ep_world.specs.Replicas.{all_kept, AreReplicas, world_of, places_up_to, Took, IsUntaken}
 use Rattle.ep_world.specs.declared.place.Place.{Place}
+use Rattle.ep_world.specs.declared.cause.Cause.TheVariants.{Step}
+use Rattle.ep_world.specs.declared.world_event.WorldEvent.{WorldEvent}
 use Rattle.ep_world.proofs.Kept.{as_many, count_all, kept_at, replicas_set, all_set}
-use Rattle.ep_world.proofs.Grown.{with_same, places_are, few_frames}
+use Rattle.ep_world.proofs.Grown.{with_same, goes_on, places_are, few_frames}
+use Rattle.ep_world.proofs.Sent.{among}
 
 -- the replica that stands there
 pub record Here (f r : ℕ) (ks : List Kept) (k : Kept) : Type 0 where
@@ -100,3 +103,13 @@ took_at f r place ks k k' steps more_steps messages more event e all at h a step
 -- a replica put there is found there
 pub put_there : (ks : List Kept) (place : ℕ) (k j : Kept) → place < length ks → j ≡ get_or (set ks place k) place j → j ≡ k
 put_there ks place k j less is = is ∙ get_or-set_same ks place k j less
+
+-- One step of the world.
+
+pub step_world : (w w' : Played) (event : WorldEvent) (r : ℕ) (taken : Happening) → IsWorld w → asked w event ≡ Some (r, taken) → Took w r taken w' → IsWorld w'
+step_world w w' event r taken h is t = subst IsWorld (sym t.becomes) (goes_on w r taken t.entry (replica_in w' r) h t.there t.applied (among w h event r taken is))
+
+pub not_enabled : (w : Played) (event : WorldEvent) (r : ℕ) (taken : Happening) (fault : StepFault) → asked w event ≡ Some (r, taken) → IsUntaken w r taken fault → IsNotEnabled w event (Step fault)
+not_enabled w event r taken fault is (inl nobody) = inr (inr (inl (r, taken, ap Step nobody.0, is, nobody.1)))
+not_enabled w event r taken fault is (inr (inl memory)) = inl (ap Step memory)
+not_enabled w event r taken fault is (inr (inr declined)) = inr (inr (inr (r, taken, fault, refl, is, declined.0, declined.1)))
