@@ -1,20 +1,20 @@
 -- A world with one entry more.
-use Rattle.std.proofs.Common.{◌≡◌, ◌≢◌, ℕ, zero, suc, ◌+◌, ◌<◌, ◌≤◌, Bool, true, false, cond, eqb, List, [], ◌∷◌, ◌++◌, inl, inr, length, length-append, get_or, Some, refl, sym, ap, subst, ◌∙◌, arith, append-nil, append_assoc}
+use Rattle.std.proofs.Common.{◌≡◌, ◌≢◌, ℕ, zero, suc, ◌+◌, ◌<◌, ◌≤◌, cond, eqb, List, [], ◌∷◌, ◌++◌, inl, inr, length, get_or, refl, sym, ap, subst, ◌∙◌, arith, append-nil, append_assoc}
 use Rattle.std.proofs.lemmas.Bool.{cases_eq, eq-eqb, ne_eqb}
 use Rattle.ep_base.specs.Quorums.{size}
 use Rattle.ep_rules.specs.States.{State, fresh_state}
-use Rattle.ep_rules.specs.Steps.{Frame, Sent, sends}
-use Rattle.ep_rules.specs.Worlds.{World, opening, In, ends}
+use Rattle.ep_rules.specs.Steps.{Frame, sends}
+use Rattle.ep_rules.specs.Worlds.{In}
 use Rattle.ep_rules.specs.Journals as rules
 use Rattle.ep_rules.specs.Journals.{Scheduled, of, acts_of, left, messages_of, IsEntry, AreMarked, AreClocked, IsAmong, Plays, frames_of}
 use Rattle.ep_rules.proofs.FewOut.{sends_few}
 use Rattle.ep_rules.proofs.JournalsGrow.{of_grows, frames_grow, own_entries_leave_lem, played_grows_lem}
-use Rattle.ep_journal.specs.Entries.{Collected, entry_of, entries_of, entries_at, frames_at, IsJournal, AreJournals}
+use Rattle.ep_journal.specs.Entries.{entry_of, entries_of, frames_at, IsJournal, AreJournals}
 use Rattle.ep_journal.specs.Events.{event_of}
 use Rattle.ep_journal.specs.declared.entry.Entry.{Entry}
 use Rattle.ep_journal.specs.declared.event.Event.{Event as Happening}
 use Rattle.ep_replica.specs.Applied.{Applied}
-use Rattle.ep_replica.specs.Kept.{Kept, state_left}
+use Rattle.ep_replica.specs.Kept.{Kept}
 use Rattle.ep_replica.proofs.Growing.{entries_grow, journal_grows, clock_grows}
 use Rattle.ep_world.specs.Played.{Played, collected, journals_in, entries_in, replica_in, steps_of, places_of, Shows, IsWorld}
 use Rattle.ep_world.specs.Playing.{with_entry, grown}
@@ -120,7 +120,7 @@ places_line r e k (m ∷ ms) h from =
     let same : record { replica = m.sent.from; entry = m.entry; out = m.place } ≡ this = (λ t. record { replica = from m (inl refl) t; entry = h.0 t; out = h.1 t }) in
     let count : suc k + length ms ≡ k + suc (length ms) = omega arith in
     ap (λ (p : Place). places_up_to r e.number k ++ (p ∷ places_of ms)) same ∙ sym (append_assoc (places_up_to r e.number k) (this ∷ []) (places_of ms))
-        ∙ places_line r e (suc k) ms h.3 (λ x i. from x (inr i)) ∙ ap (places_up_to r e.number) count
+    ∙ places_line r e (suc k) ms h.3 (λ x i. from x (inr i)) ∙ ap (places_up_to r e.number) count
 
 pub places_are : (f r : ℕ) (s : State) (e : Entry) → IsEntry f r s (entry_of e) → AreMarked (entry_of e) 0 (entry_of e).out → places_of (frames_at e.frames) ≡ places_up_to r e.number (length e.frames)
 places_are f r s e step marked =

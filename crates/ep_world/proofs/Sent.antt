@@ -2,7 +2,6 @@
 use Rattle.std.proofs.Common.{◌≡◌, ℕ, zero, suc, ◌+◌, ◌<◌, ◌≤◌, Option, Some, None, List, [], ◌∷◌, ◌++◌, ◌⊎◌, inl, inr, length, slice_get, refl, sym, ap, subst, ◌∙◌, arith}
 use Rattle.std.proofs.lemmas.Bool.{cases_lt}
 use Rattle.ep_base.specs.Quorums.{size}
-use Rattle.ep_frame.specs.Meaning.{origin_at}
 use Rattle.ep_frame.specs.Spelling.{IsFrame}
 use Rattle.std.specs.Prelude.{Result, Ok, Err}
 use Rattle.ep_base.specs.declared.message.Message.{Message}
@@ -15,7 +14,7 @@ use Rattle.ep_rules.specs.Journals.{Scheduled, act_of, of, messages_of, IsEntry,
 use Rattle.ep_rules.proofs.Merged.{in_split, in_at, in_messages, in_of}
 use Rattle.ep_rules.proofs.Played.{Sender}
 use Rattle.ep_rules.proofs.JournalsGrow.{numbers_are_places_lem}
-use Rattle.ep_journal.specs.Entries.{Collected, entry_of, entries_of, frames_at, entries_at, AreFrames, AreReadable, IsJournal, AreJournals}
+use Rattle.ep_journal.specs.Entries.{Collected, entry_of, entries_of, frames_at, entries_at, AreFrames, AreReadable, AreJournals}
 use Rattle.ep_journal.specs.Events.{event_of, frame_at}
 use Rattle.ep_journal.specs.declared.entry.Entry.{Entry}
 use Rattle.ep_journal.specs.declared.event.Event.{Event as Happening}

@@ -1,5 +1,5 @@
 -- Events of a world, and what comes of them.
-use Rattle.std.specs.Prelude.{◌≡◌, ◌⊎◌, ℕ, zero, suc, ◌<◌, ◌≤◌, List, [], ◌∷◌, ◌++◌, Option, Some, None, length, take, slice_get}
+use Rattle.std.specs.Prelude.{◌≡◌, ◌⊎◌, ℕ, zero, suc, ◌<◌, ◌≤◌, List, [], ◌∷◌, ◌++◌, Option, Some, None, take, slice_get}
 use Rattle.ep_base.specs.Quorums.{size}
 use Rattle.ep_journal.specs.Entries.{frames_at}
 use Rattle.ep_journal.specs.Events.{frame_at}
@@ -9,7 +9,7 @@ use Rattle.ep_journal.specs.declared.event.Event.TheVariants as taken
 use Rattle.ep_journal.specs.declared.step_fault.StepFault.{StepFault}
 use Rattle.ep_journal.specs.declared.step_fault.StepFault.TheVariants.{Memory, OutOfRange}
 use Rattle.ep_replica.specs.Applied.{Applied, IsDeclined}
-use Rattle.ep_world.specs.Played.{Played, entries_in, replica_in, message_in, places_of}
+use Rattle.ep_world.specs.Played.{Played, replica_in, message_in, places_of}
 use Rattle.ep_world.specs.declared.cause.Cause.{Cause}
 use Rattle.ep_world.specs.declared.cause.Cause.TheVariants.{Step, NoSuchMessage}
 use Rattle.ep_world.specs.declared.refused.Refused.{Refused}

@@ -1,4 +1,4 @@
-use Rattle.std.proofs.Common.{◌≡◌, ◌+◌, ◌≤◌, length, ◌++◌, vec_len, vec_capacity}
+use Rattle.std.proofs.Common.{◌≡◌, ◌+◌, ◌++◌, vec_len, vec_capacity}
 use Rattle.ep_world.specs.Replicas.{places_up_to}
 use Rattle.ep_world.proofs.advance.add_places.Given as goal
 

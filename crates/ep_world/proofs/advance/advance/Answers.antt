@@ -1,9 +1,7 @@
-use Rattle.std.proofs.Common.{rules, ◌≡◌, ◌+◌, ◌-◌, ◌<◌, ◌≤◌, [], ◌∷◌, ◌++◌, length, get_or, set, inl, refl, sym, ap, ◌∙◌, arith, vec_len, vec_capacity}
+use Rattle.std.proofs.Common.{rules, ◌≡◌, ◌+◌, ◌<◌, ◌≤◌, [], ◌∷◌, ◌++◌, length, get_or, inl, refl, ap, ◌∙◌, arith, vec_len, vec_capacity}
 use Rattle.ep_base.specs.Quorums.{size}
-use Rattle.ep_journal.specs.declared.entry.Entry.{Entry}
-use Rattle.ep_replica.specs.Applied.{Applied}
 use Rattle.ep_world.specs.Replicas.{places_up_to}
-use Rattle.ep_world.proofs.Taken.{Here, here_at, put_there, with_last, few_last, still_replicas_at, took_at, untaken, nobody}
+use Rattle.ep_world.proofs.Taken.{here_at, put_there, with_last, few_last, still_replicas_at, took_at, untaken, nobody}
 use Rattle.ep_world.proofs.advance.advance.Goals as goal
 
 pub returns-then-place-len-clause-refused : goal.returns-then-place-len-clause-refused
@@ -82,5 +80,5 @@ returns-in-Ok-clause-ok c =
     let a = with_last k c.take.new.self c.index.result.now c.args.event e c.in-Ok.ensures.ok there c.last_entry-entry.ensures in
     let steps : c.push_reserved.new.self.items ≡ c.args.steps.now.items ++ (c.args.replica, e.number) ∷ [] = c.push_reserved.ensures.items ∙ ap (λ xs. xs ++ (c.args.replica, e.number) ∷ []) c.reserve.ensures.items in
     let messages : c.add_places.new.messages.items ≡ c.args.messages.now.items ++ places_up_to c.args.replica e.number (length e.frames) =
-        c.add_places.ensures ∙ ap (λ ps. ps ++ places_up_to c.args.replica e.number (length e.frames)) c.reserve-2.ensures.items in
+    c.add_places.ensures ∙ ap (λ ps. ps ++ places_up_to c.args.replica e.number (length e.frames)) c.reserve-2.ensures.items in
     took_at f c.args.replica place ks k c.take.new.self c.args.steps.now.items c.push_reserved.new.self.items c.args.messages.now.items c.add_places.new.messages.items c.args.event e c.requires c.index-place.ensures.value h a steps messages

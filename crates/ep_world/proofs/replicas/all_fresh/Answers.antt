@@ -1,4 +1,4 @@
-use Rattle.std.proofs.Common.{◌≡◌, ◌<◌, ◌≤◌, arith, ◌∙◌}
+use Rattle.std.proofs.Common.{◌≡◌, arith}
 use Rattle.ep_base.specs.Quorums.{size}
 use Rattle.ep_world.proofs.Kept.{more_fresh, still_none, whole}
 use Rattle.ep_world.proofs.replicas.all_fresh.Goals as goal

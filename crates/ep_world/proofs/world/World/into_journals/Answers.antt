@@ -1,5 +1,5 @@
-use Rattle.std.proofs.Common.{subst, ◌≡◌}
-use Rattle.ep_journal.specs.Entries.{Collected}
+use Rattle.std.proofs.Common.{◌≡◌, subst}
+use Rattle.std.proofs.lemmas.Bool.{false≢true}
 use Rattle.ep_world.specs.Played.{Played, collected}
 use Rattle.ep_world.proofs.Kept.{in_order, collects}
 use Rattle.ep_world.proofs.world.World.into_journals.Goals as goal
@@ -8,8 +8,7 @@ pub unreachable-requires : goal.unreachable-requires
 unreachable-requires c =
     let ks = c.self.inside.replicas.items in
     let ls = c.in_ok-into_journals.field-0.items in
-    let yes = c.in-Err.ensures.in_order.1 (in_order c.self.inside.size ks ls c.self.invariant.0 c.in_ok-into_journals.ensures) in
-    ?
+    false≢true (c.in-Err.ensures.in_order.1 (in_order c.self.inside.size ks ls c.self.invariant.0 c.in_ok-into_journals.ensures))
 
 pub returns : goal.returns
 returns c =

@@ -1,4 +1,4 @@
-use Rattle.std.proofs.Common.{rules, ◌≡◌, Some, option_copied, subst, List, ℕ}
+use Rattle.std.proofs.Common.{rules, ◌≡◌, option_copied, subst}
 use Rattle.ep_frame.specs.Spelling.{IsFrame}
 use Rattle.ep_world.specs.Played.{message_in, IsWorld}
 use Rattle.ep_world.proofs.Kept.{if_copied, none_copied}

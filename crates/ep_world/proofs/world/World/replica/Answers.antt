@@ -1,4 +1,4 @@
-use Rattle.std.proofs.Common.{◌≡◌, ◌<◌, ◌≤◌, ◌∙◌, List, Some, option_copied, slice_get, subst, ap}
+use Rattle.std.proofs.Common.{◌≡◌, ◌<◌, ◌≤◌, ◌∙◌, List, option_copied, slice_get, subst, ap}
 use Rattle.ep_base.specs.Quorums.{size}
 use Rattle.ep_replica.specs.Kept.{Kept}
 use Rattle.ep_world.specs.Played.{Played, replica_in}
