@@ -1,5 +1,5 @@
 -- A plan in the graph that is cut at what was executed is a plan.
-use Rattle.std.proofs.Common.{◌≡◌, ℕ, ◌⊎◌, inl, inr, List, [], ◌∷◌, ◌++◌, Option, Some, None, refl, sym, ap, subst, ◌∙◌, arith}
+use Rattle.std.proofs.Common.{◌≡◌, ℕ, ◌⊎◌, inl, inr, List, [], ◌∷◌, ◌++◌, Option, Some, None, cond, ◌&&◌, refl, sym, ap, subst, ◌∙◌, arith}
 use Rattle.std.specs.List.{flat_map, filter}
 use Rattle.ep_base.specs.declared.attrs.Attrs.{Attrs}
 use Rattle.ep_base.specs.Places.{Has}
@@ -7,15 +7,15 @@ use Rattle.ep_rules.specs.Graph.{Graph, Reaches}
 use Rattle.ep_rules.specs.Graph.Reaches.{itself, onward}
 use Rattle.ep_rules.specs.Order.{seq_at, Ranks, Rises, IsReady, IsBlock, IsNext, InBlocks, IsListed, IsPlan, IsBlocked, IsClosed}
 use Rattle.ep_rules.proofs.Places.{has_or, has_left, has_filter, filter_has}
-use Rattle.ep_exec.specs.Found.{IsLeast}
+use Rattle.ep_exec.specs.Found.{IsLeast, ranks_test, ranked}
 use Rattle.ep_exec.specs.Cut.{cut_attrs, cut}
-use Rattle.ep_exec.specs.Ready.{is_out}
+use Rattle.ep_exec.specs.Ready.{is_out, ranked_left_of, block_in}
 use Rattle.ep_exec.specs.Walk.{deps_at, AreComponents}
 use Rattle.ep_exec.proofs.Clear.{out_yes}
 
 -- Attributes.
 
-cut_some : (done : List ℕ) (o : Option Attrs) (a : Attrs) → cut_attrs done o ≡ Some a → (b : Attrs) × (o ≡ Some b) × (a.deps ≡ filter (is_out done) b.deps)
+pub cut_some : (done : List ℕ) (o : Option Attrs) (a : Attrs) → cut_attrs done o ≡ Some a → (b : Attrs) × (o ≡ Some b) × (a.deps ≡ filter (is_out done) b.deps)
 cut_some done None a e = absurd (cc)
 cut_some done (Some b) a e = let is : record b { deps = filter (is_out done) b.deps } ≡ a = cc in (b, refl, ap (λ (x : Attrs). x.deps) (sym is))
 
@@ -26,6 +26,24 @@ seq_cut done (Some a) = refl
 pub deps_cut : (done : List ℕ) (o : Option Attrs) → deps_at (cut_attrs done o) ≡ filter (is_out done) (deps_at o)
 deps_cut done None = refl
 deps_cut done (Some a) = refl
+
+-- ranks look at sequence numbers alone
+test_cut : (g : Graph) (done : List ℕ) (i j : ℕ) → ranks_test (cut g done) i j ≡ ranks_test g i j
+test_cut g done i j = rw (seq_cut done (g i), seq_cut done (g j)) refl
+
+ranked_cut : (g : Graph) (done ys : List ℕ) (x : ℕ) → ranked (cut g done) ys x ≡ ranked g ys x
+ranked_cut g done [] x = refl
+ranked_cut g done (y ∷ ys) x = rw (test_cut g done x y, ranked_cut g done ys x) refl
+
+ranked_left_cut : (g : Graph) (executed done block js : List ℕ) → ranked_left_of (cut g executed) done block js ≡ ranked_left_of g done block js
+ranked_left_cut g executed done block [] = refl
+ranked_left_cut g executed done block (j ∷ js) =
+    ap (λ b. ranked_left_of (cut g executed) done (cond (is_out done j && is_out block j) b block) js) (ranked_cut g executed block j)
+    ∙ ranked_left_cut g executed done (cond (is_out done j && is_out block j) (ranked g block j) block) js
+
+pub block_cut : (g : Graph) (executed done : List ℕ) (o : Option (List ℕ)) → block_in (cut g executed) done o ≡ block_in g done o
+block_cut g executed done None = refl
+block_cut g executed done (Some c) = ranked_left_cut g executed done [] c
 
 some_of : (o : Option Attrs) → ¬ (o ≡ None) → (a : Attrs) × (o ≡ Some a)
 some_of None n = absurd (n refl)
