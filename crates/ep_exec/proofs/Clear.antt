@@ -18,10 +18,10 @@ use Rattle.ep_exec.specs.Ready.{is_out, ready_in, ranked_left_of, component_at, 
 abbrev pub AllDone : Graph → List ℕ → ℕ → Type 0
 AllDone g done i = (x : ℕ) → Reaches g i x → Has done x
 
-out_yes : (xs : List ℕ) (i : ℕ) → ¬ Has xs i → is_out xs i ≡ true
+pub out_yes : (xs : List ℕ) (i : ℕ) → ¬ Has xs i → is_out xs i ≡ true
 out_yes xs i n = elim (cases_Bool (ltb (place xs i) (length xs))) [ inl e ↦ absurd (n (ltb-true (place xs i) (length xs) e)) | inr e ↦ ap (λ b. cond b false true) e ]
 
-out_then : (xs : List ℕ) (i : ℕ) → is_out xs i ≡ true → ¬ Has xs i
+pub out_then : (xs : List ℕ) (i : ℕ) → is_out xs i ≡ true → ¬ Has xs i
 out_then xs i e h = false≢true (sym (ap (λ b. cond b false true) (lt-ltb (place xs i) (length xs) h)) ∙ e)
 
 head_has : (x : ℕ) (xs : List ℕ) → Has (x ∷ xs) x
