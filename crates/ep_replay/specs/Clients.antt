@@ -5,9 +5,9 @@ use Rattle.ep_rules.specs.declared.receipt.Receipt.{Receipt}
 -- how many of these are client c
 abbrev pub times : ℕ → List ℕ → ℕ
 times c [] = 0
-times c (d ∷ ds) = cond (eqb c d) 1 0 + times c ds
+times c (d ∷ ds) = cond (eqb d c) 1 0 + times c ds
 
 -- the greatest stamp of the client's receipts, 0 where there are none
 abbrev pub greatest : ℕ → List Receipt → ℕ
 greatest c [] = 0
-greatest c (t ∷ ts) = max (cond (eqb c t.client) t.stamp 0) (greatest c ts)
+greatest c (t ∷ ts) = max (cond (eqb t.client c) t.stamp 0) (greatest c ts)

@@ -1,6 +1,6 @@
 //! The causes of a world's refusals, as a report names them.
 
-ghost use Rattle.std.specs.Prelude.{◌≡◌, ◌≢◌, ◌++◌, ◌∷◌, [], OnOk};
+ghost use Rattle.std.specs.Prelude.{◌≡◌, ◌≢◌, ◌++◌, ◌∷◌, [], OnOk, IfOk};
 ghost use Rattle.ep_journal.specs.declared.step_fault.StepFault.TheVariants.{Memory};
 ghost use Rattle.ep_world.specs.declared.cause.Cause.TheVariants.{Step};
 ghost use Rattle.ep_replay.specs.Causes.{cause_of, cause_of_step};

@@ -24,6 +24,16 @@ pub(crate) struct Clients {
     table: IndexMap<u32, Client>,
 }
 
+/// The number of the next request. No script has as many proposals as it can count.
+fn next(requests: u32) -> Result<u32, AllocError>
+    ensures { IfOk result (λ n. n ≡ requests + 1) }
+{
+    match requests.checked_add(1) {
+        Some(next) => Ok(next),
+        None => Err(AllocError),
+    }
+}
+
 impl Clients {
     /// Nobody has done anything.
     pub(crate) fn new(alloc: Global) -> Clients
@@ -61,9 +71,12 @@ impl Clients {
         ensures seen { IfOk result (λ k. (ps : List ℕ) (ts : List Told) → AreCounted self.old ps ts → k.seen ≡ greatest client ts) }
         ensures counted { OnOk result ((ps : List ℕ) (ts : List Told) → AreCounted self.old ps ts → AreCounted self.new (ps ++ client ∷ []) ts) }
     {
-        let mut known = self.get(client);
-        // No script has as many proposals as a request's number can count.
-        known.requests = known.requests.checked_add(1).ok_or(AllocError)?;
+        let before = self.get(client);
+        let requests = next(before.requests)?;
+        let known = Client {
+            requests,
+            seen: before.seen,
+        };
         self.set(client, known)?;
         Ok(known)
     }
@@ -72,9 +85,13 @@ impl Clients {
     fn note(&mut self, receipt: &Receipt) -> Result<(), AllocError>
         ensures { OnOk result ((ps : List ℕ) (ts : List Told) → AreCounted self.old ps ts → AreCounted self.new ps (ts ++ receipt.now ∷ [])) }
     {
-        let mut known = self.get(receipt.client);
-        known.seen = known.seen.max(receipt.stamp);
-        self.set(receipt.client, known)
+        let before = self.get(receipt.client);
+        let known = Client {
+            requests: before.requests,
+            seen: before.seen.max(receipt.stamp),
+        };
+        self.set(receipt.client, known)?;
+        Ok(())
     }
 
     /// The clients of the receipts have seen their stamps.

@@ -1,6 +1,6 @@
 //! Which messages were given.
 
-ghost use Rattle.std.specs.Prelude.{◌≡◌, ℕ, ◌≤◌, ◌++◌, ◌∷◌, [], List, OnOk, IfOk};
+ghost use Rattle.std.specs.Prelude.{◌≡◌, ℕ, ◌≤◌, ◌++◌, ◌∷◌, [], List, false, length, OnOk, IfOk, slice_index_or as get_or};
 ghost use Rattle.ep_replay.specs.Replays.{AreUngiven};
 ghost use Rattle.ep_replay.specs.Tables.{AreFlagged};
 
@@ -26,8 +26,12 @@ impl Given {
         }
     }
 
-    /// Makes a flag for each message below this number.
-    fn reserve(&mut self, count: usize) -> Result<(), AllocError> {
+    /// Makes a flag for each message up to this number.
+    fn reserve(&mut self, count: usize) -> Result<(), AllocError>
+        ensures room { OnOk result (count ≤ length self.new.flags.items) }
+        ensures same { OnOk result ((place : ℕ) → get_or self.new.flags.items place false ≡ get_or self.old.flags.items place false) }
+        ensures floor { OnOk result (self.new.floor ≡ self.old.floor) }
+    {
         for _ in self.flags.len()..count {
             self.flags.push(false)?;
         }
@@ -60,7 +64,7 @@ impl Given {
     {
         self.advance();
         let mut numbers = Vec::new(alloc);
-        for place in self.floor..sent {
+        for place in self.floor.min(sent)..sent {
             if !self.is_given(place) {
                 numbers.push(place as u64 + 1)?;
             }
@@ -69,7 +73,9 @@ impl Given {
     }
 
     /// Whether the message at this place, from 0, was given.
-    fn is_given(&self, place: usize) -> bool {
+    fn is_given(&self, place: usize) -> bool
+        ensures { result ≡ get_or self.now.flags.items place false }
+    {
         self.flags.get(place).copied().unwrap_or(false)
     }
 }

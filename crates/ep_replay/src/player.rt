@@ -9,6 +9,7 @@ ghost use Rattle.ep_world.specs.Played.{Played, collected, journals_in};
 ghost use Rattle.ep_world.specs.Playing.{Happens};
 ghost use Rattle.ep_world.specs.declared.world_event.WorldEvent.{WorldEvent as Event};
 ghost use Rattle.ep_replay.specs.Outcome.{IsReplay};
+ghost use Rattle.ep_replay.specs.Replays.{was_sent};
 ghost use Rattle.ep_replay.specs.Tables.{AreCounted, AreOwn};
 
 use crate::causes::list;
@@ -33,7 +34,8 @@ fn last_receipts(alloc: Global, world: &World) -> Result<Vec<Receipt>, AllocErro
     let Some(replica) = world.replica(*replica) else {
         return Ok(Vec::new(alloc));
     };
-    replica.receipts_after(alloc, entry.saturating_sub(1))
+    let receipts = replica.receipts_after(alloc, entry.saturating_sub(1))?;
+    Ok(receipts)
 }
 
 /// Adds the receipts of what the world's last step executed.
@@ -53,6 +55,13 @@ fn collect(
     Ok(())
 }
 
+/// Whether there is a message of this number.
+fn was_sent(world: &World, message: u64) -> bool
+    ensures { result ≡ was_sent world.now message }
+{
+    message >= 1 && message <= world.messages().len() as u64
+}
+
 /// Plays the lines of a script in a world.
 #[derive(Drop)]
 pub(crate) struct Player {
@@ -69,7 +78,9 @@ impl Player {
     ghost use Rattle.ep_rules.specs.Audits.{IsAccepted};
     ghost use Rattle.ep_journal.specs.Entries.{journals_of};
     ghost use Rattle.ep_world.specs.Played.{collected};
-    ghost use Rattle.ep_replay.specs.Replays.{IsOpening, Tries, Gives, AreUngiven, Plays, PlayAll};
+    ghost use Rattle.ep_script.specs.declared.line.Line.TheVariants as asked;
+    ghost use Rattle.ep_world.specs.declared.world_event.WorldEvent.TheVariants as event;
+    ghost use Rattle.ep_replay.specs.Replays.{IsOpening, Tries, Gives, Plays, PlayAll, proposal, with_proposer, with_given};
     ghost use Rattle.ep_replay.specs.Tables.{AreOwn, Tells, told, Leads};
 
     /// A player before any line, with a cluster of this size.
@@ -93,13 +104,19 @@ impl Player {
         ensures { OnOk result (Leads (λ p q. Tries p line event q) self.old self.new) }
     {
         match self.world.step(event) {
-            Ok(()) => collect(
-                self.alloc,
-                &self.world,
-                &mut self.clients,
-                &mut self.receipts,
-            ),
-            Err(refusal) => list(&mut self.refused, line, refusal),
+            Ok(()) => {
+                collect(
+                    self.alloc,
+                    &self.world,
+                    &mut self.clients,
+                    &mut self.receipts,
+                )?;
+                Ok(())
+            }
+            Err(refusal) => {
+                list(&mut self.refused, line, refusal)?;
+                Ok(())
+            }
         }
     }
 
@@ -110,7 +127,9 @@ impl Player {
         replica: ReplicaId,
         client: u32,
         command: &Command,
-    ) -> Result<(), AllocError> {
+    ) -> Result<(), AllocError>
+        ensures { OnOk result (Leads (λ p q. Tries (with_proposer p client) line (proposal p replica client command.now) q) self.old self.new) }
+    {
         let command = command.copy(self.alloc)?;
         let known = self.clients.count(client)?;
         let event = WorldEvent::Propose {
@@ -120,46 +139,65 @@ impl Player {
             command,
             seen: known.seen,
         };
-        self.attempt(line, event)
+        self.attempt(line, event)?;
+        Ok(())
     }
 
     /// Notes that the message was given, if there is one of this number.
-    fn note(&mut self, message: u64) -> Result<(), AllocError> {
-        if message >= 1 && message <= self.world.messages().len() as u64 {
-            self.given.note(message as usize)?;
+    fn note(&mut self, message: u64) -> Result<(), AllocError>
+        ensures { OnOk result (Leads (λ p q. q ≡ with_given p message) self.old self.new) }
+    {
+        if !was_sent(&self.world, message) {
+            return Ok(());
         }
+        self.given.note(message as usize)?;
         Ok(())
     }
 
     /// Gives the message of this number.
-    fn give(&mut self, line: u32, message: u64) -> Result<(), AllocError> {
+    fn give(&mut self, line: u32, message: u64) -> Result<(), AllocError>
+        ensures { OnOk result (Leads (λ p q. Tries (with_given p message) line (event.Deliver message) q) self.old self.new) }
+    {
         self.note(message)?;
-        self.attempt(line, WorldEvent::Deliver(message))
+        self.attempt(line, WorldEvent::Deliver(message))?;
+        Ok(())
     }
 
     /// Gives these messages, in their order.
-    fn deliver(&mut self, line: u32, messages: &Messages) -> Result<(), AllocError> {
+    fn deliver(&mut self, line: u32, messages: &Messages) -> Result<(), AllocError>
+        ensures { OnOk result (Leads (λ p q. Gives p line messages.now q) self.old self.new) }
+    {
         for message in messages.as_slice() {
             self.give(line, u64::from(*message))?;
         }
         Ok(())
     }
 
-    /// Gives each message that was sent and never given.
-    fn flush(&mut self, line: u32) -> Result<(), AllocError> {
-        let sent = self.world.messages().len();
-        let messages = self.given.ungiven(self.alloc, sent)?;
-        for message in &messages {
+    /// Gives the messages of these numbers, in their order.
+    fn give_all(&mut self, line: u32, messages: &[u64]) -> Result<(), AllocError>
+        ensures { OnOk result (Leads (λ p q. Gives p line messages.now q) self.old self.new) }
+    {
+        for message in messages {
             self.give(line, *message)?;
         }
         Ok(())
     }
 
-    /// Plays one line.
-    fn play(&mut self, line: u32, asked: &Line) -> Result<(), AllocError>
-        ensures { OnOk result (Leads (λ p q. Plays p line asked.now q) self.old self.new) }
+    /// Gives each message that was sent and never given.
+    fn flush(&mut self, line: u32) -> Result<(), AllocError>
+        ensures { OnOk result (Leads (λ p q. Plays p line asked.Flush q) self.old self.new) }
     {
-        match asked {
+        let sent = self.world.messages().len();
+        let messages = self.given.ungiven(self.alloc, sent)?;
+        self.give_all(line, messages.as_slice())?;
+        Ok(())
+    }
+
+    /// Plays one line.
+    fn play(&mut self, line: u32, what: &Line) -> Result<(), AllocError>
+        ensures { OnOk result (Leads (λ p q. Plays p line what.now q) self.old self.new) }
+    {
+        match what {
             Line::Propose {
                 replica,
                 client,
@@ -195,8 +233,8 @@ impl Player {
     fn play_all(&mut self, lines: &[(u32, Line)]) -> Result<(), AllocError>
         ensures { OnOk result (Leads (λ p q. PlayAll p lines.now q) self.old self.new) }
     {
-        for (line, asked) in lines {
-            self.play(*line, asked)?;
+        for (line, what) in lines {
+            self.play(*line, what)?;
         }
         Ok(())
     }

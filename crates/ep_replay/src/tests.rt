@@ -32,10 +32,7 @@ fn lines(rt: &impl Abort, alloc: Global, left: &Replayed) -> Result<String, Allo
         let request = receipt.request;
         let leader = receipt.instance.replica().index();
         let number = receipt.instance.number();
-        write!(
-            text,
-            "client {client} request {request} {leader}.{number} "
-        )?;
+        write!(text, "client {client} request {request} {leader}.{number} ")?;
         match &receipt.answer {
             Answer::Lost => writeln!(text, "lost")?,
             Answer::Told(Reply::Absent) => writeln!(text, "absent")?,
