@@ -1,0 +1,4 @@
+mod Counting
+mod Flagging
+mod Receiving
+mod Leading

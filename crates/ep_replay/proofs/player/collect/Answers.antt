@@ -1,0 +1,11 @@
+use Rattle.std.proofs.Common.{◌≡◌, ◌∙◌, ap, sym, subst, List, ◌++◌}
+use Rattle.ep_rules.specs.declared.receipt.Receipt.{Receipt as Told}
+use Rattle.ep_replay.specs.Tables.{AreOwn}
+use Rattle.ep_replay.proofs.Receiving.{own_all}
+use Rattle.ep_replay.proofs.player.collect.Goals as goal
+
+pub returns-clause-receipts : goal.returns-clause-receipts
+returns-clause-receipts c = λ w event h. c.in_ok-append.ensures.items ∙ ap (λ (ts : List Told). c.args.receipts.now.items ++ ts) (c.in_ok-new.ensures.exact w event h)
+
+pub returns-clause-own : goal.returns-clause-own
+returns-clause-own c = λ own. subst (λ (ts : List Told). AreOwn c.args.world.now ts) (sym c.in_ok-append.ensures.items) (own_all c.args.world.now c.args.receipts.now.items c.in_ok-new.new.items own c.in_ok-new.ensures.own)

@@ -1,0 +1,5 @@
+pub mod Causes
+pub mod Clients
+pub mod Replays
+pub mod Tables
+pub mod Outcome

@@ -1,0 +1,103 @@
+-- A replay of a script: what its lines do in a world, one after another.
+use Rattle.std.specs.Prelude.{◌≡◌, ◌≢◌, ◌⊎◌, ◌↔◌, ℕ, ◌+◌, ◌≤◌, ◌&&◌, nat_le, Bool, cond, List, [], ◌∷◌, ◌++◌, length}
+use Rattle.ep_base.specs.Deps.{IsRising}
+use Rattle.ep_base.specs.declared.command.Command.{Command}
+use Rattle.ep_rules.specs.Worlds.{In}
+use Rattle.ep_rules.specs.declared.receipt.Receipt.{Receipt}
+use Rattle.ep_journal.specs.Entries.{entry_of}
+use Rattle.ep_journal.specs.declared.step_fault.StepFault.TheVariants.{Memory}
+use Rattle.ep_replica.specs.Receipts.{receipts_of}
+use Rattle.ep_report.specs.declared.cause.Cause.{Cause}
+use Rattle.ep_script.specs.declared.line.Line.{Line}
+use Rattle.ep_script.specs.declared.line.Line.TheVariants.{Propose, GiveUp, Recover, Execute, Deliver, Flush}
+use Rattle.ep_world.specs.Played.{Played, entries_in, journals_in}
+use Rattle.ep_world.specs.Playing.{Happens, IsNotEnabled}
+use Rattle.ep_world.specs.declared.cause.Cause.{Cause as Refusal}
+use Rattle.ep_world.specs.declared.cause.Cause.TheVariants.{Step}
+use Rattle.ep_world.specs.declared.world_event.WorldEvent.{WorldEvent}
+use Rattle.ep_world.specs.declared.world_event.WorldEvent.TheVariants as event
+use Rattle.ep_replay.specs.Causes.{cause_of}
+use Rattle.ep_replay.specs.Clients.{times, greatest}
+
+-- how far a script has been replayed
+pub record Replay : Type 0 where
+  pub world : Played
+  -- the client of each proposal, refused ones included
+  pub proposers : List ℕ
+  -- the messages that were given
+  pub given : List ℕ
+  pub receipts : List Receipt
+  -- the refused events, each with the number of its line
+  pub refused : List (ℕ × Cause)
+
+-- nothing was replayed yet
+pub record IsOpening (faults : ℕ) (p : Replay) : Type 0 where
+  pub size : p.world.faults ≡ faults
+  pub entries : (r : ℕ) → entries_in p.world r ≡ []
+  pub steps : p.world.steps ≡ []
+  pub messages : p.world.messages ≡ []
+  pub proposers : p.proposers ≡ []
+  pub given : p.given ≡ []
+  pub receipts : p.receipts ≡ []
+  pub refused : p.refused ≡ []
+
+-- One event.
+
+-- the event happens; a receipt is given for each execution by its entry of what its replica proposed
+pub record Takes (p : Replay) (event : WorldEvent) (p' : Replay) : Type 0 where
+  pub next : Played
+  pub happens : Happens p.world event next
+  pub becomes : p' ≡ record p { world = next; receipts = p.receipts ++ receipts_of happens.replica (journals_in next happens.replica) (entry_of happens.entry) }
+
+-- the event isn't enabled, and is listed by its line and the cause; want of memory is no cause
+pub record IsListed (p : Replay) (line : ℕ) (event : WorldEvent) (p' : Replay) : Type 0 where
+  pub cause : Refusal
+  pub refused : IsNotEnabled p.world event cause
+  pub told : cause ≢ Step Memory
+  pub becomes : p' ≡ record p { refused = p.refused ++ (line, cause_of cause) ∷ [] }
+
+abbrev pub Tries : Replay → ℕ → WorldEvent → Replay → Type 0
+Tries p line event p' = Takes p event p' ⊎ IsListed p line event p'
+
+-- Proposals.
+
+-- the client's next request, counted from 1, with the greatest stamp that it has seen
+abbrev pub proposal : Replay → ℕ → ℕ → Command → WorldEvent
+proposal p replica client command = event.Propose replica client (times client p.proposers + 1) command (greatest client p.receipts)
+
+abbrev pub with_proposer : Replay → ℕ → Replay
+with_proposer p client = record p { proposers = p.proposers ++ client ∷ [] }
+
+-- Messages.
+
+abbrev pub was_sent : Played → ℕ → Bool
+was_sent w message = nat_le 1 message && nat_le message (length w.messages)
+
+-- a message counts as given once its delivery was tried; a number that no message has doesn't
+abbrev pub with_given : Replay → ℕ → Replay
+with_given p message = record p { given = cond (was_sent p.world message) (p.given ++ message ∷ []) p.given }
+
+-- the messages of these numbers are given, one after another
+abbrev pub Gives : Replay → ℕ → List ℕ → Replay → Type 0
+Gives p line [] p' = p' ≡ p
+Gives p line (m ∷ ms) p' = (next : Replay) × Tries (with_given p m) line (event.Deliver m) next × Gives next line ms p'
+
+-- of the messages numbered from 1 up to `sent`, those that aren't in `given`, in rising number
+pub record AreUngiven (given : List ℕ) (sent : ℕ) (ms : List ℕ) : Type 0 where
+  pub rising : IsRising ms
+  pub these : (m : ℕ) → In m ms ↔ ((1 ≤ m) × (m ≤ sent) × ¬ In m given)
+
+-- Lines.
+
+-- what the line of this number asks for was done
+abbrev pub Plays : Replay → ℕ → Line → Replay → Type 0
+Plays p line (Propose replica client command) p' = Tries (with_proposer p client) line (proposal p replica client command) p'
+Plays p line (GiveUp replica instance) p' = Tries p line (event.GiveUp replica instance) p'
+Plays p line (Recover replica instance) p' = Tries p line (event.Recover replica instance) p'
+Plays p line (Execute replica instance) p' = Tries p line (event.Execute replica instance) p'
+Plays p line (Deliver messages) p' = Gives p line messages p'
+Plays p line Flush p' = (messages : List ℕ) × AreUngiven p.given (length p.world.messages) messages × Gives p line messages p'
+
+abbrev pub PlayAll : Replay → List (ℕ × Line) → Replay → Type 0
+PlayAll p [] p' = p' ≡ p
+PlayAll p (l ∷ ls) p' = (next : Replay) × Plays p l.0 l.1 next × PlayAll next ls p'

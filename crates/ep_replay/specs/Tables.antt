@@ -1,0 +1,62 @@
+-- What a player's tables tell of a replay.
+use Rattle.std.specs.Prelude.{◌≡◌, ◌↔◌, ℕ, suc, ◌≤◌, nat_eq, true, false, Option, Some, None, List, slice_index_or as get_or}
+use Rattle.indexmap.specs.IndexMap.{get}
+use Rattle.ep_rules.specs.Verdicts.{IsOwn}
+use Rattle.ep_rules.specs.Worlds.{In}
+use Rattle.ep_rules.specs.declared.receipt.Receipt.{Receipt}
+use Rattle.ep_world.specs.Played.{Played, journals_in}
+use Rattle.ep_replay.specs.Clients.{times, greatest}
+use Rattle.ep_replay.specs.Replays.{Replay}
+use Rattle.ep_replay.specs.declared.clients.Client.{Client}
+use Rattle.ep_replay.specs.declared.clients.Clients.{Clients}
+use Rattle.ep_replay.specs.declared.given.Given.{Given}
+use Rattle.ep_replay.specs.declared.player.Player.{Player}
+
+-- Clients.
+
+abbrev pub or_new : Option Client → Client
+or_new None = record { requests = 0; seen = 0 }
+or_new (Some client) = client
+
+-- what the table has of a client; where it has nothing, no requests and no stamp
+abbrev pub known : Clients → ℕ → Client
+known clients c = or_new (get nat_eq clients.table c)
+
+-- the table tells how often each client has proposed, and the greatest stamp that it has seen
+abbrev pub AreCounted : Clients → List ℕ → List Receipt → Type 0
+AreCounted clients proposers receipts = (c : ℕ) → known clients c ≡ record { requests = times c proposers; seen = greatest c receipts }
+
+-- Messages.
+
+-- the flags tell which messages were given; up to the floor all were
+pub record AreFlagged (flags : Given) (given : List ℕ) : Type 0 where
+  pub flag : (place : ℕ) → (get_or flags.flags.items place false ≡ true) ↔ In (suc place) given
+  pub floor : (m : ℕ) → 1 ≤ m → m ≤ flags.floor → In m given
+
+-- Receipts.
+
+-- each is of a command that its replica proposed and executed
+abbrev pub AreOwn : Played → List Receipt → Type 0
+AreOwn w receipts = (t : Receipt) → In t receipts → (r : ℕ) × IsOwn w.faults r (journals_in w r) t
+
+-- Players.
+
+-- how far the player has replayed, where these have proposed and these messages were given
+abbrev pub told : Player → List ℕ → List ℕ → Replay
+told s proposers given = record { world = s.world; proposers = proposers; given = given; receipts = s.receipts.items; refused = s.refused.items }
+
+pub record Tells (s : Player) (proposers given : List ℕ) : Type 0 where
+  pub clients : AreCounted s.clients proposers s.receipts.items
+  pub flags : AreFlagged s.given given
+  pub own : AreOwn s.world s.receipts.items
+
+-- the player tells of a replay that R holds of
+pub record Led (R : Replay → Type 0) (s : Player) : Type 0 where
+  pub proposers : List ℕ
+  pub given : List ℕ
+  pub related : R (told s proposers given)
+  pub tells : Tells s proposers given
+
+-- whatever replay the one player tells of, the other tells of one to which R leads
+abbrev pub Leads : (Replay → Replay → Type 0) → Player → Player → Type 0
+Leads R s s' = (proposers given : List ℕ) → Tells s proposers given → Led (R (told s proposers given)) s'

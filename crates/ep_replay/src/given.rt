@@ -1,0 +1,81 @@
+//! Which messages were given.
+
+ghost use Rattle.std.specs.Prelude.{◌≡◌, ℕ, ◌≤◌, ◌++◌, ◌∷◌, [], List, false, length, OnOk, IfOk, slice_index_or as get_or};
+ghost use Rattle.ep_replay.specs.Replays.{AreUngiven};
+ghost use Rattle.ep_replay.specs.Tables.{AreFlagged};
+
+use std::alloc::{AllocError, Global};
+
+/// Which messages were given.
+#[derive(Drop)]
+pub(crate) struct Given {
+    /// Each message up to this number was given.
+    floor: usize,
+    /// Whether each message was given, from number 1 on; those after the last flag weren't.
+    flags: Vec<bool>,
+}
+
+impl Given {
+    /// None was given.
+    pub(crate) fn new(alloc: Global) -> Given
+        ensures { AreFlagged result [] }
+    {
+        Given {
+            floor: 0,
+            flags: Vec::new(alloc),
+        }
+    }
+
+    /// Makes a flag for each message up to this number.
+    fn reserve(&mut self, count: usize) -> Result<(), AllocError>
+        ensures room { OnOk result (count ≤ length self.new.flags.items) }
+        ensures same { OnOk result ((place : ℕ) → get_or self.new.flags.items place false ≡ get_or self.old.flags.items place false) }
+        ensures floor { OnOk result (self.new.floor ≡ self.old.floor) }
+    {
+        for _ in self.flags.len()..count {
+            self.flags.push(false)?;
+        }
+        Ok(())
+    }
+
+    /// The message of this number, from 1, was given.
+    pub(crate) fn note(&mut self, number: usize) -> Result<(), AllocError>
+        requires { 1 ≤ number }
+        ensures { OnOk result ((given : List ℕ) → AreFlagged self.old given → AreFlagged self.new (given ++ number ∷ [])) }
+    {
+        self.reserve(number)?;
+        self.flags[number - 1] = true;
+        Ok(())
+    }
+
+    /// Finds the least message that was never given.
+    fn advance(&mut self)
+        ensures { (given : List ℕ) → AreFlagged self.old given → AreFlagged self.new given }
+    {
+        while self.floor < self.flags.len() && self.flags[self.floor] {
+            self.floor += 1;
+        }
+    }
+
+    /// The messages up to this number that were never given, in rising number.
+    pub(crate) fn ungiven(&mut self, alloc: Global, sent: usize) -> Result<Vec<u64>, AllocError>
+        ensures flags { OnOk result ((given : List ℕ) → AreFlagged self.old given → AreFlagged self.new given) }
+        ensures value { IfOk result (λ numbers. (given : List ℕ) → AreFlagged self.old given → AreUngiven given sent numbers.items) }
+    {
+        self.advance();
+        let mut numbers = Vec::new(alloc);
+        for place in self.floor.min(sent)..sent {
+            if !self.is_given(place) {
+                numbers.push(place as u64 + 1)?;
+            }
+        }
+        Ok(numbers)
+    }
+
+    /// Whether the message at this place, from 0, was given.
+    fn is_given(&self, place: usize) -> bool
+        ensures { result ≡ get_or self.now.flags.items place false }
+    {
+        self.flags.get(place).copied().unwrap_or(false)
+    }
+}

@@ -1,0 +1,280 @@
+//! Replays of scripts.
+
+ghost use Rattle.std.specs.Prelude.{◌≡◌, ℕ, ◌++◌, List, OnOk, IfOk};
+ghost use Rattle.ep_rules.specs.Audits.{IsAccepted};
+ghost use Rattle.ep_rules.specs.declared.receipt.Receipt.{Receipt as Told};
+ghost use Rattle.ep_journal.specs.Entries.{entry_of, journals_of};
+ghost use Rattle.ep_replica.specs.Receipts.{receipts_of};
+ghost use Rattle.ep_world.specs.Played.{Played, collected, journals_in};
+ghost use Rattle.ep_world.specs.Playing.{Happens};
+ghost use Rattle.ep_world.specs.declared.world_event.WorldEvent.{WorldEvent as Event};
+ghost use Rattle.ep_replay.specs.Outcome.{IsReplay};
+ghost use Rattle.ep_replay.specs.Replays.{was_sent};
+ghost use Rattle.ep_replay.specs.Tables.{AreCounted, AreOwn};
+
+use crate::causes::list;
+use crate::clients::Clients;
+use crate::given::Given;
+use crate::replayed::Replayed;
+use ep_base::{Command, ReplicaId, Size};
+use ep_report::Cause;
+use ep_rules::Receipt;
+use ep_script::{Line, Messages, Script};
+use ep_world::{World, WorldEvent};
+use std::alloc::{AllocError, Global};
+
+/// The receipts of what the world's last step executed.
+fn last_receipts(alloc: Global, world: &World) -> Result<Vec<Receipt>, AllocError>
+    ensures exact { IfOk result (λ receipts. (w : Played) (event : Event) (h : Happens w event world.now) → receipts.items ≡ receipts_of h.replica (journals_in world.now h.replica) (entry_of h.entry)) }
+    ensures own { IfOk result (λ receipts. AreOwn world.now receipts.items) }
+{
+    let Some((replica, entry)) = world.steps().last() else {
+        return Ok(Vec::new(alloc));
+    };
+    let Some(replica) = world.replica(*replica) else {
+        return Ok(Vec::new(alloc));
+    };
+    let receipts = replica.receipts_after(alloc, entry.saturating_sub(1))?;
+    Ok(receipts)
+}
+
+/// Adds the receipts of what the world's last step executed.
+fn collect(
+    alloc: Global,
+    world: &World,
+    clients: &mut Clients,
+    receipts: &mut Vec<Receipt>,
+) -> Result<(), AllocError>
+    ensures receipts { OnOk result ((w : Played) (event : Event) (h : Happens w event world.now) → receipts.new.items ≡ receipts.old.items ++ receipts_of h.replica (journals_in world.now h.replica) (entry_of h.entry)) }
+    ensures counted { OnOk result ((ps : List ℕ) → AreCounted clients.old ps receipts.old.items → AreCounted clients.new ps receipts.new.items) }
+    ensures own { OnOk result (AreOwn world.now receipts.old.items → AreOwn world.now receipts.new.items) }
+{
+    let mut new = last_receipts(alloc, world)?;
+    clients.note_all(new.as_slice())?;
+    receipts.append(&mut new)?;
+    Ok(())
+}
+
+/// Whether there is a message of this number.
+fn was_sent(world: &World, message: u64) -> bool
+    ensures { result ≡ was_sent world.now message }
+{
+    message >= 1 && message <= world.messages().len() as u64
+}
+
+/// Plays the lines of a script in a world.
+#[derive(Drop)]
+pub(crate) struct Player {
+    world: World,
+    clients: Clients,
+    given: Given,
+    receipts: Vec<Receipt>,
+    refused: Vec<(u32, Cause)>,
+    alloc: Global,
+}
+
+impl Player {
+    ghost use Rattle.std.specs.Prelude.{◌≡◌, [], OnOk, IfOk};
+    ghost use Rattle.ep_rules.specs.Audits.{IsAccepted};
+    ghost use Rattle.ep_journal.specs.Entries.{journals_of};
+    ghost use Rattle.ep_world.specs.Played.{collected};
+    ghost use Rattle.ep_script.specs.declared.line.Line.TheVariants as asked;
+    ghost use Rattle.ep_world.specs.declared.world_event.WorldEvent.TheVariants as event;
+    ghost use Rattle.ep_replay.specs.Replays.{IsOpening, Tries, Gives, Plays, PlayAll, proposal, with_proposer, with_given};
+    ghost use Rattle.ep_replay.specs.Tables.{AreOwn, Tells, told, Leads};
+
+    /// A player before any line, with a cluster of this size.
+    fn new(alloc: Global, size: Size) -> Result<Player, AllocError>
+        ensures opening { IfOk result (λ s. IsOpening size (told s [] [])) }
+        ensures tells { IfOk result (λ s. Tells s [] []) }
+    {
+        let world = World::new(alloc, size)?;
+        Ok(Player {
+            world,
+            clients: Clients::new(alloc),
+            given: Given::new(alloc),
+            receipts: Vec::new(alloc),
+            refused: Vec::new(alloc),
+            alloc,
+        })
+    }
+
+    /// Plays an event, or lists it with the number of its line where it is refused.
+    fn attempt(&mut self, line: u32, event: WorldEvent) -> Result<(), AllocError>
+        ensures { OnOk result (Leads (λ p q. Tries p line event q) self.old self.new) }
+    {
+        match self.world.step(event) {
+            Ok(()) => {
+                collect(
+                    self.alloc,
+                    &self.world,
+                    &mut self.clients,
+                    &mut self.receipts,
+                )?;
+                Ok(())
+            }
+            Err(refusal) => {
+                list(&mut self.refused, line, refusal)?;
+                Ok(())
+            }
+        }
+    }
+
+    /// The client's next request.
+    fn propose(
+        &mut self,
+        line: u32,
+        replica: ReplicaId,
+        client: u32,
+        command: &Command,
+    ) -> Result<(), AllocError>
+        ensures { OnOk result (Leads (λ p q. Tries (with_proposer p client) line (proposal p replica client command.now) q) self.old self.new) }
+    {
+        let command = command.copy(self.alloc)?;
+        let known = self.clients.count(client)?;
+        let event = WorldEvent::Propose {
+            replica,
+            client,
+            request: known.requests,
+            command,
+            seen: known.seen,
+        };
+        self.attempt(line, event)?;
+        Ok(())
+    }
+
+    /// Notes that the message was given, if there is one of this number.
+    fn note(&mut self, message: u64) -> Result<(), AllocError>
+        ensures { OnOk result (Leads (λ p q. q ≡ with_given p message) self.old self.new) }
+    {
+        if !was_sent(&self.world, message) {
+            return Ok(());
+        }
+        self.given.note(message as usize)?;
+        Ok(())
+    }
+
+    /// Gives the message of this number.
+    fn give(&mut self, line: u32, message: u64) -> Result<(), AllocError>
+        ensures { OnOk result (Leads (λ p q. Tries (with_given p message) line (event.Deliver message) q) self.old self.new) }
+    {
+        self.note(message)?;
+        self.attempt(line, WorldEvent::Deliver(message))?;
+        Ok(())
+    }
+
+    /// Gives these messages, in their order.
+    fn deliver(&mut self, line: u32, messages: &Messages) -> Result<(), AllocError>
+        ensures { OnOk result (Leads (λ p q. Gives p line messages.now q) self.old self.new) }
+    {
+        for message in messages.as_slice() {
+            self.give(line, u64::from(*message))?;
+        }
+        Ok(())
+    }
+
+    /// Gives the messages of these numbers, in their order.
+    fn give_all(&mut self, line: u32, messages: &[u64]) -> Result<(), AllocError>
+        ensures { OnOk result (Leads (λ p q. Gives p line messages.now q) self.old self.new) }
+    {
+        for message in messages {
+            self.give(line, *message)?;
+        }
+        Ok(())
+    }
+
+    /// Gives each message that was sent and never given.
+    fn flush(&mut self, line: u32) -> Result<(), AllocError>
+        ensures { OnOk result (Leads (λ p q. Plays p line asked.Flush q) self.old self.new) }
+    {
+        let sent = self.world.messages().len();
+        let messages = self.given.ungiven(self.alloc, sent)?;
+        self.give_all(line, messages.as_slice())?;
+        Ok(())
+    }
+
+    /// Plays one line.
+    fn play(&mut self, line: u32, what: &Line) -> Result<(), AllocError>
+        ensures { OnOk result (Leads (λ p q. Plays p line what.now q) self.old self.new) }
+    {
+        match what {
+            Line::Propose {
+                replica,
+                client,
+                command,
+            } => self.propose(line, *replica, *client, command),
+            Line::GiveUp(replica, instance) => self.attempt(
+                line,
+                WorldEvent::GiveUp {
+                    replica: *replica,
+                    instance: *instance,
+                },
+            ),
+            Line::Recover(replica, instance) => self.attempt(
+                line,
+                WorldEvent::Recover {
+                    replica: *replica,
+                    instance: *instance,
+                },
+            ),
+            Line::Execute(replica, instance) => self.attempt(
+                line,
+                WorldEvent::Execute {
+                    replica: *replica,
+                    instance: *instance,
+                },
+            ),
+            Line::Deliver(messages) => self.deliver(line, messages),
+            Line::Flush => self.flush(line),
+        }
+    }
+
+    /// Plays lines, in order.
+    fn play_all(&mut self, lines: &[(u32, Line)]) -> Result<(), AllocError>
+        ensures { OnOk result (Leads (λ p q. PlayAll p lines.now q) self.old self.new) }
+    {
+        for (line, what) in lines {
+            self.play(*line, what)?;
+        }
+        Ok(())
+    }
+
+    /// What the replay leaves.
+    fn end(self, alloc: Global) -> Result<Replayed, AllocError>
+        ensures journals { IfOk result (λ d. d.journals ≡ collected self.world) }
+        ensures receipts { IfOk result (λ d. d.receipts.items ≡ self.receipts.items) }
+        ensures refused { IfOk result (λ d. d.refused.items ≡ self.refused.items) }
+        ensures accepted { IfOk result (λ d. AreOwn self.world self.receipts.items → IsAccepted d.journals.faults (journals_of d.journals) d.receipts.items) }
+    {
+        self.world.journals_are_accepted();
+        let Player {
+            world,
+            clients: _,
+            given: _,
+            receipts,
+            refused,
+            alloc: _,
+        } = self;
+        let journals = world.into_journals(alloc)?;
+        Ok(Replayed {
+            journals,
+            receipts,
+            refused,
+        })
+    }
+}
+
+/// Plays the script in a world of its size. An event that is refused is listed, and the script goes on; want of memory
+/// ends the replay.
+///
+/// A client's requests are numbered from 1 in the script's order, refused ones included. What it has seen is the
+/// greatest stamp of its receipts so far. After each event the replica that took it gives its receipts. The audit accepts
+/// what a replay leaves.
+pub fn replay(alloc: Global, script: &Script) -> Result<Replayed, AllocError>
+    ensures value { IfOk result (λ d. IsReplay script.now d) }
+    ensures accepted { IfOk result (λ d. IsAccepted d.journals.faults (journals_of d.journals) d.receipts.items) }
+{
+    let mut player = Player::new(alloc, script.size())?;
+    player.play_all(script.lines())?;
+    player.end(alloc)
+}
