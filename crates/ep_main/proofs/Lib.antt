@@ -1,0 +1,3 @@
+pub mod Ending
+mod Judging
+mod Puts
