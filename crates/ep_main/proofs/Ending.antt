@@ -38,3 +38,13 @@ declines (Script line) status out fault by silent c = absurd by
 declines Memory status out fault by silent c = subst (λ s. Declines s out fault) (sym c.0) (record { silent = silent; told = c.1 })
 declines Read status out fault by silent c = absurd by
 declines Write status out fault by silent c = absurd by
+
+pub replays_asked :
+    (asked : Asked) (status : Status) (zs : List ℕ) (reader : Bool) (out fault : Output) → asked ≡ Replay Report → Performs asked status zs reader out fault →
+    Replays status zs reader out fault
+replays_asked asked status zs reader out fault is p = subst (λ a. Performs a status zs reader out fault) is p
+
+pub replays_not : (e : Fault) (status : Status) (zs : List ℕ) (reader : Bool) (out fault : Output) → e ≡ Memory → WroteNothing out → Concludes (Err e) status fault → Replays status zs reader out fault
+replays_not e status zs reader out fault is silent c =
+    let ends : Concludes (Err Memory) status fault = subst (λ x. Concludes (Err x) status fault) is c in
+    subst (λ s. Replays s zs reader out fault) (sym ends.0) (record { silent = silent; told = ends.1 })

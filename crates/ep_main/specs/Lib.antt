@@ -2,3 +2,4 @@ pub mod Faults
 pub mod Outputs
 pub mod Reported
 pub mod Runs
+pub mod Words

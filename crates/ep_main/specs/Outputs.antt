@@ -8,6 +8,9 @@ pub record Output : Type 0 where
   pub after : Option (List ℕ)
   pub failed : Bool
 
+abbrev pub output : Option (List ℕ) → Option (List ℕ) → Bool → Output
+output before after failed = record { before = before; after = after; failed = failed }
+
 -- these bytes were written, and nothing else
 abbrev pub Wrote : Output → List ℕ → Type 0
 Wrote o bytes = Appends o.before o.after bytes

@@ -1,7 +1,9 @@
 //! The program, over any source and sinks.
 
-ghost use Rattle.std.specs.Prelude.{◌≡◌, ◌⊎◌, ℕ, List, Some};
-ghost use Rattle.ep_main.specs.Runs.{Performs, Declines, Does, Concludes};
+ghost use Rattle.std.specs.Prelude.{◌≡◌, ◌⊎◌, ℕ, List, Some, map};
+ghost use Rattle.ep_main.specs.Outputs.{output};
+ghost use Rattle.ep_main.specs.Runs.{Performs, Declines, Does, Concludes, Replays};
+ghost use Rattle.ep_main.specs.Words.{AskForReport};
 ghost use Rattle.ep_main.specs.declared.asked.Asked.{Asked};
 
 use crate::asked::{Asked, Emit};
@@ -22,8 +24,18 @@ pub fn engine<T: AsStr, S: Source, W: Sink, F: Sink>(
     writer: &mut W,
     fault_writer: &mut F,
 ) -> Status
-    ensures { (zs : List ℕ) → S.left reader.old ≡ Some zs → Declines result (record { before = W.held writer.old; after = W.held writer.new; failed = W.has_failed writer.new }) (record { before = F.held fault_writer.old; after = F.held fault_writer.new; failed = F.has_failed fault_writer.new })
-        ⊎ ((asked : Asked) × Performs asked result zs (S.has_failed reader.new) (record { before = W.held writer.old; after = W.held writer.new; failed = W.has_failed writer.new }) (record { before = F.held fault_writer.old; after = F.held fault_writer.new; failed = F.has_failed fault_writer.new })) }
+    // where the words ask for a replay and its report
+    ensures replay { AskForReport (map T.text words.now) → (zs : List ℕ) → S.left reader.old ≡ Some zs → Replays result zs (S.has_failed reader.new)
+        (output (W.held writer.old) (W.held writer.new) (W.has_failed writer.new))
+        (output (F.held fault_writer.old) (F.held fault_writer.new) (F.has_failed fault_writer.new)) }
+
+    // whatever the words are, they are refused, or what they ask for is done
+    ensures other { (zs : List ℕ) → S.left reader.old ≡ Some zs → Declines result
+        (output (W.held writer.old) (W.held writer.new) (W.has_failed writer.new))
+        (output (F.held fault_writer.old) (F.held fault_writer.new) (F.has_failed fault_writer.new))
+        ⊎ ((asked : Asked) × Performs asked result zs (S.has_failed reader.new)
+        (output (W.held writer.old) (W.held writer.new) (W.has_failed writer.new))
+        (output (F.held fault_writer.old) (F.held fault_writer.new) (F.has_failed fault_writer.new))) }
 {
     match read_words(alloc, words) {
         Ok(asked) => perform(alloc, asked, reader, writer, fault_writer),
@@ -39,7 +51,9 @@ pub fn perform<S: Source, W: Sink, F: Sink>(
     writer: &mut W,
     fault_writer: &mut F,
 ) -> Status
-    ensures { (zs : List ℕ) → S.left reader.old ≡ Some zs → Performs asked result zs (S.has_failed reader.new) (record { before = W.held writer.old; after = W.held writer.new; failed = W.has_failed writer.new }) (record { before = F.held fault_writer.old; after = F.held fault_writer.new; failed = F.has_failed fault_writer.new }) }
+    ensures { (zs : List ℕ) → S.left reader.old ≡ Some zs → Performs asked result zs (S.has_failed reader.new)
+        (output (W.held writer.old) (W.held writer.new) (W.has_failed writer.new))
+        (output (F.held fault_writer.old) (F.held fault_writer.new) (F.has_failed fault_writer.new)) }
 {
     let outcome = attempt(alloc, asked, reader, writer);
     concluded(outcome, fault_writer)
@@ -52,7 +66,8 @@ fn attempt<S: Source, W: Sink>(
     reader: &mut S,
     writer: &mut W,
 ) -> Result<Status, Fault>
-    ensures { (zs : List ℕ) → S.left reader.old ≡ Some zs → Does asked result zs (S.has_failed reader.new) (record { before = W.held writer.old; after = W.held writer.new; failed = W.has_failed writer.new }) }
+    ensures { (zs : List ℕ) → S.left reader.old ≡ Some zs → Does asked result zs (S.has_failed reader.new)
+        (output (W.held writer.old) (W.held writer.new) (W.has_failed writer.new)) }
 {
     match asked {
         Asked::Replay(Emit::Report) => print_replay(alloc, reader, writer),
@@ -65,7 +80,7 @@ fn attempt<S: Source, W: Sink>(
 
 /// How the program ends. A fault is told on the fault output; where that fails, the status stays.
 pub(crate) fn concluded<F: Sink>(outcome: Result<Status, Fault>, fault_writer: &mut F) -> Status
-    ensures { Concludes outcome result (record { before = F.held fault_writer.old; after = F.held fault_writer.new; failed = F.has_failed fault_writer.new }) }
+    ensures { Concludes outcome result (output (F.held fault_writer.old) (F.held fault_writer.new) (F.has_failed fault_writer.new)) }
 {
     match outcome {
         Ok(status) => status,

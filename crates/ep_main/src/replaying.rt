@@ -1,6 +1,7 @@
 //! Replays.
 
 ghost use Rattle.std.specs.Prelude.{◌≡◌, ℕ, List, Some, IfOk, IfErr};
+ghost use Rattle.ep_main.specs.Outputs.{output};
 ghost use Rattle.ep_main.specs.Reported.{IsJudged};
 ghost use Rattle.ep_main.specs.Runs.{Plays};
 ghost use Rattle.ep_main.specs.declared.fault.Fault.TheVariants.{Memory};
@@ -28,7 +29,7 @@ pub(crate) fn print_replay<S: Source, W: Sink>(
     writer: &mut W,
 ) -> Result<Status, Fault>
     ensures { (zs : List ℕ) → S.left reader.old ≡ Some zs → Plays result zs (S.has_failed reader.new)
-        (record { before = W.held writer.old; after = W.held writer.new; failed = W.has_failed writer.new }) }
+        (output (W.held writer.old) (W.held writer.new) (W.has_failed writer.new)) }
 {
     let script = read_script(alloc, reader)?;
     let played = replay(alloc, &script)?;
