@@ -1,15 +1,14 @@
 -- How the program ends, by what became of what it was asked for.
-use Rattle.std.proofs.Common.{◌≡◌, ◌⊎◌, inl, inr, ℕ, Bool, true, List, [], Option, Result, Ok, Err, refl, sym, ◌∙◌, subst, string_bytes}
-use Rattle.ep_main.specs.Faults.{line_of, status_of, DeclinesBy}
-use Rattle.ep_main.specs.Outputs.{Output, Wrote, WroteNothing, Told}
-use Rattle.ep_main.specs.Runs.{Plays, Prints, Does, Concludes, Replays, Helps, Performs, Declines, IsReplayed, IsScriptRefused, IsOutOfMemory, HasFailed}
+use Rattle.std.proofs.Common.{◌≡◌, inl, inr, ℕ, Bool, List, Result, Ok, Err, sym, ◌∙◌, subst, string_bytes}
+use Rattle.ep_main.specs.Faults.{DeclinesBy}
+use Rattle.ep_main.specs.Outputs.{Output, WroteNothing}
+use Rattle.ep_main.specs.Runs.{Plays, Prints, Does, Concludes, Replays, Helps, Performs, Declines}
 use Rattle.ep_main.specs.declared.asked.Asked.{Asked}
 use Rattle.ep_main.specs.declared.asked.Asked.TheVariants.{Replay, Help}
 use Rattle.ep_main.specs.declared.asked.Emit.TheVariants.{Report}
 use Rattle.ep_main.specs.declared.fault.Fault.{Fault}
 use Rattle.ep_main.specs.declared.fault.Fault.TheVariants.{CommandLine, Script, Memory, Read, Write}
 use Rattle.ep_main.specs.declared.status.Status.{Status}
-use Rattle.ep_main.specs.declared.status.Status.TheVariants.{Accepted, AuditRefused, Refused, OutOfMemory, Failed}
 
 replays : (outcome : Result Status Fault) (status : Status) (zs : List ℕ) (reader : Bool) (out fault : Output) → Plays outcome zs reader out → Concludes outcome status fault → Replays status zs reader out fault
 replays (Ok said) status zs reader out fault p c = subst (λ s. Replays s zs reader out fault) (sym (c.0 ∙ p.0)) (p.1, c.1)

@@ -1,14 +1,14 @@
 //! The words of the command line.
 
-ghost use Rattle.std.specs.Prelude.{◌≡◌, Ok, Err, IfErr, IfOk, MatchResult, codes, false, map};
+ghost use Rattle.std.specs.Prelude.{◌≡◌, Some, Ok, Err, IfErr, IfOk, MatchResult, codes, false, map};
 ghost use Rattle.clap.specs.Values.{kind_of};
 ghost use Rattle.clap.specs.declared.error.ErrorKind.TheVariants.{OutOfMemory};
 ghost use Rattle.clap.specs.Walk.{first_of, rows_of, rule_of};
 ghost use Rattle.clap.specs.Matches.{found_of};
-ghost use Rattle.clap.specs.Simple.{app_of, subcommand_rows_of};
+ghost use Rattle.clap.specs.Simple.{app_of, subcommand_of, subcommand_rows_of};
 ghost use Rattle.clap.specs.declared.builder.command.Command.TheViews.{out-Command as fields_of};
 ghost use Rattle.ep_main.specs.Faults.{DeclinesBy};
-ghost use Rattle.ep_main.specs.Words.{AskForReport, IsReport, MetReport, emit as emit_rule, replay as replay_app, epaxos};
+ghost use Rattle.ep_main.specs.Words.{AskForReport, IsAsked, IsHelp, MetReplay, Names, emit as emit_rule, replay as replay_app, epaxos};
 ghost use Rattle.ep_main.specs.declared.asked.Asked.TheVariants.{Replay};
 ghost use Rattle.ep_main.specs.declared.asked.Emit.TheVariants.{Report};
 ghost use Rattle.ep_main.specs.declared.fault.Fault.TheVariants.{CommandLine, Memory};
@@ -24,6 +24,7 @@ use std::convert::AsStr;
 /// program knows.
 pub(crate) fn read_words<T: AsStr>(alloc: Global, words: &[T]) -> Result<Asked, Fault>
     ensures asked { AskForReport (map T.text words.now) → MatchResult result (λ a. a ≡ Replay Report) (λ e. e ≡ Memory) }
+    ensures only { IfOk result (λ a. IsAsked a (subcommand_of epaxos (map T.text words.now))) }
     ensures declines { IfErr result DeclinesBy }
 {
     let command = program(alloc)?;
@@ -36,6 +37,7 @@ pub(crate) fn read_words<T: AsStr>(alloc: Global, words: &[T]) -> Result<Asked, 
 /// What is asked for where `clap` finds no matches: help at most.
 fn asked_instead(alloc: Global, error: &Error) -> Result<Asked, Fault>
     ensures memory { kind_of error.now ≡ OutOfMemory → result ≡ Err Memory }
+    ensures only { IfOk result IsHelp }
     ensures declines { IfErr result DeclinesBy }
 {
     match error.kind() {
@@ -46,7 +48,8 @@ fn asked_instead(alloc: Global, error: &Error) -> Result<Asked, Fault>
 }
 
 fn asked_by(matches: &ArgMatches<'_>) -> Result<Asked, Fault>
-    ensures asked { MetReport (subcommand_rows_of matches.now) → result ≡ Ok (Replay Report) }
+    ensures asked { MetReplay Report (subcommand_rows_of matches.now) → result ≡ Ok (Replay Report) }
+    ensures only { IfOk result (λ a. IsAsked a (subcommand_rows_of matches.now)) }
     ensures declines { IfErr result (λ e. e ≡ CommandLine) }
 {
     match matches.subcommand_matches("replay") {
@@ -56,7 +59,8 @@ fn asked_by(matches: &ArgMatches<'_>) -> Result<Asked, Fault>
 }
 
 fn emit_of(options: &ArgMatches<'_>) -> Result<Emit, Fault>
-    ensures report { IsReport (first_of (codes "emit") (rows_of (found_of options.now))) → result ≡ Ok Report }
+    ensures report { Names (first_of (codes "emit") (rows_of (found_of options.now))) Report → result ≡ Ok Report }
+    ensures only { IfOk result (Names (first_of (codes "emit") (rows_of (found_of options.now)))) }
     ensures declines { IfErr result (λ e. e ≡ CommandLine) }
 {
     match options.get_str("emit") {
@@ -67,6 +71,7 @@ fn emit_of(options: &ArgMatches<'_>) -> Result<Emit, Fault>
 
 fn emit_named(what: &str) -> Result<Emit, Fault>
     ensures report { what.now ≡ codes "report" → result ≡ Ok Report }
+    ensures only { IfOk result (Names (Some what.now)) }
     ensures declines { IfErr result (λ e. e ≡ CommandLine) }
 {
     if what == "report" {
@@ -94,6 +99,8 @@ fn replay_command<'a>(alloc: Global) -> Result<Command<'a>, AllocError>
         .value_name("WHAT")
         .help("What to print: report")
         .action(ArgAction::Set);
-    let command = Command::new(alloc, "replay").about("Reads a script on standard input, plays it in one thread, audits what it leaves, and prints a report");
+    let command = Command::new(alloc, "replay").about(
+        "Reads a script on standard input, plays it in one thread, audits what it leaves, and prints a report",
+    );
     command.arg(emit)
 }

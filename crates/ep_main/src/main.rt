@@ -14,6 +14,7 @@ mod tests;
 use crate::fault::Fault;
 use crate::program::{concluded, engine};
 use ep_base::Noted;
+use std::io::ErrorKind;
 use std::process::ExitCode;
 use std::rt::Env;
 
@@ -38,6 +39,7 @@ fn main(rt: HostRuntime) -> ExitCode {
 fn words<R: Env + AllocGlobal>(rt: &R) -> Result<Vec<String>, Fault> {
     match std::env::args(rt) {
         Ok(words) => Ok(words.collect(rt.alloc())?),
+        Err(error) if error.kind() == ErrorKind::OutOfMemory => Err(Fault::Memory),
         Err(_) => Err(Fault::CommandLine),
     }
 }

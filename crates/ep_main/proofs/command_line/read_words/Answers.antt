@@ -1,4 +1,3 @@
-use Rattle.std.proofs.Common.{rules, ◌≡◌, ◌∙◌}
 use Rattle.ep_main.proofs.Literals.{asks_report, found_report, has_no_memory, no_kind}
 use Rattle.ep_main.proofs.command_line.read_words.Goals as goal
 

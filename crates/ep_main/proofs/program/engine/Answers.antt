@@ -6,4 +6,4 @@ pub returns-in-Ok-clause-replay : goal.returns-in-Ok-clause-replay
 returns-in-Ok-clause-replay g c ask zs known = replays_asked c.in-Ok.asked _ _ _ _ _ (c.in-Ok.ensures.asked ask) (c.perform.ensures zs known)
 
 pub returns-in-Ok-clause-other : goal.returns-in-Ok-clause-other
-returns-in-Ok-clause-other g c zs known = inr (c.in-Ok.asked, c.perform.ensures zs known)
+returns-in-Ok-clause-other g c zs known = inr (c.in-Ok.asked, c.in-Ok.ensures.only, c.perform.ensures zs known)

@@ -1,4 +1,4 @@
-use Rattle.std.proofs.Common.{rules, ◌≡◌, List, ℕ, ◌∙◌, decimal}
+use Rattle.std.proofs.Common.{rules, ◌≡◌, decimal}
 use Rattle.ep_main.proofs.Puts.{puts_in_three}
 use Rattle.ep_main.proofs.telling.tell_refused.Goals as goal
 
