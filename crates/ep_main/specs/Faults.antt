@@ -5,7 +5,15 @@ use Rattle.ep_script.specs.declared.script_fault.ScriptFault.TheVariants as scri
 use Rattle.ep_main.specs.declared.fault.Fault.{Fault}
 use Rattle.ep_main.specs.declared.fault.Fault.TheVariants.{CommandLine, Script, Memory, Read, Write}
 use Rattle.ep_main.specs.declared.status.Status.{Status}
-use Rattle.ep_main.specs.declared.status.Status.TheVariants.{Refused, OutOfMemory, Failed}
+use Rattle.ep_main.specs.declared.status.Status.TheVariants.{Accepted, AuditRefused, Refused, OutOfMemory, Failed}
+
+-- the exit status
+abbrev pub code_of : Status → ℕ
+code_of Accepted = 0
+code_of AuditRefused = 1
+code_of Refused = 2
+code_of OutOfMemory = 3
+code_of Failed = 4
 
 abbrev pub command_line_refused : List ℕ
 command_line_refused = codes "command line refused\n"
