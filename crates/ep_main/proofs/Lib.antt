@@ -1,0 +1,4 @@
+pub mod Ending
+mod Judging
+mod Puts
+pub mod Literals

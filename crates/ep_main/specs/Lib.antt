@@ -1,0 +1,5 @@
+pub mod Faults
+pub mod Outputs
+pub mod Reported
+pub mod Runs
+pub mod Words

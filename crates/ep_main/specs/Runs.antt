@@ -1,0 +1,92 @@
+-- What the program does, by the status that it answers: of the bytes zs that it reads, whether its reader has then failed, its output and its fault output.
+use Rattle.std.specs.Prelude.{◌≡◌, ◌⊎◌, ℕ, Bool, true, List, Result, Ok, Err, string_bytes}
+use Rattle.ep_script.specs.Plan.{Plan, script_of}
+use Rattle.ep_main.specs.Faults.{command_line_refused, script_refused, out_of_memory, reading_failed, writing_failed, line_of, status_of}
+use Rattle.ep_main.specs.Outputs.{Output, Wrote, WroteNothing, Told}
+use Rattle.ep_main.specs.Reported.{IsReport}
+use Rattle.ep_main.specs.declared.asked.Asked.{Asked}
+use Rattle.ep_main.specs.declared.asked.Asked.TheVariants.{Replay, Help}
+use Rattle.ep_main.specs.declared.asked.Emit.TheVariants.{Report}
+use Rattle.ep_main.specs.declared.fault.Fault.{Fault}
+use Rattle.ep_main.specs.declared.fault.Fault.TheVariants.{CommandLine, Script, Memory, Read, Write}
+use Rattle.ep_main.specs.declared.status.Status.{Status}
+use Rattle.ep_main.specs.declared.status.Status.TheVariants.{Accepted, AuditRefused, Refused, OutOfMemory, Failed}
+
+-- The bytes are a script, and what was written is its report.
+pub record IsReplayed (zs : List ℕ) (out : Output) : Type 0 where
+  pub plan : Plan
+  pub script : script_of zs ≡ Ok plan
+  pub text : List ℕ
+  pub report : IsReport plan text
+  pub wrote : Wrote out text
+
+-- The bytes are no script: their first line at fault is told, and nothing was written on the output.
+pub record IsScriptRefused (zs : List ℕ) (out fault : Output) : Type 0 where
+  pub line : ℕ
+  pub script : script_of zs ≡ Err line
+  pub silent : WroteNothing out
+  pub told : Told fault (script_refused line)
+
+-- Memory was refused.
+pub record IsOutOfMemory (out fault : Output) : Type 0 where
+  pub silent : WroteNothing out
+  pub told : Told fault out_of_memory
+
+-- The reader has failed, or the output.
+abbrev pub HasFailed : Bool → Output → Output → Type 0
+HasFailed reader out fault = ((reader ≡ true) × WroteNothing out × Told fault reading_failed) ⊎ ((out.failed ≡ true) × Told fault writing_failed)
+
+-- a replay, of which a report is asked for: the audit refuses none
+abbrev pub Replays : Status → List ℕ → Bool → Output → Output → Type 0
+Replays Accepted zs reader out fault = IsReplayed zs out × WroteNothing fault
+Replays AuditRefused zs reader out fault = ⊥
+Replays Refused zs reader out fault = IsScriptRefused zs out fault
+Replays OutOfMemory zs reader out fault = IsOutOfMemory out fault
+Replays Failed zs reader out fault = HasFailed reader out fault
+
+-- help, with this text
+abbrev pub Helps : Status → List ℕ → Output → Output → Type 0
+Helps Accepted text out fault = Wrote out text × WroteNothing fault
+Helps AuditRefused text out fault = ⊥
+Helps Refused text out fault = ⊥
+Helps OutOfMemory text out fault = ⊥
+Helps Failed text out fault = (out.failed ≡ true) × Told fault writing_failed
+
+abbrev pub Performs : Asked → Status → List ℕ → Bool → Output → Output → Type 0
+Performs (Replay Report) status zs reader out fault = Replays status zs reader out fault
+Performs (Help text) status zs reader out fault = Helps status (string_bytes text) out fault
+
+-- the words ask for nothing that there is, or memory was refused before they were read
+abbrev pub Declines : Status → Output → Output → Type 0
+Declines Refused out fault = WroteNothing out × Told fault command_line_refused
+Declines OutOfMemory out fault = IsOutOfMemory out fault
+Declines Accepted out fault = ⊥
+Declines AuditRefused out fault = ⊥
+Declines Failed out fault = ⊥
+
+-- Before a fault is told.
+
+abbrev pub Plays : Result Status Fault → List ℕ → Bool → Output → Type 0
+Plays (Ok status) zs reader out = (status ≡ Accepted) × IsReplayed zs out
+Plays (Err CommandLine) zs reader out = ⊥
+Plays (Err (Script line)) zs reader out = (script_of zs ≡ Err line) × WroteNothing out
+Plays (Err Memory) zs reader out = WroteNothing out
+Plays (Err Read) zs reader out = (reader ≡ true) × WroteNothing out
+Plays (Err Write) zs reader out = out.failed ≡ true
+
+abbrev pub Prints : Result Status Fault → List ℕ → Output → Type 0
+Prints (Ok status) text out = (status ≡ Accepted) × Wrote out text
+Prints (Err CommandLine) text out = ⊥
+Prints (Err (Script line)) text out = ⊥
+Prints (Err Memory) text out = ⊥
+Prints (Err Read) text out = ⊥
+Prints (Err Write) text out = out.failed ≡ true
+
+abbrev pub Does : Asked → Result Status Fault → List ℕ → Bool → Output → Type 0
+Does (Replay Report) outcome zs reader out = Plays outcome zs reader out
+Does (Help text) outcome zs reader out = Prints outcome (string_bytes text) out
+
+-- a fault is told, and decides on the status
+abbrev pub Concludes : Result Status Fault → Status → Output → Type 0
+Concludes (Ok said) status fault = (status ≡ said) × WroteNothing fault
+Concludes (Err e) status fault = (status ≡ status_of e) × Told fault (line_of e)

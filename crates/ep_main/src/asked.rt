@@ -1,0 +1,17 @@
+//! What the program is asked for.
+
+/// What the words of the command line ask for.
+#[derive(Drop)]
+pub enum Asked {
+    /// To replay a script, and to print this of it.
+    Replay(Emit),
+    /// Help: this text.
+    Help(String),
+}
+
+/// What is printed of a run.
+#[derive(Clone, Copy, Debug, PartialEq, Eq)]
+pub enum Emit {
+    /// The report: what is committed, the history, the receipts, and what was refused.
+    Report,
+}

@@ -1,0 +1,66 @@
+//! Why the program ends before its work is done.
+
+ghost use Rattle.std.specs.Prelude.{◌≡◌};
+ghost use Rattle.ep_main.specs.Faults.{of_script, status_of};
+ghost use Rattle.ep_main.specs.declared.fault.Fault.TheVariants.{Memory, Write};
+
+use crate::status::Status;
+use ep_base::WriteFailed;
+use ep_script::ScriptFault;
+use std::alloc::AllocError;
+
+/// Why the program ends before its work is done.
+#[derive(Clone, Copy, Debug, PartialEq, Eq)]
+pub enum Fault {
+    /// The words of the command line are none that the program knows.
+    CommandLine,
+    /// The script is refused; this is the first line at fault, counted from 1.
+    Script(u32),
+    /// Memory was refused.
+    Memory,
+    /// Reading failed.
+    Read,
+    /// Writing failed.
+    Write,
+}
+
+impl Fault {
+    /// How the program then ends.
+    pub fn status(self) -> Status
+        ensures { result ≡ status_of self }
+    {
+        match self {
+            Fault::CommandLine | Fault::Script(_) => Status::Refused,
+            Fault::Memory => Status::OutOfMemory,
+            Fault::Read | Fault::Write => Status::Failed,
+        }
+    }
+}
+
+impl From<ScriptFault> for Fault {
+    ghost from_gives = { λ s e. e ≡ of_script s };
+
+    fn from(fault: ScriptFault) -> Fault {
+        match fault {
+            ScriptFault::Refused(line) => Fault::Script(line),
+            ScriptFault::Memory => Fault::Memory,
+            ScriptFault::ReadFailed => Fault::Read,
+        }
+    }
+}
+
+impl From<AllocError> for Fault {
+    ghost from_gives = { λ _ e. e ≡ Memory };
+
+    fn from(_fault: AllocError) -> Fault {
+        Fault::Memory
+    }
+}
+
+impl From<WriteFailed> for Fault {
+    ghost from_gives = { λ _ e. e ≡ Write };
+
+    fn from(_fault: WriteFailed) -> Fault {
+        Fault::Write
+    }
+}

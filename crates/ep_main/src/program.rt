@@ -1,0 +1,93 @@
+//! The program, over any source and sinks.
+
+ghost use Rattle.std.specs.Prelude.{◌≡◌, ◌⊎◌, ℕ, List, Some, map};
+ghost use Rattle.ep_main.specs.Outputs.{output};
+ghost use Rattle.ep_main.specs.Runs.{Performs, Declines, Does, Concludes, Replays};
+ghost use Rattle.ep_main.specs.Words.{AskForReport, IsAsked, epaxos};
+ghost use Rattle.clap.specs.Simple.{subcommand_of};
+ghost use Rattle.ep_main.specs.declared.asked.Asked.{Asked};
+
+use crate::asked::{Asked, Emit};
+use crate::command_line::read_words;
+use crate::fault::Fault;
+use crate::replaying::print_replay;
+use crate::status::Status;
+use crate::telling::tell;
+use ep_base::{Sink, Source};
+use std::alloc::Global;
+use std::convert::AsStr;
+
+/// Does what the words ask for, of which the first is the program's own name.
+pub fn engine<T: AsStr, S: Source, W: Sink, F: Sink>(
+    alloc: Global,
+    words: &[T],
+    reader: &mut S,
+    writer: &mut W,
+    fault_writer: &mut F,
+) -> Status
+    // where the words ask for a replay and its report
+    ensures replay { AskForReport (map T.text words.now) → (zs : List ℕ) → S.left reader.old ≡ Some zs → Replays result zs (S.has_failed reader.new)
+        (output (W.held writer.old) (W.held writer.new) (W.has_failed writer.new))
+        (output (F.held fault_writer.old) (F.held fault_writer.new) (F.has_failed fault_writer.new)) }
+
+    // whatever the words are, they are refused, or what they ask for is done
+    ensures other { (zs : List ℕ) → S.left reader.old ≡ Some zs → Declines result
+        (output (W.held writer.old) (W.held writer.new) (W.has_failed writer.new))
+        (output (F.held fault_writer.old) (F.held fault_writer.new) (F.has_failed fault_writer.new))
+        ⊎ ((asked : Asked) × IsAsked asked (subcommand_of epaxos (map T.text words.now)) × Performs asked result zs (S.has_failed reader.new)
+        (output (W.held writer.old) (W.held writer.new) (W.has_failed writer.new))
+        (output (F.held fault_writer.old) (F.held fault_writer.new) (F.has_failed fault_writer.new))) }
+{
+    match read_words(alloc, words) {
+        Ok(asked) => perform(alloc, asked, reader, writer, fault_writer),
+        Err(fault) => concluded(Err(fault), fault_writer),
+    }
+}
+
+/// Does what is asked.
+pub fn perform<S: Source, W: Sink, F: Sink>(
+    alloc: Global,
+    asked: Asked,
+    reader: &mut S,
+    writer: &mut W,
+    fault_writer: &mut F,
+) -> Status
+    ensures { (zs : List ℕ) → S.left reader.old ≡ Some zs → Performs asked result zs (S.has_failed reader.new)
+        (output (W.held writer.old) (W.held writer.new) (W.has_failed writer.new))
+        (output (F.held fault_writer.old) (F.held fault_writer.new) (F.has_failed fault_writer.new)) }
+{
+    let outcome = attempt(alloc, asked, reader, writer);
+    concluded(outcome, fault_writer)
+}
+
+/// Does what is asked, as far as no fault stops it.
+fn attempt<S: Source, W: Sink>(
+    alloc: Global,
+    asked: Asked,
+    reader: &mut S,
+    writer: &mut W,
+) -> Result<Status, Fault>
+    ensures { (zs : List ℕ) → S.left reader.old ≡ Some zs → Does asked result zs (S.has_failed reader.new)
+        (output (W.held writer.old) (W.held writer.new) (W.has_failed writer.new)) }
+{
+    match asked {
+        Asked::Replay(Emit::Report) => print_replay(alloc, reader, writer),
+        Asked::Help(text) => {
+            writer.put(text.as_bytes())?;
+            Ok(Status::Accepted)
+        }
+    }
+}
+
+/// How the program ends. A fault is told on the fault output; where that fails, the status stays.
+pub(crate) fn concluded<F: Sink>(outcome: Result<Status, Fault>, fault_writer: &mut F) -> Status
+    ensures { Concludes outcome result (output (F.held fault_writer.old) (F.held fault_writer.new) (F.has_failed fault_writer.new)) }
+{
+    match outcome {
+        Ok(status) => status,
+        Err(fault) => {
+            let _ = tell(fault, fault_writer);
+            fault.status()
+        }
+    }
+}

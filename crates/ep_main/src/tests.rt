@@ -1,0 +1,57 @@
+//! The program over memory: what it writes, and how it ends.
+
+mod failing;
+mod grammar;
+mod one_put;
+mod recovering;
+mod several;
+mod slow_path;
+mod word_lists;
+
+use crate::program::engine;
+use crate::status::Status;
+use ep_base::Noted;
+use std::alloc::Global;
+
+/// Whether the program, with these words and this input, ends so, and writes just this on its output and just that on its
+/// fault output.
+fn ends(
+    alloc: Global,
+    words: &[&str],
+    input: &[u8],
+    status: Status,
+    output: &[u8],
+    told: &[u8],
+) -> bool {
+    let mut reader = Noted::new(input);
+    let mut writer = Noted::new(Vec::new(alloc));
+    let mut fault_writer = Noted::new(Vec::new(alloc));
+    let ended = engine(alloc, words, &mut reader, &mut writer, &mut fault_writer);
+    ended == status
+        && writer.inner().as_slice() == output
+        && fault_writer.inner().as_slice() == told
+}
+
+/// Whether a replay of the script is accepted, with just this report.
+fn is_played(alloc: Global, script: &[u8], report: &[u8]) -> bool {
+    ends(
+        alloc,
+        &["epaxos", "replay"],
+        script,
+        Status::Accepted,
+        report,
+        b"",
+    )
+}
+
+/// Whether a replay of the script is refused, with just this line on the fault output.
+fn is_refused(alloc: Global, script: &[u8], line: &[u8]) -> bool {
+    ends(
+        alloc,
+        &["epaxos", "replay"],
+        script,
+        Status::Refused,
+        b"",
+        line,
+    )
+}
