@@ -8,7 +8,7 @@ ghost use Rattle.ep_journal.specs.Entries.{AreJournals, AreFrames, entries_at};
 ghost use Rattle.ep_matching.specs.Lookups.{entry_at, sent_there, proposed, is_request, has_answer, has_done};
 
 use bytes::Bytes;
-use ep_base::{Answer, InstanceId, ReplicaId, Stamp};
+use ep_base::{Answer, InstanceId, ReplicaId};
 use ep_frame::FrameView;
 use ep_journal::{Entry, Event, Journals};
 
@@ -113,14 +113,14 @@ fn has_answer(done: &[(InstanceId, Answer)], instance: InstanceId, answer: &Answ
 pub(crate) fn has_done(
     entries: &[Entry],
     number: u32,
-    stamp: Stamp,
+    stamp: u64,
     instance: InstanceId,
     answer: &Answer,
 ) -> bool
     ensures { result ≡ has_done (entry_at entries.now number) stamp instance answer.now }
 {
     match entry_at(entries, number) {
-        Some(entry) => entry.stamp == stamp && has_answer(entry.done.as_slice(), instance, answer),
+        Some(entry) => entry.stamp.ticks() == stamp && has_answer(entry.done.as_slice(), instance, answer),
         None => false,
     }
 }

@@ -1,7 +1,7 @@
 //! Journals that hold nothing, and receipts of them.
 
 use crate::first_fault;
-use ep_base::{Answer, InstanceId, ReplicaId, Size, Stamp};
+use ep_base::{Answer, InstanceId, ReplicaId, Size};
 use ep_journal::{Journal, Journals};
 use ep_report::AuditFault;
 use ep_rules::Receipt;
@@ -31,7 +31,7 @@ fn receipt(rt: &impl Abort) -> Receipt {
         seen: 0,
         replica,
         entry: 1,
-        stamp: Stamp::new(1).expect(rt, "a stamp"),
+        stamp: 1,
         answer: Answer::Lost,
     }
 }

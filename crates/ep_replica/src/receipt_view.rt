@@ -50,7 +50,7 @@ impl<'a> ReceiptView<'a> {
             seen: self.proposal.seen,
             replica: self.replica,
             entry: self.entry,
-            stamp: self.stamp,
+            stamp: self.stamp.ticks(),
             answer,
         })
     }

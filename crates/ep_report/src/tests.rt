@@ -2,7 +2,7 @@
 
 use crate::{AuditFault, Cause, Happening, accepted, refusal, report};
 use ep_base::{
-    Answer, Attrs, Command, Decree, Deps, InstanceId, ReplicaId, Reply, Seq, Stamp, Value,
+    Answer, Attrs, Command, Decree, Deps, InstanceId, ReplicaId, Reply, Seq, Value,
 };
 use ep_rules::Receipt;
 use std::alloc::Global;
@@ -104,7 +104,7 @@ fn receive(
         seen: 0,
         replica: instance.replica(),
         entry: 77,
-        stamp: Stamp::new(88).expect(rt, "a stamp"),
+        stamp: 88,
         answer,
     };
     outcome

@@ -2,7 +2,7 @@
 
 ghost use Rattle.std.specs.Prelude.{◌≡◌, IfOk};
 
-use ep_base::{Answer, InstanceId, ReplicaId, Stamp};
+use ep_base::{Answer, InstanceId, ReplicaId};
 use std::alloc::{AllocError, Global};
 
 /// A client's command, the greatest stamp that the client knew of when it proposed, and an execution with its answer.
@@ -20,8 +20,8 @@ pub struct Receipt {
     pub replica: ReplicaId,
     /// The number of the entry that executed it, from 1 in what a replica gives.
     pub entry: u32,
-    /// The stamp of that entry.
-    pub stamp: Stamp,
+    /// The stamp of that entry, from 1 to 2^48 - 1 in what a replica gives.
+    pub stamp: u64,
     /// What that execution answered.
     pub answer: Answer,
 }
