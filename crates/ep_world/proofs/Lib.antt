@@ -1,0 +1,5 @@
+pub mod Sent
+pub mod Grown
+pub mod Kept
+pub mod Taken
+pub mod Laws

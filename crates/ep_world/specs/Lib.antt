@@ -1,0 +1,4 @@
+pub mod Played
+pub mod Playing
+pub mod Replicas
+pub mod Safe

@@ -1,0 +1,94 @@
+-- A world of replicas: their journals, and in which order it played their entries.
+use Rattle.std.specs.Prelude.{◌≡◌, ℕ, zero, suc, List, [], ◌∷◌, Option, Some, None, refl, length, slice_get}
+use Rattle.std.specs.Coded.{Coded, code_by, coded×, coded_ℕ, coded_list}
+use Rattle.ep_base.specs.Quorums.{size}
+use Rattle.ep_rules.specs.Journals as rules
+use Rattle.ep_rules.specs.Journals.{Scheduled, of, acts_of, ArePlayed, AreClocked, frames_of, messages_of}
+use Rattle.ep_rules.specs.Steps.{Frame}
+use Rattle.ep_rules.specs.Worlds.{opening, IsRun, ends}
+use Rattle.ep_journal.specs.Entries.{Collected, entries_at, journals_of, AreJournals}
+use Rattle.ep_journal.specs.contracts.entry.Entry as entry_facts
+use Rattle.ep_journal.specs.declared.entry.Entry.{Entry}
+use Rattle.ep_replica.specs.Kept.{Kept}
+use Rattle.ep_world.specs.contracts.place.Place as place_facts
+use Rattle.ep_world.specs.declared.place.Place.{Place}
+
+pub record Played : Type 0 where
+  -- how many replicas may fail
+  pub faults : ℕ
+  -- each replica's entries, in replica order
+  pub entries : List (List Entry)
+  -- replica and entry number of each step, in the order played
+  pub steps : List (ℕ × ℕ)
+  -- where each message stands, in the order sent
+  pub messages : List Place
+
+abbrev pub played_code : Coded Played
+played_code =
+    code_by (ℕ × (List (List Entry) × (List (ℕ × ℕ) × List Place))) (coded× coded_ℕ (coded× (coded_list (coded_list entry_facts.the_row.coded)) (coded× (coded_list (coded× coded_ℕ coded_ℕ)) (coded_list place_facts.the_row.coded))))
+    (λ w. (w.faults, (w.entries, (w.steps, w.messages)))) (λ p. record { faults = p.0; entries = p.1.0; steps = p.1.1.0; messages = p.1.1.1 }) (λ _. refl)
+
+abbrev pub collected : Played → Collected
+collected w = record { faults = w.faults; entries = w.entries }
+
+-- the journals, as the rule book sees them
+abbrev pub journals_in : Played → rules.Journals
+journals_in w = journals_of (collected w)
+
+-- the entries of r; none where it is no replica
+abbrev pub entries_in : Played → ℕ → List Entry
+entries_in w r = entries_at (collected w) r
+
+abbrev pub replica_in : Played → ℕ → Kept
+replica_in w r = record { faults = w.faults; me = r; entries = entries_in w r }
+
+-- Messages, numbered from 1.
+
+-- the thing of this number, from 1
+abbrev pub numbered : {X : Type 0} → List X → ℕ → Option X
+numbered xs zero = None
+numbered xs (suc n) = slice_get xs n
+
+abbrev pub frame_of : Option Entry → ℕ → Option (List ℕ)
+frame_of None out = None
+frame_of (Some e) out = slice_get e.frames out
+
+abbrev pub frame_at_place : Played → Option Place → Option (List ℕ)
+frame_at_place w None = None
+frame_at_place w (Some p) = frame_of (numbered (entries_in w p.replica) p.entry) p.out
+
+-- the frame of message m: the one out of the entry that its place names
+abbrev pub message_in : Played → ℕ → Option (List ℕ)
+message_in w m = frame_at_place w (numbered w.messages m)
+
+-- What a world shows of its schedule.
+
+abbrev pub steps_of : List Scheduled → List (ℕ × ℕ)
+steps_of [] = []
+steps_of (a ∷ schedule) = (a.replica, a.entry.number) ∷ steps_of schedule
+
+abbrev pub places_of : List Frame → List Place
+places_of [] = []
+places_of (m ∷ ms) = record { replica = m.sent.from; entry = m.entry; out = m.place } ∷ places_of ms
+
+-- the world played these entries, in this order, each handling a frame that an earlier one sent
+pub record Shows (w : Played) (schedule : List Scheduled) : Type 0 where
+  pub journals : (r : ℕ) → of r schedule ≡ journals_in w r
+  pub steps : w.steps ≡ steps_of schedule
+  pub messages : w.messages ≡ places_of (frames_of schedule)
+  pub played : ArePlayed w.faults opening [] schedule
+
+-- the world is a run of the protocol: that of the entries that its steps name, in order; its messages are all that the run sent, in order of sending
+pub record IsPlayed (w : Played) : Type 0 where
+  pub schedule : List Scheduled
+  pub shows : Shows w schedule
+  pub run : IsRun w.faults opening (acts_of schedule)
+  pub sent : messages_of (frames_of schedule) ≡ (ends w.faults opening (acts_of schedule)).sent
+
+-- all that a world keeps to
+pub record IsWorld (w : Played) : Type 0 where
+  pub all : length w.entries ≡ size w.faults
+  pub schedule : List Scheduled
+  pub shows : Shows w schedule
+  pub journals : AreJournals (collected w)
+  pub clocked : (r : ℕ) → AreClocked 0 (journals_in w r)

@@ -1,0 +1,65 @@
+//! One step of a world.
+
+ghost use Rattle.std.specs.Prelude.{◌≡◌, ◌<◌, ◌≤◌, ◌+◌, ◌-◌, ◌++◌, ◌∷◌, [], length, slice_index_or, vec_len, vec_capacity, IfErr, OnOk, OnErr};
+ghost use Rattle.ep_world.specs.Replicas.{AreReplicas, world_of, places_up_to, Took, IsUntaken};
+
+use crate::place::Place;
+use ep_base::{ReplicaId, Size};
+use ep_journal::{Entry, Event, StepFault};
+use ep_replica::Replica;
+
+/// Adds the places of an entry's frames. It takes no memory.
+fn add_places(me: ReplicaId, entry: &Entry, messages: &mut Vec<Place>)
+    requires few { length entry.now.frames ≤ 1000 }
+    requires room { vec_len messages.old + length entry.now.frames ≤ vec_capacity messages.old }
+    ensures { messages.new.items ≡ messages.old.items ++ places_up_to me entry.now.number (length entry.now.frames) }
+{
+    for out in 0..entry.frames.as_slice().len() {
+        messages.push_reserved(Place {
+            replica: me,
+            entry: entry.number,
+            out: out as u16,
+        });
+    }
+}
+
+/// The last entry.
+fn last_entry(replica: &Replica) -> &Entry
+    requires { 0 < length replica.now.entries }
+    ensures { result.now ≡ slice_index_or replica.now.entries (length replica.now.entries - 1) result.now }
+{
+    let entries = replica.journal().entries();
+    &entries[entries.len() - 1]
+}
+
+/// The replica takes the event, and its entry is noted; or all is left as it was.
+pub(crate) fn advance(
+    cluster: Size,
+    replicas: &mut Vec<Replica>,
+    steps: &mut Vec<(ReplicaId, u32)>,
+    messages: &mut Vec<Place>,
+    replica: ReplicaId,
+    event: Event,
+) -> Result<(), StepFault>
+    requires { AreReplicas cluster 0 replicas.old.items }
+    ensures ok { OnOk result (Took (world_of cluster replicas.old.items steps.old.items messages.old.items) replica event (world_of cluster replicas.new.items steps.new.items messages.new.items)) }
+    ensures refused { IfErr result (λ fault. IsUntaken (world_of cluster replicas.old.items steps.old.items messages.old.items) replica event fault) }
+    ensures err { OnErr result ((replicas.new.items ≡ replicas.old.items) × (steps.new.items ≡ steps.old.items) × (messages.new.items ≡ messages.old.items)) }
+    ensures replicas { AreReplicas cluster 0 replicas.new.items }
+{
+    let place = replica.index() as usize;
+    if place >= replicas.len() {
+        return Err(StepFault::OutOfRange);
+    }
+    steps.reserve(1)?;
+    messages.reserve(cluster.count() as usize + 1)?;
+    match replicas[place].take(event) {
+        Ok(()) => {
+            let entry = last_entry(&replicas[place]);
+            steps.push_reserved((replica, entry.number));
+            add_places(replica, entry, messages);
+            Ok(())
+        }
+        Err(fault) => Err(fault),
+    }
+}

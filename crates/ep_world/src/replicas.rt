@@ -1,0 +1,130 @@
+//! The replicas of a world.
+
+ghost use Rattle.std.specs.Prelude.{◌≡◌, ◌<◌, ◌≤◌, ℕ, [], slice_get, slice_index_or, option_copied, IfOk};
+ghost use Rattle.ep_base.specs.Quorums.{size};
+ghost use Rattle.ep_frame.specs.Meaning.{origin_at};
+ghost use Rattle.ep_frame.specs.Spelling.{IsFrame};
+ghost use Rattle.ep_journal.specs.Entries.{IsJournal};
+ghost use Rattle.ep_world.specs.Played.{numbered, frame_of};
+ghost use Rattle.ep_world.specs.Replicas.{all_kept, AreReplicas, AreTheirs};
+
+use crate::place::Place;
+use bytes::Bytes;
+use ep_base::{ReplicaId, Size};
+use ep_frame::FrameView;
+use ep_journal::{Entry, Journal};
+use ep_replica::Replica;
+use std::alloc::{AllocError, Global};
+
+/// The replica of this number, which is one of the cluster's, before any event.
+fn fresh(alloc: Global, cluster: Size, index: u8) -> Replica
+    requires low { index ≤ 6 }
+    requires there { index < size cluster }
+    ensures { result ≡ record { faults = cluster; me = index; entries = [] } }
+{
+    let Ok(me) = ReplicaId::new(index) else {
+        unreachable!()
+    };
+    match Replica::new(alloc, cluster, me) {
+        Ok(replica) => replica,
+        Err(_) => unreachable!(),
+    }
+}
+
+/// The replicas of a cluster of this size, before any event.
+pub(crate) fn all_fresh(alloc: Global, cluster: Size) -> Result<Vec<Replica>, AllocError>
+    ensures replicas { IfOk result (λ ks. AreReplicas cluster 0 ks.items) }
+    ensures entries { IfOk result (λ ks. (r : ℕ) → slice_index_or (all_kept ks.items) r [] ≡ []) }
+{
+    let mut replicas = Vec::new(alloc);
+    for index in 0..cluster.count() {
+        replicas.push(fresh(alloc, cluster, index))?;
+    }
+    Ok(replicas)
+}
+
+/// The replica of this number.
+pub(crate) fn find(replicas: &[Replica], replica: ReplicaId) -> Option<&Replica>
+    ensures { option_copied result ≡ slice_get replicas.now replica }
+{
+    replicas.get(replica.index() as usize)
+}
+
+/// The entry of this number, from 1.
+fn numbered_entry(entries: &[Entry], number: u32) -> Option<&Entry>
+    ensures { option_copied result ≡ numbered entries.now number }
+{
+    if number == 0 {
+        return None;
+    }
+    entries.get(number as usize - 1)
+}
+
+/// The place of the message of this number, from 1.
+pub(crate) fn numbered_place(messages: &[Place], message: u64) -> Option<Place>
+    ensures { result ≡ numbered messages.now message }
+{
+    if message == 0 || message > messages.len() as u64 {
+        return None;
+    }
+    Some(messages[message as usize - 1])
+}
+
+/// The frame at this place among an entry's, from 0.
+fn nth_frame(frames: &[Bytes], out: u16) -> Option<&Bytes>
+    ensures { option_copied result ≡ slice_get frames.now out }
+{
+    frames.get(out as usize)
+}
+
+/// The frame at this place.
+#[tactic(auto, using(crate::proofs::Kept::entries_there, crate::proofs::Kept::no_frame))]
+pub(crate) fn frame_at<'a>(replicas: &'a [Replica], place: Place) -> Option<&'a Bytes>
+    ensures { option_copied result ≡ frame_of (numbered (slice_index_or (all_kept replicas.now) place.replica []) place.entry) place.out }
+{
+    let Some(replica) = find(replicas, place.replica) else {
+        return None;
+    };
+    let Some(entry) = numbered_entry(replica.journal().entries(), place.entry) else {
+        return None;
+    };
+    nth_frame(entry.frames.as_slice(), place.out)
+}
+
+/// The receiver of a frame.
+pub(crate) fn receiver(frame: &[u8]) -> ReplicaId
+    requires { IsFrame frame.now }
+    ensures { result ≡ (origin_at frame.now).to }
+{
+    match FrameView::read(frame) {
+        Ok(view) => view.origin().to,
+        Err(_) => unreachable!(),
+    }
+}
+
+/// The journal of a replica.
+fn journal_of(replica: Replica) -> Journal
+    ensures faults { result.faults ≡ replica.faults }
+    ensures me { result.me ≡ replica.me }
+    ensures entries { result.entries ≡ replica.entries }
+    ensures run { IsJournal result.faults result.me result.entries }
+{
+    let journal = replica.into_journal();
+    // Nothing is done with the entries: that they are a local run is known by asking for them.
+    let _run = journal.entries();
+    journal
+}
+
+/// The journals of the replicas.
+pub(crate) fn into_journals(
+    alloc: Global,
+    replicas: Vec<Replica>,
+) -> Result<Vec<Journal>, AllocError>
+    ensures { IfOk result (λ js. AreTheirs replicas.items js.items) }
+{
+    let mut journals = Vec::new(alloc);
+    for replica in replicas {
+        journals.push(journal_of(replica))?;
+    }
+    Ok(journals)
+}

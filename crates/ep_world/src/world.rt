@@ -1,0 +1,253 @@
+//! A world of replicas.
+
+ghost use Rattle.std.specs.Prelude.{◌≡◌};
+
+use crate::advance::advance;
+use crate::cause::Cause;
+use crate::place::Place;
+use crate::refused::Refused;
+use crate::replicas::{all_fresh, find, frame_at, into_journals, numbered_place, receiver};
+use crate::world_event::WorldEvent;
+use bytes::Bytes;
+use ep_base::{ReplicaId, Size};
+use ep_journal::{Event, Journals};
+use ep_replica::Replica;
+use std::alloc::{AllocError, Global};
+use std::marker::Model;
+
+/// A world of replicas: always a run of the protocol, in which each handled message was sent before.
+#[derive(Drop)]
+pub struct World {
+    size: Size,
+    replicas: Vec<Replica>,
+    steps: Vec<(ReplicaId, u32)>,
+    messages: Vec<Place>,
+    alloc: Global,
+}
+
+impl Model for World {
+    ghost use Rattle.ep_world.specs.Played.{Played, played_code, IsWorld};
+    ghost use Rattle.ep_world.specs.Replicas.{AreReplicas, world_of};
+
+    ghost Value = { Played };
+
+    ghost coded = { played_code };
+
+    ghost view = { λ w. world_of w.size w.replicas.items w.steps.items w.messages.items };
+
+    ghost invariant = { λ w. AreReplicas w.size 0 w.replicas.items × IsWorld (world_of w.size w.replicas.items w.steps.items w.messages.items) };
+}
+
+impl World {
+    ghost use Rattle.std.specs.Prelude.{◌≡◌, ◌<◌, ◌≤◌, ◌⊎◌, ℕ, List, [], Some, None, length, option_copied, IsSome, IfSome, IfOk, IfErr, OnOk, OnErr};
+    ghost use Rattle.ep_base.specs.Quorums.{size};
+    ghost use Rattle.ep_rules.specs.Audits.{IsAccepted};
+    ghost use Rattle.ep_rules.specs.Verdicts.{IsOwn};
+    ghost use Rattle.ep_rules.specs.Worlds.{In};
+    ghost use Rattle.ep_rules.specs.declared.receipt.Receipt.{Receipt};
+    ghost use Rattle.ep_frame.specs.Spelling.{IsFrame};
+    ghost use Rattle.ep_world.specs.Played.{collected, entries_in, replica_in, journals_in, message_in, IsPlayed};
+    ghost use Rattle.ep_world.specs.Playing.{asked, Happens, IsNotEnabled, Happen, Ends};
+    ghost use Rattle.ep_world.specs.declared.world_event.WorldEvent.TheVariants.{Deliver};
+    ghost use Rattle.ep_world.specs.Safe.{Agree, Keeps, WereProposed, Depend};
+
+    /// A world of this many replicas, before any event.
+    pub fn new(alloc: Global, cluster: Size) -> Result<World, AllocError>
+        ensures faults { IfOk result (λ w. w.faults ≡ cluster) }
+        ensures entries { IfOk result (λ w. (r : ℕ) → entries_in w r ≡ []) }
+        ensures steps { IfOk result (λ w. w.steps ≡ []) }
+        ensures messages { IfOk result (λ w. w.messages ≡ []) }
+    {
+        let replicas = all_fresh(alloc, cluster)?;
+        Ok(World {
+            size: cluster,
+            replicas,
+            steps: Vec::new(alloc),
+            messages: Vec::new(alloc),
+            alloc,
+        })
+    }
+
+    /// Plays one event: one step of the rule book's world. What is refused leaves the world as it was; what was committed stays so.
+    pub fn step(&mut self, event: WorldEvent) -> Result<(), Cause>
+        ensures ok { OnOk result (Happens self.old event self.new) }
+        ensures refused { IfErr result (λ cause. IsNotEnabled self.old event cause) }
+        ensures err { OnErr result (self.new ≡ self.old) }
+        ensures permanence { Keeps self.old self.new }
+    {
+        let (replica, taken) = self.ask(event)?;
+        match advance(
+            self.size,
+            &mut self.replicas,
+            &mut self.steps,
+            &mut self.messages,
+            replica,
+            taken,
+        ) {
+            Ok(()) => Ok(()),
+            Err(fault) => Err(Cause::Step(fault)),
+        }
+    }
+
+    /// The replica that handles a message, and the message's frame.
+    fn receive(&self, message: u64) -> Result<(ReplicaId, Event), Cause>
+        ensures ok { IfOk result (λ p. asked self.now (Deliver message) ≡ Some p) }
+        ensures refused { IfErr result (λ cause. IsNotEnabled self.now (Deliver message) cause) }
+    {
+        let Some(frame) = self.message(message) else {
+            return Err(Cause::NoSuchMessage(message));
+        };
+        let to = receiver(frame);
+        let frame = frame.clone()?;
+        Ok((to, Event::Handle(frame)))
+    }
+
+    /// The replica that the event is for, and what happens to it.
+    fn ask(&self, event: WorldEvent) -> Result<(ReplicaId, Event), Cause>
+        ensures ok { IfOk result (λ p. asked self.now event ≡ Some p) }
+        ensures refused { IfErr result (λ cause. IsNotEnabled self.now event cause) }
+    {
+        match event {
+            WorldEvent::Propose {
+                replica,
+                client,
+                request,
+                command,
+                seen,
+            } => Ok((
+                replica,
+                Event::Propose {
+                    client,
+                    request,
+                    command,
+                    seen,
+                },
+            )),
+            WorldEvent::GiveUp { replica, instance } => Ok((replica, Event::GiveUp(instance))),
+            WorldEvent::Recover { replica, instance } => Ok((replica, Event::Recover(instance))),
+            WorldEvent::Execute { replica, instance } => Ok((replica, Event::Execute(instance))),
+            WorldEvent::Deliver(message) => self.receive(message),
+        }
+    }
+
+    /// Plays a copy of the event.
+    fn step_copy(&mut self, event: &WorldEvent) -> Result<(), Cause>
+        ensures ok { OnOk result (Happens self.old event.now self.new) }
+        ensures refused { IfErr result (λ cause. IsNotEnabled self.old event.now cause) }
+        ensures err { OnErr result (self.new ≡ self.old) }
+    {
+        let event = event.copy(self.alloc)?;
+        self.step(event)
+    }
+
+    /// Plays events in order, up to the first that isn't enabled.
+    ///
+    /// Whatever was played, by any number of calls, and whatever this call answers, the world left is a run: no two
+    /// replicas commit different commands or attributes in an instance; what was committed stays so; a committed
+    /// command other than a no-op was proposed there, by the instance's leader; and of two interfering committed
+    /// commands one depends on the other.
+    pub fn play(&mut self, events: &[WorldEvent]) -> Result<(), Refused>
+        ensures ok { OnOk result (Happen self.old events.now self.new) }
+        ensures refused { IfErr result (λ refused. Ends self.old events.now refused self.new) }
+        ensures agreement { Agree self.new }
+        ensures permanence { Keeps self.old self.new }
+        ensures validity { WereProposed self.new }
+        ensures dependency { Depend self.new }
+    {
+        let played = self.play_all(events);
+        self.is_safe();
+        played
+    }
+
+    /// Plays events in order, up to the first that isn't enabled.
+    fn play_all(&mut self, events: &[WorldEvent]) -> Result<(), Refused>
+        ensures ok { OnOk result (Happen self.old events.now self.new) }
+        ensures refused { IfErr result (λ refused. Ends self.old events.now refused self.new) }
+    {
+        for (index, event) in events.iter().enumerate() {
+            match self.step_copy(event) {
+                Ok(()) => {}
+                Err(cause) => return Err(Refused { index, cause }),
+            }
+        }
+        Ok(())
+    }
+
+    /// The cluster's size.
+    pub fn size(&self) -> Size
+        ensures { result ≡ self.now.faults }
+    {
+        self.size
+    }
+
+    /// Replica and entry number of each step so far, in order. The world is the run of these entries.
+    pub fn steps(&self) -> &[(ReplicaId, u32)]
+        ensures value { result.now ≡ self.now.steps }
+        ensures run { IsPlayed self.now }
+    {
+        self.steps.as_slice()
+    }
+
+    /// Where each message stands that was sent so far, in order of sending.
+    pub fn messages(&self) -> &[Place]
+        ensures value { result.now ≡ self.now.messages }
+        ensures run { IsPlayed self.now }
+    {
+        self.messages.as_slice()
+    }
+
+    /// The frame of a message, which are numbered from 1.
+    pub fn message(&self, message: u64) -> Option<&Bytes>
+        ensures value { option_copied result ≡ message_in self.now message }
+        ensures none { result ≡ None → (message ≡ 0) ⊎ (length self.now.messages < message) }
+        ensures frame { IfSome result (λ b. IsFrame b.now) }
+    {
+        let Some(place) = numbered_place(self.messages.as_slice(), message) else {
+            return None;
+        };
+        frame_at(self.replicas.as_slice(), place)
+    }
+
+    /// A replica of the world.
+    pub fn replica(&self, replica: ReplicaId) -> Option<&Replica>
+        ensures some { IfSome result (λ k. (replica < size self.now.faults) × (k.now ≡ replica_in self.now replica)) }
+        ensures none { result ≡ None → size self.now.faults ≤ replica }
+    {
+        find(self.replicas.as_slice(), replica)
+    }
+
+    /// Whatever was played, no two replicas commit different commands or attributes in an instance; a committed command
+    /// other than a no-op was proposed there; and of two interfering committed commands one depends on the other: a law,
+    /// which costs nothing to call.
+    pub fn is_safe(&self)
+        ensures agreement { Agree self.now }
+        ensures validity { WereProposed self.now }
+        ensures dependency { Depend self.now }
+    {
+        let _faults = self.size.faults();
+    }
+
+    /// The journals of a world, with receipts that its replicas give, are accepted by the audit: a law, which costs nothing to call.
+    pub fn journals_are_accepted(&self)
+        ensures { (receipts : List Receipt) → ((t : Receipt) → In t receipts → (r : ℕ) × IsOwn self.now.faults r (journals_in self.now r) t) → IsAccepted self.now.faults (journals_in self.now) receipts }
+    {
+        let _size = self.size;
+    }
+
+    /// The journals alone.
+    pub fn into_journals(self, alloc: Global) -> Result<Journals, AllocError>
+        ensures { IfOk result (λ j. j ≡ collected self) }
+    {
+        let World {
+            size: _,
+            replicas,
+            steps: _,
+            messages: _,
+            alloc: _,
+        } = self;
+        match Journals::new(into_journals(alloc, replicas)?) {
+            Ok(journals) => Ok(journals),
+            Err(_) => unreachable!(),
+        }
+    }
+}
