@@ -99,7 +99,9 @@ fn a_chain_of_many(rt: HostRuntime) {
     let mut space = space(&rt, rt.alloc());
     let expected = chain(&rt, rt.alloc(), &mut space);
     let executed = Executed::new(rt.alloc());
-    let order = planned(&rt, rt.alloc(), &space, &executed, at(&rt, (0, MANY))).expect(&rt, "an order");
+    let order = planned(&rt, rt.alloc(), &space, &executed, at(&rt, (0, MANY))).expect(
+        &rt, "an order",
+    );
     assert!(rt; order.as_slice() == expected.as_slice());
 }
 
@@ -121,6 +123,8 @@ fn a_component_of_many(rt: HostRuntime) {
     let mut space = space(&rt, rt.alloc());
     let expected = circle(&rt, rt.alloc(), &mut space);
     let executed = Executed::new(rt.alloc());
-    let order = planned(&rt, rt.alloc(), &space, &executed, at(&rt, (1, 2))).expect(&rt, "an order");
+    let order = planned(&rt, rt.alloc(), &space, &executed, at(&rt, (1, 2))).expect(
+        &rt, "an order",
+    );
     assert!(rt; order.as_slice() == expected.as_slice());
 }
