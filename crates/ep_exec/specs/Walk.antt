@@ -13,7 +13,7 @@ pub record Flat : Type 0 where
   pub edges : List ℕ
 
 abbrev pub flat : Level → Flat
-flat l = record { members = l.members.items; edges = l.edges.items }
+flat l = record { members = l.members; edges = l.edges.items }
 
 -- the path, the top first
 abbrev pub stack : List Level → List Flat
