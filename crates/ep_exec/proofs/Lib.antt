@@ -9,3 +9,4 @@ pub mod Paths
 pub mod Size
 pub mod Seen
 pub mod Clear
+pub mod Cut

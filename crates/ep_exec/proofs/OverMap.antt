@@ -9,7 +9,10 @@ use Rattle.ep_base.specs.Places.{Has}
 use Rattle.ep_rules.specs.Maps.{Map, get, entries}
 use Rattle.ep_rules.specs.States.{attrs_of, graph_in}
 use Rattle.ep_rules.specs.declared.record.Record.{Record}
-use Rattle.ep_rules.proofs.Places.{has_left, has_right}
+use Rattle.ep_rules.proofs.Places.{has_left, has_right, has_filter}
+use Rattle.ep_exec.specs.Cut.{left_in}
+use Rattle.ep_exec.specs.Ready.{is_out}
+use Rattle.ep_exec.proofs.Cut.{cut_some}
 
 abbrev deps_in : Option Attrs → List ℕ
 deps_in None = []
@@ -42,3 +45,9 @@ deps_within m i j a e h = go (get m i) refl e
     go None f g = let n : graph_in m i ≡ None = ap (shown i) f in cc
     go (Some r) f g = found_within (entries m) i j r (sym (map.get-entries m i) ∙ f)
         (let n : graph_in m i ≡ attrs_of (committed_decree r.vote) = ap (shown i) f in subst (λ o. Has (deps_in o) j) (sym (sym n ∙ g)) h)
+
+-- and so is what they depend on without what was executed
+pub left_within : (m : Map Record) (executed : List ℕ) (i j : ℕ) (a : Attrs) → left_in m executed i ≡ Some a → Has a.deps j → Has (universe m) j
+left_within m executed i j a e h =
+    let c = cut_some executed (graph_in m i) a e in
+    deps_within m i j c.0 c.1 (has_filter (is_out executed) (c.0).deps j (subst (λ xs. Has xs j) c.2 h)).0

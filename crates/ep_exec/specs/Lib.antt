@@ -5,3 +5,4 @@ pub mod Found
 pub mod Walk
 pub mod Ready
 pub mod Refusal
+pub mod Cut

@@ -1,13 +1,16 @@
 //! What is committed, as a graph.
 
-ghost use Rattle.std.specs.Prelude.{◌≡◌};
+ghost use Rattle.std.specs.Prelude.{◌≡◌, ◌++◌, OnOk};
 ghost use Rattle.std.specs.Option.{option_copied};
 ghost use Rattle.ep_rules.specs.Order.{seq_at};
 ghost use Rattle.ep_rules.specs.States.{graph_in};
+ghost use Rattle.ep_exec.specs.Cut.{left_in};
 ghost use Rattle.ep_exec.specs.Walk.{deps_at};
 
+use crate::executed::Executed;
 use ep_base::{Attrs, InstanceId};
 use ep_space::Space;
+use std::alloc::AllocError;
 
 /// What is committed in the instance, without its command.
 pub fn attrs_at(space: &Space, instance: InstanceId) -> Option<&Attrs>
@@ -27,6 +30,23 @@ pub fn deps_at(space: &Space, instance: InstanceId) -> &[InstanceId]
         Some(attrs) => attrs.deps.as_slice(),
         None => &[],
     }
+}
+
+/// Adds what the instance depends on and was not executed.
+pub fn append_left(
+    list: &mut Vec<InstanceId>,
+    space: &Space,
+    executed: &Executed,
+    instance: InstanceId,
+) -> Result<(), AllocError>
+    ensures { OnOk result (list.new.items ≡ list.old.items ++ deps_at (left_in space.now.records executed.now.list instance)) }
+{
+    for dep in deps_at(space, instance) {
+        if !executed.contains(*dep) {
+            list.push(*dep)?;
+        }
+    }
+    Ok(())
 }
 
 /// Its sequence number, and 0 where it is not committed.

@@ -1,7 +1,7 @@
 //! The execution order of a root.
 
 ghost use Rattle.std.specs.Prelude.{◌≡◌, ◌↔◌, None, IsTrue, IfOk, IfErr, flat_map};
-ghost use Rattle.ep_rules.specs.Order.{IsPlan};
+ghost use Rattle.ep_rules.specs.Order.{IsPlan, IsClosed};
 ghost use Rattle.ep_rules.specs.States.{graph_in};
 ghost use Rattle.ep_exec.specs.Found.{IsLeast};
 ghost use Rattle.ep_exec.specs.Refusal.{Refuses};
@@ -52,21 +52,22 @@ fn members_of(alloc: Global, found: &[Vec<InstanceId>]) -> Result<Vec<InstanceId
 /// reaches and that is left, component after component, of the ready ones first that with the least instance left, and inside one by sequence number,
 /// replica and number.
 ///
-/// `NotCommitted` where the root reaches an instance that is not committed, with the least of them. Instances that were executed before are walked
-/// through too.
+/// `NotCommitted` where the root reaches an instance that is not committed, with the least of them. What was executed is closed, and isn't walked
+/// through.
 pub fn plan(
     alloc: Global,
     space: &Space,
     executed: &Executed,
     root: InstanceId,
 ) -> Result<Vec<InstanceId>, PlanFault>
+    requires closed { IsClosed (graph_in space.now.records) executed.now.list }
     ensures order { IfOk result (λ v. IsPlan (graph_in space.now.records) executed.now.list root v.items) }
     ensures refused { IfErr result (λ e. Refuses (graph_in space.now.records) executed.now.list root e) }
 {
     if executed.contains(root) {
         return Ok(Vec::new(alloc));
     }
-    let found = components(alloc, space, root)?;
+    let found = components(alloc, space, executed, root)?;
     let members = members_of(alloc, &found)?;
     if let Some(instance) = least_missing(space, &members) {
         return Err(PlanFault::NotCommitted(instance));

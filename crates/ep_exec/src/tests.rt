@@ -1,12 +1,14 @@
 //! Rows of the execution order, long chains and components, the store, and each call with ample memory.
 //! A call that finds no memory is made again on what it left, so that all of them end alike whichever allocation is refused.
 
+mod closed;
 mod executing;
 mod ordering;
 mod storing;
 
 ghost use Rattle.std.specs.Prelude.{◌≡◌, ◌<◌};
 
+use self::closed::is_closed;
 use crate::{Executed, PlanFault, plan};
 use ep_base::{Attrs, Command, Decree, Deps, InstanceId, ReplicaId, Seq, Size};
 use ep_space::Space;
@@ -114,13 +116,15 @@ fn space_of(rt: &impl Abort, alloc: Global, rows: &[Row<'_>]) -> Space {
     space
 }
 
-/// The root's order.
+/// The root's order, after what was executed, which is closed.
 fn planned(
+    rt: &impl Abort,
     alloc: Global,
     space: &Space,
     executed: &Executed,
     root: InstanceId,
 ) -> Result<Vec<InstanceId>, PlanFault> {
+    assert!(rt; is_closed(space, executed));
     match plan(alloc, space, executed, root) {
         Err(PlanFault::Memory) => plan(alloc, space, executed, root),
         order => order,

@@ -2,14 +2,16 @@
 //!
 //! The path is a stack of levels. One turn takes the next dependency of the top level: one that is in a closed component is dropped,
 //! one on the path joins the levels down to its own, and any other begins a level. A level with nothing left to follow is a component.
+//! What was executed is not followed.
 
 ghost use Rattle.std.specs.Prelude.{◌≡◌, ◌⊎◌, ◌∷◌, [], ◌++◌, IfOk, OnOk};
 ghost use Rattle.ep_base.specs.Places.{Has};
-ghost use Rattle.ep_rules.specs.States.{graph_in};
+ghost use Rattle.ep_exec.specs.Cut.{left_in};
 ghost use Rattle.ep_exec.specs.Walk.{flat, stack, members_of, fresh, Follows, Sees, lists, AreComponents};
 
-use crate::graph::deps_at;
-use crate::level::{Level, append, merge};
+use crate::executed::Executed;
+use crate::graph::append_left;
+use crate::level::{Level, merge};
 use crate::listed::Listed;
 use ep_base::InstanceId;
 use ep_space::Space;
@@ -19,15 +21,16 @@ use std::alloc::{AllocError, Global};
 fn enter(
     alloc: Global,
     space: &Space,
+    executed: &Executed,
     path: &mut Vec<Level>,
     instance: InstanceId,
 ) -> Result<(), AllocError>
-    ensures { OnOk result (stack path.new.items ≡ fresh (graph_in space.now.records) instance ∷ stack path.old.items) }
+    ensures { OnOk result (stack path.new.items ≡ fresh (left_in space.now.records executed.now.list) instance ∷ stack path.old.items) }
 {
-    let mut members = Vec::new(alloc);
+    let mut members = Listed::new(alloc);
     members.push(instance)?;
     let mut edges = Vec::new(alloc);
-    append(&mut edges, deps_at(space, instance))?;
+    append_left(&mut edges, space, executed, instance)?;
     path.push(Level { members, edges })?;
     Ok(())
 }
@@ -36,6 +39,7 @@ fn enter(
 fn follow(
     alloc: Global,
     space: &Space,
+    executed: &Executed,
     closed: &Listed,
     seen: &mut Listed,
     path: &mut Vec<Level>,
@@ -43,7 +47,7 @@ fn follow(
     instance: InstanceId,
 ) -> Result<(), AllocError>
     requires { Sees seen.old closed.now (flat top ∷ stack path.old.items) }
-    ensures path { OnOk result (Follows (graph_in space.now.records) closed.now (flat top) (stack path.old.items) instance (stack path.new.items)) }
+    ensures path { OnOk result (Follows (left_in space.now.records executed.now.list) closed.now (flat top) (stack path.old.items) instance (stack path.new.items)) }
     ensures seen { OnOk result (Sees seen.new closed.now (stack path.new.items)) }
 {
     if closed.contains(instance) {
@@ -55,7 +59,7 @@ fn follow(
         return Ok(());
     }
     path.push(top)?;
-    enter(alloc, space, path, instance)?;
+    enter(alloc, space, executed, path, instance)?;
     seen.push(instance)?;
     Ok(())
 }
@@ -64,29 +68,30 @@ fn follow(
 fn close(
     closed: &mut Listed,
     found: &mut Vec<Vec<InstanceId>>,
-    members: Vec<InstanceId>,
+    members: Listed,
 ) -> Result<(), AllocError>
-    ensures closed { OnOk result (closed.new ≡ closed.old ++ members.items) }
-    ensures found { OnOk result (lists found.new.items ≡ lists found.old.items ++ members.items ∷ []) }
+    ensures closed { OnOk result (closed.new ≡ closed.old ++ members) }
+    ensures found { OnOk result (lists found.new.items ≡ lists found.old.items ++ members ∷ []) }
 {
-    closed.append(&members)?;
-    found.push(members)?;
+    closed.append(members.as_slice())?;
+    found.push(members.into_vec())?;
     Ok(())
 }
 
-/// The components of what the root reaches, each after those that it depends on.
+/// The components of what the root reaches by what was not executed, each after those that it depends on.
 pub fn components(
     alloc: Global,
     space: &Space,
+    executed: &Executed,
     root: InstanceId,
 ) -> Result<Vec<Vec<InstanceId>>, AllocError>
-    ensures { IfOk result (λ v. AreComponents (graph_in space.now.records) root (lists v.items)) }
+    ensures { IfOk result (λ v. AreComponents (left_in space.now.records executed.now.list) root (lists v.items)) }
 {
     let mut closed = Listed::new(alloc);
     let mut seen = Listed::new(alloc);
     let mut found = Vec::new(alloc);
     let mut path = Vec::new(alloc);
-    enter(alloc, space, &mut path, root)?;
+    enter(alloc, space, executed, &mut path, root)?;
     seen.push(root)?;
     while let Some(top) = path.pop() {
         let Level { members, mut edges } = top;
@@ -95,6 +100,7 @@ pub fn components(
             Some(instance) => follow(
                 alloc,
                 space,
+                executed,
                 &closed,
                 &mut seen,
                 &mut path,

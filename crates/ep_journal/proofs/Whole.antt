@@ -13,13 +13,14 @@ use Rattle.ep_rules.specs.Journals as rules
 use Rattle.ep_rules.specs.Journals.{messages_of, AreMarked, IsEntry}
 use Rattle.ep_rules.specs.OneMap.{Contents}
 use Rattle.ep_rules.specs.States.{State, free_number}
-use Rattle.ep_rules.specs.Steps.{Sent, Frame, at, handled, proposed, acts, screened, sent_by, IsTaken, Executes, changed_by}
+use Rattle.ep_rules.specs.Steps.{Sent, Frame, at, handled, proposed, acts, screened, sent_by, IsTaken, Executes, IsStep, changed_by}
 use Rattle.ep_space.specs.Records.{Records}
 use Rattle.ep_base.specs.Fitting.{BallotsFit, VoteFits}
 use Rattle.ep_base.specs.declared.reply.Answer.{Answer}
 use Rattle.ep_base.specs.declared.vote.Vote.{Vote}
 use Rattle.ep_frame.specs.Spelling.{IsMessage, IsVote}
 use Rattle.ep_rules.specs.Fitting.{EventFits}
+use Rattle.ep_rules.proofs.Closed.{leaves_closed}
 use Rattle.ep_rules.proofs.Fitting.{leaves_fit}
 use Rattle.ep_journal.specs.Executing.{IsExecuted, IsExecuteFault}
 use Rattle.ep_journal.specs.Entries.{entry_of, frames_at, AreFrames}
@@ -258,7 +259,13 @@ pub stays_sound : (s s' : Standing) (mark : Mark) (event : Happening) (e : Entry
 stays_sound s s' mark event e h a =
     let readable : IsReadable event = subst IsReadable a.event a.readable in
     let unscreened : screened s.faults s.me (event_of event) ≡ None = subst (λ x. screened s.faults s.me (event_of x) ≡ None) a.event a.entry.step.unscreened in
-    subst IsSound (sym a.leaves) (record { fits = leaves_fit s.faults s.me s.state (event_of event) e.done h.few h.here h.fits (event_fits event readable) unscreened; here = h.here; few = h.few })
+    let step : IsStep s.faults s.me s.state (event_of event) e.done = subst (λ x. IsStep s.faults s.me s.state (event_of x) e.done) a.event a.entry.step in
+    subst IsSound (sym a.leaves) (record {
+      fits = leaves_fit s.faults s.me s.state (event_of event) e.done h.few h.here h.fits (event_fits event readable) unscreened;
+      closed = leaves_closed s.faults s.me s.state (event_of event) e.done h.closed step;
+      here = h.here;
+      few = h.few;
+    })
 
 pub stays : (s s' : Standing) (event : Happening) (mark : Option Mark) (r : Result Entry StepFault) → IsSound s → IfOk r (λ e. MarkedBy (λ m. Advances s m event e s') mark) → OnErr r (s' ≡ s) → IsSound s'
 stays s s' event (Some m) (Ok e) h ok err = stays_sound s s' m event e h ok

@@ -3,7 +3,8 @@
 ghost use Rattle.std.specs.Prelude.{◌≡◌, ◌≤◌, ◌++◌, IfOk, IfErr, OnErr, OnOk, length};
 ghost use Rattle.ep_exec.specs.Tries.{tried};
 ghost use Rattle.ep_rules.specs.OneMap.{answer, after_all};
-ghost use Rattle.ep_rules.specs.States.{command_in};
+ghost use Rattle.ep_rules.specs.Order.{IsClosed};
+ghost use Rattle.ep_rules.specs.States.{command_in, graph_in};
 ghost use Rattle.ep_journal.specs.Executing.{done_by, AreFresh, IsExecuted, IsExecuteFault};
 ghost use Rattle.ep_journal.specs.Stepping.{MarkedBy};
 
@@ -96,6 +97,7 @@ pub(crate) fn take_execute(
     root: InstanceId,
     mark: Option<Mark>,
 ) -> Result<Executions, StepFault>
+    requires closed { IsClosed (graph_in space.now.records) executed.old.list }
     ensures ok { IfOk result (λ done. MarkedBy (λ m. IsExecuted space.now root done executed.old.list store.old executed.new.list store.new) mark) }
     ensures refused { IfErr result (λ e. IsExecuteFault space.now root mark executed.old.list e) }
     ensures err { OnErr result ((executed.new.list ≡ executed.old.list) × (store.new ≡ store.old)) }

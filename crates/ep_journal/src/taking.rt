@@ -3,6 +3,8 @@
 ghost use Rattle.std.specs.Prelude.{◌≡◌, ◌≤◌, ◌<◌, IfSome, IfOk, IfErr, OnErr};
 ghost use Rattle.ep_base.specs.Quorums.{size};
 ghost use Rattle.ep_rules.specs.Fitting.{StateFits};
+ghost use Rattle.ep_rules.specs.Order.{IsClosed};
+ghost use Rattle.ep_rules.specs.States.{graph_in};
 ghost use Rattle.ep_journal.specs.Parts.{known};
 ghost use Rattle.ep_journal.specs.Standing.{stands, Advances, IsRefused, IsSound};
 ghost use Rattle.ep_journal.specs.declared.event.Event.{Event};
@@ -80,6 +82,7 @@ fn take_root(
     root: InstanceId,
     mark: Option<Mark>,
 ) -> Result<Taken, StepFault>
+    requires closed { IsClosed (graph_in space.now.records) executed.old.list }
     ensures ok { IfOk result (λ p. MarkedBy (λ m. Advances (stands me space.now lead.now executed.old.list store.old) m (Event.Execute root) (record { number = m.number; stamp = m.stamp; event = Event.Execute root; frames = p.frames; done = p.done }) (stands me space.now lead.now executed.new.list store.new)) mark) }
     ensures refused { IfErr result (λ e. IsRefused (stands me space.now lead.now executed.old.list store.old) (Event.Execute root) mark e) }
     ensures err { OnErr result (stands me space.now lead.now executed.new.list store.new ≡ stands me space.now lead.now executed.old.list store.old) }

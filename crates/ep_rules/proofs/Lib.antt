@@ -47,3 +47,4 @@ pub mod JournalsUnproposed
 pub mod JournalsKeep
 pub mod OneFault
 pub mod ByPlace
+pub mod Closed

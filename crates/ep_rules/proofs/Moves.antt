@@ -43,10 +43,10 @@ led_other m i None j ne = refl
 led_other m i (Some None) j ne = remove_other m i j ne
 led_other m i (Some (Some x)) j ne = insert_other m i x j ne
 
-cell_here : (s : State) (i : ℕ) (ch : Change) → cell_in (changed s i ch) i ≡ applied (cell_in s i) ch
+pub cell_here : (s : State) (i : ℕ) (ch : Change) → cell_in (changed s i ch) i ≡ applied (cell_in s i) ch
 cell_here s i ch = λ k. record { entry = entry_here s.records i ch.entry k; led = led_here s.leads i ch.led k; told = told_here s.told i ch.told k }
 
-cell_other : (s : State) (i : ℕ) (ch : Change) (j : ℕ) → j ≢ i → cell_in (changed s i ch) j ≡ cell_in s j
+pub cell_other : (s : State) (i : ℕ) (ch : Change) (j : ℕ) → j ≢ i → cell_in (changed s i ch) j ≡ cell_in s j
 cell_other s i ch j ne = λ k. record { entry = entry_other s.records i ch.entry j ne k; led = led_other s.leads i ch.led j ne k; told = ap or_zero (entry_other s.told i ch.told j ne) k }
 
 -- Worlds.

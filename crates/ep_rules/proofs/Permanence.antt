@@ -29,10 +29,10 @@ same_vote i e None same = refl
 same_vote i e (Some y) same = same
 
 -- what the cell has as committed
-abbrev decree_of : ℕ → Cell → Option Decree
+abbrev pub decree_of : ℕ → Cell → Option Decree
 decree_of i c = committed_decree (record_of i c).vote
 
-cell_stays : (i : ℕ) (c : Cell) (ch : Change) (x : Decree) → Local i (record_of i c) ch → decree_of i c ≡ Some x → decree_of i (applied c ch) ≡ Some x
+pub cell_stays : (i : ℕ) (c : Cell) (ch : Change) (x : Decree) → Local i (record_of i c) ch → decree_of i c ≡ Some x → decree_of i (applied c ch) ≡ Some x
 cell_stays i c ch x p e = ap committed_decree (same_vote i c.entry ch.entry (p.stays (committed_vote (record_of i c).vote x e))) ∙ e
 
 world_stays : (w w' : World) (r n : ℕ) (ch : Change) → Moved w w' r n ch → Local n (record_of n (cell_in (w.states r) n)) ch → (k i : ℕ) (x : Decree) → IsCommitted w k i x → IsCommitted w' k i x

@@ -67,3 +67,7 @@ pub record IsBlocked (g : Graph) (done : List ℕ) (root i : ℕ) : Type 0 where
   pub reached : Reaches g root i
   pub missing : g i ≡ None
   pub least : (j : ℕ) → Reaches g root j → g j ≡ None → ¬ (j < i)
+
+-- what was executed is committed, and all that it depends on was executed
+abbrev pub IsClosed : Graph → List ℕ → Type 0
+IsClosed g done = (i : ℕ) → Has done i → (a : Attrs) × (g i ≡ Some a) × ((j : ℕ) → Has a.deps j → Has done j)

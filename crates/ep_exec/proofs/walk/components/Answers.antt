@@ -1,10 +1,10 @@
 use Rattle.std.proofs.Common.{◌≡◌, ◌<◌, ◌∷◌, [], List, ℕ, sym, ap, subst, ◌∙◌, arith}
 use Rattle.std.proofs.lemmas.List.{nil_from_length}
-use Rattle.ep_rules.specs.States.{graph_in}
+use Rattle.ep_exec.specs.Cut.{left_in}
 use Rattle.ep_rules.proofs.Places.{has_left, has_right}
 use Rattle.ep_exec.specs.Walk.{Flat, flat, stack, lists, Follows, Sees}
 use Rattle.ep_exec.proofs.Counts.{single_has}
-use Rattle.ep_exec.proofs.OverMap.{universe, deps_within}
+use Rattle.ep_exec.proofs.OverMap.{universe, left_within}
 use Rattle.ep_exec.proofs.Paths.{IsWalk, plus, edges_of, walk_first, walk_close, walk_follow, walk_all}
 use Rattle.ep_exec.proofs.Seen.{sees_none, sees_fresh, sees_closed}
 use Rattle.ep_exec.proofs.Size.{size, follow_smaller}
@@ -14,9 +14,9 @@ use Rattle.ep_exec.proofs.walk.components.Goals as goal
 pub loop-top-init : goal.loop-top-init
 loop-top-init c =
     let m = c.args.space.now.records in
-    let g = graph_in m in
+    let g = left_in m c.args.executed.now.list in
     rw (c.new-closed.ensures, c.new-found.ensures.items, c.in_ok-push.ensures, c.new-seen.ensures, c.in_ok-enter.ensures, c.new-path.ensures.items) (record {
-      walk = walk_first g c.args.root (universe m) (λ i x a e h. deps_within m i x a e h);
+      walk = walk_first g c.args.root (universe m) (λ i x a e h. left_within m c.args.executed.now.list i x a e h);
       seen = sees_fresh g [] [] [] c.args.root sees_none;
     })
 
@@ -28,38 +28,38 @@ follow-requires c =
 
 pub loop-top-preserved-in-None-1 : goal.loop-top-preserved-in-None-1
 loop-top-preserved-in-None-1 c =
-    let g = graph_in c.args.space.now.records in
+    let g = left_in c.args.space.now.records c.args.executed.now.list in
     let us = universe c.args.space.now.records in
     let top = c.in-Some.top in
     let rest = stack c.pop.new.self.items in
     let closed = c.loop-top.closed in
     let cs = lists c.loop-top.found.items in
-    let shut : Flat = record { members = top.members.items; edges = [] } in
+    let shut : Flat = record { members = top.members; edges = [] } in
     let none : top.edges.items ≡ [] = nil_from_length top.edges.items (omega (arith, c.in-None.ensures.cases.0, top.edges.ok.0)) in
     let opened : stack c.loop-top.path.items ≡ shut ∷ rest =
-    stack_pop c.loop-top.path.items c.pop.new.self.items top c.in-Some.ensures.items ∙ ap (λ (es : List ℕ). record { members = top.members.items; edges = es } ∷ rest) none
+    stack_pop c.loop-top.path.items c.pop.new.self.items top c.in-Some.ensures.items ∙ ap (λ (es : List ℕ). record { members = top.members; edges = es } ∷ rest) none
     in
     let w : IsWalk g c.args.root us closed cs (shut ∷ rest) = subst (IsWalk g c.args.root us closed cs) opened c.loop-top.invariant.walk in
     let s : Sees c.loop-top.seen closed (shut ∷ rest) = subst (Sees c.loop-top.seen closed) opened c.loop-top.invariant.seen in
     let done = c.in_ok-close-in-None.ensures.closed in
     let found = c.in_ok-close-in-None.ensures.found in
     rw (done, found) (record {
-      walk = walk_close g c.args.root us closed cs top.members.items rest w;
+      walk = walk_close g c.args.root us closed cs top.members rest w;
       seen = sees_closed c.loop-top.seen closed shut rest s;
     })
 
 pub loop-top-smaller : goal.loop-top-smaller
 loop-top-smaller c =
-    let g = graph_in c.args.space.now.records in
+    let g = left_in c.args.space.now.records c.args.executed.now.list in
     let us = universe c.args.space.now.records in
     let top = c.in-Some.top in
     let d = c.in-Some-pop.instance in
     let rest = stack c.pop.new.self.items in
     let closed = c.loop-top.closed in
     let cs = lists c.loop-top.found.items in
-    let t : Flat = record { members = top.members.items; edges = c.pop-in-Some.new.self.items } in
+    let t : Flat = record { members = top.members; edges = c.pop-in-Some.new.self.items } in
     let opened : stack c.loop-top.path.items ≡ plus t d ∷ rest =
-    stack_pop c.loop-top.path.items c.pop.new.self.items top c.in-Some.ensures.items ∙ ap (λ (es : List ℕ). record { members = top.members.items; edges = es } ∷ rest) c.in-Some-pop.ensures.items
+    stack_pop c.loop-top.path.items c.pop.new.self.items top c.in-Some.ensures.items ∙ ap (λ (es : List ℕ). record { members = top.members; edges = es } ∷ rest) c.in-Some-pop.ensures.items
     in
     let w : IsWalk g c.args.root us closed cs (plus t d ∷ rest) = subst (IsWalk g c.args.root us closed cs) opened c.loop-top.invariant.walk in
     let f : Follows g closed t rest d (stack c.follow.new.path.items) = c.in_ok-follow-in-Some-pop.ensures.path in
@@ -71,27 +71,27 @@ loop-top-smaller c =
 pub loop-top-preserved : goal.loop-top-preserved
 loop-top-preserved c =
     let m = c.args.space.now.records in
-    let g = graph_in m in
+    let g = left_in m c.args.executed.now.list in
     let us = universe m in
     let top = c.in-Some.top in
     let d = c.in-Some-pop.instance in
     let rest = stack c.pop.new.self.items in
     let closed = c.loop-top.closed in
     let cs = lists c.loop-top.found.items in
-    let t : Flat = record { members = top.members.items; edges = c.pop-in-Some.new.self.items } in
+    let t : Flat = record { members = top.members; edges = c.pop-in-Some.new.self.items } in
     let opened : stack c.loop-top.path.items ≡ plus t d ∷ rest =
-    stack_pop c.loop-top.path.items c.pop.new.self.items top c.in-Some.ensures.items ∙ ap (λ (es : List ℕ). record { members = top.members.items; edges = es } ∷ rest) c.in-Some-pop.ensures.items
+    stack_pop c.loop-top.path.items c.pop.new.self.items top c.in-Some.ensures.items ∙ ap (λ (es : List ℕ). record { members = top.members; edges = es } ∷ rest) c.in-Some-pop.ensures.items
     in
     let w : IsWalk g c.args.root us closed cs (plus t d ∷ rest) = subst (IsWalk g c.args.root us closed cs) opened c.loop-top.invariant.walk in
     let f : Follows g closed t rest d (stack c.follow.new.path.items) = c.in_ok-follow-in-Some-pop.ensures.path in
     record {
-      walk = walk_follow g c.args.root us closed cs t rest d (stack c.follow.new.path.items) (λ i x a e h. deps_within m i x a e h) w f;
+      walk = walk_follow g c.args.root us closed cs t rest d (stack c.follow.new.path.items) (λ i x a e h. left_within m c.args.executed.now.list i x a e h) w f;
       seen = c.in_ok-follow-in-Some-pop.ensures.seen;
     }
 
 pub returns : goal.returns
 returns c =
-    let g = graph_in c.args.space.now.records in
+    let g = left_in c.args.space.now.records c.args.executed.now.list in
     let us = universe c.args.space.now.records in
     let none : c.loop-top.path.items ≡ [] = nil_from_length c.loop-top.path.items (omega (arith, c.in_default.ensures.cases.0, c.loop-top.path.ok.0)) in
     let w : IsWalk g c.args.root us c.loop-top.closed (lists c.loop-top.found.items) [] = subst (λ ls. IsWalk g c.args.root us c.loop-top.closed (lists c.loop-top.found.items) (stack ls)) none c.loop-top.invariant.walk in

@@ -1,4 +1,4 @@
-use Rattle.ep_rules.specs.States.{graph_in}
+use Rattle.ep_exec.specs.Cut.{left_in}
 use Rattle.ep_exec.specs.Walk.{stack, lists, Sees}
 use Rattle.ep_exec.proofs.OverMap.{universe}
 use Rattle.ep_exec.proofs.Paths.{IsWalk}
@@ -7,9 +7,9 @@ use Rattle.ep_exec.proofs.walk.components.Given as goal
 
 abbrev pub invariant-loop-top : goal.invariant-loop-top
 invariant-loop-top l = record {
-  walk : IsWalk (graph_in l.space.records) l.fn.root (universe l.space.records) l.closed (lists l.found.items) (stack l.path.items);
+  walk : IsWalk (left_in l.space.records l.executed.list) l.fn.root (universe l.space.records) l.closed (lists l.found.items) (stack l.path.items);
   seen : Sees l.seen l.closed (stack l.path.items);
 }
 
 abbrev pub decreases-loop-top : goal.decreases-loop-top
-decreases-loop-top l = size (graph_in l.space.records) (universe l.space.records) l.closed (stack l.path.items)
+decreases-loop-top l = size (left_in l.space.records l.executed.list) (universe l.space.records) l.closed (stack l.path.items)
