@@ -10,3 +10,6 @@ mod slots;
 pub use proposal::Proposal;
 pub use receipt_view::ReceiptView;
 pub use replica::Replica;
+
+#[cfg(test)]
+mod tests;

@@ -1,0 +1,111 @@
+//! What three replicas refuse, and which reason comes first: each event is also refused where there is no mark left.
+
+use super::{PRE_ACCEPT, asked, first_of, handle, propose, state, stepped};
+use crate::{Event, StepFault};
+use ep_base::Command;
+use ep_frame::FrameFault;
+use std::alloc::Global;
+use std::process::Abort;
+
+/// Why this replica refuses the event, with a mark for its entry.
+fn refusal(rt: &impl Abort, alloc: Global, me: u8, event: &Event) -> Option<StepFault> {
+    let mut state = state(rt, alloc, 3, me);
+    stepped(rt, alloc, &mut state, event, 1, 1).err()
+}
+
+/// Why it does without a mark.
+fn unmarked(rt: &impl Abort, alloc: Global, me: u8, event: &Event) -> Option<StepFault> {
+    let mut state = state(rt, alloc, 3, me);
+    match asked(alloc, &mut state, event, None).err() {
+        Some(StepFault::Memory) => asked(alloc, &mut state, event, None).err(),
+        told => told,
+    }
+}
+
+/// The fault comes before the want of a mark.
+fn assert_first(rt: &impl Abort, alloc: Global, me: u8, event: Event, fault: StepFault) {
+    let fault = Some(fault);
+    assert_eq!(rt; refusal(rt, alloc, me, &event), fault);
+    assert_eq!(rt; unmarked(rt, alloc, me, &event), fault);
+}
+
+/// The want of a mark comes before what the rule refuses.
+fn assert_full(rt: &impl Abort, alloc: Global, me: u8, event: Event) {
+    assert_eq!(rt; unmarked(rt, alloc, me, &event), Some(StepFault::StampFull));
+}
+
+#[test]
+fn bytes_that_are_no_frame(rt: HostRuntime) {
+    let alloc = rt.alloc();
+    for me in 0..3 {
+        let event = handle(&rt, alloc, &PRE_ACCEPT[..39]);
+        let fault = StepFault::BadFrame(FrameFault::Short);
+        assert_first(&rt, alloc, me, event, fault);
+    }
+}
+
+/// A frame about instance 5.1, at its receiver, at another replica and at its sender.
+#[test]
+fn a_frame_of_a_larger_cluster(rt: HostRuntime) {
+    let alloc = rt.alloc();
+    let mut frame = PRE_ACCEPT;
+    frame[20] = 5;
+    frame[25] = 5;
+    for me in 0..3 {
+        let event = handle(&rt, alloc, &frame);
+        assert_first(&rt, alloc, me, event, StepFault::OutOfRange);
+    }
+}
+
+#[test]
+fn a_frame_for_another(rt: HostRuntime) {
+    let alloc = rt.alloc();
+    let event = handle(&rt, alloc, &PRE_ACCEPT);
+    assert_first(&rt, alloc, 2, event, StepFault::NotMine);
+    let event = handle(&rt, alloc, &PRE_ACCEPT);
+    assert_full(&rt, alloc, 1, event);
+}
+
+#[test]
+fn nobodys_request(rt: HostRuntime) {
+    let alloc = rt.alloc();
+    let event = propose(&rt, alloc, 0, 1);
+    assert_first(&rt, alloc, 0, event, StepFault::OutOfRange);
+    let event = propose(&rt, alloc, 1, 0);
+    assert_first(&rt, alloc, 0, event, StepFault::OutOfRange);
+    let event = propose(&rt, alloc, 1, 1);
+    assert_full(&rt, alloc, 0, event);
+}
+
+#[test]
+fn a_proposed_noop(rt: HostRuntime) {
+    let event = Event::Propose {
+        client: 1,
+        request: 1,
+        command: Command::noop(),
+        seen: 0,
+    };
+    assert_first(&rt, rt.alloc(), 0, event, StepFault::OutOfRange);
+}
+
+#[test]
+fn an_instance_of_a_larger_cluster(rt: HostRuntime) {
+    let alloc = rt.alloc();
+    let id = first_of(&rt, 3);
+    assert_first(&rt, alloc, 0, Event::GiveUp(id), StepFault::OutOfRange);
+    assert_first(&rt, alloc, 0, Event::Recover(id), StepFault::OutOfRange);
+    assert_first(&rt, alloc, 0, Event::Execute(id), StepFault::OutOfRange);
+}
+
+#[test]
+fn an_instance_that_nobody_proposed(rt: HostRuntime) {
+    let alloc = rt.alloc();
+    let id = first_of(&rt, 0);
+    assert_full(&rt, alloc, 0, Event::GiveUp(id));
+    assert_full(&rt, alloc, 0, Event::Recover(id));
+    assert_full(&rt, alloc, 0, Event::Execute(id));
+    let refused = refusal(&rt, alloc, 0, &Event::GiveUp(id));
+    assert_eq!(rt; refused, Some(StepFault::NotLeading));
+    let refused = refusal(&rt, alloc, 0, &Event::Execute(id));
+    assert_eq!(rt; refused, Some(StepFault::NotCommitted(id)));
+}

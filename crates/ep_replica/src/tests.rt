@@ -1,0 +1,100 @@
+//! A replica's stamps, what it refuses, and two puts that conflict, by hand: each call with ample memory.
+//! An event that finds no memory leaves the replica as it was and is taken when it is asked for again, so all ends alike whichever allocation is refused.
+
+mod recovering;
+mod refusing;
+mod stamping;
+
+use crate::Replica;
+use bytes::Bytes;
+use ep_base::{Command, InstanceId, ReplicaId, Size};
+use ep_journal::{Event, StepFault};
+use std::alloc::Global;
+use std::process::Abort;
+
+/// `put x 1`, proposed at replica 0 in 0.1, as replica 1 is told.
+const PRE_ACCEPT: [u8; 42] = [
+    0x45, 0x50, 1, 1, 0, 1, 0, 0, 0, 0, 0, 1, 0, 0, 0, 0, 0, 0, 0, 1, 0, 0, 1, 0, 0, 0, 0, 0, 0, 0,
+    0, 0, 0, 1, 3, 1, 0, 1, 0, 0, 0x78, 0x31,
+];
+
+/// Instance L.1.
+fn first_of(rt: &impl Abort, leader: u8) -> InstanceId {
+    let leader = ReplicaId::new(leader).expect(rt, "a replica");
+    InstanceId::new(leader, 1).expect(rt, "an instance")
+}
+
+/// A new replica, of three.
+fn replica(rt: &impl Abort, alloc: Global, me: u8) -> Replica {
+    let size = Size::new(3).expect(rt, "a size");
+    let me = ReplicaId::new(me).expect(rt, "a replica");
+    Replica::new(alloc, size, me).expect(rt, "a replica of the cluster")
+}
+
+/// `put x` of this value.
+fn put(rt: &impl Abort, alloc: Global, value: &[u8]) -> Command {
+    match Command::put(alloc, b"x", value) {
+        Ok(command) => command,
+        Err(_) => Command::put(alloc, b"x", value).expect(rt, "memory for a command"),
+    }
+}
+
+/// A client's first request: `put x` of this value.
+fn propose(rt: &impl Abort, alloc: Global, client: u32, value: &[u8], seen: u64) -> Event {
+    Event::Propose {
+        client,
+        request: 1,
+        command: put(rt, alloc, value),
+        seen,
+    }
+}
+
+fn handle(rt: &impl Abort, alloc: Global, frame: &[u8]) -> Event {
+    let bytes = match Bytes::copy_from_slice(alloc, frame) {
+        Ok(bytes) => bytes,
+        Err(_) => Bytes::copy_from_slice(alloc, frame).expect(rt, "memory for bytes"),
+    };
+    Event::Handle(bytes)
+}
+
+/// The stamp of the entry that a copy of the event makes.
+fn asked(alloc: Global, replica: &mut Replica, event: &Event) -> Result<u64, StepFault> {
+    let event = event.copy(alloc)?;
+    let entry = replica.apply(event)?;
+    Ok(entry.stamp.ticks())
+}
+
+/// What the replica shows without memory: how many entries it has, and the sequence numbers that are committed in 0.1 and 1.1, 0 where none is.
+fn shown(rt: &impl Abort, replica: &Replica) -> (usize, u32, u32) {
+    (
+        replica.journal().entries().len(),
+        seq(replica, first_of(rt, 0)),
+        seq(replica, first_of(rt, 1)),
+    )
+}
+
+fn seq(replica: &Replica, id: InstanceId) -> u32 {
+    match replica.committed(id) {
+        None => 0,
+        Some(decree) => decree.attrs.seq.number(),
+    }
+}
+
+/// The stamp of the event's entry; what is refused leaves the replica as it was.
+fn stamp(
+    rt: &impl Abort,
+    alloc: Global,
+    replica: &mut Replica,
+    event: Event,
+) -> Result<u64, StepFault> {
+    let before = shown(rt, replica);
+    let mut told = asked(alloc, replica, &event);
+    if told == Err(StepFault::Memory) {
+        assert_eq!(rt; shown(rt, replica), before);
+        told = asked(alloc, replica, &event);
+    }
+    if told.is_err() {
+        assert_eq!(rt; shown(rt, replica), before);
+    }
+    told
+}
