@@ -11,13 +11,19 @@ use Rattle.ep_exec.specs.Found.{IsLeast, ranks_test, ranked}
 use Rattle.ep_exec.specs.Cut.{cut_attrs, cut}
 use Rattle.ep_exec.specs.Ready.{is_out, ranked_left_of, block_in}
 use Rattle.ep_exec.specs.Walk.{deps_at, AreComponents}
-use Rattle.ep_exec.proofs.Clear.{out_yes}
+use Rattle.ep_exec.proofs.Clear.{out_yes, out_then}
 
 -- Attributes.
 
 pub cut_some : (done : List ℕ) (o : Option Attrs) (a : Attrs) → cut_attrs done o ≡ Some a → (b : Attrs) × (o ≡ Some b) × (a.deps ≡ filter (is_out done) b.deps)
 cut_some done None a e = absurd (cc)
 cut_some done (Some b) a e = let is : record b { deps = filter (is_out done) b.deps } ≡ a = cc in (b, refl, ap (λ (x : Attrs). x.deps) (sym is))
+
+-- none depends on what was executed
+pub cut_fresh : (g : Graph) (done : List ℕ) (i d : ℕ) (a : Attrs) → cut g done i ≡ Some a → Has a.deps d → ¬ Has done d
+cut_fresh g done i d a e h =
+    let c = cut_some done (g i) a e in
+    out_then done d (has_filter (is_out done) (c.0).deps d (subst (λ xs. Has xs d) c.2 h)).1
 
 pub seq_cut : (done : List ℕ) (o : Option Attrs) → seq_at (cut_attrs done o) ≡ seq_at o
 seq_cut done None = refl

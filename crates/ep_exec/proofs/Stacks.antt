@@ -44,15 +44,15 @@ reversed_has (l ∷ s) d =
     )
 
 -- one more level of the path looked at
-pub not_on_more : (ls : List Level) (n : ℕ) (l : Level) (d : ℕ) → n < length ls → get_or ls n l ≡ l → (Has (members_of (map flat (take n ls))) d → ⊥) → (Has l.members.items d → ⊥) → Has (members_of (map flat (take (n + 1) ls))) d → ⊥
+pub not_on_more : (ls : List Level) (n : ℕ) (l : Level) (d : ℕ) → n < length ls → get_or ls n l ≡ l → (Has (members_of (map flat (take n ls))) d → ⊥) → (Has l.members d → ⊥) → Has (members_of (map flat (take (n + 1) ls))) d → ⊥
 not_on_more ls n l d lt e a b h =
     let f : map flat (take (n + 1) ls) ≡ map flat (take n ls) ++ flat l ∷ [] = ap (map flat) (take_more ls n l lt) ∙ map-append flat (take n ls) (get_or ls n l ∷ []) ∙ ap (λ x. map flat (take n ls) ++ flat x ∷ []) e in
     elim (has_members (map flat (take n ls)) (flat l ∷ []) d (subst (λ x. Has (members_of x) d) f h)) [ inl k ↦ a k | inr k ↦ b (single_members (flat l) d k) ]
 
-pub on_here : (ls : List Level) (n : ℕ) (l : Level) (d : ℕ) → n < length ls → get_or ls n l ≡ l → Has l.members.items d → Has (members_of (map flat ls)) d
+pub on_here : (ls : List Level) (n : ℕ) (l : Level) (d : ℕ) → n < length ls → get_or ls n l ≡ l → Has l.members d → Has (members_of (map flat ls)) d
 on_here [] n l d lt e h = absurd (omega arith)
-on_here (x ∷ ls) zero l d lt e h = has_left x.members.items (members_of (map flat ls)) d (subst (λ y. Has y.members.items d) (sym e) h)
-on_here (x ∷ ls) (suc n) l d lt e h = has_right x.members.items (members_of (map flat ls)) d (on_here ls n l d (omega arith) e h)
+on_here (x ∷ ls) zero l d lt e h = has_left x.members (members_of (map flat ls)) d (subst (λ y. Has y.members d) (sym e) h)
+on_here (x ∷ ls) (suc n) l d lt e h = has_right x.members (members_of (map flat ls)) d (on_here ls n l d (omega arith) e h)
 
 -- the top is taken off
 pub stack_pop : (ls rest : List Level) (l : Level) → ls ≡ rest ++ l ∷ [] → stack ls ≡ flat l ∷ stack rest

@@ -1,5 +1,5 @@
 -- A walk through a graph by a path of components.
-use Rattle.std.specs.Prelude.{◌≡◌, ℕ, ◌⊎◌, ◌↔◌, List, [], ◌∷◌, ◌++◌, length, Option, Some, None, Bool, true, ◌&&◌, ◌||◌, not, nat_lt, if◌then◌else◌, map, reverse, Vec}
+use Rattle.std.specs.Prelude.{◌≡◌, ℕ, ◌⊎◌, ◌↔◌, List, [], ◌∷◌, ◌++◌, length, Option, Some, None, nat_lt, if◌then◌else◌, map, reverse, Vec}
 use Rattle.std.specs.List.{flat_map, AllByRecursion}
 use Rattle.std.specs.Global.{Global}
 use Rattle.ep_base.specs.declared.attrs.Attrs.{Attrs}
@@ -13,7 +13,7 @@ pub record Flat : Type 0 where
   pub edges : List ℕ
 
 abbrev pub flat : Level → Flat
-flat l = record { members = l.members.items; edges = l.edges.items }
+flat l = record { members = l.members; edges = l.edges.items }
 
 -- the path, the top first
 abbrev pub stack : List Level → List Flat
@@ -62,23 +62,6 @@ pub record AreComponents (g : Graph) (root : ℕ) (cs : List (List ℕ)) : Type 
   pub whole : (j : ℕ) → Has (flat_map (λ c. c) cs) j ↔ Reaches g root j
   pub each : AllByRecursion (IsComponent g) cs
   pub first : DepsFirst g [] cs
-
--- those of which all dependencies are the component's or settled
-abbrev pub are_in : List ℕ → List ℕ → List ℕ → Bool
-are_in xs ys [] = true
-are_in xs ys (d ∷ ds) = (nat_lt (place xs d) (length xs) || nat_lt (place ys d) (length ys)) && are_in xs ys ds
-
-abbrev pub is_clear : Graph → List ℕ → List ℕ → List ℕ → Bool
-is_clear g settled c [] = true
-is_clear g settled c (i ∷ is) = are_in settled c (deps_at (g i)) && is_clear g settled c is
-
--- with the component, if it isn't settled yet, all of it is done, and all that it depends on is settled
-abbrev pub with_settled : Graph → List ℕ → List ℕ → List ℕ → List ℕ
-with_settled g done settled c = if not (are_in settled [] c) && (are_in done [] c && is_clear g settled c c) then settled ++ c else settled
-
-abbrev pub settled_of : Graph → List ℕ → List ℕ → List (List ℕ) → List ℕ
-settled_of g done settled [] = settled
-settled_of g done settled (c ∷ cs) = settled_of g done (with_settled g done settled c) cs
 
 -- what is seen is what is closed or on the path
 abbrev pub Sees : List ℕ → List ℕ → List Flat → Type 0

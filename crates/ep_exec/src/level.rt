@@ -4,13 +4,14 @@ ghost use Rattle.std.specs.Prelude.{◌≡◌, ◌++◌, ◌↔◌, IsTrue, IfOk
 ghost use Rattle.ep_base.specs.Places.{place, Has};
 ghost use Rattle.ep_exec.specs.Walk.{flat, joined, merged, stack};
 
+use crate::listed::Listed;
 use ep_base::InstanceId;
 use std::alloc::AllocError;
 
 /// Instances on the path that reach each other, and the dependencies still to follow.
 #[derive(Drop)]
 pub struct Level {
-    pub members: Vec<InstanceId>,
+    pub members: Listed,
     pub edges: Vec<InstanceId>,
 }
 
@@ -49,7 +50,7 @@ fn join(below: Level, top: Level) -> Result<Level, AllocError>
         mut members,
         mut edges,
     } = below;
-    append(&mut members, &top.members)?;
+    members.append(top.members.as_slice())?;
     append(&mut edges, &top.edges)?;
     Ok(Level { members, edges })
 }
@@ -59,7 +60,7 @@ pub fn merge(path: &mut Vec<Level>, top: Level, instance: InstanceId) -> Result<
     ensures { OnOk result (stack path.new.items ≡ merged (flat top) (stack path.old.items) instance) }
 {
     let mut top = top;
-    while !holds(&top.members, instance) {
+    while !top.members.contains(instance) {
         match path.pop() {
             Some(below) => top = join(below, top)?,
             None => {

@@ -5,6 +5,7 @@ mod executed;
 mod graph;
 mod level;
 mod listed;
+mod part;
 mod plan_fault;
 mod planning;
 mod ready;

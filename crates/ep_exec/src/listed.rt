@@ -61,6 +61,13 @@ impl Listed {
     }
 
     /// The list.
+    pub fn as_slice(&self) -> &[InstanceId]
+        ensures { result.now ≡ self.now }
+    {
+        &self.list
+    }
+
+    /// The list, without the test.
     pub fn into_vec(self) -> Vec<InstanceId>
         ensures { result.items ≡ self }
     {

@@ -27,7 +27,7 @@ fn enter(
 ) -> Result<(), AllocError>
     ensures { OnOk result (stack path.new.items ≡ fresh (left_in space.now.records executed.now.list) instance ∷ stack path.old.items) }
 {
-    let mut members = Vec::new(alloc);
+    let mut members = Listed::new(alloc);
     members.push(instance)?;
     let mut edges = Vec::new(alloc);
     append_left(&mut edges, space, executed, instance)?;
@@ -68,13 +68,13 @@ fn follow(
 fn close(
     closed: &mut Listed,
     found: &mut Vec<Vec<InstanceId>>,
-    members: Vec<InstanceId>,
+    members: Listed,
 ) -> Result<(), AllocError>
-    ensures closed { OnOk result (closed.new ≡ closed.old ++ members.items) }
-    ensures found { OnOk result (lists found.new.items ≡ lists found.old.items ++ members.items ∷ []) }
+    ensures closed { OnOk result (closed.new ≡ closed.old ++ members) }
+    ensures found { OnOk result (lists found.new.items ≡ lists found.old.items ++ members ∷ []) }
 {
-    closed.append(&members)?;
-    found.push(members)?;
+    closed.append(members.as_slice())?;
+    found.push(members.into_vec())?;
     Ok(())
 }
 

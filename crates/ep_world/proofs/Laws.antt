@@ -20,11 +20,14 @@ use Rattle.ep_rules.proofs.Played.{played_is_a_run_lem, played_match_lem}
 use Rattle.ep_rules.proofs.Sorted.{some_schedule_lem}
 use Rattle.ep_journal.specs.Entries.{entry_of, entries_of}
 use Rattle.ep_journal.specs.declared.entry.Entry.{Entry}
+use Rattle.ep_journal.specs.declared.event.Event.{Event as Happening}
 use Rattle.ep_replica.specs.Kept.{Kept}
 use Rattle.ep_replica.proofs.Growing.{entries_grow}
 use Rattle.ep_world.specs.Played.{Played, collected, journals_in, entries_in, IsPlayed, IsWorld}
-use Rattle.ep_world.specs.Playing.{Happens, Happen, Ends, IsNotEnabled}
+use Rattle.ep_world.specs.Playing.{asked, Happens, Happen, Ends, IsNotEnabled}
+use Rattle.ep_world.specs.Replicas.{world_of, Took}
 use Rattle.ep_world.specs.Safe.{committed, Agree, Keeps, WereProposed, Depend}
+use Rattle.ep_world.specs.declared.place.Place.{Place}
 use Rattle.ep_world.specs.declared.cause.Cause.{Cause}
 use Rattle.ep_world.specs.declared.refused.Refused.{Refused}
 use Rattle.ep_world.specs.declared.world_event.WorldEvent.{WorldEvent}
@@ -76,6 +79,12 @@ keeps_one w w' event h i r x is =
           subst (λ (es : List rules.Entry). committed_in (left w.faults r fresh_state es).records i ≡ Some x) (sym journal) (journals_keep_lem w.faults r (journals_in w r) (entry_of h.entry ∷ []) i x is))
       | inr ne ↦ subst (λ (es : List Entry). committed_in (left w.faults r fresh_state (entries_of es)).records i ≡ Some x) (sym (other w w' event h r ne)) is
     ])
+
+pub keeps_took : (w w' : Played) (event : WorldEvent) (r : ℕ) (taken : Happening) → asked w event ≡ Some (r, taken) → Took w r taken w' → Keeps w w'
+keeps_took w w' event r taken is t = keeps_one w w' event (record { replica = r; taken = taken; entry = t.entry; asked = is; there = t.there; applied = t.applied; becomes = t.becomes })
+
+pub keeps_same : (f : ℕ) (ks js : List Kept) (steps other_steps : List (ℕ × ℕ)) (messages others : List Place) → (js ≡ ks) × (other_steps ≡ steps) × (others ≡ messages) → Keeps (world_of f ks steps messages) (world_of f js other_steps others)
+keeps_same f ks js steps other_steps messages others is i r x h = subst (λ (w : Played). committed w r i ≡ Some x) (λ t. world_of f (sym is.0 t) (sym is.1 t) (sym is.2 t)) h
 
 keeps_all : (w : Played) (events : List WorldEvent) (w' : Played) → Happen w events w' → Keeps w w'
 keeps_all w [] w' h i r x is = subst (λ (v : Played). committed v r i ≡ Some x) (sym h) is

@@ -46,7 +46,7 @@ impl World {
     ghost use Rattle.ep_rules.specs.Worlds.{In};
     ghost use Rattle.ep_rules.specs.declared.receipt.Receipt.{Receipt};
     ghost use Rattle.ep_frame.specs.Spelling.{IsFrame};
-    ghost use Rattle.ep_world.specs.Played.{collected, entries_in, replica_in, journals_in, message_in, IsPlayed, IsWorld};
+    ghost use Rattle.ep_world.specs.Played.{collected, entries_in, replica_in, journals_in, message_in, IsPlayed};
     ghost use Rattle.ep_world.specs.Playing.{asked, Happens, IsNotEnabled, Happen, Ends};
     ghost use Rattle.ep_world.specs.declared.world_event.WorldEvent.TheVariants.{Deliver};
     ghost use Rattle.ep_world.specs.Safe.{Agree, Keeps, WereProposed, Depend};
@@ -68,11 +68,12 @@ impl World {
         })
     }
 
-    /// Plays one event: one step of the rule book's world. What is refused leaves the world as it was.
+    /// Plays one event: one step of the rule book's world. What is refused leaves the world as it was; what was committed stays so.
     pub fn step(&mut self, event: WorldEvent) -> Result<(), Cause>
         ensures ok { OnOk result (Happens self.old event self.new) }
         ensures refused { IfErr result (λ cause. IsNotEnabled self.old event cause) }
         ensures err { OnErr result (self.new ≡ self.old) }
+        ensures permanence { Keeps self.old self.new }
     {
         let (replica, taken) = self.ask(event)?;
         match advance(
@@ -154,7 +155,7 @@ impl World {
         ensures dependency { Depend self.new }
     {
         let played = self.play_all(events);
-        self.keeps_to();
+        self.is_safe();
         played
     }
 
@@ -170,15 +171,6 @@ impl World {
             }
         }
         Ok(())
-    }
-
-    /// All that a world keeps to: a law, which costs nothing to call.
-    fn keeps_to(&self)
-        ensures world { IsWorld self.now }
-        ensures some { 1 ≤ self.now.faults }
-        ensures few { self.now.faults ≤ 3 }
-    {
-        let _faults = self.size.faults();
     }
 
     /// The cluster's size.
@@ -222,6 +214,17 @@ impl World {
         ensures none { result ≡ None → size self.now.faults ≤ replica }
     {
         find(self.replicas.as_slice(), replica)
+    }
+
+    /// Whatever was played, no two replicas commit different commands or attributes in an instance; a committed command
+    /// other than a no-op was proposed there; and of two interfering committed commands one depends on the other: a law,
+    /// which costs nothing to call.
+    pub fn is_safe(&self)
+        ensures agreement { Agree self.now }
+        ensures validity { WereProposed self.now }
+        ensures dependency { Depend self.now }
+    {
+        let _faults = self.size.faults();
     }
 
     /// The journals of a world, with receipts that its replicas give, are accepted by the audit: a law, which costs nothing to call.

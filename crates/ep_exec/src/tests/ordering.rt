@@ -1,6 +1,6 @@
-//! Execution orders: the rows, a long chain, a large component.
+//! Execution orders: the rows, a long chain, also where half of it was executed, a large component.
 
-use super::{Place, Row, add, all_at, at, commit, executed_of, planned, space, space_of};
+use super::{Place, Row, add, all_at, at, commit, executed_of, planned, reserve, space, space_of};
 use crate::{Executed, PlanFault};
 use ep_base::InstanceId;
 use ep_space::Space;
@@ -99,8 +99,26 @@ fn a_chain_of_many(rt: HostRuntime) {
     let mut space = space(&rt, rt.alloc());
     let expected = chain(&rt, rt.alloc(), &mut space);
     let executed = Executed::new(rt.alloc());
-    let order = planned(&rt, rt.alloc(), &space, &executed, at(&rt, (0, MANY))).expect(&rt, "an order");
+    let order = planned(&rt, rt.alloc(), &space, &executed, at(&rt, (0, MANY))).expect(
+        &rt, "an order",
+    );
     assert!(rt; order.as_slice() == expected.as_slice());
+}
+
+#[test]
+fn a_chain_half_executed(rt: HostRuntime) {
+    let mut space = space(&rt, rt.alloc());
+    let all = chain(&rt, rt.alloc(), &mut space);
+    let half = all.len() / 2;
+    let mut executed = Executed::new(rt.alloc());
+    for instance in &all[..half] {
+        reserve(&rt, &mut executed);
+        executed.add(*instance);
+    }
+    let order = planned(&rt, rt.alloc(), &space, &executed, at(&rt, (0, MANY))).expect(
+        &rt, "an order",
+    );
+    assert!(rt; order.as_slice() == &all[half..]);
 }
 
 /// Each instance depends on the next, and the last on the first; they rank from the last to the first.
@@ -121,6 +139,8 @@ fn a_component_of_many(rt: HostRuntime) {
     let mut space = space(&rt, rt.alloc());
     let expected = circle(&rt, rt.alloc(), &mut space);
     let executed = Executed::new(rt.alloc());
-    let order = planned(&rt, rt.alloc(), &space, &executed, at(&rt, (1, 2))).expect(&rt, "an order");
+    let order = planned(&rt, rt.alloc(), &space, &executed, at(&rt, (1, 2))).expect(
+        &rt, "an order",
+    );
     assert!(rt; order.as_slice() == expected.as_slice());
 }

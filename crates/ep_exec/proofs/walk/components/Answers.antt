@@ -34,17 +34,17 @@ loop-top-preserved-in-None-1 c =
     let rest = stack c.pop.new.self.items in
     let closed = c.loop-top.closed in
     let cs = lists c.loop-top.found.items in
-    let shut : Flat = record { members = top.members.items; edges = [] } in
+    let shut : Flat = record { members = top.members; edges = [] } in
     let none : top.edges.items ≡ [] = nil_from_length top.edges.items (omega (arith, c.in-None.ensures.cases.0, top.edges.ok.0)) in
     let opened : stack c.loop-top.path.items ≡ shut ∷ rest =
-    stack_pop c.loop-top.path.items c.pop.new.self.items top c.in-Some.ensures.items ∙ ap (λ (es : List ℕ). record { members = top.members.items; edges = es } ∷ rest) none
+    stack_pop c.loop-top.path.items c.pop.new.self.items top c.in-Some.ensures.items ∙ ap (λ (es : List ℕ). record { members = top.members; edges = es } ∷ rest) none
     in
     let w : IsWalk g c.args.root us closed cs (shut ∷ rest) = subst (IsWalk g c.args.root us closed cs) opened c.loop-top.invariant.walk in
     let s : Sees c.loop-top.seen closed (shut ∷ rest) = subst (Sees c.loop-top.seen closed) opened c.loop-top.invariant.seen in
     let done = c.in_ok-close-in-None.ensures.closed in
     let found = c.in_ok-close-in-None.ensures.found in
     rw (done, found) (record {
-      walk = walk_close g c.args.root us closed cs top.members.items rest w;
+      walk = walk_close g c.args.root us closed cs top.members rest w;
       seen = sees_closed c.loop-top.seen closed shut rest s;
     })
 
@@ -57,9 +57,9 @@ loop-top-smaller c =
     let rest = stack c.pop.new.self.items in
     let closed = c.loop-top.closed in
     let cs = lists c.loop-top.found.items in
-    let t : Flat = record { members = top.members.items; edges = c.pop-in-Some.new.self.items } in
+    let t : Flat = record { members = top.members; edges = c.pop-in-Some.new.self.items } in
     let opened : stack c.loop-top.path.items ≡ plus t d ∷ rest =
-    stack_pop c.loop-top.path.items c.pop.new.self.items top c.in-Some.ensures.items ∙ ap (λ (es : List ℕ). record { members = top.members.items; edges = es } ∷ rest) c.in-Some-pop.ensures.items
+    stack_pop c.loop-top.path.items c.pop.new.self.items top c.in-Some.ensures.items ∙ ap (λ (es : List ℕ). record { members = top.members; edges = es } ∷ rest) c.in-Some-pop.ensures.items
     in
     let w : IsWalk g c.args.root us closed cs (plus t d ∷ rest) = subst (IsWalk g c.args.root us closed cs) opened c.loop-top.invariant.walk in
     let f : Follows g closed t rest d (stack c.follow.new.path.items) = c.in_ok-follow-in-Some-pop.ensures.path in
@@ -78,9 +78,9 @@ loop-top-preserved c =
     let rest = stack c.pop.new.self.items in
     let closed = c.loop-top.closed in
     let cs = lists c.loop-top.found.items in
-    let t : Flat = record { members = top.members.items; edges = c.pop-in-Some.new.self.items } in
+    let t : Flat = record { members = top.members; edges = c.pop-in-Some.new.self.items } in
     let opened : stack c.loop-top.path.items ≡ plus t d ∷ rest =
-    stack_pop c.loop-top.path.items c.pop.new.self.items top c.in-Some.ensures.items ∙ ap (λ (es : List ℕ). record { members = top.members.items; edges = es } ∷ rest) c.in-Some-pop.ensures.items
+    stack_pop c.loop-top.path.items c.pop.new.self.items top c.in-Some.ensures.items ∙ ap (λ (es : List ℕ). record { members = top.members; edges = es } ∷ rest) c.in-Some-pop.ensures.items
     in
     let w : IsWalk g c.args.root us closed cs (plus t d ∷ rest) = subst (IsWalk g c.args.root us closed cs) opened c.loop-top.invariant.walk in
     let f : Follows g closed t rest d (stack c.follow.new.path.items) = c.in_ok-follow-in-Some-pop.ensures.path in

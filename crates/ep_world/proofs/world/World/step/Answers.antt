@@ -2,7 +2,9 @@ use Rattle.std.proofs.Common.{◌≡◌, Some, subst, sym}
 use Rattle.ep_world.specs.Played.{Played}
 use Rattle.ep_world.specs.Playing.{asked}
 use Rattle.ep_world.specs.Replicas.{world_of, IsUntaken}
+use Rattle.ep_world.specs.Safe.{Keeps}
 use Rattle.ep_world.proofs.Kept.{same_world}
+use Rattle.ep_world.proofs.Laws.{keeps_took, keeps_same}
 use Rattle.ep_world.proofs.Taken.{step_world, not_enabled}
 use Rattle.ep_world.proofs.world.World.step.Goals as goal
 use Rattle.ep_world.proofs.world.World.step.Goals.{in-Ok, in-Err}
@@ -34,3 +36,20 @@ returns-clause-refused c =
       | in-Ok b ↦ rw b.result-is tt
       | in-Err b ↦ rw b.result-is (not_enabled w c.args.event r taken b.in-Err.fault c.in_ok-replica.ensures.ok (subst (λ (v : Played). IsUntaken v r taken b.in-Err.fault) c.self.view_is b.in-Err.ensures.refused))
     ]
+
+pub returns-clause-permanence : goal.returns-clause-permanence
+returns-clause-permanence c =
+    let f = c.self.inside.size in
+    let ks = c.self.inside.replicas.items in
+    let steps = c.self.inside.steps.items in
+    let messages = c.self.inside.messages.items in
+    let w : Played = world_of f ks steps messages in
+    let w' : Played = world_of f c.advance.new.replicas.items c.advance.new.steps.items c.advance.new.messages.items in
+    let r = c.in_ok-replica.replica in
+    let taken = c.in_ok-replica.taken in
+    let is : asked w c.args.event ≡ Some (r, taken) = subst (λ (v : Played). asked v c.args.event ≡ Some (r, taken)) (sym c.self.view_is) c.in_ok-replica.ensures.ok in
+    let kept : Keeps w w' = elim c.match-advance.branch [
+      | in-Ok b ↦ keeps_took w w' c.args.event r taken is b.in-Ok.ensures.ok
+      | in-Err b ↦ keeps_same f ks c.advance.new.replicas.items steps c.advance.new.steps.items messages c.advance.new.messages.items b.in-Err.ensures.err
+    ] in
+    subst (λ (v : Played). Keeps v w') c.self.view_is kept
