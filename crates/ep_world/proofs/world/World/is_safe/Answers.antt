@@ -1,4 +1,4 @@
-use Rattle.std.proofs.Common.{◌≡◌, ◌≤◌, subst, arith}
+use Rattle.std.proofs.Common.{◌≤◌, subst, arith}
 use Rattle.ep_world.specs.Played.{Played, IsWorld}
 use Rattle.ep_world.proofs.Laws.{agree, were_proposed, depend}
 use Rattle.ep_world.proofs.world.World.is_safe.Goals as goal
