@@ -17,7 +17,11 @@ use ep_base::{Sink, Source};
 use std::alloc::Global;
 use std::convert::AsStr;
 
-/// Does what the words ask for, of which the first is the program's own name.
+/// Does what the words ask for, of which the first is the program's own name, and answers how the program ends.
+///
+/// `replay` reads a script to its end, plays it, audits what it leaves, and writes the report in one go. What stops it (a
+/// refused command line or script, want of memory, a reader or a writer that fails) is told by one line on the fault
+/// output; where that one fails, the status stays.
 pub fn engine<T: AsStr, S: Source, W: Sink, F: Sink>(
     alloc: Global,
     words: &[T],
@@ -44,7 +48,7 @@ pub fn engine<T: AsStr, S: Source, W: Sink, F: Sink>(
     }
 }
 
-/// Does what is asked.
+/// Does what is asked, and answers how the program ends.
 pub fn perform<S: Source, W: Sink, F: Sink>(
     alloc: Global,
     asked: Asked,
