@@ -1,5 +1,9 @@
 pub mod Order
 pub mod Lookup
+pub mod Before
+pub mod Ordered
+pub mod Kept
+pub mod Runs
 pub mod Gathering
 pub mod Least
 pub mod Twice

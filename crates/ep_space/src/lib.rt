@@ -2,7 +2,10 @@
 #![tactic(auto)]
 
 mod gathered;
+mod index;
 mod interference_fault;
+mod keyed;
+mod place;
 mod space;
 mod space_full;
 mod table;
