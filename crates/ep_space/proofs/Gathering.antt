@@ -41,9 +41,10 @@ all_those P t (e ∷ es) h =
 all_found : (es : List Entry) → is_sorted nat_cmp es ≡ true → AllByRecursion (λ e. find nat_cmp e.0 es ≡ Some e.1) es
 all_found [] s = tt
 all_found (e ∷ es) s =
-    let p = and_parts (below_all nat_cmp e.0 es) (is_sorted nat_cmp es) s in
-    (ap (λ b. cond b (Some e.1) (find nat_cmp e.0 es)) (unsigned_tied e.0 e.0 ∙ eq-eqb e.0 e.0 refl),
-    all_map {P = λ f. find nat_cmp f.0 es ≡ Some f.1} {Q = λ f. find nat_cmp f.0 (e ∷ es) ≡ Some f.1} es (λ f at. found_on e es f.0 f.1 p.0 at) (all_found es p.1))
+    let p = and_parts (below_all nat_cmp e.0 es) (is_sorted nat_cmp es) s in (
+      ap (λ b. cond b (Some e.1) (find nat_cmp e.0 es)) (unsigned_tied e.0 e.0 ∙ eq-eqb e.0 e.0 refl),
+      all_map {P = λ f. find nat_cmp f.0 es ≡ Some f.1} {Q = λ f. find nat_cmp f.0 (e ∷ es) ≡ Some f.1} es (λ f at. found_on e es f.0 f.1 p.0 at) (all_found es p.1),
+    )
 
 -- Gathering one after the other.
 
@@ -117,8 +118,8 @@ module _ (c : Command) (except : ℕ) where
       → next_attrs (gather_all (touches c except) m (record { seq = 0; deps = [] }) (holders k m)) ≡ interference m except c
   gathered-run m k is =
       let found : AllByRecursion (λ e. get m e.0 ≡ Some e.1) (those (has_key k) (entries m)) =
-        all_those (λ e. get m e.0 ≡ Some e.1) (has_key k) (entries m)
-        (all_map {P = λ e. find nat_cmp e.0 (entries m) ≡ Some e.1} {Q = λ e. get m e.0 ≡ Some e.1} (entries m) (λ e at. map.get-entries m e.0 ∙ at) (all_found (entries m) (sorted_true m))) in
+      all_those (λ e. get m e.0 ≡ Some e.1) (has_key k) (entries m)
+      (all_map {P = λ e. find nat_cmp e.0 (entries m) ≡ Some e.1} {Q = λ e. get m e.0 ≡ Some e.1} (entries m) (λ e at. map.get-entries m e.0 ∙ at) (all_found (entries m) (sorted_true m))) in
       let least : (n : ℕ) → max 0 n ≡ n = λ n. omega arith in
       ap next_attrs (gathered_all (touches c except) m (those (has_key k) (entries m)) found (record { seq = 0; deps = [] }))
       ∙ ap (λ (es : List Entry). next_attrs (record { seq = max 0 (greatest_seq es); deps = instances es })) (those_within (touches c except) (has_key k) (entries m) (touched_key k is))

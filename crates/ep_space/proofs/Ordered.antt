@@ -197,10 +197,11 @@ module _ (K : ℕ → Option (List ℕ)) where
 module _ (K L : ℕ → Option (List ℕ)) where
   pub IsOrdered-same : (is : List ℕ) → ((i : ℕ) → Has is i → K i ≡ L i) → IsOrdered K is → IsOrdered L is
   IsOrdered-same [] same o = tt
-  IsOrdered-same (x ∷ xs) same o =
-      (all_from (λ q. before (word (L x)) x (word (L q)) q ≡ true) xs
-      (λ q t. (λ d. before (word (sym (same x (Has-head x xs x refl)) d)) x (word (sym (same q (Has-tail x xs q t)) d)) q) ∙ all_has (λ p. before (word (K x)) x (word (K p)) p ≡ true) xs o.0 q t),
-      IsOrdered-same xs (λ i t. same i (Has-tail x xs i t)) o.1)
+  IsOrdered-same (x ∷ xs) same o = (
+    all_from (λ q. before (word (L x)) x (word (L q)) q ≡ true) xs
+        (λ q t. (λ d. before (word (sym (same x (Has-head x xs x refl)) d)) x (word (sym (same q (Has-tail x xs q t)) d)) q) ∙ all_has (λ p. before (word (K x)) x (word (K p)) p ≡ true) xs o.0 q t),
+    IsOrdered-same xs (λ i t. same i (Has-tail x xs i t)) o.1,
+  )
 
   pub with_key-same : (l : List ℕ) (j : ℕ) (is : List ℕ) → ((i : ℕ) → Has is i → K i ≡ L i) → with_key K l j is ≡ with_key L l j is
   with_key-same l j [] same = refl

@@ -62,13 +62,13 @@ module _ (K : ℕ → Option (List ℕ)) (l : List ℕ) where
       → take (count_before K l b xs - count_before K l a xs) (drop (count_before K l a xs) xs) ≡ span a b xs
       → (p q : Bool) → stands a x ≡ p → stands b x ≡ q
       → take (cond q (suc (count_before K l b xs)) 0 - cond p (suc (count_before K l a xs)) 0) (drop (cond p (suc (count_before K l a xs)) 0) (x ∷ xs))
-          ≡ cond (q && not p) (x ∷ span a b xs) (span a b xs)
+      ≡ cond (q && not p) (x ∷ span a b xs) (span a b xs)
   span_at a b x xs o low rest true true e f = ap (λ n. take n (drop (count_before K l a xs) xs)) (both_less (count_before K l b xs) (count_before K l a xs)) ∙ rest
   span_at a b x xs o low rest true false e f = absurd (true≢false (sym (before_trans (word (K x)) x l a l b e low) ∙ f))
   span_at a b x xs o low rest false true e f =
       let zero_before : count_before K l a xs ≡ 0 = count_none a xs (none_later a x xs o e) in
       let short : take (count_before K l b xs) xs ≡ span a b xs =
-        (λ d. take (sym (none_less (count_before K l b xs) (count_before K l a xs) zero_before) d) (drop (sym zero_before d) xs)) ∙ rest in
+      (λ d. take (sym (none_less (count_before K l b xs) (count_before K l a xs) zero_before) d) (drop (sym zero_before d) xs)) ∙ rest in
       ap (λ (n : ℕ). take n (x ∷ xs)) (none_less (suc (count_before K l b xs)) 0 refl) ∙ ap (λ (ys : List ℕ). x ∷ ys) short
   span_at a b x xs o low rest false false e f = sym (span_none a b xs (none_later b x xs o f))
 
@@ -95,9 +95,9 @@ module _ (K : ℕ → Option (List ℕ)) (l : List ℕ) where
       go : (c : Bool) → (stands b x && not (stands a x)) ≡ c → (Has (span a b xs) i → Has xs i × ((stands b i && not (stands a i)) ≡ true))
           → Has (cond c (x ∷ span a b xs) (span a b xs)) i → Has (x ∷ xs) i × ((stands b i && not (stands a i)) ≡ true)
       go true e rest h = elim (Has-cons_cases x (span a b xs) i h) [
-          | inl same ↦ (Has-head x xs i same, subst (λ q. (stands b q && not (stands a q)) ≡ true) same e)
-          | inr t ↦ (Has-tail x xs i (rest t).0, (rest t).1)
-        ]
+        | inl same ↦ (Has-head x xs i same, subst (λ q. (stands b q && not (stands a q)) ≡ true) same e)
+        | inr t ↦ (Has-tail x xs i (rest t).0, (rest t).1)
+      ]
       go false e rest h = (Has-tail x xs i (rest h).0, (rest h).1)
 
   Has-span : (a b : ℕ) (is : List ℕ) (i : ℕ) → Has is i → (stands b i && not (stands a i)) ≡ true → Has (span a b is) i
@@ -123,9 +123,10 @@ module _ (K : ℕ → Option (List ℕ)) (l : List ℕ) where
   rising_key : (is : List ℕ) → IsOrdered K is → ((i : ℕ) → Has is i → word (K i) ≡ l) → IsRising is
   rising_key [] o h = tt
   rising_key (x ∷ []) o h = (tt, tt)
-  rising_key (x ∷ y ∷ ys) o h =
-      (before_same (word (K x)) (word (K y)) x y (h x (Has-head x (y ∷ ys) x refl) ∙ sym (h y (Has-tail x (y ∷ ys) y (Has-head y ys y refl)))) o.0.0,
-      rising_key (y ∷ ys) o.1 (λ i t. h i (Has-tail x (y ∷ ys) i t)))
+  rising_key (x ∷ y ∷ ys) o h = (
+    before_same (word (K x)) (word (K y)) x y (h x (Has-head x (y ∷ ys) x refl) ∙ sym (h y (Has-tail x (y ∷ ys) y (Has-head y ys y refl)))) o.0.0,
+    rising_key (y ∷ ys) o.1 (λ i t. h i (Has-tail x (y ∷ ys) i t)),
+  )
 
 -- The instances of those entries of a map that pass a test.
 
@@ -185,9 +186,9 @@ module _ (t : ℕ × Record → Bool) where
 
       go : (b : Bool) → t e ≡ b → (Has (instances (those t es)) i → Found t es i) → Has (instances (cond b (e ∷ those t es) (those t es))) i → Found t (e ∷ es) i
       go true passes rest h = elim (Has-cons_cases e.0 (instances (those t es)) i h) [
-          | inl same ↦ (e.1, here same, subst (λ q. t (q, e.1) ≡ true) same passes)
-          | inr u ↦ on (rest u)
-        ]
+        | inl same ↦ (e.1, here same, subst (λ q. t (q, e.1) ≡ true) same passes)
+        | inr u ↦ on (rest u)
+      ]
       go false fails rest h = on (rest h)
 
   pub found-those : (es : List (ℕ × Record)) (i : ℕ) (r : Record) → find nat_cmp i es ≡ Some r → t (i, r) ≡ true → Has (instances (those t es)) i

@@ -124,12 +124,7 @@ fn take_out(table: &mut Table<Record>, index: &mut Vec<u32>, id: InstanceId) -> 
 }
 
 /// Writes the instance's record, if this is one, where there is none, and its place into the index.
-fn put_in(
-    table: &mut Table<Record>,
-    index: &mut Vec<u32>,
-    id: InstanceId,
-    value: Option<Record>,
-)
+fn put_in(table: &mut Table<Record>, index: &mut Vec<u32>, id: InstanceId, value: Option<Record>)
     requires place { HasPlace table.old.places id }
     requires none { get table.old.held id ≡ None }
     requires kept { IsKept table.old index.old.items (vec_capacity index.old) }

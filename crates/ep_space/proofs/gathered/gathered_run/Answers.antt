@@ -15,17 +15,17 @@ left_at run k o i inside is e =
 
 pub gather-requires : goal.gather-requires
 gather-requires c =
-    let left = left_at c.args.run.now c.loop-at.at c.instance_of.result c.unwrap-id.result c.loop-at-test.true c.instance_of.ensures.value c.unwrap-id.ensures in
-    rising_front c.loop-at.gathered.deps c.unwrap-id.result (drop (c.loop-at.at + 1) c.args.run.now) (subst (λ is. IsRising (c.loop-at.gathered.deps ++ is)) left c.loop-at.invariant.rising)
+    let left = left_at c.args.run.now c.loop-place.place-index c.instance_of.result c.unwrap-id.result c.loop-place-test.true c.instance_of.ensures.value c.unwrap-id.ensures in
+    rising_front c.loop-place.gathered.deps c.unwrap-id.result (drop (c.loop-place.place-index + 1) c.args.run.now) (subst (λ is. IsRising (c.loop-place.gathered.deps ++ is)) left c.loop-place.invariant.rising)
 
-pub loop-at-preserved : goal.loop-at-preserved
-loop-at-preserved c =
+pub loop-place-preserved : goal.loop-place-preserved
+loop-place-preserved c =
     let t = touches c.args.command.now c.args.except in
     let m = c.args.records.now.held in
     let i = c.unwrap-id.result in
-    let rest = drop (c.loop-at.at + 1) c.args.run.now in
-    let left = left_at c.args.run.now c.loop-at.at c.instance_of.result i c.loop-at-test.true c.instance_of.ensures.value c.unwrap-id.ensures in
+    let rest = drop (c.loop-place.place-index + 1) c.args.run.now in
+    let left = left_at c.args.run.now c.loop-place.place-index c.instance_of.result i c.loop-place-test.true c.instance_of.ensures.value c.unwrap-id.ensures in
     record {
-      rest = ap (λ g. gather_all t m g rest) c.in_ok-gather.ensures ∙ ap (gather_all t m c.loop-at.gathered) (sym left) ∙ c.loop-at.invariant.rest;
-      rising = subst (λ g. IsRising (g.deps ++ rest)) (sym c.in_ok-gather.ensures) (rising_gathered t c.loop-at.gathered i (get m i) rest (subst (λ is. IsRising (c.loop-at.gathered.deps ++ is)) left c.loop-at.invariant.rising));
+      rest = ap (λ g. gather_all t m g rest) c.in_ok-gather.ensures ∙ ap (gather_all t m c.loop-place.gathered) (sym left) ∙ c.loop-place.invariant.rest;
+      rising = subst (λ g. IsRising (g.deps ++ rest)) (sym c.in_ok-gather.ensures) (rising_gathered t c.loop-place.gathered i (get m i) rest (subst (λ is. IsRising (c.loop-place.gathered.deps ++ is)) left c.loop-place.invariant.rising));
     }

@@ -32,7 +32,7 @@ loop-low-preserved-then-is_before c =
     let middle : ℕ = c.loop-low.low + (c.loop-low.high - c.loop-low.low) / 2 in
     let inside : middle < length c.args.index.now = half_within c.loop-low.low c.loop-low.high (length c.args.index.now) c.loop-low-test.true c.loop-low.invariant.within in
     let after = count_after (key_at c.args.table.now.held) c.args.key.now c.args.place c.args.index.now middle (slice_index_or c.args.index.now middle 0) c.requires.ordered
-      (slice_get-get_or c.args.index.now middle 0 inside) (sym c.is_before.ensures ∙ c.if-is_before.true) in
+    (slice_get-get_or c.args.index.now middle 0 inside) (sym c.is_before.ensures ∙ c.if-is_before.true) in
     record {
       above = omega (arith, after);
       below = c.loop-low.invariant.below;
@@ -44,7 +44,7 @@ loop-low-preserved c =
     let middle : ℕ = c.loop-low.low + (c.loop-low.high - c.loop-low.low) / 2 in
     let inside : middle < length c.args.index.now = half_within c.loop-low.low c.loop-low.high (length c.args.index.now) c.loop-low-test.true c.loop-low.invariant.within in
     let upto = count_upto (key_at c.args.table.now.held) c.args.key.now c.args.place c.args.index.now middle (slice_index_or c.args.index.now middle 0)
-      (slice_get-get_or c.args.index.now middle 0 inside) (sym c.is_before.ensures ∙ c.if-is_before.false) in
+    (slice_get-get_or c.args.index.now middle 0 inside) (sym c.is_before.ensures ∙ c.if-is_before.false) in
     record {
       above = c.loop-low.invariant.above;
       below = upto;

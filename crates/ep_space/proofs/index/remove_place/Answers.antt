@@ -18,7 +18,7 @@ remove-requires c =
     let own : Some c.in-Some.key.now ≡ K c.args.id = c.in-Some.ensures in
     let has : Has is c.args.id = (c.requires.members c.args.id).1 (ap is_some (sym own)) in
     let at : c.position-place.result ≡ count_before K (word (K c.args.id)) c.args.id is =
-      (rw (c.position-place.ensures.value, c.as_slice.ensures.value, c.as_slice-2.ensures.value, c.place_of.ensures.value) refl) ∙ ap (λ o. count_before K (word o) c.args.id is) own in
+    (rw (c.position-place.ensures.value, c.as_slice.ensures.value, c.as_slice-2.ensures.value, c.place_of.ensures.value) refl) ∙ ap (λ o. count_before K (word o) c.args.id is) own in
     subst (λ n. c.position-place.result < n) (sym c.args.index.now.ok.0) (subst (λ n. n < length is) (sym at) (count_member K c.args.id is c.requires.ordered has))
 
 pub returns-clause-items : goal.returns-clause-items
@@ -28,5 +28,5 @@ returns-clause-items c =
     let own : Some c.in-Some.key.now ≡ K c.args.id = c.in-Some.ensures in
     let has : Has is c.args.id = (c.requires.members c.args.id).1 (ap is_some (sym own)) in
     let at : c.position-place.result ≡ count_before K (word (K c.args.id)) c.args.id is =
-      (rw (c.position-place.ensures.value, c.as_slice.ensures.value, c.as_slice-2.ensures.value, c.place_of.ensures.value) refl) ∙ ap (λ o. count_before K (word o) c.args.id is) own in
+    (rw (c.position-place.ensures.value, c.as_slice.ensures.value, c.as_slice-2.ensures.value, c.place_of.ensures.value) refl) ∙ ap (λ o. count_before K (word o) c.args.id is) own in
     c.remove.ensures.items ∙ ap (remove is) at ∙ remove-at_count K c.args.id is c.requires.ordered has

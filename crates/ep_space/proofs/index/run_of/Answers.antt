@@ -19,4 +19,4 @@ pub returns : goal.returns
 returns c =
     (λ d. take (c.position-end.ensures.value d - c.position-start.ensures.value d) (drop (c.position-start.ensures.value d) c.args.index.now))
     ∙ run-holders c.args.table.now.held c.args.index.now c.requires.searchable c.requires.all c.args.key.now 4294967295
-      (λ i has. instance_low i (c.requires.searchable.instances i has)) (omega arith)
+    (λ i has. instance_low i (c.requires.searchable.instances i has)) (omega arith)
