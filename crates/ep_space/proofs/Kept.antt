@@ -152,6 +152,30 @@ module _ (t : Held Record) (is : List ℕ) (room i : ℕ) (r : Record) (k : IsKe
       go None e = with_none e
       go (Some l) e = with_some l e
 
+-- A record with the same key.
+
+module _ (t : Held Record) (is : List ℕ) (room i : ℕ) where
+  key_kept : (o : Option Record) → recorded_key o ≡ key_at t.held i → (q : ℕ) → key_at (with_held t.held i o) q ≡ key_at t.held q
+  key_kept None e q =
+      elim (either_way q i) [
+        | inl same ↦ subst (λ p. key_at (remove t.held i) p ≡ key_at t.held p) (sym same) (key-removed t.held i ∙ e)
+        | inr apart ↦ key-remove_other t.held i q apart
+      ]
+  key_kept (Some r) e q =
+      elim (either_way q i) [
+        | inl same ↦ subst (λ p. key_at (insert t.held i r) p ≡ key_at t.held p) (sym same) (key-inserted t.held i r ∙ e)
+        | inr apart ↦ key-insert_other t.held i r q apart
+      ]
+
+  pub kept-written : (o : Option Record) → recorded_key o ≡ key_at t.held i → IsKept t is room → IsKept (record { held = with_held t.held i o; places = t.places }) is room
+  kept-written o e k = record {
+    ordered = IsOrdered-same (key_at t.held) (key_at (with_held t.held i o)) is (λ q _. sym (key_kept o e q)) k.ordered;
+    members = λ q. (λ has. ap is_some (key_kept o e q) ∙ (k.members q).0 has, λ h. (k.members q).1 (ap is_some (sym (key_kept o e q)) ∙ h));
+    within = k.within;
+    instances = k.instances;
+    enough = k.enough;
+  }
+
 -- Room.
 
 kept_apart : (s : Places) (x q : ℕ) → q ≢ x → HasPlace s q → HasPlace (set.remove s x) q

@@ -1,6 +1,6 @@
 //! An index of records by key.
 
-ghost use Rattle.std.specs.Prelude.{◌≡◌, ◌≤◌, ◌<◌, length, OnOk, is_some, true, None, ℕ};
+ghost use Rattle.std.specs.Prelude.{◌≡◌, ◌≤◌, ◌<◌, length, OnOk, is_some, true, None, ℕ, IsTrue, ◌↔◌};
 ghost use Rattle.std.specs.FinSet as set;
 ghost use Rattle.std.specs.Option.{option_copied};
 ghost use Rattle.std.specs.Vec.{vec_capacity};
@@ -10,7 +10,7 @@ ghost use Rattle.ep_base.specs.Places.{Has};
 ghost use Rattle.ep_rules.specs.Maps.{get};
 ghost use Rattle.ep_space.specs.Held.{HasPlace};
 ghost use Rattle.ep_space.specs.Index.{word, before, without, count_before, with_place_of, IsSearchable, IsKept};
-ghost use Rattle.ep_space.specs.Keys.{voted_key, key_at, holders};
+ghost use Rattle.ep_space.specs.Keys.{voted_key, recorded_key, key_at, holders};
 
 use crate::place::{instance_of, place_of};
 use crate::table::Table;
@@ -38,6 +38,17 @@ pub(crate) fn run_of<'a>(table: &Table<Record>, index: &'a [u32], key: &[u8]) ->
     let start = position(table, index, key, 0);
     let end = position(table, index, key, u32::MAX);
     &index[start..end]
+}
+
+/// Whether the instance's command has the same key after this is written there, or has none as before.
+pub(crate) fn keeps_key(table: &Table<Record>, id: InstanceId, value: &Option<Record>) -> bool
+    ensures { IsTrue result ↔ (recorded_key value.now ≡ key_at table.now.held id) }
+{
+    match (key_in(table, id), key_of_entry(value)) {
+        (Some(own), Some(other)) => own.is_same(other),
+        (None, None) => true,
+        _ => false,
+    }
 }
 
 /// Takes the instance's place out of the index, while its record is there.
@@ -114,6 +125,16 @@ fn key_in(table: &Table<Record>, id: InstanceId) -> Option<&Key>
     ensures { option_copied result ≡ key_at table.now.held id }
 {
     match table.get(id) {
+        None => None,
+        Some(record) => key_of(record),
+    }
+}
+
+// The key of the record's command, if there is a record and it has one.
+fn key_of_entry(value: &Option<Record>) -> Option<&Key>
+    ensures { option_copied result ≡ recorded_key value.now }
+{
+    match value {
         None => None,
         Some(record) => key_of(record),
     }

@@ -11,7 +11,7 @@ ghost use Rattle.ep_space.specs.Held.{HasPlace};
 ghost use Rattle.ep_space.specs.Index.{IsKept};
 ghost use Rattle.ep_space.specs.Keys.{holders};
 
-use crate::index::{insert_place, make_room, remove_place, run_of};
+use crate::index::{insert_place, keeps_key, make_room, remove_place, run_of};
 use crate::place::instance_of;
 use crate::table::Table;
 use ep_base::InstanceId;
@@ -78,6 +78,9 @@ impl Keyed {
         ensures old { result ≡ get self.old.held id }
         ensures new { self.new ≡ record { held = with_held self.old.held id value; places = self.old.places } }
     {
+        if keeps_key(&self.table, id, &value) {
+            return self.table.put_back(id, value);
+        }
         let earlier = take_out(&mut self.table, &mut self.index, id);
         put_in(&mut self.table, &mut self.index, id, value);
         earlier

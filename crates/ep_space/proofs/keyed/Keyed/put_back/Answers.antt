@@ -1,9 +1,14 @@
-use Rattle.std.proofs.Common.{◌∙◌, ap}
+use Rattle.std.proofs.Common.{◌∙◌, ap, vec_capacity}
 use Rattle.ep_rules.specs.Maps.{get}
 use Rattle.ep_rules.specs.States.{with_held}
-use Rattle.ep_space.proofs.Kept.{get-removed}
+use Rattle.ep_space.proofs.Kept.{get-removed, kept-written}
 use Rattle.ep_space.proofs.Twice.{with_held-after_remove}
 use Rattle.ep_space.proofs.keyed.Keyed.put_back.Goals as goal
+
+pub invariant_of-self : goal.invariant_of-self
+invariant_of-self c =
+    rw c.put_back.ensures.new
+    (kept-written c.self.inside.table c.self.inside.index.items (vec_capacity c.self.inside.index) c.args.id c.args.value (c.keeps_key.ensures.0 c.if-keeps_key.true) c.self.invariant)
 
 pub put_in-requires-clause-none : goal.put_in-requires-clause-none
 put_in-requires-clause-none c = ap (λ t. get t.held c.args.id) c.take_out-earlier.ensures.new ∙ get-removed c.self.inside.table.held c.args.id
