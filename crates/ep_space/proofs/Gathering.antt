@@ -1,5 +1,5 @@
 -- What is gathered of the run of a command's key is its interference set.
-use Rattle.std.proofs.Common.{◌≡◌, ℕ, ◌+◌, ◌<◌, Bool, true, false, cond, not, ◌&&◌, Option, Some, None, List, [], ◌∷◌, ◌++◌, max, refl, sym, ap, ◌∙◌, arith, append_assoc, append-nil, true≢false, eqb, subst, suc, drop}
+use Rattle.std.proofs.Common.{◌≡◌, ℕ, ◌+◌, Bool, true, false, cond, not, ◌&&◌, Option, Some, None, List, [], ◌∷◌, ◌++◌, max, refl, sym, ap, ◌∙◌, arith, append_assoc, append-nil, true≢false, eqb, subst, suc, drop}
 use Rattle.std.specs.Prelude.{slice_get}
 use Rattle.std.proofs.lemmas.Option.{slice_get_within, get_or_from_slice_get}
 use Rattle.std.proofs.Math.Seq.{drop-cons}
@@ -10,15 +10,15 @@ use Rattle.std.specs.FinMap.Entries.{below_all}
 use Rattle.std.specs.List.{AllByRecursion}
 use Rattle.std.specs.Ordering.{nat_cmp}
 use Rattle.std.proofs.lemmas.Bool.{and_parts, eq-eqb}
-use Rattle.ep_base.specs.Deps.{IsRising, IsBelowFirst}
-use Rattle.ep_base.specs.Interference.{key_of, interfere, is_get}
+use Rattle.ep_base.specs.Deps.{IsRising}
+use Rattle.ep_base.specs.Interference.{key_of, is_get}
 use Rattle.ep_base.specs.declared.command.Command.{Command}
 use Rattle.ep_base.specs.declared.vote.Vote.{Vote}
 use Rattle.ep_base.proofs.Keys.{same_key, interfere_by_key}
 use Rattle.ep_rules.specs.InterferenceSet.{touches, votes_against, those, greatest_seq, seq_of, instances, interference}
 use Rattle.ep_rules.specs.Maps.{Map, get, entries}
 use Rattle.ep_rules.specs.declared.record.Record.{Record}
-use Rattle.ep_space.specs.Gathering.{gather, gather_record, gather_all, next_attrs}
+use Rattle.ep_space.specs.Gathering.{gather, gather_all, next_attrs}
 use Rattle.ep_space.specs.Keys.{voted_key, is_key, has_key, holders}
 use Rattle.ep_space.specs.declared.gathered.Gathered.{Gathered}
 use Rattle.ep_space.proofs.Runs.{found_on, sorted_true}

@@ -1,5 +1,5 @@
 -- What a write keeps of the index, and that there is room in it.
-use Rattle.std.proofs.Common.{◌≡◌, ℕ, zero, suc, ◌+◌, ◌-◌, ◌<◌, ◌≤◌, ◌≢◌, ◌↔◌, Bool, true, false, cond, not, ◌&&◌, ◌||◌, List, [], ◌∷◌, length, is_some, Option, Some, None, refl, sym, ap, subst, ◌∙◌, arith, true≢false, ◌⊎◌, inl, inr, ◌==◌, Result, Ok, Err, OnOk, OnErr}
+use Rattle.std.proofs.Common.{◌≡◌, ℕ, zero, suc, ◌+◌, ◌-◌, ◌<◌, ◌≤◌, ◌≢◌, Bool, true, false, cond, not, ◌&&◌, ◌||◌, List, [], ◌∷◌, length, is_some, Option, Some, None, refl, sym, ap, subst, ◌∙◌, arith, true≢false, ◌⊎◌, inl, inr, ◌==◌, Result, Ok, Err, OnOk, OnErr}
 use Rattle.std.specs.Cmp.{nat_cmp_total, unsigned_tied}
 use Rattle.std.specs.declared.alloc.AllocError.{AllocError}
 use Rattle.std.specs.FinMap as map
@@ -8,25 +8,25 @@ use Rattle.std.specs.Ordering.{nat_cmp, eq_by_cmp}
 use Rattle.std.proofs.lemmas.Bool.{eq-eqb, eqb-true, ne_eqb}
 use Rattle.ep_base.specs.Instances.{IsInstance}
 use Rattle.ep_base.specs.Places.{Has}
-use Rattle.ep_base.proofs.Places.{Has-empty, Has-cons_cases, Has-head, Has-tail}
+use Rattle.ep_base.proofs.Places.{Has-empty, Has-head, Has-tail}
 use Rattle.ep_rules.specs.Maps.{Map, none, get, insert, remove}
 use Rattle.ep_rules.specs.States.{with_held}
 use Rattle.ep_rules.specs.declared.record.Record.{Record}
 use Rattle.ep_space.specs.Held.{Held, Places, HasPlace}
 use Rattle.ep_space.specs.Index.{word, without, with_key, with_place_of, IsOrdered, IsSearchable, IsKept}
 use Rattle.ep_space.specs.Keys.{voted_key, recorded_key, key_at}
-use Rattle.ep_space.proofs.Ordered.{first_apart, Has-without, without-Has, without-none, without-gone, IsOrdered-without, with_key-cases, with_key-Has, IsOrdered-with_key, IsOrdered-same, with_key-same}
+use Rattle.ep_space.proofs.Ordered.{first_apart, Has-without, without-Has, without-gone, IsOrdered-without, with_key-cases, with_key-Has, IsOrdered-with_key, IsOrdered-same, with_key-same}
 
 tied_is : (q i : ℕ) → eq_by_cmp nat_cmp q i ≡ (q == i)
 tied_is q i = unsigned_tied q i
 
-tied_apart : (q i : ℕ) → q ≢ i → eq_by_cmp nat_cmp q i ≡ false
+pub tied_apart : (q i : ℕ) → q ≢ i → eq_by_cmp nat_cmp q i ≡ false
 tied_apart q i apart = tied_is q i ∙ ne_eqb q i apart
 
 tied_itself : (i : ℕ) → eq_by_cmp nat_cmp i i ≡ true
 tied_itself i = tied_is i i ∙ eq-eqb i i refl
 
-either_way : (q i : ℕ) → (q ≡ i) ⊎ (q ≢ i)
+pub either_way : (q i : ℕ) → (q ≡ i) ⊎ (q ≢ i)
 either_way q i = go (q == i) refl
   where
     go : (b : Bool) → (q == i) ≡ b → (q ≡ i) ⊎ (q ≢ i)

@@ -5,5 +5,6 @@ pub mod Ordered
 pub mod Kept
 pub mod Runs
 pub mod Gathering
+pub mod FirstTaken
 pub mod Least
 pub mod Twice

@@ -1,14 +1,13 @@
 -- Lists in the order of key and then instance.
-use Rattle.std.proofs.Common.{◌≡◌, ℕ, zero, suc, ◌<◌, ◌≤◌, ◌≢◌, Bool, true, false, cond, not, ◌&&◌, List, [], ◌∷◌, length, is_some, Option, Some, None, refl, sym, ap, subst, ◌∙◌, arith, true≢false, ◌⊎◌, inl, inr, take, drop, ◌++◌, ◌-◌, ◌==◌, slice_get}
+use Rattle.std.proofs.Common.{◌≡◌, ℕ, zero, suc, ◌<◌, ◌≤◌, ◌≢◌, Bool, true, false, cond, List, [], ◌∷◌, length, Option, Some, refl, sym, ap, subst, ◌∙◌, arith, true≢false, ◌⊎◌, inl, inr, ◌==◌, slice_get}
 use Rattle.std.specs.List.{AllByRecursion, insert, remove}
 use Rattle.std.specs.Prelude.{unwrap_or}
 use Rattle.std.proofs.lemmas.Bool.{eq-eqb, eqb-true, ne_eqb}
 use Rattle.std.proofs.lemmas.Option.{none-some}
-use Rattle.ep_base.specs.Deps.{IsRising, IsBelowFirst}
 use Rattle.ep_base.specs.Places.{Has}
 use Rattle.ep_base.proofs.Places.{Has-empty, Has-cons_cases, Has-head, Has-tail}
 use Rattle.ep_space.specs.Index.{word, before, without, IsOrdered, count_before, with_key}
-use Rattle.ep_space.proofs.Before.{before_trans, before_itself, before_turned, before_same}
+use Rattle.ep_space.proofs.Before.{before_trans, before_itself, before_turned}
 
 pub some_is : {X : Type 0} (x y : X) → Some x ≡ Some y → x ≡ y
 some_is x y e = ap (λ o. unwrap_or o x) e

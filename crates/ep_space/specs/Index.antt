@@ -1,5 +1,5 @@
 -- An index by key: the instances whose recorded command has a key, in the order of key and then instance.
-use Rattle.std.specs.Prelude.{◌≡◌, ◌↔◌, ◌≤◌, ℕ, suc, true, cond, is_some, List, [], ◌∷◌, ◌++◌, Option, Some, None, Bool, ◌==◌}
+use Rattle.std.specs.Prelude.{◌≡◌, ◌↔◌, ◌≤◌, ℕ, suc, true, cond, is_some, List, [], ◌∷◌, Option, Some, None, Bool, ◌==◌}
 use Rattle.std.specs.Cmp.Lexicographic.{slice_cmp}
 use Rattle.std.specs.FinSet as set
 use Rattle.std.specs.List.{AllByRecursion}

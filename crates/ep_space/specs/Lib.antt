@@ -3,4 +3,5 @@ pub mod Entries
 pub mod Keys
 pub mod Index
 pub mod Records
+pub mod Taken
 pub mod Gathering

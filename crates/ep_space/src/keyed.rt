@@ -1,12 +1,12 @@
 //! Records of instances, with an index by key.
 
-ghost use Rattle.std.specs.Prelude.{◌≡◌, Some, None, OnOk, OnErr, if◌then◌else◌};
+ghost use Rattle.std.specs.Prelude.{◌≡◌, ◌≤◌, ◌<◌, ℕ, false, Some, None, OnOk, OnErr, if◌then◌else◌};
 ghost use Rattle.std.specs.FinSet as set;
 ghost use Rattle.std.specs.Option.{option_copied};
 ghost use Rattle.std.specs.Vec.{vec_capacity};
 ghost use Rattle.ep_base.specs.Deps.{AreInstances};
 ghost use Rattle.ep_rules.specs.Maps.{none, get, insert, remove};
-ghost use Rattle.ep_rules.specs.States.{with_held};
+ghost use Rattle.ep_rules.specs.States.{with_held, is_free};
 ghost use Rattle.ep_space.specs.Held.{HasPlace};
 ghost use Rattle.ep_space.specs.Index.{IsKept};
 ghost use Rattle.ep_space.specs.Keys.{holders};
@@ -14,7 +14,8 @@ ghost use Rattle.ep_space.specs.Keys.{holders};
 use crate::index::{insert_place, keeps_key, make_room, remove_place, run_of};
 use crate::place::instance_of;
 use crate::table::Table;
-use ep_base::InstanceId;
+use crate::taken::note;
+use ep_base::{InstanceId, ReplicaId};
 use ep_rules::Record;
 use std::alloc::{AllocError, Global};
 use std::marker::Model;
@@ -24,6 +25,7 @@ use std::marker::Model;
 pub struct Keyed {
     table: Table<Record>,
     index: Vec<u32>,
+    taken: [u16; 7],
 }
 
 impl Model for Keyed {
@@ -37,10 +39,11 @@ impl Model for Keyed {
     ghost coded = { held_code record_facts.the_row.coded };
 
     ghost use Rattle.ep_space.specs.Index.{IsKept};
+    ghost use Rattle.ep_space.specs.Taken.{AreTaken};
 
     ghost view = { λ k. k.table };
 
-    ghost invariant = { λ k. IsKept k.table k.index.items (vec_capacity k.index) };
+    ghost invariant = { λ k. IsKept k.table k.index.items (vec_capacity k.index) × AreTaken k.table.held k.taken };
 }
 
 impl Keyed {
@@ -51,6 +54,7 @@ impl Keyed {
         Keyed {
             table: Table::new(alloc),
             index: Vec::new(alloc),
+            taken: [0; 7],
         }
     }
 
@@ -78,11 +82,8 @@ impl Keyed {
         ensures old { result ≡ get self.old.held id }
         ensures new { self.new ≡ record { held = with_held self.old.held id value; places = self.old.places } }
     {
-        if keeps_key(&self.table, id, &value) {
-            return self.table.put_back(id, value);
-        }
-        let earlier = take_out(&mut self.table, &mut self.index, id);
-        put_in(&mut self.table, &mut self.index, id, value);
+        let earlier = exchange(&mut self.table, &mut self.index, id, value);
+        note(&mut self.taken, &self.table, id);
         earlier
     }
 
@@ -102,6 +103,14 @@ impl Keyed {
         run_of(&self.table, self.index.as_slice(), key)
     }
 
+    /// A number of the replica's first instances that all have a record.
+    pub fn taken_by(&self, replica: ReplicaId) -> u16
+        ensures bounded { result ≤ 1000 }
+        ensures full { (n : ℕ) → n < result → is_free self.now.held replica n ≡ false }
+    {
+        self.taken[usize::from(replica.index())]
+    }
+
     /// The instance whose place has this number, if there is one.
     pub fn instance_at(&self, place: u32) -> Option<InstanceId>
         ensures { result ≡ (if set.contains self.now.places place then Some place else None) }
@@ -112,6 +121,27 @@ impl Keyed {
             _ => None,
         }
     }
+}
+
+/// Writes this record, or none, at the instance's place, and gives what was there; its place in the index is that of its key.
+fn exchange(
+    table: &mut Table<Record>,
+    index: &mut Vec<u32>,
+    id: InstanceId,
+    value: Option<Record>,
+) -> Option<Record>
+    requires place { HasPlace table.old.places id }
+    requires kept { IsKept table.old index.old.items (vec_capacity index.old) }
+    ensures old { result ≡ get table.old.held id }
+    ensures new { table.new ≡ record { held = with_held table.old.held id value; places = table.old.places } }
+    ensures kept { IsKept table.new index.new.items (vec_capacity index.new) }
+{
+    if keeps_key(table, id, &value) {
+        return table.put_back(id, value);
+    }
+    let earlier = take_out(table, index, id);
+    put_in(table, index, id, value);
+    earlier
 }
 
 /// Takes the instance's record, and its place out of the index.

@@ -9,6 +9,7 @@ mod place;
 mod space;
 mod space_full;
 mod table;
+mod taken;
 #[cfg(test)]
 mod tests;
 

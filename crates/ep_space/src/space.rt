@@ -255,7 +255,8 @@ impl Space {
         ensures free { IfOk result (λ n. (1 ≤ n) × (n ≤ 1000) × (free_number self.now.records replica ≡ Some (n - 1))) }
         ensures full { IsErr result → free_number self.now.records replica ≡ None }
     {
-        for place in 0..1000 {
+        let taken = self.table.taken_by(replica);
+        for place in taken..1000 {
             if self.is_free(replica, place) {
                 return Ok(place + 1);
             }

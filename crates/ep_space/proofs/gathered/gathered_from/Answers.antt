@@ -1,7 +1,6 @@
 use Rattle.std.proofs.Common.{◌≡◌, ◌∙◌, sym, ap, Some, None, Result, Ok, Err, IfOk, []}
-use Rattle.ep_base.specs.Deps.{IsRising}
 use Rattle.ep_base.specs.Interference.{key_of}
-use Rattle.ep_rules.specs.InterferenceSet.{touches, interference}
+use Rattle.ep_rules.specs.InterferenceSet.{touches}
 use Rattle.ep_space.specs.Gathering.{gather_all, next_attrs}
 use Rattle.ep_space.specs.Keys.{holders}
 use Rattle.ep_space.specs.declared.gathered.Gathered.{Gathered}

@@ -1,9 +1,9 @@
-use Rattle.std.proofs.Common.{◌≡◌, ◌<◌, ◌+◌, ◌∙◌, ℕ, List, Option, Some, sym, ap, subst, drop, ◌∷◌, ◌++◌, length, IfSome, slice_get, slice_index_or}
+use Rattle.std.proofs.Common.{◌≡◌, ◌<◌, ◌+◌, ◌∙◌, ℕ, List, Option, Some, sym, ap, subst, drop, ◌∷◌, ◌++◌, length, IfSome, slice_index_or}
 use Rattle.std.proofs.lemmas.Option.{slice_get-get_or}
 use Rattle.ep_base.specs.Deps.{IsRising}
 use Rattle.ep_rules.specs.InterferenceSet.{touches}
 use Rattle.ep_rules.specs.Maps.{get}
-use Rattle.ep_space.specs.Gathering.{gather, gather_all}
+use Rattle.ep_space.specs.Gathering.{gather_all}
 use Rattle.ep_space.proofs.Gathering.{drop_here, rising_front, rising_gathered}
 use Rattle.ep_space.proofs.gathered.gathered_run.Goals as goal
 

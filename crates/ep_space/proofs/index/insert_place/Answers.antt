@@ -1,5 +1,5 @@
-use Rattle.std.proofs.Common.{◌≡◌, ◌<◌, ◌∙◌, ℕ, ap, sym, arith, Some, List, true, Bool, vec_capacity, vec_len, length, if◌then◌else◌, is_ok, insert, subst, refl}
-use Rattle.ep_space.specs.Index.{count_before, with_key, with_place_of}
+use Rattle.std.proofs.Common.{◌≡◌, ◌<◌, ◌∙◌, ℕ, ap, sym, Some, List, true, Bool, vec_capacity, vec_len, length, if◌then◌else◌, is_ok, insert, subst, refl}
+use Rattle.ep_space.specs.Index.{count_before, with_place_of}
 use Rattle.ep_space.specs.Keys.{voted_key, key_at}
 use Rattle.ep_space.proofs.Kept.{room_for}
 use Rattle.ep_space.proofs.Ordered.{insert-at_count}

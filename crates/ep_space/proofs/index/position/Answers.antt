@@ -1,6 +1,5 @@
-use Rattle.std.proofs.Common.{◌≡◌, ◌<◌, ◌≤◌, ◌+◌, ◌-◌, ◌/◌, ◌∙◌, ℕ, sym, length, arith, slice_get, slice_index_or, Some}
+use Rattle.std.proofs.Common.{◌<◌, ◌≤◌, ◌+◌, ◌-◌, ◌/◌, ◌∙◌, ℕ, sym, length, arith, slice_index_or}
 use Rattle.std.proofs.lemmas.Option.{slice_get-get_or}
-use Rattle.ep_base.specs.Places.{Has}
 use Rattle.ep_space.specs.Keys.{key_at}
 use Rattle.ep_space.proofs.Ordered.{Has-at, count_within, count_after, count_upto}
 use Rattle.ep_space.proofs.index.position.Goals as goal

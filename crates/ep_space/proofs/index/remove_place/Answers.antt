@@ -1,6 +1,6 @@
-use Rattle.std.proofs.Common.{◌≡◌, ◌<◌, ◌∙◌, ℕ, ap, sym, refl, Some, None, is_some, true, List, vec_len, length, subst, remove}
+use Rattle.std.proofs.Common.{◌≡◌, ◌<◌, ◌∙◌, ap, sym, refl, Some, None, is_some, length, subst, remove}
 use Rattle.ep_base.specs.Places.{Has}
-use Rattle.ep_space.specs.Index.{word, count_before, IsKept}
+use Rattle.ep_space.specs.Index.{word, count_before}
 use Rattle.ep_space.specs.Keys.{key_at}
 use Rattle.ep_space.proofs.Kept.{no_key}
 use Rattle.ep_space.proofs.Ordered.{count_member, remove-at_count, without-none}

@@ -1,5 +1,4 @@
-use Rattle.std.proofs.Common.{◌≡◌, ◌<◌, ◌≤◌, ◌∙◌, ℕ, sym, refl, arith, take, drop, ◌-◌}
-use Rattle.ep_space.specs.Index.{count_before}
+use Rattle.std.proofs.Common.{◌∙◌, arith, take, drop, ◌-◌}
 use Rattle.ep_space.specs.Keys.{key_at}
 use Rattle.ep_space.proofs.Before.{first_before}
 use Rattle.ep_space.proofs.Runs.{instance_low, count_rises, run-holders}

@@ -1,6 +1,4 @@
-use Rattle.std.proofs.Common.{vec_capacity, ◌≡◌, None, sym, ◌∙◌, ap}
-use Rattle.ep_rules.specs.States.{with_held}
-use Rattle.ep_rules.specs.Maps.{remove}
+use Rattle.std.proofs.Common.{vec_capacity, sym}
 use Rattle.ep_space.proofs.Kept.{kept-inserted}
 use Rattle.ep_space.proofs.Twice.{remove_none}
 use Rattle.ep_space.proofs.keyed.put_in.Goals as goal

@@ -1,21 +1,5 @@
-use Rattle.std.proofs.Common.{◌∙◌, ap, vec_capacity}
-use Rattle.ep_rules.specs.Maps.{get}
-use Rattle.ep_rules.specs.States.{with_held}
-use Rattle.ep_space.proofs.Kept.{get-removed, kept-written}
-use Rattle.ep_space.proofs.Twice.{with_held-after_remove}
+use Rattle.ep_space.proofs.FirstTaken.{taken-written}
 use Rattle.ep_space.proofs.keyed.Keyed.put_back.Goals as goal
 
-pub invariant_of-self : goal.invariant_of-self
-invariant_of-self c =
-    rw c.put_back.ensures.new
-    (kept-written c.self.inside.table c.self.inside.index.items (vec_capacity c.self.inside.index) c.args.id c.args.value (c.keeps_key.ensures.0 c.if-keeps_key.true) c.self.invariant)
-
-pub put_in-requires-clause-none : goal.put_in-requires-clause-none
-put_in-requires-clause-none c = ap (λ t. get t.held c.args.id) c.take_out-earlier.ensures.new ∙ get-removed c.self.inside.table.held c.args.id
-
-pub returns-clause-new : goal.returns-clause-new
-returns-clause-new c =
-    c.put_in.ensures.new
-    ∙ (λ d. record { held = with_held (c.take_out-earlier.ensures.new d).held c.args.id c.args.value; places = (c.take_out-earlier.ensures.new d).places })
-    ∙ (λ d. record { held = with_held-after_remove c.self.inside.table.held c.args.id c.args.value d; places = c.self.inside.table.places })
-    ∙ (λ d. record { held = with_held (c.self.view_is d).held c.args.id c.args.value; places = (c.self.view_is d).places })
+pub note-requires : goal.note-requires
+note-requires c = rw c.exchange-earlier.ensures.new (taken-written c.self.inside.table.held c.args.id c.args.value c.self.inside.taken c.self.invariant.1)
