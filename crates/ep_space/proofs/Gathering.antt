@@ -1,134 +1,153 @@
--- What is gathered from a table's entries is what the table holds of it.
-use Rattle.std.proofs.Common.{◌≡◌, ℕ, suc, ◌+◌, Bool, true, false, cond, Option, Some, None, List, [], ◌∷◌, drop, max, refl, sym, ap, ◌∙◌, arith}
-use Rattle.std.specs.Prelude.{slice_get, T}
-use Rattle.std.specs.declared.cmp.Ordering.{Ordering}
-use Rattle.std.specs.declared.cmp.Ordering.TheVariants.{Less, Equal, Greater}
-use Rattle.std.specs.Ordering.{nat_cmp, is_lt, is_eq}
-use Rattle.std.specs.Cmp.{nat_cmp_total}
-use Rattle.std.specs.FinMap as map
-use Rattle.std.specs.FinMap.{find, put, is_sorted}
-use Rattle.std.specs.FinMap.Entries.{below_all, by_order}
-use Rattle.std.specs.Map.{keys_of, lookup}
-use Rattle.std.proofs.lemmas.Bool.{and_parts, and_from}
-use Rattle.std.proofs.lemmas.List.{nil_from_length}
-use Rattle.std.proofs.lemmas.Map.{lookup-none}
-use Rattle.std.proofs.lemmas.Map.Entries.{none_past_head}
-use Rattle.std.proofs.lemmas.Map.Keys.{IsDistinct-tail}
+-- What is gathered of the run of a command's key is its interference set.
+use Rattle.std.proofs.Common.{◌≡◌, ℕ, ◌+◌, Bool, true, false, cond, not, ◌&&◌, Option, Some, None, List, [], ◌∷◌, ◌++◌, max, refl, sym, ap, ◌∙◌, arith, append_assoc, append-nil, true≢false, eqb, subst, suc, drop}
+use Rattle.std.specs.Prelude.{slice_get}
 use Rattle.std.proofs.lemmas.Option.{slice_get_within, get_or_from_slice_get}
 use Rattle.std.proofs.Math.Seq.{drop-cons}
-use Rattle.ep_base.specs.Deps.{union, union_from}
-use Rattle.ep_rules.specs.InterferenceSet.{those, greatest_seq, seq_of, instances}
-use Rattle.ep_rules.specs.Maps.{Map}
+use Rattle.std.specs.Cmp.{unsigned_tied}
+use Rattle.std.specs.FinMap as map
+use Rattle.std.specs.FinMap.{find, is_sorted}
+use Rattle.std.specs.FinMap.Entries.{below_all}
+use Rattle.std.specs.List.{AllByRecursion}
+use Rattle.std.specs.Ordering.{nat_cmp}
+use Rattle.std.proofs.lemmas.Bool.{and_parts, eq-eqb}
+use Rattle.ep_base.specs.Deps.{IsRising}
+use Rattle.ep_base.specs.Interference.{key_of, is_get}
+use Rattle.ep_base.specs.declared.command.Command.{Command}
+use Rattle.ep_base.specs.declared.vote.Vote.{Vote}
+use Rattle.ep_base.proofs.Keys.{same_key, interfere_by_key}
+use Rattle.ep_rules.specs.InterferenceSet.{touches, votes_against, those, greatest_seq, seq_of, instances, interference}
+use Rattle.ep_rules.specs.Maps.{Map, get, entries}
 use Rattle.ep_rules.specs.declared.record.Record.{Record}
-use Rattle.ep_space.specs.Entries.{held_in, held, same, flat, IsTable}
-use Rattle.ep_space.specs.Gathering.{gather, gather_record, gathered_from}
+use Rattle.ep_space.specs.Gathering.{gather, gather_all, next_attrs}
+use Rattle.ep_space.specs.Keys.{voted_key, is_key, has_key, holders}
 use Rattle.ep_space.specs.declared.gathered.Gathered.{Gathered}
-use Rattle.ep_space.proofs.Order.{same_equiv}
-use Rattle.ep_space.proofs.Lookup.{find-held}
+use Rattle.ep_space.proofs.Runs.{found_on, sorted_true}
 
-less_from : (o : Ordering) → is_lt o ≡ true → o ≡ Less
-less_from Less e = refl
-less_from Equal e = absurd cc
-less_from Greater e = absurd cc
+abbrev Entry : Type 0
+Entry = ℕ × Record
 
-true_from : (b : Bool) → T b → b ≡ true
-true_from true h = refl
-true_from false h = absurd h
+-- Entries of a map are what it has.
 
-module _ (t : ℕ × Record → Bool) where
-  first_above : (k : ℕ) (es : List (ℕ × Record)) → below_all nat_cmp k es ≡ true → union (k ∷ []) (instances (those t es)) ≡ k ∷ instances (those t es)
-  first_above k [] h = refl
-  first_above k (e ∷ es) h =
-      let p = and_parts (is_lt (nat_cmp k e.0)) (below_all nat_cmp k es) h in
-      let rest = instances (those t es) in
-      elim (t e) as (λ b. union (k ∷ []) (instances (cond b (e ∷ those t es) (those t es))) ≡ k ∷ instances (cond b (e ∷ those t es) (those t es))) [
-        | true ↦ ap (λ o. by_order o (k ∷ e.0 ∷ rest) (k ∷ rest) (e.0 ∷ union_from k (union []) rest)) (less_from (nat_cmp k e.0) p.0)
-        | false ↦ first_above k es p.1
-      ]
+all_map : {P Q : Entry → Type 0} (es : List Entry) → ((e : Entry) → P e → Q e) → AllByRecursion P es → AllByRecursion Q es
+all_map [] f h = tt
+all_map (e ∷ es) f h = (f e h.0, all_map es f h.1)
 
-  below_trans : (k x : ℕ) (es : List (ℕ × Record)) → nat_cmp k x ≡ Less → below_all nat_cmp x es ≡ true → below_all nat_cmp k es ≡ true
-  below_trans k x [] l h = refl
-  below_trans k x (e ∷ es) l h =
-      let p = and_parts (is_lt (nat_cmp x e.0)) (below_all nat_cmp x es) h in
-      and_from (is_lt (nat_cmp k e.0)) (below_all nat_cmp k es) (ap is_lt (nat_cmp_total.trans k x e.0 l (less_from (nat_cmp x e.0) p.0))) (below_trans k x es l p.1)
+all_those : (P : Entry → Type 0) (t : Entry → Bool) (es : List Entry) → AllByRecursion P es → AllByRecursion P (those t es)
+all_those P t [] h = tt
+all_those P t (e ∷ es) h =
+    let rest = all_those P t es h.1 in
+    elim (t e) as (λ b. AllByRecursion P (cond b (e ∷ those t es) (those t es))) [ true ↦ (h.0, rest) | false ↦ rest ]
 
-  pushed : (k : ℕ) (e : ℕ × Record) (xs : List ℕ) (c : Bool) → nat_cmp k e.0 ≡ Greater → e.0 ∷ cond c (union (k ∷ []) xs) xs ≡ cond c (union (k ∷ []) (e.0 ∷ xs)) (e.0 ∷ xs)
-  pushed k e xs true g = sym (ap (λ o. by_order o (k ∷ e.0 ∷ xs) (k ∷ xs) (e.0 ∷ union_from k (union []) xs)) g)
-  pushed k e xs false g = refl
+all_found : (es : List Entry) → is_sorted nat_cmp es ≡ true → AllByRecursion (λ e. find nat_cmp e.0 es ≡ Some e.1) es
+all_found [] s = tt
+all_found (e ∷ es) s =
+    let p = and_parts (below_all nat_cmp e.0 es) (is_sorted nat_cmp es) s in (
+      ap (λ b. cond b (Some e.1) (find nat_cmp e.0 es)) (unsigned_tied e.0 e.0 ∙ eq-eqb e.0 e.0 refl),
+      all_map {P = λ f. find nat_cmp f.0 es ≡ Some f.1} {Q = λ f. find nat_cmp f.0 (e ∷ es) ≡ Some f.1} es (λ f at. found_on e es f.0 f.1 p.0 at) (all_found es p.1),
+    )
 
-  put_instances : (k : ℕ) (r : Record) (es : List (ℕ × Record)) → is_sorted nat_cmp es ≡ true → find nat_cmp k es ≡ None
-      → instances (those t (put nat_cmp k r es)) ≡ cond (t (k, r)) (union (k ∷ []) (instances (those t es))) (instances (those t es))
-  put_instances k r [] s n = elim (t (k, r)) as (λ b. instances (cond b ((k, r) ∷ []) []) ≡ cond b (k ∷ []) []) [ true ↦ refl | false ↦ refl ]
-  put_instances k r (e ∷ es) s n =
-      let p = and_parts (below_all nat_cmp e.0 es) (is_sorted nat_cmp es) s in
-      let zs = those t (e ∷ es) in
-      elim (nat_cmp k e.0) as (λ o. nat_cmp k e.0 ≡ o → cond (is_eq o) (Some e.1) (find nat_cmp k es) ≡ None
-      → instances (those t (by_order o ((k, r) ∷ e ∷ es) ((e.0, r) ∷ es) (e ∷ put nat_cmp k r es))) ≡ cond (t (k, r)) (union (k ∷ []) (instances zs)) (instances zs)) [
-        | Less ↦ λ l _. elim (t (k, r)) as (λ b. instances (cond b ((k, r) ∷ zs) zs) ≡ cond b (union (k ∷ []) (instances zs)) (instances zs)) [
-          | true ↦ sym (first_above k (e ∷ es) (and_from (is_lt (nat_cmp k e.0)) (below_all nat_cmp k es) (ap is_lt l) (below_trans k e.0 es l p.0)))
-          | false ↦ refl
-        ]
-        | Equal ↦ λ _ m. absurd cc
-        | Greater ↦ λ g m. elim (t e) as (λ b. instances (cond b (e ∷ those t (put nat_cmp k r es)) (those t (put nat_cmp k r es)))
-            ≡ cond (t (k, r)) (union (k ∷ []) (instances (cond b (e ∷ those t es) (those t es)))) (instances (cond b (e ∷ those t es) (those t es)))) [
-              | true ↦ ap (λ (xs : List ℕ). e.0 ∷ xs) (put_instances k r es p.1 m) ∙ pushed k e (instances (those t es)) (t (k, r)) g
-              | false ↦ put_instances k r es p.1 m
-            ]
-      ] refl n
+-- Gathering one after the other.
 
-  higher : (a g s : ℕ) (c : Bool) → max a (cond c (max g s) g) ≡ cond c (max (max a g) s) (max a g)
-  higher a g s true = omega arith
-  higher a g s false = refl
+abbrev with_all : Gathered → List Entry → Gathered
+with_all g es = record { seq = max g.seq (greatest_seq es); deps = g.deps ++ instances es }
 
-  put_seq : (k : ℕ) (r : Record) (es : List (ℕ × Record)) → find nat_cmp k es ≡ None
-      → greatest_seq (those t (put nat_cmp k r es)) ≡ cond (t (k, r)) (max (greatest_seq (those t es)) (seq_of r.vote)) (greatest_seq (those t es))
-  put_seq k r [] n = elim (t (k, r)) as (λ b. greatest_seq (cond b ((k, r) ∷ []) []) ≡ cond b (max 0 (seq_of r.vote)) 0) [ true ↦ omega arith | false ↦ refl ]
-  put_seq k r (e ∷ es) n =
-      let zs = those t (e ∷ es) in
-      elim (nat_cmp k e.0) as (λ o. cond (is_eq o) (Some e.1) (find nat_cmp k es) ≡ None
-      → greatest_seq (those t (by_order o ((k, r) ∷ e ∷ es) ((e.0, r) ∷ es) (e ∷ put nat_cmp k r es))) ≡ cond (t (k, r)) (max (greatest_seq zs) (seq_of r.vote)) (greatest_seq zs)) [
-        | Less ↦ λ _. elim (t (k, r)) as (λ b. greatest_seq (cond b ((k, r) ∷ zs) zs) ≡ cond b (max (greatest_seq zs) (seq_of r.vote)) (greatest_seq zs)) [ true ↦ omega arith | false ↦ refl ]
-        | Equal ↦ λ m. absurd cc
-        | Greater ↦ λ m. elim (t e) as (λ b. greatest_seq (cond b (e ∷ those t (put nat_cmp k r es)) (those t (put nat_cmp k r es)))
-            ≡ cond (t (k, r)) (max (greatest_seq (cond b (e ∷ those t es) (those t es))) (seq_of r.vote)) (greatest_seq (cond b (e ∷ those t es) (those t es)))) [
-              | true ↦ ap (max (seq_of e.1.vote)) (put_seq k r es m) ∙ higher (seq_of e.1.vote) (greatest_seq (those t es)) (seq_of r.vote) (t (k, r))
-              | false ↦ put_seq k r es m
-            ]
-      ] n
+with_one : (g : Gathered) (e : Entry) (es : List Entry) → with_all (record { seq = max g.seq (seq_of e.1.vote); deps = g.deps ++ e.0 ∷ [] }) es ≡ with_all g (e ∷ es)
+with_one g e es =
+    let greatest : max (max g.seq (seq_of e.1.vote)) (greatest_seq es) ≡ max g.seq (max (seq_of e.1.vote) (greatest_seq es)) = omega arith in
+    λ d. record { seq = greatest d; deps = append_assoc g.deps (e.0 ∷ []) (instances es) d }
 
-  abbrev found_in : List (ℕ × Record) → Gathered
-  found_in es = record { seq = greatest_seq (those t es); deps = instances (those t es) }
+module _ (t : Entry → Bool) (m : Map Record) where
+  gathered_one : (g : Gathered) (e : Entry) (es : List Entry) (b : Bool) → t e ≡ b
+      → ((g : Gathered) → gather_all t m g (instances es) ≡ with_all g (those t es))
+      → gather_all t m (cond b (record { seq = max g.seq (seq_of e.1.vote); deps = g.deps ++ e.0 ∷ [] }) g) (instances es) ≡ with_all g (cond b (e ∷ those t es) (those t es))
+  gathered_one g e es true passes rest = rest (record { seq = max g.seq (seq_of e.1.vote); deps = g.deps ++ e.0 ∷ [] }) ∙ with_one g e (those t es)
+  gathered_one g e es false fails rest = rest g
 
-  both_ways : (c : Bool) (a : Gathered) (i : ℕ) (s : ℕ) → cond c (record { seq = max a.seq s; deps = union (i ∷ []) a.deps }) a ≡ record { seq = cond c (max a.seq s) a.seq; deps = cond c (union (i ∷ []) a.deps) a.deps }
-  both_ways true a i s = refl
-  both_ways false a i s = refl
+  gathered_all : (es : List Entry) → AllByRecursion (λ e. get m e.0 ≡ Some e.1) es → (g : Gathered) → gather_all t m g (instances es) ≡ with_all g (those t es)
+  gathered_all [] h g =
+      let least : g.seq ≡ max g.seq 0 = omega arith in
+      λ d. record { seq = least d; deps = sym (append-nil g.deps) d }
+  gathered_all (e ∷ es) h g = ap (λ o. gather_all t m (gather t g e.0 o) (instances es)) h.0 ∙ gathered_one g e es (t e) refl (gathered_all es h.1)
 
-  put_attrs : (i : ℕ) (r : Record) (m : Map Record) → find nat_cmp i (map.entries m) ≡ None → is_sorted nat_cmp (map.entries m) ≡ true
-      → gather_record t (found_in (map.entries m)) i r ≡ found_in (map.entries (map.insert m i r))
-  put_attrs i r m n s =
-      both_ways (t (i, r)) (found_in (map.entries m)) i (seq_of r.vote)
-      ∙ (λ x. record { seq = sym (put_seq i r (map.entries m) n) x; deps = sym (put_instances i r (map.entries m) s n) x })
-      ∙ ap found_in (sym (map.entries-insert nat_cmp_total m i r))
+-- Tests.
 
-  gathered_one : (i : ℕ) (v : Option Record) (es : List (ℕ × Option Record)) (m : Map Record) → map.from_entries (held_in es) ≡ m
-      → find nat_cmp i (map.entries m) ≡ None → is_sorted nat_cmp (map.entries m) ≡ true → gather t (found_in (map.entries m)) i v ≡ found_in (map.entries (map.from_entries {R = nat_cmp} (held_in ((i, v) ∷ es))))
-  gathered_one i None es m is n s = ap (λ x. found_in (map.entries x)) (sym is)
-  gathered_one i (Some r) es m is n s = put_attrs i r m n s ∙ ap (λ x. found_in (map.entries (map.insert x i r))) (sym is)
+those_within : (t h : Entry → Bool) (es : List Entry) → ((e : Entry) → t e ≡ true → h e ≡ true) → those t (those h es) ≡ those t es
+those_within t h [] w = refl
+those_within t h (e ∷ es) w = go (t e) (h e) refl refl (those_within t h es w)
+  where
+    go : (b c : Bool) → t e ≡ b → h e ≡ c → those t (those h es) ≡ those t es → those t (cond c (e ∷ those h es) (those h es)) ≡ cond b (e ∷ those t es) (those t es)
+    go true true p q rest = ap (λ x. cond x (e ∷ those t (those h es)) (those t (those h es))) p ∙ ap (λ (es : List Entry). e ∷ es) rest
+    go true false p q rest = absurd (true≢false (sym (w e p) ∙ q))
+    go false true p q rest = ap (λ x. cond x (e ∷ those t (those h es)) (those t (those h es))) p ∙ rest
+    go false false p q rest = rest
 
-  entries_empty : map.entries (map.empty {X = Record} {R = nat_cmp}) ≡ []
-  entries_empty = nil_from_length _ (sym (map.len-entries map.empty) ∙ map.len-empty nat_cmp Record)
+those_none : (t : Entry → Bool) (es : List Entry) → ((e : Entry) → t e ≡ false) → those t es ≡ []
+those_none t [] h = refl
+those_none t (e ∷ es) h = ap (λ b. cond b (e ∷ those t es) (those t es)) (h e) ∙ those_none t es h
 
-  sorted_true : (m : Map Record) → is_sorted nat_cmp (map.entries m) ≡ true
-  sorted_true m = true_from (is_sorted nat_cmp (map.entries m)) (map.entries_sorted m)
+key_is_same : (k : List ℕ) (o : Option (List ℕ)) → same_key (Some k) o ≡ is_key k o
+key_is_same k None = refl
+key_is_same k (Some l) = refl
 
-  pub gathered-held : (es : List (ℕ × Option Record)) → IsTable es → gathered_from t es ≡ found_in (map.entries (held es).held)
-  gathered-held [] h = ap found_in (sym entries_empty)
-  gathered-held (e ∷ es) h =
-      let m = (held es).held in
-      let rest = IsDistinct-tail same e.0 (keys_of es) h in
-      let none : lookup (same e.0) es ≡ None = lookup-none (same e.0) es (none_past_head same_equiv e.0 e es h (same_equiv.refl e.0)) in
-      let n : find nat_cmp e.0 (map.entries m) ≡ None = sym (map.get-entries m e.0) ∙ map.get-from_entries nat_cmp_total (held_in es) e.0 ∙ find-held e.0 es rest ∙ ap flat none in
-      ap (λ a. gather t a e.0 e.1) (gathered-held es rest) ∙ gathered_one e.0 e.1 es m refl n (sorted_true m)
+module _ (c : Command) (except : ℕ) where
+  touched_key : (k : List ℕ) → key_of c ≡ Some k → (e : Entry) → touches c except e ≡ true → has_key k e ≡ true
+  touched_key k is e h = go e.1.vote (and_parts (not (eqb e.0 except)) (votes_against c e.1.vote) h).1
+    where
+      go : (v : Option Vote) → votes_against c v ≡ true → is_key k (voted_key v) ≡ true
+      go None x = absurd (true≢false (sym x))
+      go (Some v) x =
+          let both : (same_key (key_of c) (key_of v.decree.command) && not (is_get c && is_get v.decree.command)) ≡ true = sym (interfere_by_key c v.decree.command) ∙ x in
+          sym (key_is_same k (key_of v.decree.command)) ∙ ap (λ o. same_key o (key_of v.decree.command)) (sym is)
+          ∙ (and_parts (same_key (key_of c) (key_of v.decree.command)) (not (is_get c && is_get v.decree.command)) both).0
+
+  and_false : (a b : Bool) → b ≡ false → (a && b) ≡ false
+  and_false true b e = e
+  and_false false b e = refl
+
+  untouched : key_of c ≡ None → (e : Entry) → touches c except e ≡ false
+  untouched is e = and_false (not (eqb e.0 except)) (votes_against c e.1.vote) (go e.1.vote)
+    where
+      go : (v : Option Vote) → votes_against c v ≡ false
+      go None = refl
+      go (Some v) = interfere_by_key c v.decree.command ∙ ap (λ o. same_key o (key_of v.decree.command) && not (is_get c && is_get v.decree.command)) is
+
+  pub gathered-none : (m : Map Record) → key_of c ≡ None → next_attrs (record { seq = 0; deps = [] }) ≡ interference m except c
+  gathered-none m is = ap (λ (es : List Entry). next_attrs (record { seq = greatest_seq es; deps = instances es })) (sym (those_none (touches c except) (entries m) (untouched is)))
+
+  pub gathered-run : (m : Map Record) (k : List ℕ) → key_of c ≡ Some k
+      → next_attrs (gather_all (touches c except) m (record { seq = 0; deps = [] }) (holders k m)) ≡ interference m except c
+  gathered-run m k is =
+      let found : AllByRecursion (λ e. get m e.0 ≡ Some e.1) (those (has_key k) (entries m)) =
+      all_those (λ e. get m e.0 ≡ Some e.1) (has_key k) (entries m)
+      (all_map {P = λ e. find nat_cmp e.0 (entries m) ≡ Some e.1} {Q = λ e. get m e.0 ≡ Some e.1} (entries m) (λ e at. map.get-entries m e.0 ∙ at) (all_found (entries m) (sorted_true m))) in
+      let least : (n : ℕ) → max 0 n ≡ n = λ n. omega arith in
+      ap next_attrs (gathered_all (touches c except) m (those (has_key k) (entries m)) found (record { seq = 0; deps = [] }))
+      ∙ ap (λ (es : List Entry). next_attrs (record { seq = max 0 (greatest_seq es); deps = instances es })) (those_within (touches c except) (has_key k) (entries m) (touched_key k is))
+      ∙ (λ d. next_attrs (record { seq = least (greatest_seq (those (touches c except) (entries m))) d; deps = instances (those (touches c except) (entries m)) }))
+
+-- Rising while it is gathered.
+
+-- what is rising stays so without one in its midst
+pub rising_without : (xs : List ℕ) (i : ℕ) (ys : List ℕ) → IsRising (xs ++ i ∷ ys) → IsRising (xs ++ ys)
+rising_without [] i ys h = h.1
+rising_without (x ∷ []) i [] h = (tt, tt)
+rising_without (x ∷ []) i (y ∷ ys) h = let low = h.0 in let high = h.1.0 in (omega (arith, low, high), h.1.1)
+rising_without (x ∷ z ∷ zs) i ys h = (h.0, rising_without (z ∷ zs) i ys h.1)
+
+-- and its front is rising
+pub rising_front : (xs : List ℕ) (i : ℕ) (ys : List ℕ) → IsRising (xs ++ i ∷ ys) → IsRising (xs ++ i ∷ [])
+rising_front [] i ys h = (tt, tt)
+rising_front (x ∷ []) i ys h = (h.0, (tt, tt))
+rising_front (x ∷ z ∷ zs) i ys h = (h.0, rising_front (z ∷ zs) i ys h.1)
+
+-- whether i was appended or not
+pub rising_gathered : (t : Entry → Bool) (g : Gathered) (i : ℕ) (o : Option Record) (ys : List ℕ) → IsRising (g.deps ++ i ∷ ys) → IsRising ((gather t g i o).deps ++ ys)
+rising_gathered t g i None ys h = rising_without g.deps i ys h
+rising_gathered t g i (Some r) ys h =
+    elim (t (i, r)) as (λ b. IsRising ((cond b (record { seq = max g.seq (seq_of r.vote); deps = g.deps ++ i ∷ [] }) g).deps ++ ys)) [
+      | true ↦ subst IsRising (sym (append_assoc g.deps (i ∷ []) ys)) h
+      | false ↦ rising_without g.deps i ys h
+    ]
 
 pub drop_here : {X : Type 0} (es : List X) (k : ℕ) (x : X) → slice_get es k ≡ Some x → drop k es ≡ x ∷ drop (k + 1) es
 drop_here es k x h =

@@ -1,5 +1,5 @@
 -- The least number that passes, and the least one that is free.
-use Rattle.std.proofs.Common.{◌≡◌, ℕ, suc, zero, ◌<◌, ◌≤◌, ◌⊎◌, Bool, true, Some, None, ap, ◌∙◌, arith, inl, inr, subst}
+use Rattle.std.proofs.Common.{◌≡◌, ℕ, suc, zero, ◌<◌, ◌≤◌, ◌⊎◌, Bool, true, false, Some, None, ap, ◌∙◌, arith, inl, inr, subst, refl}
 use Rattle.ep_base.specs.Instances.{highest_number}
 use Rattle.ep_rules.specs.Counting.{least, or_this}
 use Rattle.ep_rules.specs.Maps.{Map}
@@ -27,3 +27,8 @@ unfolding free_number
 free_none m r k e h j =
     let all : highest_number ≡ k = omega arith in
     ap (λ n. least n (is_free m r)) all ∙ e
+
+-- where none below passes, there is none
+pub least_none : (p : ℕ → Bool) (k : ℕ) → ((n : ℕ) → n < k → p n ≡ false) → least k p ≡ None
+least_none p zero h = refl
+least_none p (suc k) h = ap (or_this k (p k)) (least_none p k (λ n low. h n (omega (arith, low)))) ∙ ap (λ b. or_this k b None) (h k (omega arith))

@@ -1,5 +1,10 @@
 pub mod Order
 pub mod Lookup
+pub mod Before
+pub mod Ordered
+pub mod Kept
+pub mod Runs
 pub mod Gathering
+pub mod FirstTaken
 pub mod Least
 pub mod Twice

@@ -2,10 +2,14 @@
 #![tactic(auto)]
 
 mod gathered;
+mod index;
 mod interference_fault;
+mod keyed;
+mod place;
 mod space;
 mod space_full;
 mod table;
+mod taken;
 #[cfg(test)]
 mod tests;
 

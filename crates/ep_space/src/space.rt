@@ -1,6 +1,6 @@
 //! The records of a replica.
 
-ghost use Rattle.std.specs.Prelude.{◌≡◌, ◌≤◌, ◌<◌, ◌-◌, true, Ok, Err, Some, None, IfOk, IsErr, OnOk, OnErr};
+ghost use Rattle.std.specs.Prelude.{◌≡◌, ◌≤◌, ◌<◌, ◌-◌, true, Ok, Err, Some, None, IfOk, IsErr, OnOk, OnErr, if◌then◌else◌};
 ghost use Rattle.std.specs.Option.{option_copied};
 ghost use Rattle.std.specs.FinSet as set;
 ghost use Rattle.ep_rules.specs.Cells.{record_or_fresh, is_committed, is_done_at, is_settled_at, voted, voted_ballot};
@@ -10,12 +10,13 @@ ghost use Rattle.ep_rules.specs.Phases.{with_commit};
 ghost use Rattle.ep_rules.specs.States.{is_free, free_number, committed_in};
 ghost use Rattle.ep_space.specs.Gathering.{next_attrs};
 ghost use Rattle.ep_space.specs.Held.{HasPlace};
+ghost use Rattle.ep_space.specs.Keys.{holders};
 ghost use Rattle.ep_space.specs.Records.{record_at, with_record, with_earlier};
 
 use crate::gathered::{Gathered, gathered_from};
 use crate::interference_fault::InterferenceFault;
+use crate::keyed::Keyed;
 use crate::space_full::SpaceFull;
-use crate::table::Table;
 use ep_base::{Attrs, Ballot, Command, Decree, InstanceId, ReplicaId, Seq, Size, Status, Vote};
 use ep_rules::Record;
 use std::alloc::{AllocError, Global};
@@ -26,7 +27,7 @@ use std::marker::Model;
 #[derive(Drop)]
 pub struct Space {
     size: Size,
-    table: Table<Record>,
+    table: Keyed,
 }
 
 impl Model for Space {
@@ -46,7 +47,7 @@ impl Space {
     {
         Space {
             size,
-            table: Table::new(alloc),
+            table: Keyed::new(alloc),
         }
     }
 
@@ -254,7 +255,8 @@ impl Space {
         ensures free { IfOk result (λ n. (1 ≤ n) × (n ≤ 1000) × (free_number self.now.records replica ≡ Some (n - 1))) }
         ensures full { IsErr result → free_number self.now.records replica ≡ None }
     {
-        for place in 0..1000 {
+        let taken = self.table.taken_by(replica);
+        for place in taken..1000 {
             if self.is_free(replica, place) {
                 return Ok(place + 1);
             }
@@ -268,6 +270,21 @@ impl Space {
     {
         let id = InstanceId::new(replica, place + 1).unwrap();
         self.get(id).is_none()
+    }
+
+    /// The places of the records whose command has the key, in rising order of instances.
+    pub fn key_run(&self, key: &[u8]) -> &[u32]
+        ensures { result.now ≡ holders key.now self.now.records }
+    {
+        self.table.key_run(key)
+    }
+
+    /// The instance that has this place, if there is one. The number of an instance's place is 65,536 for each replica
+    /// before its own, and its number.
+    pub fn instance_at(&self, place: u32) -> Option<InstanceId>
+        ensures { result ≡ (if set.contains self.now.places place then Some place else None) }
+    {
+        self.table.instance_at(place)
     }
 
     /// The command's interference set in the instance (EPaxos, figure 2): the other instances whose recorded commands interfere with it,
@@ -303,7 +320,7 @@ impl Space {
     ) -> Result<Gathered, AllocError>
         ensures { IfOk result (λ g. next_attrs g ≡ interference self.now.records except command.now) }
     {
-        gathered_from(alloc, self.table.entries(), command, except)
+        gathered_from(alloc, &self.table, command, except)
     }
 }
 

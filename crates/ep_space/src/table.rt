@@ -1,6 +1,6 @@
 //! A table with places for values of instances.
 
-ghost use Rattle.std.specs.Prelude.{◌≡◌, true, Some, OnOk, OnErr, is_some};
+ghost use Rattle.std.specs.Prelude.{◌≡◌, ◌<◌, ◌^◌, true, Some, OnOk, OnErr, is_some};
 ghost use Rattle.std.specs.Option.{option_copied};
 ghost use Rattle.std.specs.FinSet as set;
 ghost use Rattle.std.specs.Map.{lookup, set_value};
@@ -76,11 +76,19 @@ impl<V: Drop> Table<V> {
         let _ = self.put_back(id, value);
     }
 
-    /// The places with their values.
-    pub(crate) fn entries(&self) -> &IndexMap<InstanceId, Option<V>>
-        ensures { held result.now.entries ≡ self.now }
+    /// Whether the instance has a place.
+    pub(crate) fn has_place(&self, id: InstanceId) -> bool
+        ensures { result ≡ set.contains self.now.places id }
     {
-        &self.items
+        self.items.contains_key(&id)
+    }
+
+    /// How many places there are.
+    pub(crate) fn count(&self) -> usize
+        ensures value { result ≡ set.len self.now.places }
+        ensures small { result < 2 ^ 63 }
+    {
+        self.items.len()
     }
 }
 

@@ -249,3 +249,140 @@ fn a_table_writes_at_its_places(rt: HostRuntime) {
     assert_eq!(rt; table.put_back(id, None), Some(7));
     assert_eq!(rt; table.get(id).copied(), None);
 }
+
+/// A `put` of this key, with no dependencies and the least sequence number.
+fn put_of(rt: &impl Abort, alloc: Global, key: &[u8]) -> Decree {
+    let command = match Command::put(alloc, key, b"1") {
+        Ok(command) => command,
+        Err(_) => Command::put(alloc, key, b"1").expect(rt, "memory for a command"),
+    };
+    first_of_all(rt, alloc, command)
+}
+
+fn first_of_all(rt: &impl Abort, alloc: Global, command: Command) -> Decree {
+    let attrs = Attrs {
+        seq: Seq::new(1).expect(rt, "a sequence number"),
+        deps: Deps::new(alloc),
+    };
+    Decree { command, attrs }
+}
+
+/// Accepts the decree at a new ballot.
+fn vote_again(rt: &impl Abort, space: &mut Space, id: InstanceId, decree: Decree) {
+    place(rt, space, id);
+    space.vote_accept(id, ballot(rt, 1, 4), decree);
+}
+
+/// The instances that the index names for the key are these.
+fn assert_run(rt: &impl Abort, space: &Space, key: &[u8], wanted: &[InstanceId]) {
+    let run = space.key_run(key);
+    assert_eq!(rt; run.len(), wanted.len());
+    for (place, id) in run.iter().zip(wanted) {
+        assert_eq!(rt; space.instance_at(*place), Some(*id));
+    }
+}
+
+/// Replica 1 has 1.1 `put x` and votes for 0.1 `put x`.
+#[test]
+fn a_run_has_the_instances_of_a_key_in_rising_order(rt: HostRuntime) {
+    let alloc = rt.alloc();
+    let first = instance(&rt, 0, 1);
+    let other = instance(&rt, 1, 1);
+    let mut space = empty(&rt, alloc);
+    assert_run(&rt, &space, b"x", &[]);
+    hold(&rt, alloc, &mut space, other, 1);
+    hold(&rt, alloc, &mut space, first, 2);
+    assert_run(&rt, &space, b"x", &[first, other]);
+    assert_run(&rt, &space, b"", &[]);
+    assert_run(&rt, &space, b"w", &[]);
+    assert_run(&rt, &space, b"xx", &[]);
+}
+
+#[test]
+fn a_vote_for_another_key_moves_a_place(rt: HostRuntime) {
+    let alloc = rt.alloc();
+    let first = instance(&rt, 0, 1);
+    let second = instance(&rt, 0, 2);
+    let mut space = empty(&rt, alloc);
+    hold(&rt, alloc, &mut space, first, 1);
+    hold(&rt, alloc, &mut space, second, 1);
+    vote_again(&rt, &mut space, first, put_of(&rt, alloc, b"a"));
+    assert_run(&rt, &space, b"a", &[first]);
+    assert_run(&rt, &space, b"x", &[second]);
+    vote_again(&rt, &mut space, first, put_of(&rt, alloc, b"x"));
+    assert_run(&rt, &space, b"a", &[]);
+    assert_run(&rt, &space, b"x", &[first, second]);
+}
+
+#[test]
+fn what_is_put_back_is_in_the_index_again(rt: HostRuntime) {
+    let alloc = rt.alloc();
+    let id = instance(&rt, 3, 9);
+    let mut space = empty(&rt, alloc);
+    hold(&rt, alloc, &mut space, id, 1);
+    let earlier = again(&rt, alloc, &space, id);
+    vote_again(&rt, &mut space, id, put_of(&rt, alloc, b"y"));
+    assert_run(&rt, &space, b"y", &[id]);
+    place(&rt, &mut space, id);
+    let _ = space.put_back(id, earlier);
+    assert_run(&rt, &space, b"x", &[id]);
+    assert_run(&rt, &space, b"y", &[]);
+    place(&rt, &mut space, id);
+    let _ = space.put_back(id, None);
+    assert_run(&rt, &space, b"x", &[]);
+}
+
+#[test]
+fn a_no_op_is_not_in_the_index(rt: HostRuntime) {
+    let alloc = rt.alloc();
+    let id = instance(&rt, 0, 1);
+    let mut space = empty(&rt, alloc);
+    hold(&rt, alloc, &mut space, id, 1);
+    vote_again(
+        &rt,
+        &mut space,
+        id,
+        first_of_all(&rt, alloc, Command::noop()),
+    );
+    assert_run(&rt, &space, b"x", &[]);
+    assert_eq!(rt;
+        found(&rt, alloc, &space, instance(&rt, 0, 2)),
+        Some((1, 0))
+    );
+}
+
+#[test]
+fn a_place_names_its_instance(rt: HostRuntime) {
+    let last = instance(&rt, 6, 1000);
+    let mut space = empty(&rt, rt.alloc());
+    assert_eq!(rt; space.instance_at(394_216), None);
+    place(&rt, &mut space, last);
+    assert_eq!(rt; space.instance_at(394_216), Some(last));
+    assert_eq!(rt; space.instance_at(394_217), None);
+    assert_eq!(rt; space.instance_at(0), None);
+    assert_eq!(rt; space.instance_at(4_294_967_295), None);
+}
+
+/// A thousand keys of two bytes, each of one command.
+#[test]
+fn a_thousand_keys_have_a_run_each(rt: HostRuntime) {
+    let alloc = rt.alloc();
+    let mut space = empty(&rt, alloc);
+    for number in 1..=1000_u16 {
+        let id = instance(&rt, 2, number);
+        vote_again(
+            &rt,
+            &mut space,
+            id,
+            put_of(&rt, alloc, &number.to_le_bytes()),
+        );
+    }
+    for number in 1..=1000_u16 {
+        let id = instance(&rt, 2, number);
+        assert_run(&rt, &space, &number.to_le_bytes(), &[id]);
+    }
+    assert_eq!(rt;
+        found(&rt, alloc, &space, instance(&rt, 0, 1)),
+        Some((1, 0))
+    );
+}

@@ -1,19 +1,29 @@
-use Rattle.std.proofs.Common.{◌≡◌, ℕ, ◌∙◌, sym, ap, ◌-◌, ◌+◌, drop, arith, Some, refl}
-use Rattle.std.specs.Prelude.{slice_get}
+use Rattle.std.proofs.Common.{◌≡◌, ◌∙◌, sym, ap, Some, None, Result, Ok, Err, IfOk, []}
+use Rattle.ep_base.specs.Interference.{key_of}
 use Rattle.ep_rules.specs.InterferenceSet.{touches}
-use Rattle.ep_space.specs.Gathering.{gather, gathered_from}
-use Rattle.ep_space.proofs.Gathering.{drop_here}
+use Rattle.ep_space.specs.Gathering.{gather_all, next_attrs}
+use Rattle.ep_space.specs.Keys.{holders}
+use Rattle.ep_space.specs.declared.gathered.Gathered.{Gathered}
+use Rattle.ep_space.proofs.Gathering.{gathered-none, gathered-run}
+use Rattle.ep_space.proofs.Runs.{rising-holders}
 use Rattle.ep_space.proofs.gathered.gathered_from.Goals as goal
 
-pub loop-place-preserved : goal.loop-place-preserved
-loop-place-preserved c =
-    let t = touches c.args.command.now c.args.except in
-    let es = c.args.entries.now.entries in
-    let k = c.loop-place.place - 1 in
-    let i = c.unwrap.result.0.now in
-    let v = c.unwrap.result.1.now in
-    let at : slice_get es k ≡ Some (i, v) = rw (← c.get_index.ensures.entry, c.unwrap.ensures) refl in
-    let place : c.loop-place.place ≡ k + 1 = omega arith in
-    c.in_ok-gather.ensures
-    ∙ ap (λ g. gather t g i v) (c.loop-place.invariant ∙ ap (λ (n : ℕ). gathered_from t (drop n es)) place)
-    ∙ sym (ap (gathered_from t) (drop_here es k (i, v) at))
+pub gathered_run-requires-clause-rising : goal.gathered_run-requires-clause-rising
+gathered_run-requires-clause-rising c = rw c.key_run-run.ensures.value (rising-holders c.as_slice.result.now c.args.records.now.held)
+
+pub returns-in-None : goal.returns-in-None
+returns-in-None c =
+    let own : None ≡ key_of c.args.command.now = c.in-None.ensures in
+    ap next_attrs c.nothing.ensures ∙ gathered-none c.args.command.now c.args.except c.args.records.now.held (sym own)
+
+found : {X E : Type 0} (f : Gathered → X) (r : Result Gathered E) (g : Gathered) (x : X) → IfOk r (λ h. h ≡ g) → f g ≡ x → IfOk r (λ h. f h ≡ x)
+found f (Ok h) g x is e = ap f is ∙ e
+found f (Err _) g x is e = tt
+
+pub returns-in-Some : goal.returns-in-Some
+returns-in-Some c =
+    let own : Some c.in-Some.key.now ≡ key_of c.args.command.now = c.in-Some.ensures in
+    found next_attrs c.gathered_run.result _ _ c.gathered_run.ensures
+    (ap (λ is. next_attrs (gather_all (touches c.args.command.now c.args.except) c.args.records.now.held (record { seq = 0; deps = [] }) is)) (c.key_run-run.ensures.value)
+    ∙ ap (λ k. next_attrs (gather_all (touches c.args.command.now c.args.except) c.args.records.now.held (record { seq = 0; deps = [] }) (holders k c.args.records.now.held))) c.as_slice.ensures.value
+    ∙ gathered-run c.args.command.now c.args.except c.args.records.now.held c.in-Some.key.now (sym own))

@@ -1,0 +1,174 @@
+//! Records of instances, with an index by key.
+
+ghost use Rattle.std.specs.Prelude.{◌≡◌, ◌≤◌, ◌<◌, ℕ, false, Some, None, OnOk, OnErr, if◌then◌else◌};
+ghost use Rattle.std.specs.FinSet as set;
+ghost use Rattle.std.specs.Option.{option_copied};
+ghost use Rattle.std.specs.Vec.{vec_capacity};
+ghost use Rattle.ep_base.specs.Deps.{AreInstances};
+ghost use Rattle.ep_rules.specs.Maps.{none, get, insert, remove};
+ghost use Rattle.ep_rules.specs.States.{with_held, is_free};
+ghost use Rattle.ep_space.specs.Held.{HasPlace};
+ghost use Rattle.ep_space.specs.Index.{IsKept};
+ghost use Rattle.ep_space.specs.Keys.{holders};
+
+use crate::index::{insert_place, keeps_key, make_room, remove_place, run_of};
+use crate::place::instance_of;
+use crate::table::Table;
+use crate::taken::note;
+use ep_base::{InstanceId, ReplicaId};
+use ep_rules::Record;
+use std::alloc::{AllocError, Global};
+use std::marker::Model;
+
+/// A table of records, and the places of those whose command has a key, in the order of key and then instance.
+#[derive(Drop)]
+pub struct Keyed {
+    table: Table<Record>,
+    index: Vec<u32>,
+    taken: [u16; 7],
+}
+
+impl Model for Keyed {
+    ghost use Rattle.std.specs.Vec.{vec_capacity};
+    ghost use Rattle.ep_rules.specs.declared.record.Record.{Record};
+    ghost use Rattle.ep_rules.specs.contracts.record.Record as record_facts;
+    ghost use Rattle.ep_space.specs.Held.{Held, held_code};
+
+    ghost Value = { Held Record };
+
+    ghost coded = { held_code record_facts.the_row.coded };
+
+    ghost use Rattle.ep_space.specs.Index.{IsKept};
+    ghost use Rattle.ep_space.specs.Taken.{AreTaken};
+
+    ghost view = { λ k. k.table };
+
+    ghost invariant = { λ k. IsKept k.table k.index.items (vec_capacity k.index) × AreTaken k.table.held k.taken };
+}
+
+impl Keyed {
+    /// No records, and no places.
+    pub fn new(alloc: Global) -> Keyed
+        ensures { result ≡ record { held = none; places = set.empty } }
+    {
+        Keyed {
+            table: Table::new(alloc),
+            index: Vec::new(alloc),
+            taken: [0; 7],
+        }
+    }
+
+    /// The instance's record, if it has one.
+    pub fn get(&self, id: InstanceId) -> Option<&Record>
+        ensures { option_copied result ≡ get self.now.held id }
+    {
+        self.table.get(id)
+    }
+
+    /// Makes a place for the instance, if it has none. Nothing else takes memory in the table.
+    pub fn reserve(&mut self, id: InstanceId) -> Result<(), AllocError>
+        ensures ok { OnOk result (self.new ≡ record { held = self.old.held; places = set.insert self.old.places id }) }
+        ensures place { OnOk result (HasPlace self.new.places id) }
+        ensures err { OnErr result (self.new ≡ self.old) }
+    {
+        make_room(&self.table, &mut self.index)?;
+        let _number = id.number();
+        self.table.reserve(id)
+    }
+
+    /// Writes this record, or none, at the instance's place, and gives what was there. It takes no memory.
+    pub fn put_back(&mut self, id: InstanceId, value: Option<Record>) -> Option<Record>
+        requires { HasPlace self.old.places id }
+        ensures old { result ≡ get self.old.held id }
+        ensures new { self.new ≡ record { held = with_held self.old.held id value; places = self.old.places } }
+    {
+        let earlier = exchange(&mut self.table, &mut self.index, id, value);
+        note(&mut self.taken, &self.table, id);
+        earlier
+    }
+
+    /// Writes this record, or none, at the instance's place. It takes no memory.
+    pub fn write(&mut self, id: InstanceId, value: Option<Record>)
+        requires { HasPlace self.old.places id }
+        ensures { self.new ≡ record { held = with_held self.old.held id value; places = self.old.places } }
+    {
+        let _ = self.put_back(id, value);
+    }
+
+    /// The places of the records whose command has the key, in rising order of instances.
+    pub fn key_run(&self, key: &[u8]) -> &[u32]
+        ensures value { result.now ≡ holders key.now self.now.held }
+        ensures instances { AreInstances result.now }
+    {
+        run_of(&self.table, self.index.as_slice(), key)
+    }
+
+    /// A number of the replica's first instances that all have a record.
+    pub fn taken_by(&self, replica: ReplicaId) -> u16
+        ensures bounded { result ≤ 1000 }
+        ensures full { (n : ℕ) → n < result → is_free self.now.held replica n ≡ false }
+    {
+        self.taken[usize::from(replica.index())]
+    }
+
+    /// The instance whose place has this number, if there is one.
+    pub fn instance_at(&self, place: u32) -> Option<InstanceId>
+        ensures { result ≡ (if set.contains self.now.places place then Some place else None) }
+    {
+        let table = &self.table;
+        match instance_of(place) {
+            Some(id) if table.has_place(id) => Some(id),
+            _ => None,
+        }
+    }
+}
+
+/// Writes this record, or none, at the instance's place, and gives what was there; its place in the index is that of its key.
+fn exchange(
+    table: &mut Table<Record>,
+    index: &mut Vec<u32>,
+    id: InstanceId,
+    value: Option<Record>,
+) -> Option<Record>
+    requires place { HasPlace table.old.places id }
+    requires kept { IsKept table.old index.old.items (vec_capacity index.old) }
+    ensures old { result ≡ get table.old.held id }
+    ensures new { table.new ≡ record { held = with_held table.old.held id value; places = table.old.places } }
+    ensures kept { IsKept table.new index.new.items (vec_capacity index.new) }
+{
+    if keeps_key(table, id, &value) {
+        return table.put_back(id, value);
+    }
+    let earlier = take_out(table, index, id);
+    put_in(table, index, id, value);
+    earlier
+}
+
+/// Takes the instance's record, and its place out of the index.
+fn take_out(table: &mut Table<Record>, index: &mut Vec<u32>, id: InstanceId) -> Option<Record>
+    requires place { HasPlace table.old.places id }
+    requires kept { IsKept table.old index.old.items (vec_capacity index.old) }
+    ensures old { result ≡ get table.old.held id }
+    ensures new { table.new ≡ record { held = remove table.old.held id; places = table.old.places } }
+    ensures kept { IsKept table.new index.new.items (vec_capacity index.new) }
+{
+    remove_place(table, index, id);
+    table.put_back(id, None)
+}
+
+/// Writes the instance's record, if this is one, where there is none, and its place into the index.
+fn put_in(table: &mut Table<Record>, index: &mut Vec<u32>, id: InstanceId, value: Option<Record>)
+    requires place { HasPlace table.old.places id }
+    requires none { get table.old.held id ≡ None }
+    requires kept { IsKept table.old index.old.items (vec_capacity index.old) }
+    ensures new { table.new ≡ record { held = with_held table.old.held id value; places = table.old.places } }
+    ensures kept { IsKept table.new index.new.items (vec_capacity index.new) }
+{
+    match value {
+        None => (),
+        Some(record) => {
+            insert_place(table, index, id, &record);
+            table.write(id, Some(record));
+        }
+    }
+}
