@@ -115,13 +115,19 @@ fn committed_at_0(rt: &impl Abort, alloc: Global) -> State {
 }
 
 #[test]
-fn a_put_is_executed_once_committed(rt: HostRuntime) {
+fn a_put_waits_for_its_commit(rt: HostRuntime) {
     let alloc = rt.alloc();
     let id = first_of(&rt, 0);
     let mut leader = proposed(&rt, alloc, 3);
     assert_eq!(rt; committed(&leader, id), None);
     let refused = fault(&rt, alloc, &mut leader, Event::Execute(id));
     assert_eq!(rt; refused, Some(StepFault::NotCommitted(id)));
+}
+
+#[test]
+fn a_committed_put_is_executed(rt: HostRuntime) {
+    let alloc = rt.alloc();
+    let id = first_of(&rt, 0);
     let mut leader = committed_at_0(&rt, alloc);
     assert_eq!(rt; committed(&leader, id), Some((1, 0)));
     let entry = entry(&rt, alloc, &mut leader, Event::Execute(id), 3, 4);
@@ -164,6 +170,12 @@ fn a_recovery_asks_the_others(rt: HostRuntime) {
     let mut other = state(&rt, alloc, 3, 2);
     let entry = entry(&rt, alloc, &mut other, Event::Recover(id), 1, 1);
     assert!(rt; sends(&entry, 2, &PREPARE));
+}
+
+#[test]
+fn a_committed_put_is_not_recovered(rt: HostRuntime) {
+    let alloc = rt.alloc();
+    let id = first_of(&rt, 0);
     let mut leader = committed_at_0(&rt, alloc);
     let refused = fault(&rt, alloc, &mut leader, Event::Recover(id));
     assert_eq!(rt; refused, Some(StepFault::AlreadyCommitted));
