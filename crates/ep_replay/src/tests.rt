@@ -61,6 +61,12 @@ fn journal<'a>(rt: &impl Abort, left: &'a Replayed, index: u8) -> &'a Journal {
     left.journals.get(replica).expect(rt, "a journal")
 }
 
+/// What the replica's entry at this place, from 0, was made by.
+fn event_at<'a>(rt: &impl Abort, left: &'a Replayed, index: u8, place: usize) -> &'a Event {
+    let entry = journal(rt, left, index).entries().get(place);
+    &entry.expect(rt, "an entry").event
+}
+
 #[test]
 fn no_lines(rt: HostRuntime) {
     let alloc = rt.alloc();
@@ -187,7 +193,7 @@ fn what_a_client_has_seen(rt: HostRuntime) {
     );
     assert!(rt;
         matches!(
-            &journal(&rt, &left, 1).entries()[1].event,
+            event_at(&rt, &left, 1, 1),
             Event::Propose {
                 client: 1,
                 request: 2,
@@ -198,7 +204,7 @@ fn what_a_client_has_seen(rt: HostRuntime) {
     );
     assert!(rt;
         matches!(
-            &journal(&rt, &left, 2).entries()[0].event,
+            event_at(&rt, &left, 2, 0),
             Event::Propose {
                 client: 2,
                 request: 1,
@@ -207,8 +213,9 @@ fn what_a_client_has_seen(rt: HostRuntime) {
             }
         )
     );
-    assert_eq!(rt; left.receipts[0].seen, 0);
-    assert_eq!(rt; left.receipts[0].stamp, 4);
+    let receipt = left.receipts.first().expect(&rt, "a receipt");
+    assert_eq!(rt; receipt.seen, 0);
+    assert_eq!(rt; receipt.stamp, 4);
 }
 
 /// 1,001 proposals at replica 0, which has 1,000 instances, and one at replica 1.
@@ -231,10 +238,11 @@ fn refused_proposals_are_counted(rt: HostRuntime) {
     };
     let left = left(&rt, alloc, text.as_bytes());
     assert_eq!(rt; left.refused.len(), 1);
-    assert_eq!(rt; left.refused[0].0, 1002);
+    let (line, _) = left.refused.first().expect(&rt, "a refused line");
+    assert_eq!(rt; *line, 1002);
     assert!(rt;
         matches!(
-            &journal(&rt, &left, 1).entries()[0].event,
+            event_at(&rt, &left, 1, 0),
             Event::Propose {
                 client: 7,
                 request: 1002,

@@ -9,11 +9,11 @@ use Rattle.ep_replay.proofs.given.Given.ungiven.Goals.{then-not-is_given+in_ok-p
 pub loop-place-preserved : goal.loop-place-preserved
 loop-place-preserved c = λ given are.
     elim c.if-not-is_given.branch [
-    | then-not-is_given+in_ok-push w ↦ subst (λ (v : Vec ℕ Global). AreUngiven given (c.loop-place.place + 1) v.items) (sym w.numbers-is)
-        (subst (λ (ms : List ℕ). AreUngiven given (c.loop-place.place + 1) ms) (sym w.in_ok-push.ensures.items)
-        (one_ungiven c.advance.new.self given c.loop-place.place c.loop-place.numbers.items are (sym c.is_given.ensures ∙ w.if-not-is_given.true) (c.loop-place.invariant given are)))
-    | else-not-is_given w ↦ subst (λ (v : Vec ℕ Global). AreUngiven given (c.loop-place.place + 1) v.items) (sym w.numbers-is)
-        (same_ungiven c.advance.new.self given c.loop-place.place c.loop-place.numbers.items are (sym c.is_given.ensures ∙ w.if-not-is_given.false) (c.loop-place.invariant given are))
+      | then-not-is_given+in_ok-push w ↦ subst (λ (v : Vec ℕ Global). AreUngiven given (c.loop-place.place + 1) v.items) (sym w.numbers-is)
+          (subst (λ (ms : List ℕ). AreUngiven given (c.loop-place.place + 1) ms) (sym w.in_ok-push.ensures.items)
+          (one_ungiven c.advance.new.self given c.loop-place.place c.loop-place.numbers.items are (sym c.is_given.ensures ∙ w.if-not-is_given.true) (c.loop-place.invariant given are)))
+      | else-not-is_given w ↦ subst (λ (v : Vec ℕ Global). AreUngiven given (c.loop-place.place + 1) v.items) (sym w.numbers-is)
+          (same_ungiven c.advance.new.self given c.loop-place.place c.loop-place.numbers.items are (sym c.is_given.ensures ∙ w.if-not-is_given.false) (c.loop-place.invariant given are))
     ]
 
 pub returns-clause-value : goal.returns-clause-value
