@@ -187,5 +187,5 @@ replayed plan s s' d opening t leads journals receipts refused =
     let r = leads [] [] t in
     record { first = told s [] []; last = told s' r.proposers r.given; opening = opening; played = r.related; journals = journals; receipts = receipts; refused = refused }
 
-pub own_at_end : (plan : Plan) (s s' : Player) → Tells s [] [] → Leads (λ p q. PlayAll p plan.lines q) s s' → AreOwn s'.world s'.receipts.items
-own_at_end plan s s' t leads = (leads [] [] t).tells.own
+pub own_at_end : (ls : List (ℕ × Line)) (s s' : Player) → Tells s [] [] → Leads (λ p q. PlayAll p ls q) s s' → AreOwn s'.world s'.receipts.items
+own_at_end ls s s' t leads = (leads [] [] t).tells.own

@@ -276,5 +276,6 @@ pub fn replay(alloc: Global, script: &Script) -> Result<Replayed, AllocError>
 {
     let mut player = Player::new(alloc, script.size())?;
     player.play_all(script.lines())?;
-    player.end(alloc)
+    let left = player.end(alloc)?;
+    Ok(left)
 }
