@@ -39,13 +39,23 @@ met_emit : (name : Text) → met (subcommand_of epaxos (name ∷ codes "replay" 
 unfolding clap_on_literals
 met_emit name = refl
 
+takes_equals : (name : Text) → takes epaxos (name ∷ codes "replay" ∷ codes "--emit=report" ∷ []) ≡ true
+unfolding clap_on_literals
+takes_equals name = refl
+
+met_equals : (name : Text) → met (subcommand_of epaxos (name ∷ codes "replay" ∷ codes "--emit=report" ∷ [])) ≡ Some (codes "replay", Some (codes "report"))
+unfolding clap_on_literals
+met_equals name = refl
+
 pub taken : (words : List Text) → AskForReport words → takes epaxos words ≡ true
 taken words (name, inl is) = subst (λ (ws : List Text). takes epaxos ws ≡ true) (sym is) (takes_replay name)
-taken words (name, inr is) = subst (λ (ws : List Text). takes epaxos ws ≡ true) (sym is) (takes_emit name)
+taken words (name, inr (inl is)) = subst (λ (ws : List Text). takes epaxos ws ≡ true) (sym is) (takes_emit name)
+taken words (name, inr (inr is)) = subst (λ (ws : List Text). takes epaxos ws ≡ true) (sym is) (takes_equals name)
 
 pub report_met : (words : List Text) → AskForReport words → MetReplay Report (subcommand_of epaxos words)
 report_met words (name, inl is) = subst (λ (ws : List Text). MetReplay Report (subcommand_of epaxos ws)) (sym is) (None, met_replay name, inl refl)
-report_met words (name, inr is) = subst (λ (ws : List Text). MetReplay Report (subcommand_of epaxos ws)) (sym is) (Some (codes "report"), met_emit name, inr refl)
+report_met words (name, inr (inl is)) = subst (λ (ws : List Text). MetReplay Report (subcommand_of epaxos ws)) (sym is) (Some (codes "report"), met_emit name, inr refl)
+report_met words (name, inr (inr is)) = subst (λ (ws : List Text). MetReplay Report (subcommand_of epaxos ws)) (sym is) (Some (codes "report"), met_equals name, inr refl)
 
 pub found_report :
     {X : Type 0} (app : App) (words : List Text) (found : Option (Text × List Row)) → app ≡ epaxos →

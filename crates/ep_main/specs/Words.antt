@@ -8,10 +8,12 @@ use Rattle.ep_main.specs.declared.asked.Emit.{Emit}
 use Rattle.ep_main.specs.declared.asked.Emit.TheVariants.{Report}
 use Rattle.clap.specs.declared.builder.action.ArgAction.TheVariants.{Set}
 
--- the words ask for a replay and its report: the program's own name, `replay`, and perhaps `--emit report`
+-- the words ask for a replay and its report: the program's own name, `replay`, and perhaps `--emit report` or `--emit=report`
 abbrev pub AskForReport : List Text → Type 0
 AskForReport words =
-    (name : Text) × ((words ≡ name ∷ codes "replay" ∷ []) ⊎ (words ≡ name ∷ codes "replay" ∷ codes "--emit" ∷ codes "report" ∷ []))
+    (name : Text)
+    × ((words ≡ name ∷ codes "replay" ∷ [])
+    ⊎ ((words ≡ name ∷ codes "replay" ∷ codes "--emit" ∷ codes "report" ∷ []) ⊎ (words ≡ name ∷ codes "replay" ∷ codes "--emit=report" ∷ [])))
 
 -- What the program has, as `clap` sees it.
 
