@@ -69,15 +69,15 @@ pub(crate) fn insert_place(
     table: &Table<Record>,
     index: &mut Vec<u32>,
     id: InstanceId,
-    record: &Record,
+    written: &Record,
 )
     requires place { HasPlace table.now.places id }
     requires none { get table.now.held id ≡ None }
     requires kept { IsKept table.now index.old.items (vec_capacity index.old) }
-    ensures items { index.new.items ≡ with_place_of (key_at table.now.held) (voted_key record.now.vote) id index.old.items }
+    ensures items { index.new.items ≡ with_place_of (key_at table.now.held) (voted_key written.now.vote) id index.old.items }
     ensures capacity { vec_capacity index.new ≡ vec_capacity index.old }
 {
-    let Some(key) = key_of(record) else {
+    let Some(key) = key_of(written) else {
         return;
     };
     let place = position(table, index.as_slice(), key.as_slice(), place_of(id));
@@ -141,10 +141,10 @@ fn key_of_entry(value: &Option<Record>) -> Option<&Key>
 }
 
 // The key of the record's command, if it has one.
-fn key_of(record: &Record) -> Option<&Key>
-    ensures { option_copied result ≡ voted_key record.now.vote }
+fn key_of(written: &Record) -> Option<&Key>
+    ensures { option_copied result ≡ voted_key written.now.vote }
 {
-    match &record.vote {
+    match &written.vote {
         None => None,
         Some(vote) => vote.decree.command.key(),
     }

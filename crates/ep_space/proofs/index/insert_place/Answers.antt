@@ -11,7 +11,7 @@ inserted b new more old e h = h ∙ ap (λ x. if x then more else old) e
 pub returns-clause-items : goal.returns-clause-items
 returns-clause-items c =
     let K = key_at c.args.table.now.held in
-    let own : Some c.in-Some.key.now ≡ voted_key c.args.record.now.vote = c.in-Some.ensures in
+    let own : Some c.in-Some.key.now ≡ voted_key c.args.written.now.vote = c.in-Some.ensures in
     let is = c.args.index.now.items in
     let room : length is < vec_capacity c.args.index.now = room_for c.args.table.now is (vec_capacity c.args.index.now) c.args.id c.requires.kept c.requires.place c.requires.none in
     let free : vec_len c.args.index.now < vec_capacity c.args.index.now = subst (λ n. n < vec_capacity c.args.index.now) (sym c.args.index.now.ok.0) room in
