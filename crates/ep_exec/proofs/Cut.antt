@@ -10,7 +10,7 @@ use Rattle.ep_rules.proofs.Places.{has_or, has_left, has_filter, filter_has}
 use Rattle.ep_exec.specs.Found.{IsLeast, ranks_test, ranked}
 use Rattle.ep_exec.specs.Cut.{cut_attrs, cut}
 use Rattle.ep_exec.specs.Ready.{is_out, ranked_left_of, block_in}
-use Rattle.ep_exec.specs.Walk.{deps_at, AreComponents}
+use Rattle.ep_exec.specs.Walk.{AreComponents}
 use Rattle.ep_exec.proofs.Clear.{out_yes, out_then}
 
 -- Attributes.
@@ -28,10 +28,6 @@ cut_fresh g done i d a e h =
 pub seq_cut : (done : List ℕ) (o : Option Attrs) → seq_at (cut_attrs done o) ≡ seq_at o
 seq_cut done None = refl
 seq_cut done (Some a) = refl
-
-pub deps_cut : (done : List ℕ) (o : Option Attrs) → deps_at (cut_attrs done o) ≡ filter (is_out done) (deps_at o)
-deps_cut done None = refl
-deps_cut done (Some a) = refl
 
 -- ranks look at sequence numbers alone
 test_cut : (g : Graph) (done : List ℕ) (i j : ℕ) → ranks_test (cut g done) i j ≡ ranks_test g i j

@@ -5,7 +5,7 @@ use Rattle.std.proofs.lemmas.List.{take_more}
 use Rattle.ep_base.specs.Places.{Has}
 use Rattle.ep_exec.specs.Found.{IsLeast, IsLesser}
 use Rattle.ep_rules.proofs.Places.{has_left, has_right, has_split}
-use Rattle.ep_exec.proofs.Counts.{has_single, single_has, place_at}
+use Rattle.ep_exec.proofs.Counts.{has_single, single_has}
 
 below_trans : (i j k : ℕ) → i < j → j < k → i < k
 below_trans i j k a b = omega arith
@@ -43,9 +43,6 @@ least_skip_at P xs n d best lt h not = rw (take_more xs n d lt) (least_skip P (t
 
 pub least_take_at : (P : ℕ → Type 0) (xs : List ℕ) (n : ℕ) (d : ℕ) (best : Option ℕ) (i : ℕ) → n < length xs → IsLeast P (take n xs) best → P (get_or xs n d) → IsLesser best (get_or xs n d) i → IsLeast P (take (n + 1) xs) (Some i)
 least_take_at P xs n d best i lt h p e = rw (take_more xs n d lt) (least_take P (take n xs) (get_or xs n d) best i h p e)
-
-pub has_at : (xs : List ℕ) (n : ℕ) (d : ℕ) → n < length xs → Has xs (get_or xs n d)
-has_at xs n d lt = let p = place_at xs n d lt in omega arith
 
 -- what holds of each so far, and of the next
 pub each_more : (Q : ℕ → Type 0) (xs : List ℕ) (n : ℕ) (d : ℕ) → n < length xs → ((j : ℕ) → Has (take n xs) j → Q j) → Q (get_or xs n d) → (j : ℕ) → Has (take (n + 1) xs) j → Q j

@@ -9,8 +9,8 @@ use Rattle.ep_rules.specs.Order.{Together}
 use Rattle.ep_rules.proofs.Reaching.{reach_trans}
 use Rattle.ep_rules.proofs.Places.{has_or, has_left, has_right, has_split}
 use Rattle.ep_exec.proofs.Counts.{has_single, single_has}
-use Rattle.ep_exec.specs.Walk.{Flat, members_of, joined, merged, deps_at, fresh, Follows, IsComponent, DepsFirst, AreComponents}
-use Rattle.ep_exec.proofs.Stacks.{merged_here, merged_down}
+use Rattle.ep_exec.specs.Walk.{Flat, members_of, pooled, joined, merged, deps_at, fresh, Follows, IsComponent, DepsFirst, AreComponents}
+use Rattle.ep_exec.proofs.Stacks.{merged_here, merged_down, pooled_split, pooled_left, pooled_right}
 
 -- a level of the path: `above` is what is closed and what is in the levels above it, `rest` the levels below
 pub record IsLevel (g : Graph) (above : List ℕ) (t : Flat) (rest : List Flat) : Type 0 where
@@ -77,34 +77,34 @@ module _ (g : Graph) (a : List ℕ) (t b : Flat) (s : List Flat) (d : ℕ) (lt :
 
   both : IsLevel g a (plus (joined b t) d) s
   both = record {
-    some = (lb.some.0, has_left b.members t.members lb.some.0 lb.some.1);
-    each = λ i j hi hj. elim (has_split b.members t.members i hi) [
-      | inl bi ↦ elim (has_split b.members t.members j hj) [ inl bj ↦ lb.each i j bi bj | inr tj ↦ to_top i j bi tj ]
-      | inr ti ↦ elim (has_split b.members t.members j hj) [ inl bj ↦ top_to i j ti bj | inr tj ↦ lt.each i j ti tj ]
+    some = (lb.some.0, pooled_left b.members t.members lb.some.0 lb.some.1);
+    each = λ i j hi hj. elim (pooled_split b.members t.members i hi) [
+      | inl bi ↦ elim (pooled_split b.members t.members j hj) [ inl bj ↦ lb.each i j bi bj | inr tj ↦ to_top i j bi tj ]
+      | inr ti ↦ elim (pooled_split b.members t.members j hj) [ inl bj ↦ top_to i j ti bj | inr tj ↦ lt.each i j ti tj ]
     ];
     leads = λ i x hi hx. elim (edge x hx) [
-      | inl bx ↦ elim (has_split b.members t.members i hi) [ inl bi ↦ lb.leads i x bi bx | inr ti ↦ reach_trans (top_to i lb.some.0 ti lb.some.1) (lb.leads lb.some.0 x lb.some.1 bx) ]
-      | inr tx ↦ elim (has_split b.members t.members i hi) [ inl bi ↦ reach_trans (to_top i lt.some.0 bi lt.some.1) (lt.leads lt.some.0 x lt.some.1 tx) | inr ti ↦ lt.leads i x ti tx ]
+      | inl bx ↦ elim (pooled_split b.members t.members i hi) [ inl bi ↦ lb.leads i x bi bx | inr ti ↦ reach_trans (top_to i lb.some.0 ti lb.some.1) (lb.leads lb.some.0 x lb.some.1 bx) ]
+      | inr tx ↦ elim (pooled_split b.members t.members i hi) [ inl bi ↦ reach_trans (to_top i lt.some.0 bi lt.some.1) (lt.leads lt.some.0 x lt.some.1 tx) | inr ti ↦ lt.leads i x ti tx ]
     ];
-    deps = λ i x q hi e k. elim (has_split b.members t.members i hi) [
+    deps = λ i x q hi e k. elim (pooled_split b.members t.members i hi) [
       | inl bi ↦ elim (lb.deps i x q bi e k) [
-        | inl y ↦ elim (has_split a t.members x y) [ inl z ↦ inl z | inr z ↦ inr (inl (has_right b.members t.members x z)) ]
-        | inr (inl y) ↦ inr (inl (has_left b.members t.members x y))
-        | inr (inr y) ↦ inr (inr (has_left (b.edges ++ t.edges) (d ∷ []) x (has_left b.edges t.edges x y)))
+        | inl y ↦ elim (has_split a t.members x y) [ inl z ↦ inl z | inr z ↦ inr (inl (pooled_right b.members t.members x z)) ]
+        | inr (inl y) ↦ inr (inl (pooled_left b.members t.members x y))
+        | inr (inr y) ↦ inr (inr (has_left (pooled b.edges t.edges) (d ∷ []) x (pooled_left b.edges t.edges x y)))
       ]
       | inr ti ↦ elim (lt.deps i x q ti e k) [
         | inl y ↦ inl y
-        | inr (inl y) ↦ inr (inl (has_right b.members t.members x y))
-        | inr (inr y) ↦ inr (inr (elim (has_split t.edges (d ∷ []) x y) [ inl z ↦ has_left (b.edges ++ t.edges) (d ∷ []) x (has_right b.edges t.edges x z) | inr z ↦ has_right (b.edges ++ t.edges) (d ∷ []) x z ]))
+        | inr (inl y) ↦ inr (inl (pooled_right b.members t.members x y))
+        | inr (inr y) ↦ inr (inr (elim (has_split t.edges (d ∷ []) x y) [ inl z ↦ has_left (pooled b.edges t.edges) (d ∷ []) x (pooled_right b.edges t.edges x z) | inr z ↦ has_right (pooled b.edges t.edges) (d ∷ []) x z ]))
       ]
     ];
-    below = λ i j hi hj. elim (has_split b.members t.members j hj) [ inl bj ↦ lb.below i j hi bj | inr tj ↦ lt.below i j (has_right b.members (members_of s) i hi) tj ];
-    apart = λ i hi k. elim (has_split b.members t.members i hi) [ inl bi ↦ lb.apart i bi (has_left a t.members i k) | inr ti ↦ lt.apart i ti k ];
+    below = λ i j hi hj. elim (pooled_split b.members t.members j hj) [ inl bj ↦ lb.below i j hi bj | inr tj ↦ lt.below i j (has_right b.members (members_of s) i hi) tj ];
+    apart = λ i hi k. elim (pooled_split b.members t.members i hi) [ inl bi ↦ lb.apart i bi (has_left a t.members i k) | inr ti ↦ lt.apart i ti k ];
   }
     where
-      edge : (x : ℕ) → Has ((b.edges ++ t.edges) ++ d ∷ []) x → Has b.edges x ⊎ Has (t.edges ++ d ∷ []) x
-      edge x h = elim (has_split (b.edges ++ t.edges) (d ∷ []) x h) [
-        | inl k ↦ elim (has_split b.edges t.edges x k) [ inl y ↦ inl y | inr y ↦ inr (has_left t.edges (d ∷ []) x y) ]
+      edge : (x : ℕ) → Has ((pooled b.edges t.edges) ++ d ∷ []) x → Has b.edges x ⊎ Has (t.edges ++ d ∷ []) x
+      edge x h = elim (has_split (pooled b.edges t.edges) (d ∷ []) x h) [
+        | inl k ↦ elim (pooled_split b.edges t.edges x k) [ inl y ↦ inl y | inr y ↦ inr (has_left t.edges (d ∷ []) x y) ]
         | inr k ↦ inr (has_right t.edges (d ∷ []) x k)
       ]
 
@@ -121,18 +121,18 @@ merged_path g a t (b ∷ s) d p at = go (has_or t.members d) (merged_path g a (j
         let on : Has (members_of (b ∷ s)) d = elim at [ inl k ↦ absurd (n k) | inr k ↦ k ] in
         subst (IsPath g a) (sym (merged_down t b s d n)) (r (
           both g a t b s d p.0 p.1.0 on,
-          path_above g ((a ++ t.members) ++ b.members) (a ++ (b.members ++ t.members)) s
+          path_above g ((a ++ t.members) ++ b.members) (a ++ (pooled b.members t.members)) s
               (λ x h. elim (has_split (a ++ t.members) b.members x h) [
-                | inl k ↦ elim (has_split a t.members x k) [ inl q ↦ has_left a (b.members ++ t.members) x q | inr q ↦ has_right a (b.members ++ t.members) x (has_right b.members t.members x q) ]
-                | inr k ↦ has_right a (b.members ++ t.members) x (has_left b.members t.members x k)
+                | inl k ↦ elim (has_split a t.members x k) [ inl q ↦ has_left a (pooled b.members t.members) x q | inr q ↦ has_right a (pooled b.members t.members) x (pooled_right b.members t.members x q) ]
+                | inr k ↦ has_right a (pooled b.members t.members) x (pooled_left b.members t.members x k)
               ])
-              (λ x h m. elim (has_split a (b.members ++ t.members) x h) [
+              (λ x h m. elim (has_split a (pooled b.members t.members) x h) [
                 | inl k ↦ has_left (a ++ t.members) b.members x (has_left a t.members x k)
-                | inr k ↦ elim (has_split b.members t.members x k) [ inl q ↦ has_right (a ++ t.members) b.members x q | inr q ↦ has_left (a ++ t.members) b.members x (has_right a t.members x q) ]
+                | inr k ↦ elim (pooled_split b.members t.members x k) [ inl q ↦ has_right (a ++ t.members) b.members x q | inr q ↦ has_left (a ++ t.members) b.members x (has_right a t.members x q) ]
               ])
               p.1.1,
         )
-        (elim (has_split b.members (members_of s) d on) [ inl k ↦ inl (has_left b.members t.members d k) | inr k ↦ inr k ]))
+        (elim (has_split b.members (members_of s) d on) [ inl k ↦ inl (pooled_left b.members t.members d k) | inr k ↦ inr k ]))
 
 -- joining changes nothing of what the path has
 pub merged_members : (t : Flat) (s : List Flat) (d i : ℕ) → Has (members_of (merged t s d)) i ↔ (Has t.members i ⊎ Has (members_of s) i)
@@ -143,12 +143,12 @@ merged_members t (b ∷ s) d i = go (has_or t.members d) (merged_members (joined
     go (inl k) r = subst (λ x. Has (members_of x) i ↔ (Has t.members i ⊎ Has (members_of (b ∷ s)) i)) (sym (merged_here t (b ∷ s) d k)) (has_split t.members (members_of (b ∷ s)) i, λ h. elim h [ inl q ↦ has_left t.members (members_of (b ∷ s)) i q | inr q ↦ has_right t.members (members_of (b ∷ s)) i q ])
     go (inr n) r = subst (λ x. Has (members_of x) i ↔ (Has t.members i ⊎ Has (members_of (b ∷ s)) i)) (sym (merged_down t b s d n)) (
       λ h. elim (r.0 h) [
-        | inl q ↦ elim (has_split b.members t.members i q) [ inl y ↦ inr (has_left b.members (members_of s) i y) | inr y ↦ inl y ]
+        | inl q ↦ elim (pooled_split b.members t.members i q) [ inl y ↦ inr (has_left b.members (members_of s) i y) | inr y ↦ inl y ]
         | inr q ↦ inr (has_right b.members (members_of s) i q)
       ],
       λ h. r.1 (elim h [
-        | inl q ↦ inl (has_right b.members t.members i q)
-        | inr q ↦ elim (has_split b.members (members_of s) i q) [ inl y ↦ inl (has_left b.members t.members i y) | inr y ↦ inr y ]
+        | inl q ↦ inl (pooled_right b.members t.members i q)
+        | inr q ↦ elim (has_split b.members (members_of s) i q) [ inl y ↦ inl (pooled_left b.members t.members i y) | inr y ↦ inr y ]
       ]),
     )
 
@@ -156,10 +156,10 @@ merged_edges : (t : Flat) (s : List Flat) (d x : ℕ) → Has (edges_of (merged 
 merged_edges t [] d x h = h
 merged_edges t (b ∷ s) d x h = go (has_or t.members d) (merged_edges (joined b t) s d x)
   where
-    go : Has t.members d ⊎ (Has t.members d → ⊥) → (Has (edges_of (merged (joined b t) s d)) x → Has ((b.edges ++ t.edges) ++ edges_of s) x) → Has (t.edges ++ (b.edges ++ edges_of s)) x
+    go : Has t.members d ⊎ (Has t.members d → ⊥) → (Has (edges_of (merged (joined b t) s d)) x → Has ((pooled b.edges t.edges) ++ edges_of s) x) → Has (t.edges ++ (b.edges ++ edges_of s)) x
     go (inl k) r = subst (λ y. Has (edges_of y) x) (merged_here t (b ∷ s) d k) h
-    go (inr n) r = elim (has_split (b.edges ++ t.edges) (edges_of s) x (r (subst (λ y. Has (edges_of y) x) (merged_down t b s d n) h))) [
-      | inl k ↦ elim (has_split b.edges t.edges x k) [ inl q ↦ has_right t.edges (b.edges ++ edges_of s) x (has_left b.edges (edges_of s) x q) | inr q ↦ has_left t.edges (b.edges ++ edges_of s) x q ]
+    go (inr n) r = elim (has_split (pooled b.edges t.edges) (edges_of s) x (r (subst (λ y. Has (edges_of y) x) (merged_down t b s d n) h))) [
+      | inl k ↦ elim (pooled_split b.edges t.edges x k) [ inl q ↦ has_right t.edges (b.edges ++ edges_of s) x (has_left b.edges (edges_of s) x q) | inr q ↦ has_left t.edges (b.edges ++ edges_of s) x q ]
       | inr k ↦ has_right t.edges (b.edges ++ edges_of s) x (has_right b.edges (edges_of s) x k)
     ]
 

@@ -6,8 +6,8 @@ use Rattle.ep_base.specs.Places.{place, Has}
 use Rattle.ep_rules.specs.Graph.{Graph}
 use Rattle.ep_rules.proofs.Places.{has_or, has_left, has_right, has_split, has_cons, not_has}
 use Rattle.ep_exec.proofs.Counts.{single_has}
-use Rattle.ep_exec.specs.Walk.{Flat, members_of, joined, merged, deps_at, Follows}
-use Rattle.ep_exec.proofs.Stacks.{merged_here, merged_down}
+use Rattle.ep_exec.specs.Walk.{Flat, members_of, pooled, joined, merged, deps_at, Follows}
+use Rattle.ep_exec.proofs.Stacks.{merged_here, merged_down, pooled_length}
 use Rattle.ep_exec.proofs.Paths.{plus, edges_of, merged_members}
 
 -- what is still to be done for the instances that aren't known
@@ -43,9 +43,9 @@ merged_size : (t : Flat) (s : List Flat) (d : ℕ) → (length (edges_of (merged
 merged_size t [] d = (length-append t.edges [], omega arith)
 merged_size t (b ∷ s) d = go (has_or t.members d) (merged_size (joined b t) s d)
   where
-    go : Has t.members d ⊎ (Has t.members d → ⊥) → (length (edges_of (merged (joined b t) s d)) ≡ length (b.edges ++ t.edges) + length (edges_of s)) × (length (merged (joined b t) s d) ≤ suc (length s)) → (length (edges_of (merged t (b ∷ s) d)) ≡ length t.edges + length (b.edges ++ edges_of s)) × (length (merged t (b ∷ s) d) ≤ suc (suc (length s)))
+    go : Has t.members d ⊎ (Has t.members d → ⊥) → (length (edges_of (merged (joined b t) s d)) ≡ length (pooled b.edges t.edges) + length (edges_of s)) × (length (merged (joined b t) s d) ≤ suc (length s)) → (length (edges_of (merged t (b ∷ s) d)) ≡ length t.edges + length (b.edges ++ edges_of s)) × (length (merged t (b ∷ s) d) ≤ suc (suc (length s)))
     go (inl k) r = rw (merged_here t (b ∷ s) d k) (length-append t.edges (b.edges ++ edges_of s), omega arith)
-    go (inr n) r = rw (merged_down t b s d n) (omega (arith, r.0, length-append b.edges t.edges, length-append b.edges (edges_of s)), omega (arith, r.1))
+    go (inr n) r = rw (merged_down t b s d n) (omega (arith, r.0, pooled_length b.edges t.edges, length-append b.edges (edges_of s)), omega (arith, r.1))
 
 pub close_smaller : (g : Graph) (us closed m : List ℕ) (s : List Flat) → size g us (closed ++ m) s < size g us closed (record { members = m; edges = [] } ∷ s)
 close_smaller g us closed m s =

@@ -1,14 +1,44 @@
 -- Paths as stacks.
-use Rattle.std.proofs.Common.{◌≡◌, ℕ, zero, suc, ◌+◌, ◌<◌, ◌⊎◌, ◌↔◌, inl, inr, List, [], ◌∷◌, ◌++◌, length, get_or, take, map, reverse, cond, refl, sym, ap, subst, ◌∙◌, arith, append_assoc, append-nil}
+use Rattle.std.proofs.Common.{◌≡◌, ℕ, zero, suc, ◌+◌, ◌<◌, ◌⊎◌, ◌↔◌, inl, inr, List, [], ◌∷◌, ◌++◌, length, get_or, take, map, reverse, Bool, true, false, cond, ltb, refl, sym, ap, subst, ◌∙◌, arith, append_assoc, append-nil}
 use Rattle.std.proofs.lemmas.Bool.{lt-ltb, le-ltb}
-use Rattle.std.proofs.lemmas.List.{map-append, reverse-append, take_more}
+use Rattle.std.proofs.lemmas.List.{length-append, map-append, reverse-append, take_more}
 use Rattle.ep_base.specs.Places.{place, Has}
 use Rattle.ep_rules.proofs.Places.{has_left, has_right, has_split, not_has}
 use Rattle.ep_exec.specs.declared.level.Level.{Level}
-use Rattle.ep_exec.specs.Walk.{Flat, flat, stack, members_of, joined, merged}
+use Rattle.ep_exec.specs.Walk.{Flat, flat, stack, members_of, joined, merged, pooled}
 
 pub stack_push : (ls : List Level) (l : Level) → stack (ls ++ l ∷ []) ≡ flat l ∷ stack ls
 stack_push ls l = ap reverse (map-append flat ls (l ∷ [])) ∙ reverse-append (map flat ls) (flat l ∷ [])
+
+-- Both lists, the longer one first.
+
+pub pooled_split : (xs ys : List ℕ) (i : ℕ) → Has (pooled xs ys) i → Has xs i ⊎ Has ys i
+pooled_split xs ys i h = go (ltb (length xs) (length ys)) h
+  where
+    go : (b : Bool) → Has (cond b (ys ++ xs) (xs ++ ys)) i → Has xs i ⊎ Has ys i
+    go true k = elim (has_split ys xs i k) [ inl q ↦ inr q | inr q ↦ inl q ]
+    go false k = has_split xs ys i k
+
+pub pooled_left : (xs ys : List ℕ) (i : ℕ) → Has xs i → Has (pooled xs ys) i
+pooled_left xs ys i h = go (ltb (length xs) (length ys))
+  where
+    go : (b : Bool) → Has (cond b (ys ++ xs) (xs ++ ys)) i
+    go true = has_right ys xs i h
+    go false = has_left xs ys i h
+
+pub pooled_right : (xs ys : List ℕ) (i : ℕ) → Has ys i → Has (pooled xs ys) i
+pooled_right xs ys i h = go (ltb (length xs) (length ys))
+  where
+    go : (b : Bool) → Has (cond b (ys ++ xs) (xs ++ ys)) i
+    go true = has_left ys xs i h
+    go false = has_right xs ys i h
+
+pub pooled_length : (xs ys : List ℕ) → length (pooled xs ys) ≡ length xs + length ys
+pooled_length xs ys = go (ltb (length xs) (length ys))
+  where
+    go : (b : Bool) → length (cond b (ys ++ xs) (xs ++ ys)) ≡ length xs + length ys
+    go true = omega (arith, length-append ys xs)
+    go false = omega (arith, length-append xs ys)
 
 pub merged_here : (t : Flat) (s : List Flat) (d : ℕ) → Has t.members d → merged t s d ≡ t ∷ s
 merged_here t [] d h = refl

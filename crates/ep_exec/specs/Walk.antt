@@ -22,8 +22,12 @@ stack ls = reverse (map flat ls)
 abbrev pub members_of : List Flat → List ℕ
 members_of s = flat_map (λ l. l.members) s
 
+-- both lists, the longer one first
+abbrev pub pooled : List ℕ → List ℕ → List ℕ
+pooled xs ys = if nat_lt (length xs) (length ys) then ys ++ xs else xs ++ ys
+
 abbrev pub joined : Flat → Flat → Flat
-joined below top = record { members = below.members ++ top.members; edges = below.edges ++ top.edges }
+joined below top = record { members = pooled below.members top.members; edges = pooled below.edges top.edges }
 
 abbrev pub merged : Flat → List Flat → ℕ → List Flat
 merged t [] d = t ∷ []

@@ -2,7 +2,7 @@
 
 ghost use Rattle.std.specs.Prelude.{◌≡◌, ◌++◌, ◌↔◌, IsTrue, IfOk, OnOk};
 ghost use Rattle.ep_base.specs.Places.{place, Has};
-ghost use Rattle.ep_exec.specs.Walk.{flat, joined, merged, stack};
+ghost use Rattle.ep_exec.specs.Walk.{flat, pooled, joined, merged, stack};
 
 use crate::listed::Listed;
 use ep_base::InstanceId;
@@ -42,16 +42,57 @@ pub fn holds(list: &[InstanceId], instance: InstanceId) -> bool
     place_of(list, instance) < list.len()
 }
 
+/// Both lists, the shorter one added to the longer.
+fn pool(first: Vec<InstanceId>, second: Vec<InstanceId>) -> Result<Vec<InstanceId>, AllocError>
+    ensures { IfOk result (λ v. v.items ≡ pooled first.items second.items) }
+{
+    if first.len() < second.len() {
+        extended(second, first)
+    } else {
+        extended(first, second)
+    }
+}
+
+/// A list with another one at its end.
+fn extended(list: Vec<InstanceId>, more: Vec<InstanceId>) -> Result<Vec<InstanceId>, AllocError>
+    ensures { IfOk result (λ v. v.items ≡ list.items ++ more.items) }
+{
+    let mut list = list;
+    append(&mut list, &more)?;
+    Ok(list)
+}
+
+/// The same with their tests.
+fn pool_listed(first: Listed, second: Listed) -> Result<Listed, AllocError>
+    ensures { IfOk result (λ l. l ≡ pooled first second) }
+{
+    if first.as_slice().len() < second.as_slice().len() {
+        extended_listed(second, first)
+    } else {
+        extended_listed(first, second)
+    }
+}
+
+/// A list with another one at its end, with its test.
+fn extended_listed(list: Listed, more: Listed) -> Result<Listed, AllocError>
+    ensures { IfOk result (λ l. l ≡ list ++ more) }
+{
+    let mut list = list;
+    list.append(more.as_slice())?;
+    Ok(list)
+}
+
 /// One level in place of two.
 fn join(below: Level, top: Level) -> Result<Level, AllocError>
     ensures { IfOk result (λ l. flat l ≡ joined (flat below) (flat top)) }
 {
+    let Level { members, edges } = below;
     let Level {
-        mut members,
-        mut edges,
-    } = below;
-    members.append(top.members.as_slice())?;
-    append(&mut edges, &top.edges)?;
+        members: more,
+        edges: others,
+    } = top;
+    let members = pool_listed(members, more)?;
+    let edges = pool(edges, others)?;
     Ok(Level { members, edges })
 }
 
