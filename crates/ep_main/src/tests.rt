@@ -2,6 +2,7 @@
 
 mod failing;
 mod grammar;
+mod limits;
 mod one_put;
 mod recovering;
 mod several;
