@@ -1,19 +1,19 @@
 //! The fields that all else is read by: numbers, the highest byte first, and runs of bytes.
 
-ghost use Rattle.std.specs.Prelude.{◌≡◌, ℕ, List, Some, length, Bool, IfOk, OnOk, result_map};
-ghost use Rattle.ep_bundle.specs.Reading.{field, number, run, Reads, TellsFailed};
+ghost use Rattle.std.specs.Prelude.{◌≡◌, ℕ, List, Some, length, Bool, IfOk, OnErr, true};
+ghost use Rattle.ep_bundle.specs.Reading.{map_ok, field, number, run, Reads, TellsFailed};
 ghost use Rattle.ep_bundle.specs.Filling.{Fills};
 
 use crate::bundle_fault::BundleFault;
 use byteorder::{BigEndian, ByteOrder};
-use ep_base::Source;
+use ep_base::{ReadFailed, Source};
 use std::alloc::Global;
 
 /// Fills the buffer with the next bytes of the source; false where the input ends before it is full.
-pub(crate) fn fill<S: Source>(source: &mut S, buf: &mut [u8]) -> Result<bool, BundleFault>
+pub(crate) fn fill<S: Source>(source: &mut S, buf: &mut [u8]) -> Result<bool, ReadFailed>
     ensures bytes { (zs : List ℕ) → S.left source.old ≡ Some zs → IfOk result (λ full. Fills full zs buf.new (S.left source.new)) }
     ensures long { length buf.new ≡ length buf.old }
-    ensures told { TellsFailed result (S.has_failed source.new) }
+    ensures told { OnErr result (S.has_failed source.new ≡ true) }
 {
     let mut at = 0;
     while at < buf.len() {
@@ -32,7 +32,7 @@ pub(crate) fn take<S: Source>(
     place: &mut u64,
     buf: &mut [u8],
 ) -> Result<(), BundleFault>
-    ensures bytes { (zs : List ℕ) → S.left source.old ≡ Some zs → Reads (run (length buf.old) (record { at = place.old; bytes = zs })) (result_map (λ _. buf.new) result) place.new (S.left source.new) }
+    ensures bytes { (zs : List ℕ) → S.left source.old ≡ Some zs → Reads (run (length buf.old) (record { at = place.old; bytes = zs })) (map_ok (λ _. buf.new) result) place.new (S.left source.new) }
     ensures long { length buf.new ≡ length buf.old }
     ensures told { TellsFailed result (S.has_failed source.new) }
 {
@@ -50,7 +50,7 @@ pub(crate) fn read_run<S: Source>(
     place: &mut u64,
     len: usize,
 ) -> Result<Vec<u8>, BundleFault>
-    ensures bytes { (zs : List ℕ) → S.left source.old ≡ Some zs → Reads (run len (record { at = place.old; bytes = zs })) (result_map (λ v. v.items) result) place.new (S.left source.new) }
+    ensures bytes { (zs : List ℕ) → S.left source.old ≡ Some zs → Reads (run len (record { at = place.old; bytes = zs })) (map_ok (λ v. v.items) result) place.new (S.left source.new) }
     ensures told { TellsFailed result (S.has_failed source.new) }
 {
     let mut bytes = vec![in alloc; 0; len]?;

@@ -1,8 +1,9 @@
 //! Instances, commands and answers.
 
-ghost use Rattle.std.specs.Prelude.{◌≡◌, ◌≤◌, ◌⊎◌, ℕ, List, Some, length};
+ghost use Rattle.std.specs.Prelude.{◌≡◌, ℕ, List, Some, IfOk, IfErr};
+ghost use Rattle.ep_bundle.specs.declared.bundle_fault.BundleFault.TheVariants.{Memory};
 ghost use Rattle.ep_base.specs.Quorums.{size};
-ghost use Rattle.ep_bundle.specs.Reading.{Reads, TellsFailed};
+ghost use Rattle.ep_bundle.specs.Reading.{field, Reads, TellsFailed};
 ghost use Rattle.ep_bundle.specs.Stages.{answer, command, command_of, instance, most_value, replica, reply_by, texts, value};
 
 use crate::bundle_fault::BundleFault;
@@ -117,6 +118,25 @@ fn read_texts<S: Source>(
     command_from(alloc, op, &key, &value)
 }
 
+/// The most bytes that the operation's value may have.
+fn most_value(op: u8) -> u16
+    ensures { result ≡ most_value op }
+{
+    if op == 3 { 1024 } else { 0 }
+}
+
+/// The length of the operation's value.
+fn read_value_len<S: Source>(
+    source: &mut S,
+    place: &mut u64,
+    op: u8,
+) -> Result<u16, BundleFault>
+    ensures bytes { (zs : List ℕ) → S.left source.old ≡ Some zs → Reads (field 2 0 (most_value op) (record { at = place.old; bytes = zs })) result place.new (S.left source.new) }
+    ensures told { TellsFailed result (S.has_failed source.new) }
+{
+    field_u16(source, place, 0, most_value(op))
+}
+
 /// A command.
 pub(crate) fn read_command<S: Source>(
     alloc: Global,
@@ -128,6 +148,6 @@ pub(crate) fn read_command<S: Source>(
 {
     let op = field_u8(source, place, 2, 4)?;
     let key_len = field_u8(source, place, 1, 255)?;
-    let value_len = field_u16(source, place, 0, if op == 3 { 1024 } else { 0 })?;
+    let value_len = read_value_len(source, place, op)?;
     read_texts(alloc, source, place, op, key_len, value_len)
 }

@@ -1,6 +1,6 @@
 //! Writing numbers, the highest byte first, and runs of bytes.
 
-ghost use Rattle.std.specs.Prelude.{◌≡◌, List, ℕ};
+ghost use Rattle.std.specs.Prelude.{◌<◌, ◌^◌, List, ℕ};
 ghost use Rattle.ep_frame.specs.Fields.{number_bytes};
 ghost use Rattle.ep_bundle.specs.Writing.{Writes};
 
@@ -15,12 +15,14 @@ pub(crate) fn put_run<K: Sink>(sink: &mut K, bytes: &[u8]) -> Result<(), WriteFa
     Ok(())
 }
 
+#[tactic(auto, unfolding(ep_frame::specs::Fields::number_bytes))]
 pub(crate) fn put_u8<K: Sink>(sink: &mut K, number: u8) -> Result<(), WriteFault>
     ensures { Writes Unit (number_bytes 1 number) (K.held sink.old) (K.held sink.new) (K.has_failed sink.new) result }
 {
     put_run(sink, &[number])
 }
 
+#[tactic(auto, unfolding(ep_frame::specs::Fields::number_bytes))]
 pub(crate) fn put_u16<K: Sink>(sink: &mut K, number: u16) -> Result<(), WriteFault>
     ensures { Writes Unit (number_bytes 2 number) (K.held sink.old) (K.held sink.new) (K.has_failed sink.new) result }
 {
@@ -29,6 +31,7 @@ pub(crate) fn put_u16<K: Sink>(sink: &mut K, number: u16) -> Result<(), WriteFau
     put_run(sink, &bytes)
 }
 
+#[tactic(auto, unfolding(ep_frame::specs::Fields::number_bytes))]
 pub(crate) fn put_u32<K: Sink>(sink: &mut K, number: u32) -> Result<(), WriteFault>
     ensures { Writes Unit (number_bytes 4 number) (K.held sink.old) (K.held sink.new) (K.has_failed sink.new) result }
 {
@@ -37,6 +40,7 @@ pub(crate) fn put_u32<K: Sink>(sink: &mut K, number: u32) -> Result<(), WriteFau
     put_run(sink, &bytes)
 }
 
+#[tactic(auto, unfolding(ep_frame::specs::Fields::number_bytes))]
 pub(crate) fn put_u64<K: Sink>(sink: &mut K, number: u64) -> Result<(), WriteFault>
     ensures { Writes Unit (number_bytes 8 number) (K.held sink.old) (K.held sink.new) (K.has_failed sink.new) result }
 {

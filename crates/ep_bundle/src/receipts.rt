@@ -1,8 +1,8 @@
 //! Receipts.
 
-ghost use Rattle.std.specs.Prelude.{◌≡◌, ℕ, List, [], Some, result_map};
+ghost use Rattle.std.specs.Prelude.{◌≡◌, ℕ, List, [], Some};
 ghost use Rattle.ep_base.specs.Quorums.{size};
-ghost use Rattle.ep_bundle.specs.Reading.{many, Reads, TellsFailed};
+ghost use Rattle.ep_bundle.specs.Reading.{map_ok, many, Reads, TellsFailed};
 ghost use Rattle.ep_bundle.specs.Stages.{receipt};
 
 use crate::bundle_fault::BundleFault;
@@ -50,7 +50,7 @@ pub(crate) fn read_receipts<S: Source>(
     cluster: Size,
     count: u32,
 ) -> Result<Vec<Receipt>, BundleFault>
-    ensures bytes { (zs : List ℕ) → S.left source.old ≡ Some zs → Reads (many (receipt (size cluster)) count [] (record { at = place.old; bytes = zs })) (result_map (λ v. v.items) result) place.new (S.left source.new) }
+    ensures bytes { (zs : List ℕ) → S.left source.old ≡ Some zs → Reads (many (receipt (size cluster)) count [] (record { at = place.old; bytes = zs })) (map_ok (λ v. v.items) result) place.new (S.left source.new) }
     ensures told { TellsFailed result (S.has_failed source.new) }
 {
     let mut receipts = Vec::new(alloc);
