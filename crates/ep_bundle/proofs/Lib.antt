@@ -6,3 +6,5 @@ pub mod Next
 pub mod Comparing
 pub mod Following
 pub mod Journeys
+pub mod Bundles
+pub mod Puts

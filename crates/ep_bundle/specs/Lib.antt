@@ -5,3 +5,4 @@ pub mod Stages
 pub mod Journals
 pub mod Texts
 pub mod Writing
+pub mod Contents
