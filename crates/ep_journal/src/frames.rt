@@ -36,6 +36,13 @@ impl Frames {
         }
     }
 
+    /// These frames.
+    pub fn new(items: Vec<Bytes>) -> Frames
+        ensures { result ≡ items.items }
+    {
+        Frames { items }
+    }
+
     /// The frames, in order.
     pub fn as_slice(&self) -> &[Bytes]
         ensures { result.now ≡ self.now }

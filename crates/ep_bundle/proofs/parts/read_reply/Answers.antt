@@ -1,0 +1,5 @@
+use Rattle.ep_bundle.proofs.Readings.{fails}
+use Rattle.ep_bundle.proofs.parts.read_reply.Goals as goal
+
+pub returns-in_err-value-clause-bytes : goal.returns-in_err-value-clause-bytes
+returns-in_err-value-clause-bytes g c = λ y0 e0. rw c.if-code-eq1.true (fails _ _ _ _ _ _ _ _ (c.in_err-value.ensures.bytes y0 e0) c.from_residual.ensures.1)

@@ -1,0 +1,7 @@
+-- Filling a buffer from a source.
+use Rattle.std.specs.Prelude.{◌≡◌, ℕ, ◌<◌, Bool, true, false, List, [], ◌++◌, length, Option, Some}
+
+-- of the bytes zs the buffer has the first ones and the source has the rest; or they are too few, and the source has none
+abbrev pub Fills : Bool → List ℕ → List ℕ → Option (List ℕ) → Type 0
+Fills true zs buf left = (ys : List ℕ) × (left ≡ Some ys) × (zs ≡ buf ++ ys)
+Fills false zs buf left = (length zs < length buf) × (left ≡ Some [])

@@ -1,0 +1,167 @@
+//! The fields that all else is read by: numbers, the highest byte first, and runs of bytes.
+
+ghost use Rattle.std.specs.Prelude.{◌≡◌, ℕ, List, Some, length, Bool, IfOk, OnErr, true};
+ghost use Rattle.ep_bundle.specs.Reading.{map_ok, field, number, run, Reads, TellsFailed};
+ghost use Rattle.ep_bundle.specs.Filling.{Fills};
+
+use crate::bundle_fault::BundleFault;
+use byteorder::{BigEndian, ByteOrder};
+use ep_base::{ReadFailed, Source};
+use std::alloc::Global;
+
+/// Fills the buffer with the next bytes of the source; false where the input ends before it is full.
+pub(crate) fn fill<S: Source>(source: &mut S, buf: &mut [u8]) -> Result<bool, ReadFailed>
+    ensures bytes { (zs : List ℕ) → S.left source.old ≡ Some zs → IfOk result (λ full. Fills full zs buf.new (S.left source.new)) }
+    ensures long { length buf.new ≡ length buf.old }
+    ensures told { OnErr result (S.has_failed source.new ≡ true) }
+{
+    let mut at = 0;
+    while at < buf.len() {
+        let count = source.pull(&mut buf[at..])?;
+        if count == 0 {
+            return Ok(false);
+        }
+        at += count;
+    }
+    Ok(true)
+}
+
+/// Takes as many bytes as the buffer is long.
+pub(crate) fn take<S: Source>(
+    source: &mut S,
+    place: &mut u64,
+    buf: &mut [u8],
+) -> Result<(), BundleFault>
+    ensures bytes { (zs : List ℕ) → S.left source.old ≡ Some zs → Reads (run (length buf.old) (record { at = place.old; bytes = zs })) (map_ok (λ _. buf.new) result) place.new (S.left source.new) }
+    ensures long { length buf.new ≡ length buf.old }
+    ensures told { TellsFailed result (S.has_failed source.new) }
+{
+    if !fill(source, buf)? {
+        return Err(BundleFault::BadBundle(*place));
+    }
+    *place = place.saturating_add(buf.len() as u64);
+    Ok(())
+}
+
+/// Takes a run of this many bytes.
+pub(crate) fn read_run<S: Source>(
+    alloc: Global,
+    source: &mut S,
+    place: &mut u64,
+    len: usize,
+) -> Result<Vec<u8>, BundleFault>
+    ensures bytes { (zs : List ℕ) → S.left source.old ≡ Some zs → Reads (run len (record { at = place.old; bytes = zs })) (map_ok (λ v. v.items) result) place.new (S.left source.new) }
+    ensures told { TellsFailed result (S.has_failed source.new) }
+{
+    let mut bytes = vec![in alloc; 0; len]?;
+    take(source, place, &mut bytes)?;
+    Ok(bytes)
+}
+
+pub(crate) fn read_u8<S: Source>(source: &mut S, place: &mut u64) -> Result<u8, BundleFault>
+    ensures bytes { (zs : List ℕ) → S.left source.old ≡ Some zs → Reads (number 1 (record { at = place.old; bytes = zs })) result place.new (S.left source.new) }
+    ensures told { TellsFailed result (S.has_failed source.new) }
+{
+    let mut bytes = [0; 1];
+    take(source, place, &mut bytes)?;
+    Ok(bytes[0])
+}
+
+pub(crate) fn read_u16<S: Source>(source: &mut S, place: &mut u64) -> Result<u16, BundleFault>
+    ensures bytes { (zs : List ℕ) → S.left source.old ≡ Some zs → Reads (number 2 (record { at = place.old; bytes = zs })) result place.new (S.left source.new) }
+    ensures told { TellsFailed result (S.has_failed source.new) }
+{
+    let mut bytes = [0; 2];
+    take(source, place, &mut bytes)?;
+    Ok(BigEndian::read_u16(&bytes))
+}
+
+pub(crate) fn read_u32<S: Source>(source: &mut S, place: &mut u64) -> Result<u32, BundleFault>
+    ensures bytes { (zs : List ℕ) → S.left source.old ≡ Some zs → Reads (number 4 (record { at = place.old; bytes = zs })) result place.new (S.left source.new) }
+    ensures told { TellsFailed result (S.has_failed source.new) }
+{
+    let mut bytes = [0; 4];
+    take(source, place, &mut bytes)?;
+    Ok(BigEndian::read_u32(&bytes))
+}
+
+pub(crate) fn read_u64<S: Source>(source: &mut S, place: &mut u64) -> Result<u64, BundleFault>
+    ensures bytes { (zs : List ℕ) → S.left source.old ≡ Some zs → Reads (number 8 (record { at = place.old; bytes = zs })) result place.new (S.left source.new) }
+    ensures told { TellsFailed result (S.has_failed source.new) }
+{
+    let mut bytes = [0; 8];
+    take(source, place, &mut bytes)?;
+    Ok(BigEndian::read_u64(&bytes))
+}
+
+/// A number of one byte, from `low` to `high`.
+pub(crate) fn field_u8<S: Source>(
+    source: &mut S,
+    place: &mut u64,
+    low: u8,
+    high: u8,
+) -> Result<u8, BundleFault>
+    ensures bytes { (zs : List ℕ) → S.left source.old ≡ Some zs → Reads (field 1 low high (record { at = place.old; bytes = zs })) result place.new (S.left source.new) }
+    ensures told { TellsFailed result (S.has_failed source.new) }
+{
+    let at = *place;
+    let number = read_u8(source, place)?;
+    if number < low || high < number {
+        return Err(BundleFault::BadBundle(at));
+    }
+    Ok(number)
+}
+
+/// A number of two bytes, from `low` to `high`.
+pub(crate) fn field_u16<S: Source>(
+    source: &mut S,
+    place: &mut u64,
+    low: u16,
+    high: u16,
+) -> Result<u16, BundleFault>
+    ensures bytes { (zs : List ℕ) → S.left source.old ≡ Some zs → Reads (field 2 low high (record { at = place.old; bytes = zs })) result place.new (S.left source.new) }
+    ensures told { TellsFailed result (S.has_failed source.new) }
+{
+    let at = *place;
+    let number = read_u16(source, place)?;
+    if number < low || high < number {
+        return Err(BundleFault::BadBundle(at));
+    }
+    Ok(number)
+}
+
+/// A number of four bytes, from `low` to `high`.
+pub(crate) fn field_u32<S: Source>(
+    source: &mut S,
+    place: &mut u64,
+    low: u32,
+    high: u32,
+) -> Result<u32, BundleFault>
+    ensures bytes { (zs : List ℕ) → S.left source.old ≡ Some zs → Reads (field 4 low high (record { at = place.old; bytes = zs })) result place.new (S.left source.new) }
+    ensures told { TellsFailed result (S.has_failed source.new) }
+{
+    let at = *place;
+    let number = read_u32(source, place)?;
+    if number < low || high < number {
+        return Err(BundleFault::BadBundle(at));
+    }
+    Ok(number)
+}
+
+/// A number of eight bytes, from `low` to `high`.
+pub(crate) fn field_u64<S: Source>(
+    source: &mut S,
+    place: &mut u64,
+    low: u64,
+    high: u64,
+) -> Result<u64, BundleFault>
+    ensures bytes { (zs : List ℕ) → S.left source.old ≡ Some zs → Reads (field 8 low high (record { at = place.old; bytes = zs })) result place.new (S.left source.new) }
+    ensures told { TellsFailed result (S.has_failed source.new) }
+{
+    let at = *place;
+    let number = read_u64(source, place)?;
+    if number < low || high < number {
+        return Err(BundleFault::BadBundle(at));
+    }
+    Ok(number)
+}

@@ -1,0 +1,24 @@
+//! The bytes of journals and bundles.
+#![tactic(auto)]
+
+mod bundle;
+mod bundle_fault;
+mod draft;
+mod entries;
+mod events;
+mod fields;
+mod journal;
+mod parts;
+mod putting;
+mod receipts;
+mod write_fault;
+mod writing;
+
+pub use bundle::{Bundle, read_bundle};
+pub use bundle_fault::BundleFault;
+pub use journal::read_journal;
+pub use write_fault::WriteFault;
+pub use writing::{write_bundle, write_journal};
+
+#[cfg(test)]
+mod tests;

@@ -1,0 +1,62 @@
+//! Receipts.
+
+ghost use Rattle.std.specs.Prelude.{◌≡◌, ℕ, List, [], Some};
+ghost use Rattle.ep_base.specs.Quorums.{size};
+ghost use Rattle.ep_bundle.specs.Reading.{map_ok, many, Reads, TellsFailed};
+ghost use Rattle.ep_bundle.specs.Stages.{receipt};
+
+use crate::bundle_fault::BundleFault;
+use crate::events::read_counted;
+use crate::fields::{read_u32, read_u64};
+use crate::parts::{read_answer, read_instance, read_replica};
+use ep_base::{Size, Source};
+use ep_rules::Receipt;
+use std::alloc::Global;
+
+fn read_receipt<S: Source>(
+    alloc: Global,
+    source: &mut S,
+    place: &mut u64,
+    cluster: Size,
+) -> Result<Receipt, BundleFault>
+    ensures bytes { (zs : List ℕ) → S.left source.old ≡ Some zs → Reads (receipt (size cluster) (record { at = place.old; bytes = zs })) result place.new (S.left source.new) }
+    ensures told { TellsFailed result (S.has_failed source.new) }
+{
+    let client = read_counted(source, place)?;
+    let request = read_counted(source, place)?;
+    let instance = read_instance(source, place, cluster)?;
+    let seen = read_u64(source, place)?;
+    let replica = read_replica(source, place, cluster)?;
+    let entry = read_u32(source, place)?;
+    let stamp = read_u64(source, place)?;
+    let answer = read_answer(alloc, source, place)?;
+    Ok(Receipt {
+        client,
+        request,
+        instance,
+        seen,
+        replica,
+        entry,
+        stamp,
+        answer,
+    })
+}
+
+/// This many receipts.
+pub(crate) fn read_receipts<S: Source>(
+    alloc: Global,
+    source: &mut S,
+    place: &mut u64,
+    cluster: Size,
+    count: u32,
+) -> Result<Vec<Receipt>, BundleFault>
+    ensures bytes { (zs : List ℕ) → S.left source.old ≡ Some zs → Reads (many (receipt (size cluster)) count [] (record { at = place.old; bytes = zs })) (map_ok (λ v. v.items) result) place.new (S.left source.new) }
+    ensures told { TellsFailed result (S.has_failed source.new) }
+{
+    let mut receipts = Vec::new(alloc);
+    for _ in 0..count {
+        let receipt = read_receipt(alloc, source, place, cluster)?;
+        receipts.push(receipt)?;
+    }
+    Ok(receipts)
+}
