@@ -1,5 +1,5 @@
 -- From one player to the next.
-use Rattle.std.proofs.Common.{◌≡◌, ◌≢◌, ◌⊎◌, inl, inr, ℕ, zero, suc, ◌+◌, ◌<◌, ◌≤◌, Bool, true, false, cond, List, [], ◌∷◌, ◌++◌, length, get_or, drop, refl, sym, ap, subst, ◌∙◌, arith}
+use Rattle.std.proofs.Common.{◌≡◌, ◌≢◌, inl, inr, ℕ, suc, ◌+◌, ◌<◌, ◌≤◌, Bool, true, false, cond, List, [], ◌∷◌, ◌++◌, length, get_or, drop, refl, sym, ap, subst, ◌∙◌, arith}
 use Rattle.std.proofs.Math.Seq.{drop-cons}
 use Rattle.std.proofs.lemmas.List.{drop_all}
 use Rattle.ep_base.specs.declared.command.Command.{Command}
@@ -7,7 +7,6 @@ use Rattle.ep_rules.specs.declared.receipt.Receipt.{Receipt}
 use Rattle.ep_journal.specs.Entries.{entry_of}
 use Rattle.ep_journal.specs.declared.step_fault.StepFault.TheVariants.{Memory}
 use Rattle.ep_replica.specs.Receipts.{receipts_of}
-use Rattle.ep_report.specs.declared.cause.Cause.{Cause}
 use Rattle.ep_script.specs.Plan.{Plan}
 use Rattle.ep_script.specs.declared.line.Line.{Line}
 use Rattle.ep_script.specs.declared.line.Line.TheVariants as asked
@@ -21,7 +20,7 @@ use Rattle.ep_replay.specs.Causes.{cause_of}
 use Rattle.ep_replay.specs.Clients.{times, greatest}
 use Rattle.ep_replay.specs.Outcome.{IsReplay}
 use Rattle.ep_replay.specs.Replays.{Replay, IsOpening, Tries, Gives, Plays, PlayAll, AreUngiven, with_given, was_sent, with_proposer, proposal}
-use Rattle.ep_replay.specs.Tables.{AreCounted, AreFlagged, AreOwn, Tells, told, Led, Leads}
+use Rattle.ep_replay.specs.Tables.{AreCounted, AreFlagged, AreOwn, Tells, told, Leads}
 use Rattle.ep_replay.specs.declared.clients.Client.{Client}
 use Rattle.ep_replay.specs.declared.clients.Clients.{Clients}
 use Rattle.ep_replay.specs.declared.given.Given.{Given}

@@ -1,5 +1,5 @@
 -- The receipts of a world's last step, and that earlier ones stay their replicas' own.
-use Rattle.std.proofs.Common.{◌≡◌, ◌⊎◌, inl, inr, ℕ, zero, suc, ◌+◌, ◌-◌, ◌<◌, ◌≤◌, List, [], ◌∷◌, ◌++◌, Option, Some, None, length, length-append, get_or, drop, refl, sym, ap, subst, ◌∙◌, arith, append-nil, append_assoc}
+use Rattle.std.proofs.Common.{◌≡◌, inl, inr, ℕ, zero, suc, ◌+◌, ◌-◌, List, [], ◌∷◌, ◌++◌, length, length-append, get_or, drop, refl, sym, ap, subst, ◌∙◌, arith, append-nil}
 use Rattle.std.proofs.lemmas.List.{get_or_push}
 use Rattle.ep_rules.specs.Worlds.{In}
 use Rattle.ep_rules.specs.Verdicts.{IsOwn}
@@ -12,7 +12,7 @@ use Rattle.ep_journal.specs.declared.entry.Entry.{Entry}
 use Rattle.ep_replica.specs.Kept.{Kept}
 use Rattle.ep_replica.specs.Receipts.{receipts_of, receipts_by, receipts_after}
 use Rattle.ep_world.specs.Played.{Played, entries_in, replica_in, journals_in}
-use Rattle.ep_world.specs.Playing.{Happens, with_entry, grown}
+use Rattle.ep_world.specs.Playing.{Happens, with_entry}
 use Rattle.ep_world.specs.declared.world_event.WorldEvent.{WorldEvent}
 use Rattle.ep_replay.specs.Tables.{AreOwn}
 

@@ -1,5 +1,5 @@
 -- What a replay leaves.
-use Rattle.std.specs.Prelude.{◌≡◌, List}
+use Rattle.std.specs.Prelude.{◌≡◌}
 use Rattle.ep_script.specs.Plan.{Plan}
 use Rattle.ep_world.specs.Played.{collected}
 use Rattle.ep_replay.specs.Replays.{Replay, IsOpening, PlayAll}

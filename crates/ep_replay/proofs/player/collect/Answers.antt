@@ -1,4 +1,4 @@
-use Rattle.std.proofs.Common.{◌≡◌, ◌∙◌, ap, sym, subst, List, ◌++◌}
+use Rattle.std.proofs.Common.{◌∙◌, ap, sym, subst, List, ◌++◌}
 use Rattle.ep_rules.specs.declared.receipt.Receipt.{Receipt as Told}
 use Rattle.ep_replay.specs.Tables.{AreOwn}
 use Rattle.ep_replay.proofs.Receiving.{own_all}

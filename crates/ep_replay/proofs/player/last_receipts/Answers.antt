@@ -1,4 +1,4 @@
-use Rattle.std.proofs.Common.{◌≡◌, ◌∙◌, ℕ, ap}
+use Rattle.std.proofs.Common.{◌∙◌, ℕ, ap}
 use Rattle.ep_journal.specs.Entries.{entries_of}
 use Rattle.ep_replica.specs.Receipts.{receipts_after}
 use Rattle.ep_replay.proofs.Receiving.{last_step, last_given, own_here}
