@@ -9,6 +9,7 @@ use Rattle.std.proofs.lemmas.Bool.{eq-eqb, eqb-true, ne_eqb}
 use Rattle.ep_base.specs.Instances.{IsInstance}
 use Rattle.ep_base.specs.Places.{Has}
 use Rattle.ep_base.proofs.Places.{Has-empty, Has-head, Has-tail}
+use Rattle.ep_rules.specs.Cells.{record_or_fresh}
 use Rattle.ep_rules.specs.Maps.{Map, none, get, insert, remove}
 use Rattle.ep_rules.specs.States.{with_held}
 use Rattle.ep_rules.specs.declared.record.Record.{Record}
@@ -175,6 +176,11 @@ module _ (t : Held Record) (is : List ℕ) (room i : ℕ) where
     instances = k.instances;
     enough = k.enough;
   }
+
+-- a promise leaves the key
+pub key_promised : (i : ℕ) (o : Option Record) → voted_key (record_or_fresh i o).vote ≡ recorded_key o
+key_promised i None = refl
+key_promised i (Some r) = refl
 
 -- Room.
 

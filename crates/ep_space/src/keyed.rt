@@ -5,6 +5,7 @@ ghost use Rattle.std.specs.FinSet as set;
 ghost use Rattle.std.specs.Option.{option_copied};
 ghost use Rattle.std.specs.Vec.{vec_capacity};
 ghost use Rattle.ep_base.specs.Deps.{AreInstances};
+ghost use Rattle.ep_rules.specs.Cells.{record_or_fresh};
 ghost use Rattle.ep_rules.specs.Maps.{none, get, insert, remove};
 ghost use Rattle.ep_rules.specs.States.{with_held, is_free};
 ghost use Rattle.ep_space.specs.Held.{HasPlace};
@@ -15,7 +16,7 @@ use crate::index::{insert_place, keeps_key, make_room, remove_place, run_of};
 use crate::place::instance_of;
 use crate::table::Table;
 use crate::taken::note;
-use ep_base::{InstanceId, ReplicaId};
+use ep_base::{Ballot, InstanceId, ReplicaId, Vote};
 use ep_rules::Record;
 use std::alloc::{AllocError, Global};
 use std::marker::Model;
@@ -95,6 +96,15 @@ impl Keyed {
         let _ = self.put_back(id, value);
     }
 
+    /// Writes this ballot as the one that is promised in the instance; the vote stays. It takes no memory.
+    pub fn promise(&mut self, id: InstanceId, ballot: Ballot)
+        requires { HasPlace self.old.places id }
+        ensures { self.new ≡ record { held = insert self.old.held id (record { promised = ballot; vote = (record_or_fresh id (get self.old.held id)).vote }); places = self.old.places } }
+    {
+        write_promise(&mut self.table, id, ballot);
+        note(&mut self.taken, &self.table, id);
+    }
+
     /// The places of the records whose command has the key, in rising order of instances.
     pub fn key_run(&self, key: &[u8]) -> &[u32]
         ensures value { result.now ≡ holders key.now self.now.held }
@@ -170,5 +180,31 @@ fn put_in(table: &mut Table<Record>, index: &mut Vec<u32>, id: InstanceId, value
             insert_place(table, index, id, &record);
             table.write(id, Some(record));
         }
+    }
+}
+
+#[tactic(auto, using(crate::proofs::Twice::insert_after_remove))]
+fn write_promise(table: &mut Table<Record>, id: InstanceId, ballot: Ballot)
+    requires { HasPlace table.old.places id }
+    ensures { table.new ≡ record { held = insert table.old.held id (record { promised = ballot; vote = (record_or_fresh id (get table.old.held id)).vote }); places = table.old.places } }
+{
+    let earlier = table.put_back(id, None);
+    let vote = vote_of(id, earlier);
+    table.write(
+        id,
+        Some(Record {
+            promised: ballot,
+            vote,
+        }),
+    );
+}
+
+/// The vote of a record, if there is one.
+fn vote_of(_id: InstanceId, earlier: Option<Record>) -> Option<Vote>
+    ensures { result ≡ (record_or_fresh _id earlier).vote }
+{
+    match earlier {
+        None => None,
+        Some(record) => record.vote,
     }
 }

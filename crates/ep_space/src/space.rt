@@ -3,7 +3,7 @@
 ghost use Rattle.std.specs.Prelude.{◌≡◌, ◌≤◌, ◌<◌, ◌-◌, true, Ok, Err, Some, None, IfOk, IsErr, OnOk, OnErr, if◌then◌else◌};
 ghost use Rattle.std.specs.Option.{option_copied};
 ghost use Rattle.std.specs.FinSet as set;
-ghost use Rattle.ep_rules.specs.Cells.{record_or_fresh, is_committed, is_done_at, is_settled_at, voted, voted_ballot};
+ghost use Rattle.ep_rules.specs.Cells.{is_committed, is_done_at, is_settled_at, voted, voted_ballot};
 ghost use Rattle.ep_rules.specs.InterferenceSet.{interference};
 ghost use Rattle.ep_rules.specs.Maps.{none, get};
 ghost use Rattle.ep_rules.specs.Phases.{with_commit};
@@ -174,21 +174,12 @@ impl Space {
 
     // What is written. It takes no memory.
 
-    #[tactic(auto, using(crate::proofs::Twice::insert_after_remove))]
     /// Joins the ballot (Sutra, 2019): the last vote stays.
     pub fn join_ballot(&mut self, id: InstanceId, ballot: Ballot)
         requires { HasPlace self.old.places id }
         ensures { self.new ≡ with_record self.old id (record { promised = ballot; vote = (record_at self.old id).vote }) }
     {
-        let earlier = self.table.put_back(id, None);
-        let vote = vote_of(id, earlier);
-        self.table.write(
-            id,
-            Some(Record {
-                promised: ballot,
-                vote,
-            }),
-        );
+        self.table.promise(id, ballot);
     }
 
     /// Pre-accepts the decree at the ballot.
@@ -321,15 +312,5 @@ impl Space {
         ensures { IfOk result (λ g. next_attrs g ≡ interference self.now.records except command.now) }
     {
         gathered_from(alloc, &self.table, command, except)
-    }
-}
-
-/// The vote of a record, if there is one.
-fn vote_of(_id: InstanceId, earlier: Option<Record>) -> Option<Vote>
-    ensures { result ≡ (record_or_fresh _id earlier).vote }
-{
-    match earlier {
-        None => None,
-        Some(record) => record.vote,
     }
 }
