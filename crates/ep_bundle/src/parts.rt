@@ -126,11 +126,7 @@ fn most_value(op: u8) -> u16
 }
 
 /// The length of the operation's value.
-fn read_value_len<S: Source>(
-    source: &mut S,
-    place: &mut u64,
-    op: u8,
-) -> Result<u16, BundleFault>
+fn read_value_len<S: Source>(source: &mut S, place: &mut u64, op: u8) -> Result<u16, BundleFault>
     ensures bytes { (zs : List ℕ) → S.left source.old ≡ Some zs → Reads (field 2 0 (most_value op) (record { at = place.old; bytes = zs })) result place.new (S.left source.new) }
     ensures told { TellsFailed result (S.has_failed source.new) }
 {

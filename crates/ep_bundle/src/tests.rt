@@ -120,8 +120,10 @@ fn fault_with(alloc: Global, bytes: &mut [u8], place: usize, byte: u8) -> Option
 fn assert_same_when_written(rt: &impl Abort, alloc: Global, bytes: &[u8]) {
     let bundle = read_bundle(alloc, &mut Noted::new(bytes)).expect(rt, "a bundle");
     let mut sink = Noted::new(Vec::new(alloc));
-    write_bundle(&bundle.journals, bundle.receipts.as_slice(), &mut sink)
-        .expect(rt, "a bundle written");
+    write_bundle(&bundle.journals, bundle.receipts.as_slice(), &mut sink).expect(
+        rt,
+        "a bundle written",
+    );
     assert_eq!(*rt; sink.into_inner().as_slice(), bytes);
 }
 
@@ -130,11 +132,26 @@ fn empty_journals(rt: HostRuntime) {
     let alloc = rt.alloc();
     assert_same_when_written(&rt, alloc, &EMPTY);
     let mut bytes = EMPTY;
-    assert_eq!(rt; fault_with(alloc, &mut bytes, 5, 4), Some(BundleFault::BadBundle(5)));
-    assert_eq!(rt; fault_in(alloc, &EMPTY[..24]), Some(BundleFault::BadBundle(21)));
-    assert_eq!(rt; fault_with(alloc, &mut bytes, 3, 4), Some(BundleFault::BadBundle(0)));
-    assert_eq!(rt; fault_with(alloc, &mut bytes, 4, 2), Some(BundleFault::BadBundle(4)));
-    assert_eq!(rt; fault_with(alloc, &mut bytes, 15, 0), Some(BundleFault::BadBundle(15)));
+    assert_eq!(rt;
+        fault_with(alloc, &mut bytes, 5, 4),
+        Some(BundleFault::BadBundle(5))
+    );
+    assert_eq!(rt;
+        fault_in(alloc, &EMPTY[..24]),
+        Some(BundleFault::BadBundle(21))
+    );
+    assert_eq!(rt;
+        fault_with(alloc, &mut bytes, 3, 4),
+        Some(BundleFault::BadBundle(0))
+    );
+    assert_eq!(rt;
+        fault_with(alloc, &mut bytes, 4, 2),
+        Some(BundleFault::BadBundle(4))
+    );
+    assert_eq!(rt;
+        fault_with(alloc, &mut bytes, 15, 0),
+        Some(BundleFault::BadBundle(15))
+    );
     assert_eq!(rt; fault_in(alloc, &[]), Some(BundleFault::BadBundle(0)));
 }
 
@@ -144,15 +161,33 @@ fn one_proposal(rt: HostRuntime) {
     let mut bytes = one_put(&rt, alloc);
     assert_eq!(rt; bytes.len(), 106);
     assert_same_when_written(&rt, alloc, bytes.as_slice());
-    assert_eq!(rt; fault_in(alloc, &bytes[..105]), Some(BundleFault::BadBundle(102)));
-    assert_eq!(rt; fault_with(alloc, &mut bytes, 93, 0x32), Some(BundleFault::NotARun(ReplicaId::first(), 1)));
+    assert_eq!(rt;
+        fault_in(alloc, &bytes[..105]),
+        Some(BundleFault::BadBundle(102))
+    );
+    assert_eq!(rt;
+        fault_with(alloc, &mut bytes, 93, 0x32),
+        Some(BundleFault::NotARun(ReplicaId::first(), 1))
+    );
 
     // The client is 0; the operation is a no-op; a get has a value.
-    assert_eq!(rt; fault_with(alloc, &mut bytes, 27, 0), Some(BundleFault::BadBundle(24)));
-    assert_eq!(rt; fault_with(alloc, &mut bytes, 40, 1), Some(BundleFault::BadBundle(40)));
-    assert_eq!(rt; fault_with(alloc, &mut bytes, 40, 2), Some(BundleFault::BadBundle(42)));
+    assert_eq!(rt;
+        fault_with(alloc, &mut bytes, 27, 0),
+        Some(BundleFault::BadBundle(24))
+    );
+    assert_eq!(rt;
+        fault_with(alloc, &mut bytes, 40, 1),
+        Some(BundleFault::BadBundle(40))
+    );
+    assert_eq!(rt;
+        fault_with(alloc, &mut bytes, 40, 2),
+        Some(BundleFault::BadBundle(42))
+    );
     append(&rt, &mut bytes, &[0]);
-    assert_eq!(rt; fault_in(alloc, bytes.as_slice()), Some(BundleFault::BadBundle(106)));
+    assert_eq!(rt;
+        fault_in(alloc, bytes.as_slice()),
+        Some(BundleFault::BadBundle(106))
+    );
 }
 
 #[test]
@@ -169,11 +204,17 @@ fn executions_and_receipts(rt: HostRuntime) {
     let third = BundleFault::NotARun(ReplicaId::first(), 3);
     assert_eq!(rt; fault_with(alloc, &mut bytes, 264, 2), Some(third));
     assert_eq!(rt; fault_with(alloc, &mut bytes, 254, 2), Some(third));
-    assert_eq!(rt; fault_with(alloc, &mut bytes, 264, 3), Some(BundleFault::BadBundle(264)));
+    assert_eq!(rt;
+        fault_with(alloc, &mut bytes, 264, 3),
+        Some(BundleFault::BadBundle(264))
+    );
 
     // A receipt's stamp is any number; its replica isn't.
     assert_eq!(rt; fault_with(alloc, &mut bytes, len - 9, 255), None);
-    assert_eq!(rt; fault_with(alloc, &mut bytes, len - 14, 3), Some(BundleFault::BadBundle(len as u64 - 14)));
+    assert_eq!(rt;
+        fault_with(alloc, &mut bytes, len - 14, 3),
+        Some(BundleFault::BadBundle(len as u64 - 14))
+    );
 }
 
 #[test]
@@ -183,8 +224,10 @@ fn one_journal_is_read_from_its_place(rt: HostRuntime) {
     let mut source = Noted::new(&bytes[10..]);
     let mut place = 10;
     let size = Size::new(3).expect(&rt, "a size");
-    let journal = read_journal(alloc, size, ReplicaId::first(), &mut source, &mut place)
-        .expect(&rt, "a journal");
+    let journal = read_journal(alloc, size, ReplicaId::first(), &mut source, &mut place).expect(
+        &rt,
+        "a journal",
+    );
     assert_eq!(rt; place, 96);
     assert_eq!(rt; source.into_inner(), OTHERS.as_slice());
     let mut sink = Noted::new(Vec::new(alloc));
@@ -217,8 +260,14 @@ fn texts(rt: HostRuntime) {
     for (fault, text) in [
         (BundleFault::Memory, "out of memory"),
         (BundleFault::ReadFailed, "reading failed"),
-        (BundleFault::BadBundle(102), "bundle refused E12 at byte 102"),
-        (BundleFault::NotARun(ReplicaId::first(), 1), "bundle refused E11 at replica 0 entry 1"),
+        (
+            BundleFault::BadBundle(102),
+            "bundle refused E12 at byte 102",
+        ),
+        (
+            BundleFault::NotARun(ReplicaId::first(), 1),
+            "bundle refused E11 at replica 0 entry 1",
+        ),
     ] {
         let told = fault.to_string(alloc).expect(&rt, "memory for a text");
         assert_eq!(rt; told.as_str(), text);

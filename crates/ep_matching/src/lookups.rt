@@ -120,7 +120,8 @@ pub(crate) fn has_done(
     ensures { result ≡ has_done (entry_at entries.now number) stamp instance answer.now }
 {
     match entry_at(entries, number) {
-        Some(entry) => entry.stamp.ticks() == stamp && has_answer(entry.done.as_slice(), instance, answer),
+        Some(entry) => entry.stamp.ticks() == stamp
+            && has_answer(entry.done.as_slice(), instance, answer),
         None => false,
     }
 }

@@ -1,9 +1,7 @@
 //! Reports of worked runs, and each cause and fault.
 
 use crate::{AuditFault, Cause, Happening, accepted, refusal, report};
-use ep_base::{
-    Answer, Attrs, Command, Decree, Deps, InstanceId, ReplicaId, Reply, Seq, Value,
-};
+use ep_base::{Answer, Attrs, Command, Decree, Deps, InstanceId, ReplicaId, Reply, Seq, Value};
 use ep_rules::Receipt;
 use std::alloc::Global;
 use std::process::Abort;
