@@ -117,6 +117,11 @@ fn fault_with(alloc: Global, bytes: &mut [u8], place: usize, byte: u8) -> Option
     fault
 }
 
+/// The fault of an entry of replica 0.
+fn not_a_run(entry: u32) -> Option<BundleFault> {
+    Some(BundleFault::NotARun(ReplicaId::first(), entry))
+}
+
 fn assert_same_when_written(rt: &impl Abort, alloc: Global, bytes: &[u8]) {
     let bundle = read_bundle(alloc, &mut Noted::new(bytes)).expect(rt, "a bundle");
     let mut sink = Noted::new(Vec::new(alloc));
@@ -161,6 +166,7 @@ fn one_proposal(rt: HostRuntime) {
     let mut bytes = one_put(&rt, alloc);
     assert_eq!(rt; bytes.len(), 106);
     assert_same_when_written(&rt, alloc, bytes.as_slice());
+<<<<<<< HEAD
     assert_eq!(rt;
         fault_in(alloc, &bytes[..105]),
         Some(BundleFault::BadBundle(102))
@@ -169,6 +175,10 @@ fn one_proposal(rt: HostRuntime) {
         fault_with(alloc, &mut bytes, 93, 0x32),
         Some(BundleFault::NotARun(ReplicaId::first(), 1))
     );
+=======
+    assert_eq!(rt; fault_in(alloc, &bytes[..105]), Some(BundleFault::BadBundle(102)));
+    assert_eq!(rt; fault_with(alloc, &mut bytes, 93, 0x32), not_a_run(1));
+>>>>>>> bytes
 
     // The client is 0; the operation is a no-op; a get has a value.
     assert_eq!(rt;
@@ -198,6 +208,7 @@ fn executions_and_receipts(rt: HostRuntime) {
     assert_same_when_written(&rt, alloc, bytes.as_slice());
 
     // Entry 2 of replica 0 begins at byte 96, and entry 3 at byte 245.
+<<<<<<< HEAD
     let second = BundleFault::NotARun(ReplicaId::first(), 2);
     assert_eq!(rt; fault_with(alloc, &mut bytes, 104, 1), Some(second));
     assert_eq!(rt; fault_with(alloc, &mut bytes, 104, 2), Some(second));
@@ -208,6 +219,13 @@ fn executions_and_receipts(rt: HostRuntime) {
         fault_with(alloc, &mut bytes, 264, 3),
         Some(BundleFault::BadBundle(264))
     );
+=======
+    assert_eq!(rt; fault_with(alloc, &mut bytes, 104, 1), not_a_run(2));
+    assert_eq!(rt; fault_with(alloc, &mut bytes, 104, 2), not_a_run(2));
+    assert_eq!(rt; fault_with(alloc, &mut bytes, 264, 2), not_a_run(3));
+    assert_eq!(rt; fault_with(alloc, &mut bytes, 254, 2), not_a_run(3));
+    assert_eq!(rt; fault_with(alloc, &mut bytes, 264, 3), Some(BundleFault::BadBundle(264)));
+>>>>>>> bytes
 
     // A receipt's stamp is any number; its replica isn't.
     assert_eq!(rt; fault_with(alloc, &mut bytes, len - 9, 255), None);
