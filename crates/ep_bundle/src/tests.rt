@@ -166,19 +166,11 @@ fn one_proposal(rt: HostRuntime) {
     let mut bytes = one_put(&rt, alloc);
     assert_eq!(rt; bytes.len(), 106);
     assert_same_when_written(&rt, alloc, bytes.as_slice());
-<<<<<<< HEAD
     assert_eq!(rt;
         fault_in(alloc, &bytes[..105]),
         Some(BundleFault::BadBundle(102))
     );
-    assert_eq!(rt;
-        fault_with(alloc, &mut bytes, 93, 0x32),
-        Some(BundleFault::NotARun(ReplicaId::first(), 1))
-    );
-=======
-    assert_eq!(rt; fault_in(alloc, &bytes[..105]), Some(BundleFault::BadBundle(102)));
     assert_eq!(rt; fault_with(alloc, &mut bytes, 93, 0x32), not_a_run(1));
->>>>>>> bytes
 
     // The client is 0; the operation is a no-op; a get has a value.
     assert_eq!(rt;
@@ -208,24 +200,14 @@ fn executions_and_receipts(rt: HostRuntime) {
     assert_same_when_written(&rt, alloc, bytes.as_slice());
 
     // Entry 2 of replica 0 begins at byte 96, and entry 3 at byte 245.
-<<<<<<< HEAD
-    let second = BundleFault::NotARun(ReplicaId::first(), 2);
-    assert_eq!(rt; fault_with(alloc, &mut bytes, 104, 1), Some(second));
-    assert_eq!(rt; fault_with(alloc, &mut bytes, 104, 2), Some(second));
-    let third = BundleFault::NotARun(ReplicaId::first(), 3);
-    assert_eq!(rt; fault_with(alloc, &mut bytes, 264, 2), Some(third));
-    assert_eq!(rt; fault_with(alloc, &mut bytes, 254, 2), Some(third));
-    assert_eq!(rt;
-        fault_with(alloc, &mut bytes, 264, 3),
-        Some(BundleFault::BadBundle(264))
-    );
-=======
     assert_eq!(rt; fault_with(alloc, &mut bytes, 104, 1), not_a_run(2));
     assert_eq!(rt; fault_with(alloc, &mut bytes, 104, 2), not_a_run(2));
     assert_eq!(rt; fault_with(alloc, &mut bytes, 264, 2), not_a_run(3));
     assert_eq!(rt; fault_with(alloc, &mut bytes, 254, 2), not_a_run(3));
-    assert_eq!(rt; fault_with(alloc, &mut bytes, 264, 3), Some(BundleFault::BadBundle(264)));
->>>>>>> bytes
+    assert_eq!(rt;
+        fault_with(alloc, &mut bytes, 264, 3),
+        Some(BundleFault::BadBundle(264))
+    );
 
     // A receipt's stamp is any number; its replica isn't.
     assert_eq!(rt; fault_with(alloc, &mut bytes, len - 9, 255), None);
