@@ -44,6 +44,27 @@ fn append(rt: &impl Abort, bytes: &mut Vec<u8>, more: &[u8]) {
     bytes.extend_from_slice(more).expect(rt, "memory for bytes");
 }
 
+/// Writes the byte at the place, where there is one.
+fn set(bytes: &mut [u8], place: usize, byte: u8) {
+    if place < bytes.len() {
+        bytes[place] = byte;
+    }
+}
+
+/// The byte at the place, 0 where there is none.
+fn byte_at(bytes: &[u8], place: usize) -> u8 {
+    if place < bytes.len() { bytes[place] } else { 0 }
+}
+
+/// The bytes from one place to another, none where they aren't there.
+fn part(bytes: &[u8], start: usize, end: usize) -> &[u8] {
+    if start <= end && end <= bytes.len() {
+        &bytes[start..end]
+    } else {
+        &[]
+    }
+}
+
 /// The bundle of the one proposal, 106 bytes.
 fn one_put(rt: &impl Abort, alloc: Global) -> Vec<u8> {
     let mut bytes = Vec::new(alloc);
@@ -61,7 +82,7 @@ fn one_put(rt: &impl Abort, alloc: Global) -> Vec<u8> {
 fn executed(rt: &impl Abort, alloc: Global) -> Vec<u8> {
     let mut bytes = Vec::new(alloc);
     append(rt, &mut bytes, &START);
-    bytes.as_mut_slice()[9] = 1;
+    set(bytes.as_mut_slice(), 9, 1);
     append(rt, &mut bytes, &[0, 0, 0, 3]);
     append(rt, &mut bytes, &PROPOSAL);
     append(rt, &mut bytes, &[0, 1, 0, 0, 0, 42]);
@@ -76,8 +97,8 @@ fn executed(rt: &impl Abort, alloc: Global) -> Vec<u8> {
     append(rt, &mut bytes, &[0, 0, 0, 42]);
     let second = bytes.len();
     append(rt, &mut bytes, &COMMIT);
-    bytes.as_mut_slice()[second + 5] = 2;
-    bytes.as_mut_slice()[second + 7] = 1;
+    set(bytes.as_mut_slice(), second + 5, 2);
+    set(bytes.as_mut_slice(), second + 7, 1);
     append(rt, &mut bytes, &[0, 0]);
 
     // Entry 3 executes 0.1 with stamp 4, and answers absent.
@@ -110,10 +131,10 @@ fn fault_in(alloc: Global, bytes: &[u8]) -> Option<BundleFault> {
 
 /// Why the bytes are no bundle, once the byte at this place is another one.
 fn fault_with(alloc: Global, bytes: &mut [u8], place: usize, byte: u8) -> Option<BundleFault> {
-    let before = bytes[place];
-    bytes[place] = byte;
+    let before = byte_at(bytes, place);
+    set(bytes, place, byte);
     let fault = fault_in(alloc, bytes);
-    bytes[place] = before;
+    set(bytes, place, before);
     fault
 }
 
@@ -167,7 +188,7 @@ fn one_proposal(rt: HostRuntime) {
     assert_eq!(rt; bytes.len(), 106);
     assert_same_when_written(&rt, alloc, bytes.as_slice());
     assert_eq!(rt;
-        fault_in(alloc, &bytes[..105]),
+        fault_in(alloc, part(bytes.as_slice(), 0, 105)),
         Some(BundleFault::BadBundle(102))
     );
     assert_eq!(rt; fault_with(alloc, &mut bytes, 93, 0x32), not_a_run(1));
@@ -196,7 +217,7 @@ fn one_proposal(rt: HostRuntime) {
 fn executions_and_receipts(rt: HostRuntime) {
     let alloc = rt.alloc();
     let mut bytes = executed(&rt, alloc);
-    let len = bytes.len();
+    assert_eq!(rt; bytes.len(), 411);
     assert_same_when_written(&rt, alloc, bytes.as_slice());
 
     // Entry 2 of replica 0 begins at byte 96, and entry 3 at byte 245.
@@ -210,10 +231,10 @@ fn executions_and_receipts(rt: HostRuntime) {
     );
 
     // A receipt's stamp is any number; its replica isn't.
-    assert_eq!(rt; fault_with(alloc, &mut bytes, len - 9, 255), None);
+    assert_eq!(rt; fault_with(alloc, &mut bytes, 402, 255), None);
     assert_eq!(rt;
-        fault_with(alloc, &mut bytes, len - 14, 3),
-        Some(BundleFault::BadBundle(len as u64 - 14))
+        fault_with(alloc, &mut bytes, 397, 3),
+        Some(BundleFault::BadBundle(397))
     );
 }
 
@@ -221,7 +242,7 @@ fn executions_and_receipts(rt: HostRuntime) {
 fn one_journal_is_read_from_its_place(rt: HostRuntime) {
     let alloc = rt.alloc();
     let bytes = one_put(&rt, alloc);
-    let mut source = Noted::new(&bytes[10..]);
+    let mut source = Noted::new(part(bytes.as_slice(), 10, 106));
     let mut place = 10;
     let size = Size::new(3).expect(&rt, "a size");
     let journal = read_journal(alloc, size, ReplicaId::first(), &mut source, &mut place).expect(
@@ -232,7 +253,10 @@ fn one_journal_is_read_from_its_place(rt: HostRuntime) {
     assert_eq!(rt; source.into_inner(), OTHERS.as_slice());
     let mut sink = Noted::new(Vec::new(alloc));
     write_journal(&journal, &mut sink).expect(&rt, "a journal written");
-    assert_eq!(rt; sink.into_inner().as_slice(), &bytes[10..96]);
+    assert_eq!(rt;
+        sink.into_inner().as_slice(),
+        part(bytes.as_slice(), 10, 96)
+    );
 }
 
 #[test]
