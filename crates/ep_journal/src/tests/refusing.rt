@@ -7,6 +7,12 @@ use ep_frame::FrameFault;
 use std::alloc::Global;
 use std::process::Abort;
 
+/// Replica 1 has promised ballot (60,000, 2) in 0.1.
+const NACK: [u8; 40] = [
+    0x45, 0x50, 1, 8, 1, 0, 0, 0, 0, 0, 0, 1, 0, 0, 0, 0, 0, 0, 0, 1, 0, 0, 1, 0, 0, 0, 0, 0xea,
+    0x60, 2, 0, 0, 0, 0, 0, 0, 0, 0, 0, 0,
+];
+
 /// Why this replica refuses the event, with a mark for its entry.
 fn refusal(rt: &impl Abort, alloc: Global, me: u8, event: &Event) -> Option<StepFault> {
     let mut state = state(rt, alloc, 3, me);
@@ -108,4 +114,67 @@ fn an_instance_that_nobody_proposed(rt: HostRuntime) {
     assert_eq!(rt; refused, Some(StepFault::NotLeading));
     let refused = refusal(&rt, alloc, 0, &Event::Execute(id));
     assert_eq!(rt; refused, Some(StepFault::NotCommitted(id)));
+}
+
+/// Why this replica refuses the event once it has handled the frame.
+fn refusal_after(
+    rt: &impl Abort,
+    alloc: Global,
+    me: u8,
+    frame: &[u8],
+    event: &Event,
+) -> Option<StepFault> {
+    let mut state = state(rt, alloc, 3, me);
+    let handled = handle(rt, alloc, frame);
+    assert!(rt; stepped(rt, alloc, &mut state, &handled, 1, 2).is_ok());
+    stepped(rt, alloc, &mut state, event, 2, 3).err()
+}
+
+/// After a put of sequence number 1,000,000, another one to its key would pass it.
+#[test]
+fn no_sequence_number_is_left(rt: HostRuntime) {
+    let alloc = rt.alloc();
+    let mut frame = PRE_ACCEPT;
+    frame[31] = 0x0f;
+    frame[32] = 0x42;
+    frame[33] = 0x40;
+    let event = propose(&rt, alloc, 2, 1);
+    let refused = refusal_after(&rt, alloc, 1, &frame, &event);
+    assert_eq!(rt; refused, Some(StepFault::SeqExhausted));
+}
+
+#[test]
+fn no_ballot_is_left(rt: HostRuntime) {
+    let alloc = rt.alloc();
+    let event = Event::Recover(first_of(&rt, 0));
+    let refused = refusal_after(&rt, alloc, 0, &NACK, &event);
+    assert_eq!(rt; refused, Some(StepFault::BallotsExhausted));
+}
+
+/// The fault is printed so.
+fn assert_text(rt: &impl Abort, alloc: Global, fault: StepFault, text: &str) {
+    let told = match format!(in alloc; "{fault}") {
+        Ok(told) => told,
+        Err(_) => format!(in alloc; "{fault}").expect(rt, "memory for a text"),
+    };
+    assert_eq!(rt; told.as_str(), text);
+}
+
+#[test]
+fn faults_have_their_texts(rt: HostRuntime) {
+    let alloc = rt.alloc();
+    let frame = StepFault::BadFrame(FrameFault::Short);
+    let id = StepFault::NotCommitted(first_of(&rt, 0));
+    assert_text(&rt, alloc, StepFault::Memory, "E1 memory");
+    assert_text(&rt, alloc, frame, "E14 bad frame");
+    assert_text(&rt, alloc, StepFault::OutOfRange, "E3 out of range");
+    assert_text(&rt, alloc, StepFault::NotMine, "E13 not mine");
+    assert_text(&rt, alloc, StepFault::StampFull, "E15 stamp full");
+    assert_text(&rt, alloc, StepFault::SpaceFull, "E4 space full");
+    assert_text(&rt, alloc, StepFault::SeqExhausted, "E5 seq exhausted");
+    assert_text(&rt, alloc, StepFault::NotLeading, "E6 not leading");
+    assert_text(&rt, alloc, StepFault::TooFewAnswers, "E7 too few answers");
+    assert_text(&rt, alloc, StepFault::AlreadyCommitted, "E8 already committed");
+    assert_text(&rt, alloc, StepFault::BallotsExhausted, "E9 ballots exhausted");
+    assert_text(&rt, alloc, id, "E10 not committed");
 }
