@@ -8,3 +8,11 @@ pub mod Following
 pub mod Journeys
 pub mod Bundles
 pub mod Puts
+pub mod WrittenStages
+pub mod WrittenParts
+pub mod WrittenFrames
+pub mod WrittenRuns
+pub mod WrittenJournals
+pub mod WrittenBundles
+pub mod WrittenRanges
+pub mod WrittenOnce

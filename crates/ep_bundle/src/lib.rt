@@ -12,12 +12,14 @@ mod parts;
 mod putting;
 mod receipts;
 mod write_fault;
+mod write_laws;
 mod writing;
 
 pub use bundle::{Bundle, read_bundle};
 pub use bundle_fault::BundleFault;
 pub use journal::read_journal;
 pub use write_fault::WriteFault;
+pub use write_laws::{bundle_is_read_back, journal_is_read_back};
 pub use writing::{write_bundle, write_journal};
 
 #[cfg(test)]
