@@ -8,3 +8,8 @@ pub mod Following
 pub mod Journeys
 pub mod Bundles
 pub mod Puts
+pub mod ReadNumbers
+pub mod ReadParts
+pub mod ReadEntries
+pub mod ReadJournals
+pub mod ReadBundles

@@ -6,3 +6,4 @@ pub mod Journals
 pub mod Texts
 pub mod Writing
 pub mod Contents
+pub mod ReadLaws
