@@ -16,3 +16,8 @@ pub mod WrittenJournals
 pub mod WrittenBundles
 pub mod WrittenRanges
 pub mod WrittenOnce
+pub mod ReadNumbers
+pub mod ReadParts
+pub mod ReadEntries
+pub mod ReadJournals
+pub mod ReadBundles

@@ -8,3 +8,4 @@ pub mod Writing
 pub mod Contents
 pub mod WriteRanges
 pub mod WriteLaws
+pub mod ReadLaws

@@ -10,6 +10,7 @@ mod fields;
 mod journal;
 mod parts;
 mod putting;
+pub mod read_laws;
 mod receipts;
 mod write_fault;
 mod write_laws;
