@@ -68,6 +68,7 @@ fn tells(alloc: Global, bundle: &[u8], status: Status, line: &[u8]) -> bool {
 fn is_refused_with(rt: &impl Abort, alloc: Global, bytes: &[(usize, u8)], report: &[u8]) -> bool {
     let mut bundle = bundle_of(rt, alloc, SCRIPT);
     for (place, byte) in bytes {
+        assert!(*rt; *place < bundle.len());
         bundle.as_mut_slice()[*place] = *byte;
     }
     ends(
@@ -123,6 +124,7 @@ fn changed_bundles(rt: HostRuntime) {
 fn a_frame_that_nobody_sent(rt: HostRuntime) {
     let alloc = rt.alloc();
     let whole = bundle_of(&rt, alloc, SCRIPT);
+    assert!(rt; whole.len() >= 373);
     let mut bundle = Vec::from_slice(alloc, &EMPTY[..19]).expect(&rt, "memory");
     for part in [&[1u8], &whole[270..373], &EMPTY[20..]] {
         bundle.extend_from_slice(part).expect(&rt, "memory");

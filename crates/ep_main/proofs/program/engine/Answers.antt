@@ -1,5 +1,5 @@
-use Rattle.std.proofs.Common.{rules, inr}
-use Rattle.ep_main.proofs.Ending.{performs_asked, performs_not}
+use Rattle.std.proofs.Common.{inr}
+use Rattle.ep_main.proofs.Ending.{performs_asked}
 use Rattle.ep_main.proofs.program.engine.Goals as goal
 
 pub returns-in-Ok-clause-asked : goal.returns-in-Ok-clause-asked
