@@ -1,5 +1,5 @@
 -- What `clap` makes of the words that ask for a report.
-use Rattle.std.proofs.Common.{◌≡◌, inl, inr, List, [], ◌∷◌, Option, Some, None, Result, Ok, Err, MatchResult, true, codes, refl, sym, ap, ap₂, subst, ◌∙◌, option_map}
+use Rattle.std.proofs.Common.{◌≡◌, ◌⊎◌, inl, inr, List, [], ◌∷◌, Option, Some, None, Result, Ok, Err, MatchResult, IfOk, true, codes, refl, sym, ap, ap₂, subst, ◌∙◌, option_map}
 use Rattle.clap.specs.Matches.{found_of, subcommand_name_of}
 use Rattle.clap.specs.Walk.{Row, Text, first_of, rows_of}
 use Rattle.clap.specs.declared.parser.matches.ArgMatches.{ArgMatches}
@@ -9,10 +9,12 @@ use Rattle.std.specs.Prelude.{Box}
 use Rattle.std.specs.Box.{box_value}
 use Rattle.clap.specs.Simple.{App, is_simple, subcommand_of, subcommand_rows, subcommand_rows_of}
 use Rattle.clap.specs.declared.error.kind.ErrorKind.{ErrorKind}
-use Rattle.clap.specs.declared.error.kind.ErrorKind.TheVariants.{OutOfMemory}
+use Rattle.clap.specs.declared.error.kind.ErrorKind.TheVariants.{DisplayHelp, OutOfMemory}
+use Rattle.clap.specs.Faults.{fault_of, is_simple_and_free}
+use Rattle.clap.specs.Kinds.{IsAmong}
 use Rattle.clap.specs.Takes.{takes}
 use Rattle.clap.proofs.OnLiterals.{clap_on_literals}
-use Rattle.ep_main.specs.Words.{AskFor, MetReplay, MetAudit, Names, epaxos, met}
+use Rattle.ep_main.specs.Words.{AskFor, IsAsked, IsHelp, IsMet, MetReplay, MetAudit, Names, epaxos, met}
 use Rattle.ep_main.specs.declared.asked.Asked.{Asked}
 use Rattle.ep_main.specs.declared.asked.Asked.TheVariants.{Replay, Audit, Help}
 use Rattle.ep_main.specs.declared.asked.Emit.TheVariants.{Report, Bundle}
@@ -81,12 +83,6 @@ taken (Replay Bundle) words (name, inr is) = subst (λ (ws : List Text). takes e
 taken Audit words (name, is) = subst (λ (ws : List Text). takes epaxos ws ≡ true) (sym is) (takes_audit name)
 taken (Help text) words ask = absurd ask
 
--- the subcommand that was met is what is wanted
-abbrev pub IsMet : Asked → Option (Text × List Row) → Type 0
-IsMet (Replay emit) found = MetReplay emit found
-IsMet Audit found = MetAudit found
-IsMet (Help text) found = ⊥
-
 pub is_met : (want : Asked) (words : List Text) → AskFor want words → IsMet want (subcommand_of epaxos words)
 is_met (Replay Report) words (name, inl is) = subst (λ (ws : List Text). MetReplay Report (subcommand_of epaxos ws)) (sym is) (None, met_replay name, inl refl)
 is_met (Replay Report) words (name, inr (inl is)) = subst (λ (ws : List Text). MetReplay Report (subcommand_of epaxos ws)) (sym is) (Some (codes "report"), met_emit name, inr refl)
@@ -102,6 +98,35 @@ pub found_met :
 found_met {X} want app words found is has ask =
     let same : found ≡ subcommand_of epaxos words = (subst (λ a. is_simple a ≡ true → X × (found ≡ subcommand_of a words)) is has simple).1 in
     subst (IsMet want) (sym same) (is_met want words ask)
+
+free : is_simple_and_free epaxos ≡ true
+unfolding clap_on_literals
+free = refl
+
+pub asked_of_met :
+    {X : Type 0} (app : App) (words : List Text) (found : Option (Text × List Row)) (r : Result Asked Fault) → app ≡ epaxos →
+    (is_simple app ≡ true → X × (found ≡ subcommand_of app words)) → IfOk r (λ a. IsMet a found) → IfOk r (λ a. IsAsked a words)
+asked_of_met {X} app words found (Ok (Replay emit)) is has met =
+    let same : found ≡ subcommand_of epaxos words = (subst (λ a. is_simple a ≡ true → X × (found ≡ subcommand_of a words)) is has simple).1 in
+    subst (MetReplay emit) same met
+asked_of_met {X} app words found (Ok Audit) is has met =
+    let same : found ≡ subcommand_of epaxos words = (subst (λ a. is_simple a ≡ true → X × (found ≡ subcommand_of a words)) is has simple).1 in
+    subst MetAudit same met
+asked_of_met {X} app words found (Ok (Help text)) is has met = absurd met
+asked_of_met {X} app words found (Err e) is has met = tt
+
+among : (words : List Text) (kind : ErrorKind) → kind ≡ DisplayHelp → (kind ≡ OutOfMemory) ⊎ IsAmong kind (fault_of epaxos words) → IsAmong DisplayHelp (fault_of epaxos words)
+among words kind is (inl memory) = let bad : DisplayHelp ≡ OutOfMemory = sym is ∙ memory in cc
+among words kind is (inr known) = subst (λ k. IsAmong k (fault_of epaxos words)) is known
+
+pub asked_of_help :
+    (app : App) (words : List Text) (kind : ErrorKind) (r : Result Asked Fault) → app ≡ epaxos →
+    (is_simple_and_free app ≡ true → (kind ≡ OutOfMemory) ⊎ IsAmong kind (fault_of app words)) → IfOk r (λ a. IsHelp a × (kind ≡ DisplayHelp)) → IfOk r (λ a. IsAsked a words)
+asked_of_help app words kind (Ok (Replay emit)) is has help = absurd help.0
+asked_of_help app words kind (Ok Audit) is has help = absurd help.0
+asked_of_help app words kind (Ok (Help text)) is has help =
+    among words kind help.1 (subst (λ a. is_simple_and_free a ≡ true → (kind ≡ OutOfMemory) ⊎ IsAmong kind (fault_of a words)) is has free)
+asked_of_help app words kind (Err e) is has help = tt
 
 pub no_kind :
     (want : Asked) (app : App) (words : List Text) (kind : ErrorKind) → app ≡ epaxos → (takes app words ≡ true → kind ≡ OutOfMemory) → AskFor want words → kind ≡ OutOfMemory

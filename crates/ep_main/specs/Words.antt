@@ -1,12 +1,15 @@
 -- The words of the command line.
 use Rattle.std.specs.Prelude.{◌≡◌, ◌⊎◌, List, [], ◌∷◌, Option, Some, None, true, codes, option_map}
 use Rattle.clap.specs.Walk.{Row, Rule, Text, first_of}
-use Rattle.clap.specs.Simple.{App, new_app, new_rule, on_top, with_rule, with_subcommand}
+use Rattle.clap.specs.Faults.{fault_of}
+use Rattle.clap.specs.Kinds.{IsAmong}
+use Rattle.clap.specs.Simple.{App, new_app, new_rule, on_top, subcommand_of, with_rule, with_subcommand}
 use Rattle.ep_main.specs.declared.asked.Asked.{Asked}
 use Rattle.ep_main.specs.declared.asked.Asked.TheVariants.{Replay, Audit, Help}
 use Rattle.ep_main.specs.declared.asked.Emit.{Emit}
 use Rattle.ep_main.specs.declared.asked.Emit.TheVariants.{Report, Bundle}
 use Rattle.clap.specs.declared.builder.action.ArgAction.TheVariants.{Set}
+use Rattle.clap.specs.declared.error.kind.ErrorKind.TheVariants.{DisplayHelp}
 
 -- the words ask for this. The first one is the program's own name, and then: for a report `replay`, and perhaps `--emit report` or `--emit=report`;
 -- for a bundle `replay`, and `--emit bundle` or `--emit=bundle`; for an audit `audit`
@@ -50,11 +53,17 @@ MetReplay emit found = (what : Option Text) × (met found ≡ Some (codes "repla
 abbrev pub MetAudit : Option (Text × List Row) → Type 0
 MetAudit found = option_map (λ p. p.0) found ≡ Some (codes "audit")
 
--- of help it isn't said which words ask for it
-abbrev pub IsAsked : Asked → Option (Text × List Row) → Type 0
-IsAsked (Replay emit) found = MetReplay emit found
-IsAsked Audit found = MetAudit found
-IsAsked (Help text) found = Unit {0}
+-- what was met is this
+abbrev pub IsMet : Asked → Option (Text × List Row) → Type 0
+IsMet (Replay emit) found = MetReplay emit found
+IsMet Audit found = MetAudit found
+IsMet (Help text) found = ⊥
+
+-- in the words this is met; or help is among what `clap` may answer in the place of a match
+abbrev pub IsAsked : Asked → List Text → Type 0
+IsAsked (Replay emit) words = MetReplay emit (subcommand_of epaxos words)
+IsAsked Audit words = MetAudit (subcommand_of epaxos words)
+IsAsked (Help text) words = IsAmong DisplayHelp (fault_of epaxos words)
 
 abbrev pub IsHelp : Asked → Type 0
 IsHelp (Replay emit) = ⊥

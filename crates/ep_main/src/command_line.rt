@@ -2,13 +2,13 @@
 
 ghost use Rattle.std.specs.Prelude.{◌≡◌, Some, Ok, Err, IfErr, IfOk, MatchResult, codes, false, map};
 ghost use Rattle.clap.specs.Values.{kind_of};
-ghost use Rattle.clap.specs.declared.error.ErrorKind.TheVariants.{OutOfMemory};
+ghost use Rattle.clap.specs.declared.error.ErrorKind.TheVariants.{DisplayHelp, OutOfMemory};
 ghost use Rattle.clap.specs.Walk.{first_of, rows_of, rule_of};
 ghost use Rattle.clap.specs.Matches.{found_of};
-ghost use Rattle.clap.specs.Simple.{app_of, subcommand_of, subcommand_rows_of};
+ghost use Rattle.clap.specs.Simple.{app_of, subcommand_rows_of};
 ghost use Rattle.clap.specs.declared.builder.command.Command.TheViews.{out-Command as fields_of};
 ghost use Rattle.ep_main.specs.Faults.{DeclinesBy};
-ghost use Rattle.ep_main.specs.Words.{AskFor, IsAsked, IsHelp, MetReplay, MetAudit, Names, audit as audit_app, emit as emit_rule, replay as replay_app, epaxos};
+ghost use Rattle.ep_main.specs.Words.{AskFor, IsAsked, IsHelp, IsMet, MetReplay, MetAudit, Names, audit as audit_app, emit as emit_rule, replay as replay_app, epaxos};
 ghost use Rattle.ep_main.specs.declared.asked.Asked.{Asked};
 ghost use Rattle.ep_main.specs.declared.asked.Asked.TheVariants.{Replay, Audit};
 ghost use Rattle.ep_main.specs.declared.asked.Emit.{Emit};
@@ -26,7 +26,7 @@ use std::convert::AsStr;
 /// program knows.
 pub(crate) fn read_words<T: AsStr>(alloc: Global, words: &[T]) -> Result<Asked, Fault>
     ensures asked { (asked : Asked) → AskFor asked (map T.text words.now) → MatchResult result (λ a. a ≡ asked) (λ e. e ≡ Memory) }
-    ensures only { IfOk result (λ a. IsAsked a (subcommand_of epaxos (map T.text words.now))) }
+    ensures only { IfOk result (λ a. IsAsked a (map T.text words.now)) }
     ensures declines { IfErr result DeclinesBy }
 {
     let command = program(alloc)?;
@@ -39,7 +39,7 @@ pub(crate) fn read_words<T: AsStr>(alloc: Global, words: &[T]) -> Result<Asked, 
 /// What is asked for where `clap` finds no matches: help at most.
 fn asked_instead(alloc: Global, error: &Error) -> Result<Asked, Fault>
     ensures memory { kind_of error.now ≡ OutOfMemory → result ≡ Err Memory }
-    ensures only { IfOk result IsHelp }
+    ensures only { IfOk result (λ a. IsHelp a × (kind_of error.now ≡ DisplayHelp)) }
     ensures declines { IfErr result DeclinesBy }
 {
     match error.kind() {
@@ -52,7 +52,7 @@ fn asked_instead(alloc: Global, error: &Error) -> Result<Asked, Fault>
 fn asked_by(matches: &ArgMatches<'_>) -> Result<Asked, Fault>
     ensures replay { (emit : Emit) → MetReplay emit (subcommand_rows_of matches.now) → result ≡ Ok (Replay emit) }
     ensures audit { MetAudit (subcommand_rows_of matches.now) → result ≡ Ok Audit }
-    ensures only { IfOk result (λ a. IsAsked a (subcommand_rows_of matches.now)) }
+    ensures only { IfOk result (λ a. IsMet a (subcommand_rows_of matches.now)) }
     ensures declines { IfErr result (λ e. e ≡ CommandLine) }
 {
     match matches.subcommand_matches("replay") {

@@ -3,8 +3,7 @@
 ghost use Rattle.std.specs.Prelude.{◌≡◌, ◌⊎◌, ℕ, List, Some, map};
 ghost use Rattle.ep_main.specs.Outputs.{output};
 ghost use Rattle.ep_main.specs.Runs.{Performs, Declines, Does, Concludes};
-ghost use Rattle.ep_main.specs.Words.{AskFor, IsAsked, epaxos};
-ghost use Rattle.clap.specs.Simple.{subcommand_of};
+ghost use Rattle.ep_main.specs.Words.{AskFor, IsAsked};
 ghost use Rattle.ep_main.specs.declared.asked.Asked.{Asked};
 
 use crate::asked::{Asked, Emit};
@@ -40,7 +39,7 @@ pub fn engine<T: AsStr, S: Source, W: Sink, F: Sink>(
     ensures other { (zs : List ℕ) → S.left reader.old ≡ Some zs → Declines result
         (output (W.held writer.old) (W.held writer.new) (W.has_failed writer.new))
         (output (F.held fault_writer.old) (F.held fault_writer.new) (F.has_failed fault_writer.new))
-        ⊎ ((asked : Asked) × IsAsked asked (subcommand_of epaxos (map T.text words.now)) × Performs asked result zs (S.has_failed reader.new)
+        ⊎ ((asked : Asked) × IsAsked asked (map T.text words.now) × Performs asked result zs (S.has_failed reader.new)
         (output (W.held writer.old) (W.held writer.new) (W.has_failed writer.new))
         (output (F.held fault_writer.old) (F.held fault_writer.new) (F.has_failed fault_writer.new))) }
 {

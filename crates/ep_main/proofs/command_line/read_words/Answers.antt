@@ -1,4 +1,4 @@
-use Rattle.ep_main.proofs.Literals.{answers, found_met, has_no_memory, no_kind}
+use Rattle.ep_main.proofs.Literals.{answers, asked_of_help, asked_of_met, found_met, has_no_memory, no_kind}
 use Rattle.ep_main.proofs.command_line.read_words.Goals as goal
 
 pub returns-in-Ok-clause-asked : goal.returns-in-Ok-clause-asked
@@ -8,3 +8,9 @@ returns-in-Ok-clause-asked g c want ask =
 pub returns-in-Err-clause-asked : goal.returns-in-Err-clause-asked
 returns-in-Err-clause-asked g c want ask =
     has_no_memory want _ (c.asked_instead.ensures.memory (no_kind want _ _ _ c.in_ok-command.ensures c.in-Err.ensures.passes ask))
+
+pub returns-in-Ok-clause-only : goal.returns-in-Ok-clause-only
+returns-in-Ok-clause-only g c = asked_of_met _ _ _ _ c.in_ok-command.ensures c.in-Ok.ensures.matches c.asked_by.ensures.only
+
+pub returns-in-Err-clause-only : goal.returns-in-Err-clause-only
+returns-in-Err-clause-only g c = asked_of_help _ _ _ _ c.in_ok-command.ensures c.in-Err.ensures.kinds c.asked_instead.ensures.only
