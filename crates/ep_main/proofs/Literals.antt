@@ -153,13 +153,16 @@ pub met_by :
     met (subcommand_rows_of m) ≡ Some (name, first_of (codes "emit") rows)
 met_by m name rows named has = met_in (out-ArgMatches m).subcommand name rows named has
 
+second_of : (a b : Text) (x y : Option Text) → ◌≡◌ {A = Option (Text × Option Text)} (Some (a, x)) (Some (b, y)) → x ≡ y
+second_of a b x y same =
+    let e : Some x ≡ Some y = ap (option_map (λ (p : Text × Option Text). p.1)) same in cc
+
 pub names_met :
     (m : ArgMatches) (name : Text) (rows : List Row) (emit : Emit) → subcommand_name_of m ≡ Some name → option_map (λ p. p.1) (subcommand_rows_of m) ≡ Some rows →
     MetReplay emit (subcommand_rows_of m) → Names (first_of (codes "emit") rows) emit
 names_met m name rows emit named has (what, found, names) =
-    let same : Some (name, first_of (codes "emit") rows) ≡ Some (codes "replay", what) = sym (met_by m name rows named has) ∙ found in
-    let pair : (name, first_of (codes "emit") rows) ≡ (codes "replay", what) = cc in
-    subst (λ o. Names o emit) (sym (ap (λ p. p.1) pair)) names
+    let same : first_of (codes "emit") rows ≡ what = second_of name (codes "replay") (first_of (codes "emit") rows) what (sym (met_by m name rows named has) ∙ found) in
+    subst (λ o. Names o emit) (sym same) names
 
 module _ {Z : Type 0} where
   name_in : (o : Option (Box SubCommand Z)) → option_map (λ p. p.0) (subcommand_rows o) ≡ option_map (λ b. (out-SubCommand (box_value b)).name.now) o

@@ -31,8 +31,8 @@ pub enum Fault {
 
 impl Fault {
     /// How the program then ends.
-    pub fn status(self) -> Status
-        ensures { result ≡ status_of self }
+    pub fn status(&self) -> Status
+        ensures { result ≡ status_of self.now }
     {
         match self {
             Fault::CommandLine | Fault::Script(_) | Fault::BadBundle(_) | Fault::NotARun(_, _) =>

@@ -94,8 +94,9 @@ pub(crate) fn concluded<F: Sink>(outcome: Result<Status, Fault>, fault_writer: &
     match outcome {
         Ok(status) => status,
         Err(fault) => {
+            let status = fault.status();
             let _ = tell(fault, fault_writer);
-            fault.status()
+            status
         }
     }
 }
