@@ -14,7 +14,7 @@ returns g c zs known =
       journals = c.in_ok-bundle.bundle.journals;
       receipts = c.in_ok-bundle.bundle.receipts.items;
       end = record { at = found.0; bytes = found.1.0 };
-      read = found.1.1.1;
+      read = found.1.2;
       text = c.in_ok-judged.judged.text.items;
       says = c.in_ok-judged.ensures.value;
       wrote = search rules;
