@@ -5,7 +5,7 @@ use Rattle.ep_main.proofs.auditing.print_audit.Goals as goal
 pub returns-in_err-bundle : goal.returns-in_err-bundle
 returns-in_err-bundle g c zs known =
     let found = c.in_err-bundle.ensures.bytes zs known in
-    finishes _ _ zs _ _ _ _ c.from_residual.ensures.1 found.1 c.in_err-bundle.ensures.told (search rules)
+    finishes _ _ zs found.0 _ _ _ c.from_residual.ensures.1 found.1 c.in_err-bundle.ensures.told (search rules)
 
 pub returns : goal.returns
 returns g c zs known =
