@@ -5,6 +5,7 @@ use Rattle.ep_main.specs.Faults.{DeclinesBy, of_bundle}
 use Rattle.ep_main.specs.Outputs.{Output, WroteNothing}
 use Rattle.ep_bundle.specs.Journals.{ReadsBundle, Finds}
 use Rattle.ep_bundle.specs.Reading.{TellsFailed}
+use Rattle.ep_bundle.specs.declared.bundle.Bundle.{Bundle as Bundled}
 use Rattle.ep_bundle.specs.declared.bundle_fault.BundleFault.{BundleFault}
 use Rattle.ep_bundle.specs.declared.bundle_fault.BundleFault.TheVariants as bundle
 use Rattle.clap.specs.Walk.{Text}
@@ -100,16 +101,16 @@ performs_not want words e status zs reader out fault ask is silent c =
     let ends : Concludes (Err Memory) status fault = subst (λ x. Concludes (Err x) status fault) is c in
     subst (λ s. Performs want s zs reader out fault) (sym ends.0) (without_memory want words zs reader out fault ask silent (refl, ends.1))
 
-finds : {T : Type 0} (b : BundleFault) (zs : List ℕ) (place : ℕ) (left : Option (List ℕ)) (reader : Bool) (out : Output) →
-    Finds (ReadsBundle (record { at = 0; bytes = zs })) (Err b) place left → TellsFailed {T} (Err b) reader → WroteNothing out → Finishes (Err (of_bundle b)) zs reader out
+finds : (b : BundleFault) (zs : List ℕ) (place : ℕ) (left : Option (List ℕ)) (reader : Bool) (out : Output) →
+    Finds (ReadsBundle (record { at = 0; bytes = zs })) (Err b) place left → TellsFailed {A = Bundled} (Err b) reader → WroteNothing out → Finishes (Err (of_bundle b)) zs reader out
 finds bundle.Memory zs place left reader out found told silent = silent
 finds bundle.ReadFailed zs place left reader out found told silent = (told, silent)
 finds (bundle.BadBundle offset) zs place left reader out found told silent = (found, silent)
 finds (bundle.NotARun replica entry) zs place left reader out found told silent = (found, silent)
 
 pub finishes :
-    {T : Type 0} (b : BundleFault) (r : Result Status Fault) (zs : List ℕ) (place : ℕ) (left : Option (List ℕ)) (reader : Bool) (out : Output) → IsErrAnd r (λ e. e ≡ of_bundle b) →
-    Finds (ReadsBundle (record { at = 0; bytes = zs })) (Err b) place left → TellsFailed {T} (Err b) reader → WroteNothing out → Finishes r zs reader out
-finishes {T} b (Ok status) zs place left reader out is found told silent = absurd is
-finishes {T} b (Err e) zs place left reader out is found told silent =
-    subst (λ x. Finishes (Err x) zs reader out) (sym is) (finds {T} b zs place left reader out found told silent)
+    (b : BundleFault) (r : Result Status Fault) (zs : List ℕ) (place : ℕ) (left : Option (List ℕ)) (reader : Bool) (out : Output) → IsErrAnd r (λ e. e ≡ of_bundle b) →
+    Finds (ReadsBundle (record { at = 0; bytes = zs })) (Err b) place left → TellsFailed {A = Bundled} (Err b) reader → WroteNothing out → Finishes r zs reader out
+finishes b (Ok status) zs place left reader out is found told silent = absurd is
+finishes b (Err e) zs place left reader out is found told silent =
+    subst (λ x. Finishes (Err x) zs reader out) (sym is) (finds b zs place left reader out found told silent)
