@@ -1,16 +1,14 @@
 -- How the program ends, by what became of what it was asked for.
-use Rattle.std.proofs.Common.{◌≡◌, inl, inr, ℕ, Bool, List, Option, Result, Ok, Err, refl, sym, ◌∙◌, subst, string_bytes}
+use Rattle.std.proofs.Common.{◌≡◌, inl, inr, ℕ, Bool, List, Option, Result, Ok, Err, sym, ◌∙◌, subst, string_bytes}
 use Rattle.std.specs.Prelude.{IsErrAnd}
-use Rattle.ep_main.specs.Faults.{DeclinesBy, of_bundle}
+use Rattle.ep_main.specs.Faults.{of_bundle}
 use Rattle.ep_main.specs.Outputs.{Output, WroteNothing}
 use Rattle.ep_bundle.specs.Journals.{ReadsBundle, Finds}
 use Rattle.ep_bundle.specs.Reading.{TellsFailed}
 use Rattle.ep_bundle.specs.declared.bundle.Bundle.{Bundle as Bundled}
 use Rattle.ep_bundle.specs.declared.bundle_fault.BundleFault.{BundleFault}
 use Rattle.ep_bundle.specs.declared.bundle_fault.BundleFault.TheVariants as bundle
-use Rattle.clap.specs.Walk.{Text}
-use Rattle.ep_main.specs.Words.{AskFor}
-use Rattle.ep_main.specs.Runs.{Plays, Leaves, Finishes, Prints, Does, Concludes, Replays, Emits, Audits, Helps, Performs, Declines}
+use Rattle.ep_main.specs.Runs.{Plays, Leaves, Finishes, Prints, Does, Concludes, Replays, Emits, Audits, Helps, Performs}
 use Rattle.ep_main.specs.declared.asked.Asked.{Asked}
 use Rattle.ep_main.specs.declared.asked.Asked.TheVariants.{Replay, Audit, Help}
 use Rattle.ep_main.specs.declared.asked.Emit.TheVariants.{Report, Bundle}
@@ -74,32 +72,10 @@ performs (Replay Bundle) outcome status zs reader out fault d c = emits outcome 
 performs Audit outcome status zs reader out fault d c = audits outcome status zs reader out fault d c
 performs (Help text) outcome status zs reader out fault d c = helps outcome status (string_bytes text) out fault d c
 
-pub declines : (e : Fault) (status : Status) (out fault : Output) → DeclinesBy e → WroteNothing out → Concludes (Err e) status fault → Declines status out fault
-declines CommandLine status out fault by silent c = subst (λ s. Declines s out fault) (sym c.0) (silent, c.1)
-declines (Script line) status out fault by silent c = absurd by
-declines (BadBundle offset) status out fault by silent c = absurd by
-declines (NotARun replica entry) status out fault by silent c = absurd by
-declines Memory status out fault by silent c = subst (λ s. Declines s out fault) (sym c.0) (record { silent = silent; told = c.1 })
-declines Read status out fault by silent c = absurd by
-declines Write status out fault by silent c = absurd by
-
 pub performs_asked :
     (asked want : Asked) (status : Status) (zs : List ℕ) (reader : Bool) (out fault : Output) → asked ≡ want → Performs asked status zs reader out fault →
     Performs want status zs reader out fault
 performs_asked asked want status zs reader out fault is p = subst (λ a. Performs a status zs reader out fault) is p
-
-without_memory : (want : Asked) (words : List Text) (zs : List ℕ) (reader : Bool) (out fault : Output) → AskFor want words → WroteNothing out → Concludes (Err Memory) OutOfMemory fault → Performs want OutOfMemory zs reader out fault
-without_memory (Replay Report) words zs reader out fault ask silent c = record { silent = silent; told = c.1 }
-without_memory (Replay Bundle) words zs reader out fault ask silent c = record { silent = silent; told = c.1 }
-without_memory Audit words zs reader out fault ask silent c = record { silent = silent; told = c.1 }
-without_memory (Help text) words zs reader out fault ask silent c = absurd ask
-
-pub performs_not :
-    (want : Asked) (words : List Text) (e : Fault) (status : Status) (zs : List ℕ) (reader : Bool) (out fault : Output) → AskFor want words → e ≡ Memory → WroteNothing out →
-    Concludes (Err e) status fault → Performs want status zs reader out fault
-performs_not want words e status zs reader out fault ask is silent c =
-    let ends : Concludes (Err Memory) status fault = subst (λ x. Concludes (Err x) status fault) is c in
-    subst (λ s. Performs want s zs reader out fault) (sym ends.0) (without_memory want words zs reader out fault ask silent (refl, ends.1))
 
 finds : (b : BundleFault) (zs : List ℕ) (place : ℕ) (left : Option (List ℕ)) (reader : Bool) (out : Output) →
     Finds (ReadsBundle (record { at = 0; bytes = zs })) (Err b) place left → TellsFailed {A = Bundled} (Err b) reader → WroteNothing out → Finishes (Err (of_bundle b)) zs reader out
