@@ -8,7 +8,8 @@ use Rattle.ep_bundle.specs.Reading.{TellsFailed}
 use Rattle.ep_bundle.specs.declared.bundle.Bundle.{Bundle as Bundled}
 use Rattle.ep_bundle.specs.declared.bundle_fault.BundleFault.{BundleFault}
 use Rattle.ep_bundle.specs.declared.bundle_fault.BundleFault.TheVariants as bundle
-use Rattle.ep_main.specs.Runs.{Plays, Leaves, Finishes, Prints, Does, Concludes, Replays, Emits, Audits, Helps, Performs}
+use Rattle.ep_main.specs.Runs.{Plays, Leaves, Finishes, Prints, Does, Concludes, Replays, Emits, Audits, Helps, IsHelped, Performs}
+use Rattle.ep_main.specs.Words.{IsHelp}
 use Rattle.ep_main.specs.declared.asked.Asked.{Asked}
 use Rattle.ep_main.specs.declared.asked.Asked.TheVariants.{Replay, Audit, Help}
 use Rattle.ep_main.specs.declared.asked.Emit.TheVariants.{Report, Bundle}
@@ -71,6 +72,15 @@ performs (Replay Report) outcome status zs reader out fault d c = replays outcom
 performs (Replay Bundle) outcome status zs reader out fault d c = emits outcome status zs reader out fault d c
 performs Audit outcome status zs reader out fault d c = audits outcome status zs reader out fault d c
 performs (Help text) outcome status zs reader out fault d c = helps outcome status (string_bytes text) out fault d c
+
+pub is_helped : (asked : Asked) (status : Status) (zs : List ℕ) (reader : Bool) (out fault : Output) → IsHelp asked → Performs asked status zs reader out fault → IsHelped status out fault
+is_helped (Replay emit) status zs reader out fault help p = absurd help
+is_helped Audit status zs reader out fault help p = absurd help
+is_helped (Help text) Accepted zs reader out fault help p = ((string_bytes text, p.0), p.1)
+is_helped (Help text) AuditRefused zs reader out fault help p = absurd p
+is_helped (Help text) Refused zs reader out fault help p = absurd p
+is_helped (Help text) OutOfMemory zs reader out fault help p = absurd p
+is_helped (Help text) Failed zs reader out fault help p = p
 
 pub performs_asked :
     (asked want : Asked) (status : Status) (zs : List ℕ) (reader : Bool) (out fault : Output) → asked ≡ want → Performs asked status zs reader out fault →

@@ -14,7 +14,7 @@ use Rattle.clap.specs.Faults.{fault_of, is_simple_and_free}
 use Rattle.clap.specs.Kinds.{IsAmong}
 use Rattle.clap.specs.Takes.{takes}
 use Rattle.clap.proofs.OnLiterals.{clap_on_literals}
-use Rattle.ep_main.specs.Words.{AskFor, IsAsked, IsHelp, IsMet, MetReplay, MetAudit, Names, epaxos, met}
+use Rattle.ep_main.specs.Words.{AskFor, AskForHelp, IsAsked, IsHelp, IsMet, MetReplay, MetAudit, Names, epaxos, met}
 use Rattle.ep_main.specs.declared.asked.Asked.{Asked}
 use Rattle.ep_main.specs.declared.asked.Asked.TheVariants.{Replay, Audit, Help}
 use Rattle.ep_main.specs.declared.asked.Emit.TheVariants.{Report, Bundle}
@@ -127,6 +127,51 @@ asked_of_help app words kind (Ok Audit) is has help = absurd help.0
 asked_of_help app words kind (Ok (Help text)) is has help =
     among words kind help.1 (subst (λ a. is_simple_and_free a ≡ true → (kind ≡ OutOfMemory) ⊎ IsAmong kind (fault_of a words)) is has free)
 asked_of_help app words kind (Err e) is has help = tt
+
+help_alone : (name : Text) → fault_of epaxos (name ∷ codes "--help" ∷ []) ≡ DisplayHelp ∷ []
+unfolding clap_on_literals
+help_alone name = refl
+
+short_help : (name : Text) → fault_of epaxos (name ∷ codes "-h" ∷ []) ≡ DisplayHelp ∷ []
+unfolding clap_on_literals
+short_help name = refl
+
+help_of_replay : (name : Text) → fault_of epaxos (name ∷ codes "replay" ∷ codes "--help" ∷ []) ≡ DisplayHelp ∷ []
+unfolding clap_on_literals
+help_of_replay name = refl
+
+help_of_audit : (name : Text) → fault_of epaxos (name ∷ codes "audit" ∷ codes "--help" ∷ []) ≡ DisplayHelp ∷ []
+unfolding clap_on_literals
+help_of_audit name = refl
+
+help_known : (words : List Text) → AskForHelp words → fault_of epaxos words ≡ DisplayHelp ∷ []
+help_known words (name, inl is) = subst (λ (ws : List Text). fault_of epaxos ws ≡ DisplayHelp ∷ []) (sym is) (help_alone name)
+help_known words (name, inr (inl is)) = subst (λ (ws : List Text). fault_of epaxos ws ≡ DisplayHelp ∷ []) (sym is) (short_help name)
+help_known words (name, inr (inr (inl is))) = subst (λ (ws : List Text). fault_of epaxos ws ≡ DisplayHelp ∷ []) (sym is) (help_of_replay name)
+help_known words (name, inr (inr (inr is))) = subst (λ (ws : List Text). fault_of epaxos ws ≡ DisplayHelp ∷ []) (sym is) (help_of_audit name)
+
+-- where help is asked for, nothing is met
+pub help_is_no_match : {X : Type 0} (app : App) (words : List Text) → app ≡ epaxos → (is_simple_and_free app ≡ true → fault_of app words ≡ []) → AskForHelp words → X
+help_is_no_match {X} app words is none ask =
+    let empty : fault_of epaxos words ≡ [] = subst (λ a. is_simple_and_free a ≡ true → fault_of a words ≡ []) is none free in
+    let bad : DisplayHelp ∷ [] ≡ [] = sym (help_known words ask) ∙ empty in
+    cc
+
+helps_by :
+    (kind : ErrorKind) (kinds : List ErrorKind) (r : Result Asked Fault) → kinds ≡ DisplayHelp ∷ [] → (kind ≡ OutOfMemory) ⊎ IsAmong kind kinds → (kind ≡ OutOfMemory → r ≡ Err Memory) →
+    (kind ≡ DisplayHelp → MatchResult r IsHelp (λ e. e ≡ Memory)) → MatchResult r IsHelp (λ e. e ≡ Memory)
+helps_by kind kinds r is (inl none) memory help = subst (λ r. MatchResult r IsHelp (λ e. e ≡ Memory)) (sym (memory none)) refl
+helps_by kind kinds r is (inr known) memory help =
+    let among : (kind ≡ DisplayHelp) ⊎ ⊥ = subst (λ ks. IsAmong kind ks) is known in
+    help (elim among [ inl h ↦ h | inr h ↦ absurd h ])
+
+pub help_is_met :
+    (app : App) (words : List Text) (kind : ErrorKind) (r : Result Asked Fault) → app ≡ epaxos →
+    (is_simple_and_free app ≡ true → (kind ≡ OutOfMemory) ⊎ IsAmong kind (fault_of app words)) → (kind ≡ OutOfMemory → r ≡ Err Memory) →
+    (kind ≡ DisplayHelp → MatchResult r IsHelp (λ e. e ≡ Memory)) → AskForHelp words → MatchResult r IsHelp (λ e. e ≡ Memory)
+help_is_met app words kind r is has memory help ask =
+    helps_by kind (fault_of epaxos words) r (help_known words ask)
+    (subst (λ a. is_simple_and_free a ≡ true → (kind ≡ OutOfMemory) ⊎ IsAmong kind (fault_of a words)) is has free) memory help
 
 pub no_kind :
     (want : Asked) (app : App) (words : List Text) (kind : ErrorKind) → app ≡ epaxos → (takes app words ≡ true → kind ≡ OutOfMemory) → AskFor want words → kind ≡ OutOfMemory

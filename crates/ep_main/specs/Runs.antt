@@ -87,6 +87,14 @@ Helps Refused text out fault = ⊥
 Helps OutOfMemory text out fault = ⊥
 Helps Failed text out fault = (out.failed ≡ true) × Told fault writing_failed
 
+-- help, with some text
+abbrev pub IsHelped : Status → Output → Output → Type 0
+IsHelped Accepted out fault = ((text : List ℕ) × Wrote out text) × WroteNothing fault
+IsHelped AuditRefused out fault = ⊥
+IsHelped Refused out fault = ⊥
+IsHelped OutOfMemory out fault = IsOutOfMemory out fault
+IsHelped Failed out fault = (out.failed ≡ true) × Told fault writing_failed
+
 abbrev pub Performs : Asked → Status → List ℕ → Bool → Output → Output → Type 0
 Performs (Replay Report) status zs reader out fault = Replays status zs reader out fault
 Performs (Replay Bundle) status zs reader out fault = Emits status zs reader out fault

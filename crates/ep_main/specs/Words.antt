@@ -23,6 +23,11 @@ AskFor (Replay Bundle) words =
 AskFor Audit words = (name : Text) × (words ≡ name ∷ codes "audit" ∷ [])
 AskFor (Help text) words = ⊥
 
+-- the words ask for help: `--help` or `-h`, right behind the program's own name or behind a subcommand
+abbrev pub AskForHelp : List Text → Type 0
+AskForHelp words = (name : Text) × ((words ≡ name ∷ codes "--help" ∷ []) ⊎ ((words ≡ name ∷ codes "-h" ∷ [])
+    ⊎ ((words ≡ name ∷ codes "replay" ∷ codes "--help" ∷ []) ⊎ (words ≡ name ∷ codes "audit" ∷ codes "--help" ∷ []))))
+
 -- What the program has, as `clap` sees it.
 
 abbrev pub emit : Rule

@@ -8,7 +8,7 @@ ghost use Rattle.clap.specs.Matches.{found_of};
 ghost use Rattle.clap.specs.Simple.{app_of, subcommand_rows_of};
 ghost use Rattle.clap.specs.declared.builder.command.Command.TheViews.{out-Command as fields_of};
 ghost use Rattle.ep_main.specs.Faults.{DeclinesBy};
-ghost use Rattle.ep_main.specs.Words.{AskFor, IsAsked, IsHelp, IsMet, MetReplay, MetAudit, Names, audit as audit_app, emit as emit_rule, replay as replay_app, epaxos};
+ghost use Rattle.ep_main.specs.Words.{AskFor, AskForHelp, IsAsked, IsHelp, IsMet, MetReplay, MetAudit, Names, audit as audit_app, emit as emit_rule, replay as replay_app, epaxos};
 ghost use Rattle.ep_main.specs.declared.asked.Asked.{Asked};
 ghost use Rattle.ep_main.specs.declared.asked.Asked.TheVariants.{Replay, Audit};
 ghost use Rattle.ep_main.specs.declared.asked.Emit.{Emit};
@@ -26,6 +26,7 @@ use std::convert::AsStr;
 /// program knows.
 pub(crate) fn read_words<T: AsStr>(alloc: Global, words: &[T]) -> Result<Asked, Fault>
     ensures asked { (asked : Asked) → AskFor asked (map T.text words.now) → MatchResult result (λ a. a ≡ asked) (λ e. e ≡ Memory) }
+    ensures help { AskForHelp (map T.text words.now) → MatchResult result IsHelp (λ e. e ≡ Memory) }
     ensures only { IfOk result (λ a. IsAsked a (map T.text words.now)) }
     ensures declines { IfErr result DeclinesBy }
 {
@@ -39,6 +40,7 @@ pub(crate) fn read_words<T: AsStr>(alloc: Global, words: &[T]) -> Result<Asked, 
 /// What is asked for where `clap` finds no matches: help at most.
 fn asked_instead(alloc: Global, error: &Error) -> Result<Asked, Fault>
     ensures memory { kind_of error.now ≡ OutOfMemory → result ≡ Err Memory }
+    ensures help { kind_of error.now ≡ DisplayHelp → MatchResult result IsHelp (λ e. e ≡ Memory) }
     ensures only { IfOk result (λ a. IsHelp a × (kind_of error.now ≡ DisplayHelp)) }
     ensures declines { IfErr result DeclinesBy }
 {

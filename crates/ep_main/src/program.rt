@@ -2,8 +2,8 @@
 
 ghost use Rattle.std.specs.Prelude.{◌≡◌, ◌⊎◌, ℕ, List, Some, map};
 ghost use Rattle.ep_main.specs.Outputs.{output};
-ghost use Rattle.ep_main.specs.Runs.{Performs, Declines, Does, Concludes};
-ghost use Rattle.ep_main.specs.Words.{AskFor, IsAsked};
+ghost use Rattle.ep_main.specs.Runs.{Performs, IsHelped, Declines, Does, Concludes};
+ghost use Rattle.ep_main.specs.Words.{AskFor, AskForHelp, IsAsked};
 ghost use Rattle.ep_main.specs.declared.asked.Asked.{Asked};
 
 use crate::asked::{Asked, Emit};
@@ -32,6 +32,11 @@ pub fn engine<T: AsStr, S: Source, W: Sink, F: Sink>(
 ) -> Status
     // where the words ask for a replay's report, for its bundle, or for an audit, that is done
     ensures asked { (asked : Asked) → AskFor asked (map T.text words.now) → (zs : List ℕ) → S.left reader.old ≡ Some zs → Performs asked result zs (S.has_failed reader.new)
+        (output (W.held writer.old) (W.held writer.new) (W.has_failed writer.new))
+        (output (F.held fault_writer.old) (F.held fault_writer.new) (F.has_failed fault_writer.new)) }
+
+    // where they ask for help, it is printed
+    ensures help { AskForHelp (map T.text words.now) → (zs : List ℕ) → S.left reader.old ≡ Some zs → IsHelped result
         (output (W.held writer.old) (W.held writer.new) (W.has_failed writer.new))
         (output (F.held fault_writer.old) (F.held fault_writer.new) (F.has_failed fault_writer.new)) }
 

@@ -1,4 +1,4 @@
-use Rattle.ep_main.proofs.Literals.{answers, asked_of_help, asked_of_met, found_met, has_no_memory, no_kind}
+use Rattle.ep_main.proofs.Literals.{answers, asked_of_help, asked_of_met, found_met, has_no_memory, help_is_met, help_is_no_match, no_kind}
 use Rattle.ep_main.proofs.command_line.read_words.Goals as goal
 
 pub returns-in-Ok-clause-asked : goal.returns-in-Ok-clause-asked
@@ -14,3 +14,10 @@ returns-in-Ok-clause-only g c = asked_of_met _ _ _ _ c.in_ok-command.ensures c.i
 
 pub returns-in-Err-clause-only : goal.returns-in-Err-clause-only
 returns-in-Err-clause-only g c = asked_of_help _ _ _ _ c.in_ok-command.ensures c.in-Err.ensures.kinds c.asked_instead.ensures.only
+
+pub returns-in-Ok-clause-help : goal.returns-in-Ok-clause-help
+returns-in-Ok-clause-help g c ask = help_is_no_match _ _ c.in_ok-command.ensures c.in-Ok.ensures.kinds ask
+
+pub returns-in-Err-clause-help : goal.returns-in-Err-clause-help
+returns-in-Err-clause-help g c ask =
+    help_is_met _ _ _ _ c.in_ok-command.ensures c.in-Err.ensures.kinds c.asked_instead.ensures.memory c.asked_instead.ensures.help ask
