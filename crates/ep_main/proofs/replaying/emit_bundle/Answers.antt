@@ -1,4 +1,3 @@
-use Rattle.std.proofs.Common.{rules}
 use Rattle.ep_bundle.specs.Bytes.{bundle_bytes}
 use Rattle.ep_main.proofs.Bundling.{bundled, not_bundled}
 use Rattle.ep_main.proofs.replaying.emit_bundle.Goals as goal
