@@ -8,3 +8,16 @@ pub mod Following
 pub mod Journeys
 pub mod Bundles
 pub mod Puts
+pub mod WrittenStages
+pub mod WrittenParts
+pub mod WrittenFrames
+pub mod WrittenRuns
+pub mod WrittenJournals
+pub mod WrittenBundles
+pub mod WrittenRanges
+pub mod WrittenOnce
+pub mod ReadNumbers
+pub mod ReadParts
+pub mod ReadEntries
+pub mod ReadJournals
+pub mod ReadBundles

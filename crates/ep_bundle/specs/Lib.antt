@@ -6,3 +6,6 @@ pub mod Journals
 pub mod Texts
 pub mod Writing
 pub mod Contents
+pub mod WriteRanges
+pub mod WriteLaws
+pub mod ReadLaws

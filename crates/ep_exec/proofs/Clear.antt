@@ -1,5 +1,5 @@
 -- Which components are ready, from their dependencies alone.
-use Rattle.std.proofs.Common.{◌≡◌, ℕ, ◌<◌, ◌⊎◌, inl, inr, zero, suc, List, [], ◌∷◌, ◌++◌, length, map, drop, leb, Option, Some, None, Bool, true, false, cond, ltb, ◌&&◌, refl, sym, ap, subst, ◌∙◌, arith, append_assoc, append-nil}
+use Rattle.std.proofs.Common.{◌≡◌, ℕ, ◌<◌, ◌⊎◌, inl, inr, zero, suc, List, [], ◌∷◌, ◌++◌, length, map, drop, leb, Option, Some, None, Bool, true, false, cond, ltb, ◌&&◌, not, refl, sym, ap, subst, ◌∙◌, arith, append_assoc, append-nil}
 use Rattle.std.proofs.lemmas.List.{drop_all}
 use Rattle.std.proofs.lemmas.Bool.{cases_lt, le-leb, lt-leb, lt-ltb, ltb-true, le-ltb, cases_Bool, and_parts, and_from, false≢true}
 use Rattle.std.specs.List.{flat_map, filter, AllByRecursion}
@@ -12,8 +12,8 @@ use Rattle.ep_exec.specs.Found.{IsLeast, ranked, Gathers}
 use Rattle.ep_rules.proofs.Reaching.{reach_trans}
 use Rattle.ep_rules.proofs.Places.{has_or, has_left, has_right, has_split, has_cons, has_tail, not_has, place_head, has_filter, filter_has}
 use Rattle.ep_exec.proofs.Blocks.{IsGathered, gathered_none, gathered_more}
-use Rattle.ep_exec.specs.Walk.{deps_at, IsComponent}
-use Rattle.ep_exec.specs.Ready.{is_out, Waiting, waits_for, waiting_of, passed, with_passed, is_none_left, ready_in, ranked_left_of, component_at, block_in}
+use Rattle.ep_exec.specs.Walk.{deps_at, IsComponent, DepsFirst, AreComponents}
+use Rattle.ep_exec.specs.Ready.{is_out, Waiting, waits_for, waiting_of, passed, with_passed, is_none_left, are_in, is_open, ready_by, settled_by, ready_in, settled_of, ranked_left_of, component_at, block_in}
 
 -- all that it reaches is done
 abbrev pub AllDone : Graph → List ℕ → ℕ → Type 0
@@ -106,16 +106,16 @@ waits_from g c (x ∷ js) d h = elim (has_split (filter (is_out c) (deps_at (g x
 ]
 
 -- a component, and what it waits for after these
-pub record IsPart (g : Graph) (order c : List ℕ) (w : Waiting) : Type 0 where
+pub record IsPart (g : Graph) (settled c : List ℕ) (w : Waiting) : Type 0 where
   pub same : w.members ≡ c
-  pub deps : (i d : ℕ) (a : Attrs) → Has c i → g i ≡ Some a → Has a.deps d → Has c d ⊎ (Has w.waits d ⊎ Has order d)
+  pub deps : (i d : ℕ) (a : Attrs) → Has c i → g i ≡ Some a → Has a.deps d → Has c d ⊎ (Has w.waits d ⊎ Has settled d)
   pub outside : (d : ℕ) → Has w.waits d → IsWait g c c d
 
 abbrev pub AreParts : Graph → List ℕ → List (List ℕ) → List Waiting → Type 0
-AreParts g order [] [] = Unit {0}
-AreParts g order [] (w ∷ ws) = ⊥
-AreParts g order (c ∷ cs) [] = ⊥
-AreParts g order (c ∷ cs) (w ∷ ws) = IsPart g order c w × AreParts g order cs ws
+AreParts g settled [] [] = Unit {0}
+AreParts g settled [] (w ∷ ws) = ⊥
+AreParts g settled (c ∷ cs) [] = ⊥
+AreParts g settled (c ∷ cs) (w ∷ ws) = IsPart g settled c w × AreParts g settled cs ws
 
 part_first : (g : Graph) (c : List ℕ) → IsPart g [] c (waiting_of g c)
 part_first g c = record {
@@ -128,35 +128,67 @@ pub parts_first : (g : Graph) (cs : List (List ℕ)) → AreParts g [] cs (map (
 parts_first g [] = tt
 parts_first g (c ∷ cs) = (part_first g c, parts_first g cs)
 
-part_passed : (g : Graph) (order c : List ℕ) (w : Waiting) → IsPart g order c w → IsPart g order c (with_passed order w)
-part_passed g order c w p = record {
+part_passed : (g : Graph) (settled c : List ℕ) (w : Waiting) → IsPart g settled c w → IsPart g settled c (with_passed settled w)
+part_passed g settled c w p = record {
   same = p.same;
   deps = λ i d a h e q. elim (p.deps i d a h e q) [
     | inl k ↦ inl k
-    | inr (inl k) ↦ inr (passed_kept order w.waits d k)
+    | inr (inl k) ↦ inr (passed_kept settled w.waits d k)
     | inr (inr k) ↦ inr (inr k)
   ];
-  outside = λ d h. p.outside d (passed_within order w.waits d h);
+  outside = λ d h. p.outside d (passed_within settled w.waits d h);
 }
 
-pub parts_passed : (g : Graph) (order : List ℕ) (cs : List (List ℕ)) (ws : List Waiting) → AreParts g order cs ws → AreParts g order cs (map (with_passed order) ws)
-parts_passed g order [] [] p = tt
-parts_passed g order [] (w ∷ ws) p = p
-parts_passed g order (c ∷ cs) [] p = p
-parts_passed g order (c ∷ cs) (w ∷ ws) p = (part_passed g order c w p.0, parts_passed g order cs ws p.1)
+pub parts_passed : (g : Graph) (settled : List ℕ) (cs : List (List ℕ)) (ws : List Waiting) → AreParts g settled cs ws → AreParts g settled cs (map (with_passed settled) ws)
+parts_passed g settled [] [] p = tt
+parts_passed g settled [] (w ∷ ws) p = p
+parts_passed g settled (c ∷ cs) [] p = p
+parts_passed g settled (c ∷ cs) (w ∷ ws) p = (part_passed g settled c w p.0, parts_passed g settled cs ws p.1)
 
-pub parts_more : (g : Graph) (order block : List ℕ) (cs : List (List ℕ)) (ws : List Waiting) → AreParts g order cs ws → AreParts g (order ++ block) cs ws
-parts_more g order block [] [] p = tt
-parts_more g order block [] (w ∷ ws) p = p
-parts_more g order block (c ∷ cs) [] p = p
-parts_more g order block (c ∷ cs) (w ∷ ws) p = (
+pub parts_more : (g : Graph) (settled more : List ℕ) (cs : List (List ℕ)) (ws : List Waiting) → AreParts g settled cs ws → AreParts g (settled ++ more) cs ws
+parts_more g settled more [] [] p = tt
+parts_more g settled more [] (w ∷ ws) p = p
+parts_more g settled more (c ∷ cs) [] p = p
+parts_more g settled more (c ∷ cs) (w ∷ ws) p = (
   record {
     same = p.0.same;
-    deps = λ i d a h e q. elim (p.0.deps i d a h e q) [ inl k ↦ inl k | inr (inl k) ↦ inr (inl k) | inr (inr k) ↦ inr (inr (has_left order block d k)) ];
+    deps = λ i d a h e q. elim (p.0.deps i d a h e q) [ inl k ↦ inl k | inr (inl k) ↦ inr (inl k) | inr (inr k) ↦ inr (inr (has_left settled more d k)) ];
     outside = p.0.outside;
   },
-  parts_more g order block cs ws p.1,
+  parts_more g settled more cs ws p.1,
 )
+
+-- while more is settled
+parts_by : (g : Graph) (done out : List ℕ) (u : Waiting) (cs : List (List ℕ)) (ws : List Waiting) → AreParts g out cs ws → AreParts g (settled_by done out u) cs ws
+parts_by g done out u cs ws p = go (is_open out u) (are_in done u.members)
+  where
+    go : (b t : Bool) → AreParts g (cond b (cond t (out ++ u.members) out) out) cs ws
+    go true true = parts_more g out u.members cs ws p
+    go true false = p
+    go false t = p
+
+parts_after : (g : Graph) (done out : List ℕ) (us : List Waiting) (cs : List (List ℕ)) (ws : List Waiting) → AreParts g out cs ws → AreParts g (settled_of done out us) cs ws
+parts_after g done out [] cs ws p = p
+parts_after g done out (u ∷ us) cs ws p = parts_after g done (settled_by done out u) us cs ws (parts_by g done out u cs ws p)
+
+-- a clear component depends on itself and on what is settled
+clear_deps : (g : Graph) (out c : List ℕ) (w : Waiting) → IsPart g out c w → is_none_left (passed out w.waits) ≡ true → (i d : ℕ) (a : Attrs) → Has c i → g i ≡ Some a → Has a.deps d → Has out d ⊎ Has c d
+clear_deps g out c w p e i d a h f q = elim (p.deps i d a h f q) [
+  | inl k ↦ inr k
+  | inr (inl k) ↦ elim (passed_kept out w.waits d k) [ inl y ↦ absurd (none_left (passed out w.waits) d e y) | inr y ↦ inl y ]
+  | inr (inr k) ↦ inl k
+]
+
+-- each of the list is among these
+in_then : (xs ds : List ℕ) → are_in xs ds ≡ true → (d : ℕ) → Has ds d → Has xs d
+in_then xs [] e d h = absurd (omega arith)
+in_then xs (x ∷ ds) e d h =
+    let p = and_parts (ltb (place xs x) (length xs)) (are_in xs ds) e in
+    elim (has_cons x d ds h) [ inl q ↦ subst (λ y. Has xs y) q (ltb-true (place xs x) (length xs) p.0) | inr k ↦ in_then xs ds p.1 d k ]
+
+in_from : (xs ds : List ℕ) → ((d : ℕ) → Has ds d → Has xs d) → are_in xs ds ≡ true
+in_from xs [] h = refl
+in_from xs (x ∷ ds) h = and_from (ltb (place xs x) (length xs)) (are_in xs ds) (lt-ltb (place xs x) (length xs) (h x (head_has x ds))) (in_from xs ds (λ d k. h d (has_tail x d ds k)))
 
 module _ (g : Graph) (done : List ℕ) where
   -- what a clear component reaches is its own or done
@@ -167,73 +199,122 @@ module _ (g : Graph) (done : List ℕ) where
     | inr m ↦ inr (λ x w. m x (reach_trans (onward a itself e q) w))
   ]
 
--- in a graph where none depends on what was executed, after an order that is closed
-module _ (g : Graph) (executed order : List ℕ) (fresh : (i d : ℕ) (a : Attrs) → g i ≡ Some a → Has a.deps d → ¬ Has executed d) (so : (i : ℕ) → Has order i → AllDone g (executed ++ order) i) where
-  part_ready : (c : List ℕ) (w : Waiting) → IsComponent g c → IsPart g order c w → is_none_left w.waits ≡ true → (i : ℕ) → Has c i → ¬ Has (executed ++ order) i → IsReady g (executed ++ order) i
-  part_ready c w comp p e i h n = record {
-    left = n;
-    clear = λ j r. elim (reached_in g (executed ++ order) order c (λ x d a hx ex q. elim (p.deps x d a hx ex q) [ inl k ↦ inr k | inr (inl k) ↦ absurd (none_left w.waits d e k) | inr (inr k) ↦ inl k ]) so h r) [
-      | inl m ↦ inr ((comp i j h).0 m).1
-      | inr m ↦ inl (m j itself)
-    ];
-  }
+  -- of those before, the settled ones are those of which all that they reach is done
+  pub record IsSettled (before settled : List ℕ) : Type 0 where
+    pub exact : (i : ℕ) → Has before i → AllDone g done i → Has settled i
+    pub sound : (i : ℕ) → Has settled i → AllDone g done i
 
-  part_waits : (c : List ℕ) (w : Waiting) → IsComponent g c → IsPart g order c w → IsStuck order w.waits → (i : ℕ) → Has c i → IsReady g (executed ++ order) i → ⊥
-  part_waits c w comp p s i h r =
-      let o = p.outside s.at s.has in
-      let ir : Reaches g i o.from = ((comp i o.from h).0 o.member).0 in
-      let id : Reaches g i s.at = onward o.attrs ir o.is o.dep in
-      elim (r.clear s.at id) [
-        | inl k ↦ elim (has_split executed order s.at k) [ inl y ↦ fresh o.from s.at o.attrs o.is o.dep y | inr y ↦ s.left y ]
-        | inr k ↦ o.apart ((comp i s.at h).1 (id, k))
-      ]
+  -- what a look at these components finds ready, and has settled then
+  pub record IsLooked (before c ready settled : List ℕ) : Type 0 where
+    pub now : IsSettled (before ++ c) settled
+    pub ready_then : (i : ℕ) → Has ready i → IsReady g done i × Has c i
+    pub ready_from : (i : ℕ) → Has c i → IsReady g done i → Has ready i
 
-  ready_then : (cs : List (List ℕ)) (ws : List Waiting) → AllByRecursion (IsComponent g) cs → AreParts g order cs ws → (i : ℕ) → Has (ready_in (executed ++ order) ws) i → IsReady g (executed ++ order) i × Has (flat_map (λ c. c) cs) i
-  ready_then [] [] comps ps i h = absurd (omega arith)
-  ready_then [] (w ∷ ws) comps ps i h = absurd ps
-  ready_then (c ∷ cs) [] comps ps i h = absurd ps
-  ready_then (c ∷ cs) (w ∷ ws) comps ps i h = elim (has_split (cond (is_none_left w.waits) (filter (is_out (executed ++ order)) w.members) []) (ready_in (executed ++ order) ws) i h) [
-    | inl k ↦ go (is_none_left w.waits) refl k
-    | inr k ↦ (let r = ready_then cs ws comps.1 ps.1 i k in (r.0, has_right c (flat_map (λ c. c) cs) i r.1))
-  ]
+  look_step : (before out c : List ℕ) (w : Waiting) → IsSettled before out → IsComponent g c → ((i d : ℕ) (a : Attrs) → Has c i → g i ≡ Some a → Has a.deps d → Has before d ⊎ Has c d) → IsPart g out c w → IsLooked before c (ready_by done out w) (settled_by done out w)
+  look_step before out c w st comp deps p = go (is_none_left (passed out w.waits)) (are_in out w.members) (are_in done w.members) refl refl refl
     where
-      go : (b : Bool) → is_none_left w.waits ≡ b → Has (cond b (filter (is_out (executed ++ order)) w.members) []) i → IsReady g (executed ++ order) i × Has (c ++ flat_map (λ c. c) cs) i
-      go true e k =
-          let f = has_filter (is_out (executed ++ order)) w.members i k in
-          let m : Has c i = subst (λ ms. Has ms i) ps.0.same f.0 in
-          (part_ready c w comps.0 ps.0 e i m (out_then (executed ++ order) i f.1), has_left c (flat_map (λ c. c) cs) i m)
-      go false e k = absurd (omega arith)
+      own : (i : ℕ) → Has w.members i → Has c i
+      own i h = subst (λ ms. Has ms i) p.same h
 
-  ready_from : (cs : List (List ℕ)) (ws : List Waiting) → AllByRecursion (IsComponent g) cs → AreParts g order cs ws → (i : ℕ) → Has (flat_map (λ c. c) cs) i → IsReady g (executed ++ order) i → Has (ready_in (executed ++ order) (map (with_passed order) ws)) i
-  ready_from [] ws comps ps i h r = absurd (omega arith)
-  ready_from (c ∷ cs) [] comps ps i h r = absurd ps
-  ready_from (c ∷ cs) (w ∷ ws) comps ps i h r = elim (has_split c (flat_map (λ c. c) cs) i h) [
-    | inl k ↦ has_left (cond (is_none_left (passed order w.waits)) (filter (is_out (executed ++ order)) w.members) []) (ready_in (executed ++ order) (map (with_passed order) ws)) i (go (is_none_left (passed order w.waits)) refl k)
-    | inr k ↦ has_right (cond (is_none_left (passed order w.waits)) (filter (is_out (executed ++ order)) w.members) []) (ready_in (executed ++ order) (map (with_passed order) ws)) i (ready_from cs ws comps.1 ps.1 i k r)
-  ]
-    where
-      go : (b : Bool) → is_none_left (passed order w.waits) ≡ b → Has c i → Has (cond b (filter (is_out (executed ++ order)) w.members) []) i
-      go true e k = filter_has (is_out (executed ++ order)) w.members i (out_yes (executed ++ order) i r.left) (subst (λ ms. Has ms i) (sym ps.0.same) k)
-      go false e k = absurd (part_waits c (with_passed order w) comps.0 (part_passed g order c w ps.0) (passed_stuck order w.waits e) i k r)
+      member : (i : ℕ) → Has c i → Has w.members i
+      member i h = subst (λ ms. Has ms i) (sym p.same) h
+
+      -- what a clear component reaches
+      reached : is_none_left (passed out w.waits) ≡ true → (i j : ℕ) → Has c i → Reaches g i j → Has c j ⊎ AllDone g done j
+      reached e i j h r = reached_in out c (clear_deps g out c w p e) st.sound h r
+
+      found_ready : is_none_left (passed out w.waits) ≡ true → (i : ℕ) → Has (filter (is_out done) w.members) i → IsReady g done i × Has c i
+      found_ready e i k =
+          let f = has_filter (is_out done) w.members i k in
+          let h : Has c i = own i f.0 in
+          (record { left = out_then done i f.1; clear = λ j r. elim (reached e i j h r) [ inl m ↦ inr ((comp i j h).0 m).1 | inr m ↦ inl (m j itself) ] }, h)
+
+      ready_found : (i : ℕ) → Has c i → IsReady g done i → Has (filter (is_out done) w.members) i
+      ready_found i h r = filter_has (is_out done) w.members i (out_yes done i r.left) (member i h)
+
+      go : (b s t : Bool) → is_none_left (passed out w.waits) ≡ b → are_in out w.members ≡ s → are_in done w.members ≡ t → IsLooked before c (cond (b && not s) (filter (is_out done) w.members) []) (cond (b && not s) (cond t (out ++ w.members) out) out)
+      go false s t eb es et =
+          let k = passed_stuck out w.waits eb in
+          let o = p.outside k.at (passed_within out w.waits k.at k.has) in
+          let to : (i : ℕ) → Has c i → Reaches g i k.at = (λ i h. onward o.attrs ((comp i o.from h).0 o.member).0 o.is o.dep) in
+          let never : AllDone g done k.at → ⊥ = (λ a. elim (deps o.from k.at o.attrs o.member o.is o.dep) [ inl y ↦ k.left (st.exact k.at y a) | inr y ↦ o.apart y ]) in
+          record {
+            now = record {
+              exact = λ i h a. elim (has_split before c i h) [ inl q ↦ st.exact i q a | inr q ↦ absurd (never (λ x r. a x (reach_trans (to i q) r))) ];
+              sound = st.sound;
+            };
+            ready_then = λ i h. absurd (omega arith);
+            ready_from = λ i h r. absurd (never (λ x t. elim (r.clear x (reach_trans (to i h) t)) [ inl y ↦ y | inr y ↦ absurd (o.apart ((comp i k.at h).1 (to i h, reach_trans t y))) ]));
+          }
+      go true true t eb es et =
+          let all : (i : ℕ) → Has c i → Has out i = (λ i h. in_then out w.members es i (member i h)) in
+          record {
+            now = record {
+              exact = λ i h a. elim (has_split before c i h) [ inl q ↦ st.exact i q a | inr q ↦ all i q ];
+              sound = st.sound;
+            };
+            ready_then = λ i h. absurd (omega arith);
+            ready_from = λ i h r. absurd (r.left (st.sound i (all i h) i itself));
+          }
+      go true false true eb es et =
+          let good : (i : ℕ) → Has c i → AllDone g done i = (λ i h x r. elim (reached eb i x h r) [ inl m ↦ in_then done w.members et x (member x m) | inr m ↦ m x itself ]) in
+          record {
+            now = record {
+              exact = λ i h a. elim (has_split before c i h) [ inl q ↦ has_left out w.members i (st.exact i q a) | inr q ↦ has_right out w.members i (member i q) ];
+              sound = λ i h. elim (has_split out w.members i h) [ inl q ↦ st.sound i q | inr q ↦ good i (own i q) ];
+            };
+            ready_then = found_ready eb;
+            ready_from = ready_found;
+          }
+      go true false false eb es et = record {
+        now = record {
+          exact = λ i h a. elim (has_split before c i h) [ inl q ↦ st.exact i q a | inr q ↦ absurd (false≢true (sym et ∙ in_from done w.members (λ j k. a j ((comp i j q).0 (own j k)).0))) ];
+          sound = st.sound;
+        };
+        ready_then = found_ready eb;
+        ready_from = ready_found;
+      }
+
+  look_all : (before out : List ℕ) (cs : List (List ℕ)) (ws : List Waiting) → IsSettled before out → AllByRecursion (IsComponent g) cs → DepsFirst g before cs → AreParts g out cs ws → IsLooked before (flat_map (λ c. c) cs) (ready_in done out ws) (settled_of done out ws)
+  look_all before out [] [] st comps first ps = record { now = rw append-nil st; ready_then = λ i h. absurd (omega arith); ready_from = λ i h r. absurd (omega arith) }
+  look_all before out [] (w ∷ ws) st comps first ps = absurd ps
+  look_all before out (c ∷ cs) [] st comps first ps = absurd ps
+  look_all before out (c ∷ cs) (w ∷ ws) st comps first ps =
+      let l = look_step before out c w st comps.0 first.0 ps.0 in
+      let r = look_all (before ++ c) (settled_by done out w) cs ws l.now comps.1 first.2 (parts_by g done out w cs ws ps.1) in
+      record {
+        now = subst (λ ys. IsSettled ys (settled_of done (settled_by done out w) ws)) (append_assoc before c (flat_map (λ c. c) cs)) r.now;
+        ready_then = λ i h. elim (has_split (ready_by done out w) (ready_in done (settled_by done out w) ws) i h) [
+          | inl k ↦ (let x = l.ready_then i k in (x.0, has_left c (flat_map (λ c. c) cs) i x.1))
+          | inr k ↦ (let x = r.ready_then i k in (x.0, has_right c (flat_map (λ c. c) cs) i x.1))
+        ];
+        ready_from = λ i h q. elim (has_split c (flat_map (λ c. c) cs) i h) [
+          | inl k ↦ has_left (ready_by done out w) (ready_in done (settled_by done out w) ws) i (l.ready_from i k q)
+          | inr k ↦ has_right (ready_by done out w) (ready_in done (settled_by done out w) ws) i (r.ready_from i k q)
+        ];
+      }
+
+-- what is settled stays so while more is done
+pub settled_later : (g : Graph) (done more settled : List ℕ) → ((i : ℕ) → Has settled i → AllDone g done i) → (i : ℕ) → Has settled i → AllDone g (done ++ more) i
+settled_later g done more settled h i k x r = has_left done more x (h i k x r)
+
+module _ (g : Graph) (done settled : List ℕ) (root : ℕ) (cs : List (List ℕ)) (ac : AreComponents g root cs) (so : (i : ℕ) → Has settled i → AllDone g done i) (ws : List Waiting) (ps : AreParts g settled cs ws) where
+  looked : IsLooked g done [] (flat_map (λ c. c) cs) (ready_in done settled (map (with_passed settled) ws)) (settled_of done settled (map (with_passed settled) ws))
+  looked = look_all g done [] settled cs (map (with_passed settled) ws) (record { exact = λ i h a. absurd (omega arith); sound = so }) ac.each ac.first (parts_passed g settled cs ws ps)
+
+  -- what is settled by now is so
+  pub settled_now : (i : ℕ) → Has (settled_of done settled (map (with_passed settled) ws)) i → AllDone g done i
+  settled_now = looked.now.sound
+
+  pub parts_now : AreParts g (settled_of done settled (map (with_passed settled) ws)) cs (map (with_passed settled) ws)
+  parts_now = parts_after g done settled (map (with_passed settled) ws) cs (map (with_passed settled) ws) (parts_passed g settled cs ws ps)
 
   -- the least of the ready ones
-  pub least_ready : (cs : List (List ℕ)) (ws : List Waiting) → AllByRecursion (IsComponent g) cs → AreParts g order cs ws → (o : Option ℕ) → IsLeast (λ _. Unit {0}) (ready_in (executed ++ order) (map (with_passed order) ws)) o → IsLeast (IsReady g (executed ++ order)) (flat_map (λ c. c) cs) o
-  least_ready cs ws comps ps None n = λ j k r. n j (ready_from cs ws comps ps j k r) tt
-  least_ready cs ws comps ps (Some i) l =
-      let r = ready_then cs (map (with_passed order) ws) comps (parts_passed g order cs ws ps) i l.0 in
-      (r.1, r.0, λ j k q. l.2 j (ready_from cs ws comps ps j k q) tt)
-
-  -- the order stays closed
-  pub done_next : (first : ℕ) (block : List ℕ) → IsReady g (executed ++ order) first → IsBlock g (executed ++ order) first block → (i : ℕ) → Has (order ++ block) i → AllDone g ((executed ++ order) ++ block) i
-  done_next first block ready b i h x r = elim (has_split order block i h) [
-    | inl k ↦ has_left (executed ++ order) block x (so i k x r)
-    | inr k ↦ (let t = ((b.members i).0 k).0 in
-        let fx : Reaches g first x = reach_trans t.0 r in
-        elim (has_or (executed ++ order) x) [
-          | inl d ↦ has_left (executed ++ order) block x d
-          | inr n ↦ has_right (executed ++ order) block x ((b.members x).1 ((fx, elim (ready.clear x fx) [ inl d ↦ absurd (n d) | inr q ↦ q ]), n))
-        ])
-  ]
+  pub least_ready : (o : Option ℕ) → IsLeast (λ _. Unit {0}) (ready_in done settled (map (with_passed settled) ws)) o → IsLeast (IsReady g done) (flat_map (λ c. c) cs) o
+  least_ready None n = λ j k r. n j (looked.ready_from j k r) tt
+  least_ready (Some i) l =
+      let r = looked.ready_then i l.0 in
+      (r.1, r.0, λ j k q. l.2 j (looked.ready_from j k q) tt)
 
 -- the order inside a component
 ranked_gathered : (g : Graph) (done : List ℕ) (first : ℕ) (seen block js : List ℕ) → IsGathered g done first seen block → ((j : ℕ) → Has js j → Reaches g j first) → IsGathered g done first (seen ++ js) (ranked_left_of g done block js)

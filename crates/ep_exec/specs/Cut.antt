@@ -1,4 +1,4 @@
--- What is committed, without the dependencies that were executed.
+-- What is committed, without the dependencies that a walk skips.
 use Rattle.std.specs.Prelude.{ℕ, List, Option, Some, None, filter}
 use Rattle.ep_base.specs.declared.attrs.Attrs.{Attrs}
 use Rattle.ep_rules.specs.Graph.{Graph}
@@ -8,12 +8,12 @@ use Rattle.ep_rules.specs.declared.record.Record.{Record}
 use Rattle.ep_exec.specs.Ready.{is_out}
 
 abbrev pub cut_attrs : List ℕ → Option Attrs → Option Attrs
-cut_attrs done None = None
-cut_attrs done (Some a) = Some (record a { deps = filter (is_out done) a.deps })
+cut_attrs skipped None = None
+cut_attrs skipped (Some a) = Some (record a { deps = filter (is_out skipped) a.deps })
 
 abbrev pub cut : Graph → List ℕ → Graph
-cut g done i = cut_attrs done (g i)
+cut g skipped i = cut_attrs skipped (g i)
 
--- what is left to execute, as a graph
+-- what is committed and not skipped, as a graph
 abbrev pub left_in : Map Record → List ℕ → Graph
-left_in records executed = cut (graph_in records) executed
+left_in records skipped = cut (graph_in records) skipped

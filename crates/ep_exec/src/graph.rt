@@ -32,17 +32,17 @@ pub fn deps_at(space: &Space, instance: InstanceId) -> &[InstanceId]
     }
 }
 
-/// Adds what the instance depends on and was not executed.
+/// Adds what the instance depends on and is not skipped.
 pub fn append_left(
     list: &mut Vec<InstanceId>,
     space: &Space,
-    executed: &Executed,
+    skipped: &Executed,
     instance: InstanceId,
 ) -> Result<(), AllocError>
-    ensures { OnOk result (list.new.items ≡ list.old.items ++ deps_at (left_in space.now.records executed.now.list instance)) }
+    ensures { OnOk result (list.new.items ≡ list.old.items ++ deps_at (left_in space.now.records skipped.now.list instance)) }
 {
     for dep in deps_at(space, instance) {
-        if !executed.contains(*dep) {
+        if !skipped.contains(*dep) {
             list.push(*dep)?;
         }
     }

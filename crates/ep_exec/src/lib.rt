@@ -16,7 +16,7 @@ mod walk;
 
 pub use executed::Executed;
 pub use plan_fault::PlanFault;
-pub use planning::plan;
+pub use planning::{plan, plan_left};
 pub use store::Store;
 pub use trial::Trial;
 

@@ -2,7 +2,7 @@
 
 ghost use Rattle.std.specs.Prelude.{◌≡◌, ◌++◌, drop, filter, map, IfOk, OnOk};
 ghost use Rattle.ep_exec.specs.Cut.{left_in};
-ghost use Rattle.ep_exec.specs.Ready.{is_out, waits_for, waiting_of, passed, with_passed, is_none_left};
+ghost use Rattle.ep_exec.specs.Ready.{is_out, waits_for, waiting_of, passed, with_passed, is_clear};
 ghost use Rattle.ep_exec.specs.Walk.{deps_at, lists};
 
 use crate::executed::Executed;
@@ -14,7 +14,7 @@ use ep_space::Space;
 use std::alloc::{AllocError, Global};
 use std::marker::Model;
 
-/// The members of a component, and what they depend on outside of it. As many of these as `passed` says are done by now.
+/// The members of a component, and what they depend on outside of it. As many of these as `passed` says are settled by now.
 #[derive(Drop)]
 pub struct Part {
     members: Vec<InstanceId>,
@@ -34,16 +34,16 @@ impl Model for Part {
 }
 
 impl Part {
-    /// The component, which waits for all that it depends on outside of it and that was not executed.
+    /// The component, which waits for all that it depends on outside of it and that is not skipped.
     pub fn new(
         alloc: Global,
         space: &Space,
-        executed: &Executed,
+        skipped: &Executed,
         component: &[InstanceId],
     ) -> Result<Part, AllocError>
-        ensures { IfOk result (λ p. p ≡ waiting_of (left_in space.now.records executed.now.list) component.now) }
+        ensures { IfOk result (λ p. p ≡ waiting_of (left_in space.now.records skipped.now.list) component.now) }
     {
-        let waits = waits_of(alloc, space, executed, component)?;
+        let waits = waits_of(alloc, space, skipped, component)?;
         let mut members = Vec::new(alloc);
         append(&mut members, component)?;
         Ok(Part {
@@ -60,64 +60,64 @@ impl Part {
         &self.members
     }
 
-    /// Whether it waits for none.
-    pub fn is_clear(&self) -> bool
-        ensures { result ≡ is_none_left self.now.waits }
+    /// Whether all that it waits for is settled.
+    pub fn is_clear(&self, settled: &Listed) -> bool
+        ensures { result ≡ is_clear settled.now self.now }
     {
-        self.passed >= self.waits.len()
+        pass_from(settled, &self.waits, self.passed) >= self.waits.len()
     }
 
-    /// Passes what stands in the order by now, up to the first that it still waits for.
-    pub fn pass(&mut self, order: &Listed)
-        ensures { self.new ≡ with_passed order.now self.old }
+    /// Passes what is settled by now, up to the first that it still waits for.
+    pub fn pass(&mut self, settled: &Listed)
+        ensures { self.new ≡ with_passed settled.now self.old }
     {
-        self.passed = pass_from(order, &self.waits, self.passed);
+        self.passed = pass_from(settled, &self.waits, self.passed);
     }
 }
 
-/// The place of the first from this place on that doesn't stand in the order, or the list's length.
-fn pass_from(order: &Listed, waits: &[InstanceId], from: usize) -> usize
-    ensures { drop result waits.now ≡ passed order.now (drop from waits.now) }
+/// The place of the first from this place on that isn't settled, or the list's length.
+fn pass_from(settled: &Listed, waits: &[InstanceId], from: usize) -> usize
+    ensures { drop result waits.now ≡ passed settled.now (drop from waits.now) }
 {
     let mut place = from;
-    while place < waits.len() && order.contains(waits[place]) {
+    while place < waits.len() && settled.contains(waits[place]) {
         place += 1;
     }
     place
 }
 
-/// Adds what the instance depends on and was not executed, but for the component's own.
+/// Adds what the instance depends on and is not skipped, but for the component's own.
 fn append_waits(
     list: &mut Vec<InstanceId>,
     space: &Space,
-    executed: &Executed,
+    skipped: &Executed,
     own: &Listed,
     instance: InstanceId,
 ) -> Result<(), AllocError>
-    ensures { OnOk result (list.new.items ≡ list.old.items ++ filter (is_out own.now) (deps_at (left_in space.now.records executed.now.list instance))) }
+    ensures { OnOk result (list.new.items ≡ list.old.items ++ filter (is_out own.now) (deps_at (left_in space.now.records skipped.now.list instance))) }
 {
     for dep in deps_at(space, instance) {
-        if !executed.contains(*dep) && !own.contains(*dep) {
+        if !skipped.contains(*dep) && !own.contains(*dep) {
             list.push(*dep)?;
         }
     }
     Ok(())
 }
 
-/// What a component's members depend on outside of it and was not executed.
+/// What a component's members depend on outside of it and is not skipped.
 fn waits_of(
     alloc: Global,
     space: &Space,
-    executed: &Executed,
+    skipped: &Executed,
     component: &[InstanceId],
 ) -> Result<Vec<InstanceId>, AllocError>
-    ensures { IfOk result (λ v. v.items ≡ waits_for (left_in space.now.records executed.now.list) component.now component.now) }
+    ensures { IfOk result (λ v. v.items ≡ waits_for (left_in space.now.records skipped.now.list) component.now component.now) }
 {
     let mut own = Listed::new(alloc);
     own.append(component)?;
     let mut waits = Vec::new(alloc);
     for instance in component {
-        append_waits(&mut waits, space, executed, &own, *instance)?;
+        append_waits(&mut waits, space, skipped, &own, *instance)?;
     }
     Ok(waits)
 }
@@ -126,14 +126,14 @@ fn waits_of(
 pub fn parts_of(
     alloc: Global,
     space: &Space,
-    executed: &Executed,
+    skipped: &Executed,
     found: &[Vec<InstanceId>],
 ) -> Result<Vec<Part>, AllocError>
-    ensures { IfOk result (λ v. v.items ≡ map (waiting_of (left_in space.now.records executed.now.list)) (lists found.now)) }
+    ensures { IfOk result (λ v. v.items ≡ map (waiting_of (left_in space.now.records skipped.now.list)) (lists found.now)) }
 {
     let mut parts = Vec::new(alloc);
     for component in found {
-        parts.push(Part::new(alloc, space, executed, component)?)?;
+        parts.push(Part::new(alloc, space, skipped, component)?)?;
     }
     Ok(parts)
 }

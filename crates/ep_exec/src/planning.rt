@@ -1,6 +1,7 @@
 //! The execution order of a root.
 
-ghost use Rattle.std.specs.Prelude.{◌≡◌, ◌↔◌, None, IsTrue, IfOk, IfErr, flat_map};
+ghost use Rattle.std.specs.Prelude.{◌≡◌, ℕ, ◌↔◌, None, IsTrue, IfOk, IfErr, flat_map};
+ghost use Rattle.ep_base.specs.Places.{Has};
 ghost use Rattle.ep_rules.specs.Order.{IsPlan, IsClosed};
 ghost use Rattle.ep_rules.specs.States.{graph_in};
 ghost use Rattle.ep_exec.specs.Found.{IsLeast};
@@ -48,13 +49,51 @@ fn members_of(alloc: Global, found: &[Vec<InstanceId>]) -> Result<Vec<InstanceId
     Ok(all)
 }
 
+/// The plan, by a walk that leaves out what is skipped: what was executed, as far as it is closed.
+fn plan_past(
+    alloc: Global,
+    space: &Space,
+    skipped: &Executed,
+    executed: &Executed,
+    root: InstanceId,
+) -> Result<Vec<InstanceId>, PlanFault>
+    requires closed { IsClosed (graph_in space.now.records) skipped.now.list }
+    requires within { (i : ℕ) → Has skipped.now.list i → Has executed.now.list i }
+    ensures order { IfOk result (λ v. IsPlan (graph_in space.now.records) executed.now.list root v.items) }
+    ensures refused { IfErr result (λ e. Refuses (graph_in space.now.records) executed.now.list root e) }
+{
+    if executed.contains(root) {
+        return Ok(Vec::new(alloc));
+    }
+    let found = components(alloc, space, skipped, root)?;
+    let members = members_of(alloc, &found)?;
+    if let Some(instance) = least_missing(space, &members) {
+        return Err(PlanFault::NotCommitted(instance));
+    }
+    Ok(order_of(alloc, space, skipped, executed, root, &found)?)
+}
+
 /// The execution order of a root, after these were executed (EPaxos, section 4.3.2): nothing where the root was executed, and else all that it
 /// reaches and that is left, component after component, of the ready ones first that with the least instance left, and inside one by sequence number,
 /// replica and number.
 ///
-/// `NotCommitted` where the root reaches an instance that is not committed, with the least of them. What was executed is closed, and isn't walked
-/// through.
+/// `NotCommitted` where the root reaches an instance that is not committed, with the least of them. Instances that were executed before are walked
+/// through too.
 pub fn plan(
+    alloc: Global,
+    space: &Space,
+    executed: &Executed,
+    root: InstanceId,
+) -> Result<Vec<InstanceId>, PlanFault>
+    ensures order { IfOk result (λ v. IsPlan (graph_in space.now.records) executed.now.list root v.items) }
+    ensures refused { IfErr result (λ e. Refuses (graph_in space.now.records) executed.now.list root e) }
+{
+    let skipped = Executed::new(alloc);
+    plan_past(alloc, space, &skipped, executed, root)
+}
+
+/// As `plan`, where what was executed is closed: it isn't walked through.
+pub fn plan_left(
     alloc: Global,
     space: &Space,
     executed: &Executed,
@@ -64,13 +103,5 @@ pub fn plan(
     ensures order { IfOk result (λ v. IsPlan (graph_in space.now.records) executed.now.list root v.items) }
     ensures refused { IfErr result (λ e. Refuses (graph_in space.now.records) executed.now.list root e) }
 {
-    if executed.contains(root) {
-        return Ok(Vec::new(alloc));
-    }
-    let found = components(alloc, space, executed, root)?;
-    let members = members_of(alloc, &found)?;
-    if let Some(instance) = least_missing(space, &members) {
-        return Err(PlanFault::NotCommitted(instance));
-    }
-    Ok(order_of(alloc, space, executed, root, &found)?)
+    plan_past(alloc, space, executed, executed, root)
 }

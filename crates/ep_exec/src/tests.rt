@@ -9,7 +9,7 @@ mod storing;
 ghost use Rattle.std.specs.Prelude.{◌≡◌, ◌<◌};
 
 use self::closed::is_closed;
-use crate::{Executed, PlanFault, plan};
+use crate::{Executed, PlanFault, plan, plan_left};
 use ep_base::{Attrs, Command, Decree, Deps, InstanceId, ReplicaId, Seq, Size};
 use ep_space::Space;
 use std::alloc::{AllocError, Global};
@@ -116,8 +116,21 @@ fn space_of(rt: &impl Abort, alloc: Global, rows: &[Row<'_>]) -> Space {
     space
 }
 
-/// The root's order, after what was executed, which is closed.
+/// The root's order, after what was executed.
 fn planned(
+    alloc: Global,
+    space: &Space,
+    executed: &Executed,
+    root: InstanceId,
+) -> Result<Vec<InstanceId>, PlanFault> {
+    match plan(alloc, space, executed, root) {
+        Err(PlanFault::Memory) => plan(alloc, space, executed, root),
+        order => order,
+    }
+}
+
+/// The same, where what was executed is closed.
+fn planned_left(
     rt: &impl Abort,
     alloc: Global,
     space: &Space,
@@ -125,8 +138,8 @@ fn planned(
     root: InstanceId,
 ) -> Result<Vec<InstanceId>, PlanFault> {
     assert!(rt; is_closed(space, executed));
-    match plan(alloc, space, executed, root) {
-        Err(PlanFault::Memory) => plan(alloc, space, executed, root),
+    match plan_left(alloc, space, executed, root) {
+        Err(PlanFault::Memory) => plan_left(alloc, space, executed, root),
         order => order,
     }
 }

@@ -2,7 +2,7 @@
 //!
 //! The path is a stack of levels. One turn takes the next dependency of the top level: one that is in a closed component is dropped,
 //! one on the path joins the levels down to its own, and any other begins a level. A level with nothing left to follow is a component.
-//! What was executed is not followed.
+//! What is skipped is not followed.
 
 ghost use Rattle.std.specs.Prelude.{◌≡◌, ◌⊎◌, ◌∷◌, [], ◌++◌, IfOk, OnOk};
 ghost use Rattle.ep_base.specs.Places.{Has};
@@ -21,16 +21,16 @@ use std::alloc::{AllocError, Global};
 fn enter(
     alloc: Global,
     space: &Space,
-    executed: &Executed,
+    skipped: &Executed,
     path: &mut Vec<Level>,
     instance: InstanceId,
 ) -> Result<(), AllocError>
-    ensures { OnOk result (stack path.new.items ≡ fresh (left_in space.now.records executed.now.list) instance ∷ stack path.old.items) }
+    ensures { OnOk result (stack path.new.items ≡ fresh (left_in space.now.records skipped.now.list) instance ∷ stack path.old.items) }
 {
     let mut members = Listed::new(alloc);
     members.push(instance)?;
     let mut edges = Vec::new(alloc);
-    append_left(&mut edges, space, executed, instance)?;
+    append_left(&mut edges, space, skipped, instance)?;
     path.push(Level { members, edges })?;
     Ok(())
 }
@@ -39,7 +39,7 @@ fn enter(
 fn follow(
     alloc: Global,
     space: &Space,
-    executed: &Executed,
+    skipped: &Executed,
     closed: &Listed,
     seen: &mut Listed,
     path: &mut Vec<Level>,
@@ -47,7 +47,7 @@ fn follow(
     instance: InstanceId,
 ) -> Result<(), AllocError>
     requires { Sees seen.old closed.now (flat top ∷ stack path.old.items) }
-    ensures path { OnOk result (Follows (left_in space.now.records executed.now.list) closed.now (flat top) (stack path.old.items) instance (stack path.new.items)) }
+    ensures path { OnOk result (Follows (left_in space.now.records skipped.now.list) closed.now (flat top) (stack path.old.items) instance (stack path.new.items)) }
     ensures seen { OnOk result (Sees seen.new closed.now (stack path.new.items)) }
 {
     if closed.contains(instance) {
@@ -59,7 +59,7 @@ fn follow(
         return Ok(());
     }
     path.push(top)?;
-    enter(alloc, space, executed, path, instance)?;
+    enter(alloc, space, skipped, path, instance)?;
     seen.push(instance)?;
     Ok(())
 }
@@ -78,20 +78,20 @@ fn close(
     Ok(())
 }
 
-/// The components of what the root reaches by what was not executed, each after those that it depends on.
+/// The components of what the root reaches by what is not skipped, each after those that it depends on.
 pub fn components(
     alloc: Global,
     space: &Space,
-    executed: &Executed,
+    skipped: &Executed,
     root: InstanceId,
 ) -> Result<Vec<Vec<InstanceId>>, AllocError>
-    ensures { IfOk result (λ v. AreComponents (left_in space.now.records executed.now.list) root (lists v.items)) }
+    ensures { IfOk result (λ v. AreComponents (left_in space.now.records skipped.now.list) root (lists v.items)) }
 {
     let mut closed = Listed::new(alloc);
     let mut seen = Listed::new(alloc);
     let mut found = Vec::new(alloc);
     let mut path = Vec::new(alloc);
-    enter(alloc, space, executed, &mut path, root)?;
+    enter(alloc, space, skipped, &mut path, root)?;
     seen.push(root)?;
     while let Some(top) = path.pop() {
         let Level { members, mut edges } = top;
@@ -100,7 +100,7 @@ pub fn components(
             Some(instance) => follow(
                 alloc,
                 space,
-                executed,
+                skipped,
                 &closed,
                 &mut seen,
                 &mut path,

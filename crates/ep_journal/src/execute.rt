@@ -12,7 +12,7 @@ use crate::executions::Executions;
 use crate::mark::Mark;
 use crate::step_fault::StepFault;
 use ep_base::{Answer, Command, InstanceId};
-use ep_exec::{Executed, Store, Trial, plan};
+use ep_exec::{Executed, Store, Trial, plan_left};
 use ep_space::Space;
 use std::alloc::{AllocError, Global};
 
@@ -108,7 +108,7 @@ pub(crate) fn take_execute(
     let Some(_) = mark else {
         return Err(StepFault::StampFull);
     };
-    let order = plan(alloc, space, executed, root)?;
+    let order = plan_left(alloc, space, executed, root)?;
     executed.reserve(order.len())?;
     let done = do_all(alloc, space, store, &order)?;
     add_all(executed, &order);

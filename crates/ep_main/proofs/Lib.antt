@@ -1,3 +1,4 @@
+mod Bundling
 pub mod Ending
 mod Judging
 mod Puts

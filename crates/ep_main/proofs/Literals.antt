@@ -1,5 +1,5 @@
 -- What `clap` makes of the words that ask for a report.
-use Rattle.std.proofs.Common.{◌≡◌, inl, inr, List, [], ◌∷◌, Option, Some, None, Result, Ok, Err, MatchResult, true, codes, refl, sym, ap₂, subst, ◌∙◌, option_map}
+use Rattle.std.proofs.Common.{◌≡◌, ◌⊎◌, inl, inr, List, [], ◌∷◌, Option, Some, None, Result, Ok, Err, MatchResult, IfOk, true, codes, refl, sym, ap, ap₂, subst, ◌∙◌, option_map}
 use Rattle.clap.specs.Matches.{found_of, subcommand_name_of}
 use Rattle.clap.specs.Walk.{Row, Text, first_of, rows_of}
 use Rattle.clap.specs.declared.parser.matches.ArgMatches.{ArgMatches}
@@ -9,13 +9,16 @@ use Rattle.std.specs.Prelude.{Box}
 use Rattle.std.specs.Box.{box_value}
 use Rattle.clap.specs.Simple.{App, is_simple, subcommand_of, subcommand_rows, subcommand_rows_of}
 use Rattle.clap.specs.declared.error.kind.ErrorKind.{ErrorKind}
-use Rattle.clap.specs.declared.error.kind.ErrorKind.TheVariants.{OutOfMemory}
+use Rattle.clap.specs.declared.error.kind.ErrorKind.TheVariants.{DisplayHelp, OutOfMemory}
+use Rattle.clap.specs.Faults.{fault_of, is_simple_and_free}
+use Rattle.clap.specs.Kinds.{IsAmong}
 use Rattle.clap.specs.Takes.{takes}
 use Rattle.clap.proofs.OnLiterals.{clap_on_literals}
-use Rattle.ep_main.specs.Words.{AskForReport, MetReplay, Names, epaxos, met}
+use Rattle.ep_main.specs.Words.{AskFor, AskForHelp, IsAsked, IsHelp, IsMet, MetReplay, MetAudit, Names, epaxos, met}
 use Rattle.ep_main.specs.declared.asked.Asked.{Asked}
-use Rattle.ep_main.specs.declared.asked.Asked.TheVariants.{Replay}
-use Rattle.ep_main.specs.declared.asked.Emit.TheVariants.{Report}
+use Rattle.ep_main.specs.declared.asked.Asked.TheVariants.{Replay, Audit, Help}
+use Rattle.ep_main.specs.declared.asked.Emit.TheVariants.{Report, Bundle}
+use Rattle.ep_main.specs.declared.asked.Emit.{Emit}
 use Rattle.ep_main.specs.declared.fault.Fault.{Fault}
 use Rattle.ep_main.specs.declared.fault.Fault.TheVariants.{Memory}
 
@@ -47,35 +50,162 @@ met_equals : (name : Text) → met (subcommand_of epaxos (name ∷ codes "replay
 unfolding clap_on_literals
 met_equals name = refl
 
-pub taken : (words : List Text) → AskForReport words → takes epaxos words ≡ true
-taken words (name, inl is) = subst (λ (ws : List Text). takes epaxos ws ≡ true) (sym is) (takes_replay name)
-taken words (name, inr (inl is)) = subst (λ (ws : List Text). takes epaxos ws ≡ true) (sym is) (takes_emit name)
-taken words (name, inr (inr is)) = subst (λ (ws : List Text). takes epaxos ws ≡ true) (sym is) (takes_equals name)
+takes_bundle : (name : Text) → takes epaxos (name ∷ codes "replay" ∷ codes "--emit" ∷ codes "bundle" ∷ []) ≡ true
+unfolding clap_on_literals
+takes_bundle name = refl
 
-pub report_met : (words : List Text) → AskForReport words → MetReplay Report (subcommand_of epaxos words)
-report_met words (name, inl is) = subst (λ (ws : List Text). MetReplay Report (subcommand_of epaxos ws)) (sym is) (None, met_replay name, inl refl)
-report_met words (name, inr (inl is)) = subst (λ (ws : List Text). MetReplay Report (subcommand_of epaxos ws)) (sym is) (Some (codes "report"), met_emit name, inr refl)
-report_met words (name, inr (inr is)) = subst (λ (ws : List Text). MetReplay Report (subcommand_of epaxos ws)) (sym is) (Some (codes "report"), met_equals name, inr refl)
+takes_audit : (name : Text) → takes epaxos (name ∷ codes "audit" ∷ []) ≡ true
+unfolding clap_on_literals
+takes_audit name = refl
 
-pub found_report :
-    {X : Type 0} (app : App) (words : List Text) (found : Option (Text × List Row)) → app ≡ epaxos →
-    (is_simple app ≡ true → X × (found ≡ subcommand_of app words)) → AskForReport words → MetReplay Report found
-found_report {X} app words found is has ask =
+takes_bundle_equals : (name : Text) → takes epaxos (name ∷ codes "replay" ∷ codes "--emit=bundle" ∷ []) ≡ true
+unfolding clap_on_literals
+takes_bundle_equals name = refl
+
+met_bundle_equals : (name : Text) → met (subcommand_of epaxos (name ∷ codes "replay" ∷ codes "--emit=bundle" ∷ [])) ≡ Some (codes "replay", Some (codes "bundle"))
+unfolding clap_on_literals
+met_bundle_equals name = refl
+
+met_bundle : (name : Text) → met (subcommand_of epaxos (name ∷ codes "replay" ∷ codes "--emit" ∷ codes "bundle" ∷ [])) ≡ Some (codes "replay", Some (codes "bundle"))
+unfolding clap_on_literals
+met_bundle name = refl
+
+met_audit : (name : Text) → option_map (λ p. p.0) (subcommand_of epaxos (name ∷ codes "audit" ∷ [])) ≡ Some (codes "audit")
+unfolding clap_on_literals
+met_audit name = refl
+
+pub taken : (want : Asked) (words : List Text) → AskFor want words → takes epaxos words ≡ true
+taken (Replay Report) words (name, inl is) = subst (λ (ws : List Text). takes epaxos ws ≡ true) (sym is) (takes_replay name)
+taken (Replay Report) words (name, inr (inl is)) = subst (λ (ws : List Text). takes epaxos ws ≡ true) (sym is) (takes_emit name)
+taken (Replay Report) words (name, inr (inr is)) = subst (λ (ws : List Text). takes epaxos ws ≡ true) (sym is) (takes_equals name)
+taken (Replay Bundle) words (name, inl is) = subst (λ (ws : List Text). takes epaxos ws ≡ true) (sym is) (takes_bundle name)
+taken (Replay Bundle) words (name, inr is) = subst (λ (ws : List Text). takes epaxos ws ≡ true) (sym is) (takes_bundle_equals name)
+taken Audit words (name, is) = subst (λ (ws : List Text). takes epaxos ws ≡ true) (sym is) (takes_audit name)
+taken (Help text) words ask = absurd ask
+
+pub is_met : (want : Asked) (words : List Text) → AskFor want words → IsMet want (subcommand_of epaxos words)
+is_met (Replay Report) words (name, inl is) = subst (λ (ws : List Text). MetReplay Report (subcommand_of epaxos ws)) (sym is) (None, met_replay name, inl refl)
+is_met (Replay Report) words (name, inr (inl is)) = subst (λ (ws : List Text). MetReplay Report (subcommand_of epaxos ws)) (sym is) (Some (codes "report"), met_emit name, inr refl)
+is_met (Replay Report) words (name, inr (inr is)) = subst (λ (ws : List Text). MetReplay Report (subcommand_of epaxos ws)) (sym is) (Some (codes "report"), met_equals name, inr refl)
+is_met (Replay Bundle) words (name, inl is) = subst (λ (ws : List Text). MetReplay Bundle (subcommand_of epaxos ws)) (sym is) (Some (codes "bundle"), met_bundle name, refl)
+is_met (Replay Bundle) words (name, inr is) = subst (λ (ws : List Text). MetReplay Bundle (subcommand_of epaxos ws)) (sym is) (Some (codes "bundle"), met_bundle_equals name, refl)
+is_met Audit words (name, is) = subst (λ (ws : List Text). MetAudit (subcommand_of epaxos ws)) (sym is) (met_audit name)
+is_met (Help text) words ask = absurd ask
+
+pub found_met :
+    {X : Type 0} (want : Asked) (app : App) (words : List Text) (found : Option (Text × List Row)) → app ≡ epaxos →
+    (is_simple app ≡ true → X × (found ≡ subcommand_of app words)) → AskFor want words → IsMet want found
+found_met {X} want app words found is has ask =
     let same : found ≡ subcommand_of epaxos words = (subst (λ a. is_simple a ≡ true → X × (found ≡ subcommand_of a words)) is has simple).1 in
-    subst (MetReplay Report) (sym same) (report_met words ask)
+    subst (IsMet want) (sym same) (is_met want words ask)
 
-pub no_kind : (app : App) (words : List Text) (kind : ErrorKind) → app ≡ epaxos → (takes app words ≡ true → kind ≡ OutOfMemory) → AskForReport words → kind ≡ OutOfMemory
-no_kind app words kind is passes ask = passes (subst (λ a. takes a words ≡ true) (sym is) (taken words ask))
+free : is_simple_and_free epaxos ≡ true
+unfolding clap_on_literals
+free = refl
 
-pub asks_report : (r : Result Asked Fault) → r ≡ Ok (Replay Report) → MatchResult r (λ a. a ≡ Replay Report) (λ e. e ≡ Memory)
-asks_report r is = subst (λ r. MatchResult r (λ a. a ≡ Replay Report) (λ e. e ≡ Memory)) (sym is) refl
+pub asked_of_met :
+    {X : Type 0} (app : App) (words : List Text) (found : Option (Text × List Row)) (r : Result Asked Fault) → app ≡ epaxos →
+    (is_simple app ≡ true → X × (found ≡ subcommand_of app words)) → IfOk r (λ a. IsMet a found) → IfOk r (λ a. IsAsked a words)
+asked_of_met {X} app words found (Ok (Replay emit)) is has met =
+    let same : found ≡ subcommand_of epaxos words = (subst (λ a. is_simple a ≡ true → X × (found ≡ subcommand_of a words)) is has simple).1 in
+    subst (MetReplay emit) same met
+asked_of_met {X} app words found (Ok Audit) is has met =
+    let same : found ≡ subcommand_of epaxos words = (subst (λ a. is_simple a ≡ true → X × (found ≡ subcommand_of a words)) is has simple).1 in
+    subst MetAudit same met
+asked_of_met {X} app words found (Ok (Help text)) is has met = absurd met
+asked_of_met {X} app words found (Err e) is has met = tt
 
-pub has_no_memory : (r : Result Asked Fault) → r ≡ Err Memory → MatchResult r (λ a. a ≡ Replay Report) (λ e. e ≡ Memory)
-has_no_memory r is = subst (λ r. MatchResult r (λ a. a ≡ Replay Report) (λ e. e ≡ Memory)) (sym is) refl
+among : (words : List Text) (kind : ErrorKind) → kind ≡ DisplayHelp → (kind ≡ OutOfMemory) ⊎ IsAmong kind (fault_of epaxos words) → IsAmong DisplayHelp (fault_of epaxos words)
+among words kind is (inl memory) = let bad : DisplayHelp ≡ OutOfMemory = sym is ∙ memory in cc
+among words kind is (inr known) = subst (λ k. IsAmong k (fault_of epaxos words)) is known
+
+pub asked_of_help :
+    (app : App) (words : List Text) (kind : ErrorKind) (r : Result Asked Fault) → app ≡ epaxos →
+    (is_simple_and_free app ≡ true → (kind ≡ OutOfMemory) ⊎ IsAmong kind (fault_of app words)) → IfOk r (λ a. IsHelp a × (kind ≡ DisplayHelp)) → IfOk r (λ a. IsAsked a words)
+asked_of_help app words kind (Ok (Replay emit)) is has help = absurd help.0
+asked_of_help app words kind (Ok Audit) is has help = absurd help.0
+asked_of_help app words kind (Ok (Help text)) is has help =
+    among words kind help.1 (subst (λ a. is_simple_and_free a ≡ true → (kind ≡ OutOfMemory) ⊎ IsAmong kind (fault_of a words)) is has free)
+asked_of_help app words kind (Err e) is has help = tt
+
+help_alone : (name : Text) → fault_of epaxos (name ∷ codes "--help" ∷ []) ≡ DisplayHelp ∷ []
+unfolding clap_on_literals
+help_alone name = refl
+
+short_help : (name : Text) → fault_of epaxos (name ∷ codes "-h" ∷ []) ≡ DisplayHelp ∷ []
+unfolding clap_on_literals
+short_help name = refl
+
+help_of_replay : (name : Text) → fault_of epaxos (name ∷ codes "replay" ∷ codes "--help" ∷ []) ≡ DisplayHelp ∷ []
+unfolding clap_on_literals
+help_of_replay name = refl
+
+help_of_audit : (name : Text) → fault_of epaxos (name ∷ codes "audit" ∷ codes "--help" ∷ []) ≡ DisplayHelp ∷ []
+unfolding clap_on_literals
+help_of_audit name = refl
+
+help_known : (words : List Text) → AskForHelp words → fault_of epaxos words ≡ DisplayHelp ∷ []
+help_known words (name, inl is) = subst (λ (ws : List Text). fault_of epaxos ws ≡ DisplayHelp ∷ []) (sym is) (help_alone name)
+help_known words (name, inr (inl is)) = subst (λ (ws : List Text). fault_of epaxos ws ≡ DisplayHelp ∷ []) (sym is) (short_help name)
+help_known words (name, inr (inr (inl is))) = subst (λ (ws : List Text). fault_of epaxos ws ≡ DisplayHelp ∷ []) (sym is) (help_of_replay name)
+help_known words (name, inr (inr (inr is))) = subst (λ (ws : List Text). fault_of epaxos ws ≡ DisplayHelp ∷ []) (sym is) (help_of_audit name)
+
+-- where help is asked for, nothing is met
+pub help_is_no_match : {X : Type 0} (app : App) (words : List Text) → app ≡ epaxos → (is_simple_and_free app ≡ true → fault_of app words ≡ []) → AskForHelp words → X
+help_is_no_match {X} app words is none ask =
+    let empty : fault_of epaxos words ≡ [] = subst (λ a. is_simple_and_free a ≡ true → fault_of a words ≡ []) is none free in
+    let bad : DisplayHelp ∷ [] ≡ [] = sym (help_known words ask) ∙ empty in
+    cc
+
+helps_by :
+    (kind : ErrorKind) (kinds : List ErrorKind) (r : Result Asked Fault) → kinds ≡ DisplayHelp ∷ [] → (kind ≡ OutOfMemory) ⊎ IsAmong kind kinds → (kind ≡ OutOfMemory → r ≡ Err Memory) →
+    (kind ≡ DisplayHelp → MatchResult r IsHelp (λ e. e ≡ Memory)) → MatchResult r IsHelp (λ e. e ≡ Memory)
+helps_by kind kinds r is (inl none) memory help = subst (λ r. MatchResult r IsHelp (λ e. e ≡ Memory)) (sym (memory none)) refl
+helps_by kind kinds r is (inr known) memory help =
+    let among : (kind ≡ DisplayHelp) ⊎ ⊥ = subst (λ ks. IsAmong kind ks) is known in
+    help (elim among [ inl h ↦ h | inr h ↦ absurd h ])
+
+pub help_is_met :
+    (app : App) (words : List Text) (kind : ErrorKind) (r : Result Asked Fault) → app ≡ epaxos →
+    (is_simple_and_free app ≡ true → (kind ≡ OutOfMemory) ⊎ IsAmong kind (fault_of app words)) → (kind ≡ OutOfMemory → r ≡ Err Memory) →
+    (kind ≡ DisplayHelp → MatchResult r IsHelp (λ e. e ≡ Memory)) → AskForHelp words → MatchResult r IsHelp (λ e. e ≡ Memory)
+help_is_met app words kind r is has memory help ask =
+    helps_by kind (fault_of epaxos words) r (help_known words ask)
+    (subst (λ a. is_simple_and_free a ≡ true → (kind ≡ OutOfMemory) ⊎ IsAmong kind (fault_of a words)) is has free) memory help
+
+pub no_kind :
+    (want : Asked) (app : App) (words : List Text) (kind : ErrorKind) → app ≡ epaxos → (takes app words ≡ true → kind ≡ OutOfMemory) → AskFor want words → kind ≡ OutOfMemory
+no_kind want app words kind is passes ask = passes (subst (λ a. takes a words ≡ true) (sym is) (taken want words ask))
+
+asks : (want : Asked) (r : Result Asked Fault) → r ≡ Ok want → MatchResult r (λ a. a ≡ want) (λ e. e ≡ Memory)
+asks want r is = subst (λ r. MatchResult r (λ a. a ≡ want) (λ e. e ≡ Memory)) (sym is) refl
+
+pub has_no_memory : (want : Asked) (r : Result Asked Fault) → r ≡ Err Memory → MatchResult r (λ a. a ≡ want) (λ e. e ≡ Memory)
+has_no_memory want r is = subst (λ r. MatchResult r (λ a. a ≡ want) (λ e. e ≡ Memory)) (sym is) refl
+
+pub answers :
+    (want : Asked) (r : Result Asked Fault) (found : Option (Text × List Row)) → ((emit : Emit) → MetReplay emit found → r ≡ Ok (Replay emit)) →
+    (MetAudit found → r ≡ Ok Audit) → IsMet want found → MatchResult r (λ a. a ≡ want) (λ e. e ≡ Memory)
+answers (Replay emit) r found replay audit is = asks (Replay emit) r (replay emit is)
+answers Audit r found replay audit is = asks Audit r (audit is)
+answers (Help text) r found replay audit is = absurd is
 
 pub is_report : (what : Text) (o : Option Text) → Some what ≡ o → Names o Report → what ≡ codes "report"
 is_report what o is (inl none) = let e : Some what ≡ None = is ∙ none in cc
 is_report what o is (inr some) = let e : Some what ≡ Some (codes "report") = is ∙ some in cc
+
+pub named_as :
+    (emit : Emit) (what : Text) (o : Option Text) (r : Result Emit Fault) → Some what ≡ o → (what ≡ codes "report" → r ≡ Ok Report) → (what ≡ codes "bundle" → r ≡ Ok Bundle) →
+    Names o emit → r ≡ Ok emit
+named_as Report what o r is report bundle names = report (is_report what o is names)
+named_as Bundle what o r is report bundle names = bundle (let e : Some what ≡ Some (codes "bundle") = is ∙ names in cc)
+
+none_named : (emit : Emit) (o : Option Text) → None ≡ o → Names o emit → Report ≡ emit
+none_named Report o is names = refl
+none_named Bundle o is names = let bad : None ≡ Some (codes "bundle") = is ∙ names in cc
+
+pub not_named : (emit : Emit) (o : Option Text) (r : Result Emit Fault) → r ≡ Ok Report → None ≡ o → Names o emit → r ≡ Ok emit
+not_named emit o r reports is names = subst (λ e. r ≡ Ok e) (none_named emit o is names) reports
 
 module _ {Z : Type 0} where
   met_in :
@@ -92,3 +222,41 @@ pub met_by :
     (m : ArgMatches) (name : Text) (rows : List Row) → subcommand_name_of m ≡ Some name → option_map (λ p. p.1) (subcommand_rows_of m) ≡ Some rows →
     met (subcommand_rows_of m) ≡ Some (name, first_of (codes "emit") rows)
 met_by m name rows named has = met_in (out-ArgMatches m).subcommand name rows named has
+
+second_of : (a b : Text) (x y : Option Text) → ◌≡◌ {A = Option (Text × Option Text)} (Some (a, x)) (Some (b, y)) → x ≡ y
+second_of a b x y same =
+    let e : Some x ≡ Some y = ap (option_map (λ (p : Text × Option Text). p.1)) same in cc
+
+pub names_met :
+    (m : ArgMatches) (name : Text) (rows : List Row) (emit : Emit) → subcommand_name_of m ≡ Some name → option_map (λ p. p.1) (subcommand_rows_of m) ≡ Some rows →
+    MetReplay emit (subcommand_rows_of m) → Names (first_of (codes "emit") rows) emit
+names_met m name rows emit named has (what, found, names) =
+    let same : first_of (codes "emit") rows ≡ what = second_of name (codes "replay") (first_of (codes "emit") rows) what (sym (met_by m name rows named has) ∙ found) in
+    subst (λ o. Names o emit) (sym same) names
+
+module _ {Z : Type 0} where
+  name_in : (o : Option (Box SubCommand Z)) → option_map (λ p. p.0) (subcommand_rows o) ≡ option_map (λ b. (out-SubCommand (box_value b)).name.now) o
+  name_in None = refl
+  name_in (Some b) = refl
+
+-- the name of the subcommand that was met
+name_by : (m : ArgMatches) → option_map (λ p. p.0) (subcommand_rows_of m) ≡ subcommand_name_of m
+name_by m = name_in (out-ArgMatches m).subcommand
+
+pub audit_met : (m : ArgMatches) → subcommand_name_of m ≡ Some (codes "audit") → MetAudit (subcommand_rows_of m)
+audit_met m named = name_by m ∙ named
+
+pub audit_named : (m : ArgMatches) → MetAudit (subcommand_rows_of m) → subcommand_name_of m ≡ Some (codes "audit")
+audit_named m found = sym (name_by m) ∙ found
+
+pub replay_no_audit : (m : ArgMatches) → subcommand_name_of m ≡ Some (codes "replay") → MetAudit (subcommand_rows_of m) → ⊥
+replay_no_audit m named found = let bad : Some (codes "replay") ≡ Some (codes "audit") = sym named ∙ audit_named m found in cc
+
+pub as_replay : (e emit : Emit) (r : Result Emit Fault) (x : Result Asked Fault) → r ≡ Ok e → x ≡ Ok (Replay e) → r ≡ Ok emit → x ≡ Ok (Replay emit)
+as_replay e emit r x is gives wants =
+    let same : Ok e ≡ Ok emit = sym is ∙ wants in
+    let equal : e ≡ emit = cc in
+    gives ∙ ap (λ (y : Emit). Ok (Replay y)) equal
+
+pub err_not_ok : (e : Fault) (x : Emit) (r : Result Emit Fault) → r ≡ Err e → r ≡ Ok x → ⊥
+err_not_ok e x r is other = let bad : Err e ≡ Ok x = sym is ∙ other in cc

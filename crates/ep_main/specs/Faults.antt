@@ -1,9 +1,11 @@
 -- How the program ends at a fault, and the line that it then tells.
 use Rattle.std.specs.Prelude.{ℕ, List, ◌++◌, codes, decimal}
+use Rattle.ep_bundle.specs.declared.bundle_fault.BundleFault.{BundleFault}
+use Rattle.ep_bundle.specs.declared.bundle_fault.BundleFault.TheVariants as bundle
 use Rattle.ep_script.specs.declared.script_fault.ScriptFault.{ScriptFault}
 use Rattle.ep_script.specs.declared.script_fault.ScriptFault.TheVariants as script
 use Rattle.ep_main.specs.declared.fault.Fault.{Fault}
-use Rattle.ep_main.specs.declared.fault.Fault.TheVariants.{CommandLine, Script, Memory, Read, Write}
+use Rattle.ep_main.specs.declared.fault.Fault.TheVariants.{CommandLine, Script, BadBundle, NotARun, Memory, Read, Write}
 use Rattle.ep_main.specs.declared.status.Status.{Status}
 use Rattle.ep_main.specs.declared.status.Status.TheVariants.{Accepted, AuditRefused, Refused, OutOfMemory, Failed}
 
@@ -21,6 +23,14 @@ command_line_refused = codes "command line refused\n"
 abbrev pub script_refused : ℕ → List ℕ
 script_refused line = codes "script refused at line " ++ decimal line ++ codes "\n"
 
+-- the field that begins at this byte is at fault
+abbrev pub bad_bundle : ℕ → List ℕ
+bad_bundle offset = codes "bundle refused E12 at byte " ++ decimal offset ++ codes "\n"
+
+-- this entry of this replica isn't its next step
+abbrev pub not_a_run : ℕ → ℕ → List ℕ
+not_a_run replica entry = codes "bundle refused E11 at replica " ++ decimal replica ++ codes " entry " ++ decimal entry ++ codes "\n"
+
 abbrev pub out_of_memory : List ℕ
 out_of_memory = codes "out of memory\n"
 
@@ -33,6 +43,8 @@ writing_failed = codes "writing failed\n"
 abbrev pub line_of : Fault → List ℕ
 line_of CommandLine = command_line_refused
 line_of (Script line) = script_refused line
+line_of (BadBundle offset) = bad_bundle offset
+line_of (NotARun replica entry) = not_a_run replica entry
 line_of Memory = out_of_memory
 line_of Read = reading_failed
 line_of Write = writing_failed
@@ -40,6 +52,8 @@ line_of Write = writing_failed
 abbrev pub status_of : Fault → Status
 status_of CommandLine = Refused
 status_of (Script line) = Refused
+status_of (BadBundle offset) = Refused
+status_of (NotARun replica entry) = Refused
 status_of Memory = OutOfMemory
 status_of Read = Failed
 status_of Write = Failed
@@ -50,10 +64,19 @@ of_script (script.Refused line) = Script line
 of_script script.Memory = Memory
 of_script script.ReadFailed = Read
 
+-- a bundle's fault as the program's
+abbrev pub of_bundle : BundleFault → Fault
+of_bundle bundle.Memory = Memory
+of_bundle bundle.ReadFailed = Read
+of_bundle (bundle.BadBundle offset) = BadBundle offset
+of_bundle (bundle.NotARun replica entry) = NotARun replica entry
+
 -- the words are refused, or memory was
 abbrev pub DeclinesBy : Fault → Type 0
 DeclinesBy CommandLine = Unit {0}
 DeclinesBy (Script line) = ⊥
+DeclinesBy (BadBundle offset) = ⊥
+DeclinesBy (NotARun replica entry) = ⊥
 DeclinesBy Memory = Unit {0}
 DeclinesBy Read = ⊥
 DeclinesBy Write = ⊥

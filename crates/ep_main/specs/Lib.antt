@@ -1,3 +1,5 @@
+pub mod Audits
+pub mod Bundled
 pub mod Faults
 pub mod Outputs
 pub mod Reported

@@ -8,7 +8,7 @@ use Rattle.ep_verdict.specs.declared.verdict.Verdict.{Verdict}
 use Rattle.ep_audit.specs.Audited.{IsAudited}
 use Rattle.ep_replay.specs.Outcome.{IsReplay}
 use Rattle.ep_replay.specs.declared.replayed.Replayed.{Replayed}
-use Rattle.ep_main.specs.declared.replaying.Judged.{Judged}
+use Rattle.ep_main.specs.declared.judged.Judged.{Judged}
 use Rattle.ep_main.specs.declared.status.Status.TheVariants.{Accepted}
 
 -- The audit accepts what the run left, and the text is the audit's verdict, the receipts, and the lines that were refused.

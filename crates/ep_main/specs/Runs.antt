@@ -1,14 +1,18 @@
 -- What the program does, by the status that it answers: of the bytes zs that it reads, whether its reader has then failed, its output and its fault output.
 use Rattle.std.specs.Prelude.{◌≡◌, ◌⊎◌, ℕ, Bool, true, List, Result, Ok, Err, string_bytes}
+use Rattle.ep_bundle.specs.Journals.{ReadsBundle}
+use Rattle.ep_bundle.specs.declared.bundle_fault.BundleFault.TheVariants as bundle
 use Rattle.ep_script.specs.Plan.{Plan, script_of}
-use Rattle.ep_main.specs.Faults.{command_line_refused, script_refused, out_of_memory, reading_failed, writing_failed, line_of, status_of}
+use Rattle.ep_main.specs.Audits.{IsAudit}
+use Rattle.ep_main.specs.Bundled.{IsBundled, IsTooMany}
+use Rattle.ep_main.specs.Faults.{command_line_refused, script_refused, bad_bundle, not_a_run, out_of_memory, reading_failed, writing_failed, line_of, status_of}
 use Rattle.ep_main.specs.Outputs.{Output, Wrote, WroteNothing, Told}
 use Rattle.ep_main.specs.Reported.{IsReport}
 use Rattle.ep_main.specs.declared.asked.Asked.{Asked}
-use Rattle.ep_main.specs.declared.asked.Asked.TheVariants.{Replay, Help}
-use Rattle.ep_main.specs.declared.asked.Emit.TheVariants.{Report}
+use Rattle.ep_main.specs.declared.asked.Asked.TheVariants.{Replay, Audit, Help}
+use Rattle.ep_main.specs.declared.asked.Emit.TheVariants.{Report, Bundle}
 use Rattle.ep_main.specs.declared.fault.Fault.{Fault}
-use Rattle.ep_main.specs.declared.fault.Fault.TheVariants.{CommandLine, Script, Memory, Read, Write}
+use Rattle.ep_main.specs.declared.fault.Fault.TheVariants.{CommandLine, Script, BadBundle, NotARun, Memory, Read, Write}
 use Rattle.ep_main.specs.declared.status.Status.{Status}
 use Rattle.ep_main.specs.declared.status.Status.TheVariants.{Accepted, AuditRefused, Refused, OutOfMemory, Failed}
 
@@ -27,6 +31,21 @@ pub record IsScriptRefused (zs : List ℕ) (out fault : Output) : Type 0 where
   pub silent : WroteNothing out
   pub told : Told fault (script_refused line)
 
+-- The bytes are no bundle, and this is the first field at fault: it is told, and nothing was written on the output.
+pub record IsBadBundle (zs : List ℕ) (out fault : Output) : Type 0 where
+  pub offset : ℕ
+  pub read : ReadsBundle (record { at = 0; bytes = zs }) (Err (bundle.BadBundle offset))
+  pub silent : WroteNothing out
+  pub told : Told fault (bad_bundle offset)
+
+-- The bytes are no bundle, and this is the first entry that isn't its replica's next step: it is told, and nothing was written on the output.
+pub record IsNotARun (zs : List ℕ) (out fault : Output) : Type 0 where
+  pub replica : ℕ
+  pub entry : ℕ
+  pub read : ReadsBundle (record { at = 0; bytes = zs }) (Err (bundle.NotARun replica entry))
+  pub silent : WroteNothing out
+  pub told : Told fault (not_a_run replica entry)
+
 -- Memory was refused.
 pub record IsOutOfMemory (out fault : Output) : Type 0 where
   pub silent : WroteNothing out
@@ -44,6 +63,22 @@ Replays Refused zs reader out fault = IsScriptRefused zs out fault
 Replays OutOfMemory zs reader out fault = IsOutOfMemory out fault
 Replays Failed zs reader out fault = HasFailed reader out fault
 
+-- a replay, of which the bundle is asked for; one that has more of something than its field can count is told as a failure
+abbrev pub Emits : Status → List ℕ → Bool → Output → Output → Type 0
+Emits Accepted zs reader out fault = IsBundled zs out × WroteNothing fault
+Emits AuditRefused zs reader out fault = ⊥
+Emits Refused zs reader out fault = IsScriptRefused zs out fault
+Emits OutOfMemory zs reader out fault = IsOutOfMemory out fault
+Emits Failed zs reader out fault = HasFailed reader out fault ⊎ (IsTooMany zs × Told fault writing_failed)
+
+-- an audit of a bundle
+abbrev pub Audits : Status → List ℕ → Bool → Output → Output → Type 0
+Audits Accepted zs reader out fault = IsAudit Accepted zs out × WroteNothing fault
+Audits AuditRefused zs reader out fault = IsAudit AuditRefused zs out × WroteNothing fault
+Audits Refused zs reader out fault = IsBadBundle zs out fault ⊎ IsNotARun zs out fault
+Audits OutOfMemory zs reader out fault = IsOutOfMemory out fault
+Audits Failed zs reader out fault = HasFailed reader out fault
+
 -- help, with this text
 abbrev pub Helps : Status → List ℕ → Output → Output → Type 0
 Helps Accepted text out fault = Wrote out text × WroteNothing fault
@@ -52,8 +87,18 @@ Helps Refused text out fault = ⊥
 Helps OutOfMemory text out fault = ⊥
 Helps Failed text out fault = (out.failed ≡ true) × Told fault writing_failed
 
+-- help, with some text
+abbrev pub IsHelped : Status → Output → Output → Type 0
+IsHelped Accepted out fault = ((text : List ℕ) × Wrote out text) × WroteNothing fault
+IsHelped AuditRefused out fault = ⊥
+IsHelped Refused out fault = ⊥
+IsHelped OutOfMemory out fault = IsOutOfMemory out fault
+IsHelped Failed out fault = (out.failed ≡ true) × Told fault writing_failed
+
 abbrev pub Performs : Asked → Status → List ℕ → Bool → Output → Output → Type 0
 Performs (Replay Report) status zs reader out fault = Replays status zs reader out fault
+Performs (Replay Bundle) status zs reader out fault = Emits status zs reader out fault
+Performs Audit status zs reader out fault = Audits status zs reader out fault
 Performs (Help text) status zs reader out fault = Helps status (string_bytes text) out fault
 
 -- the words ask for nothing that there is, or memory was refused before they were read
@@ -70,20 +115,46 @@ abbrev pub Plays : Result Status Fault → List ℕ → Bool → Output → Type
 Plays (Ok status) zs reader out = (status ≡ Accepted) × IsReplayed zs out
 Plays (Err CommandLine) zs reader out = ⊥
 Plays (Err (Script line)) zs reader out = (script_of zs ≡ Err line) × WroteNothing out
+Plays (Err (BadBundle offset)) zs reader out = ⊥
+Plays (Err (NotARun replica entry)) zs reader out = ⊥
 Plays (Err Memory) zs reader out = WroteNothing out
 Plays (Err Read) zs reader out = (reader ≡ true) × WroteNothing out
 Plays (Err Write) zs reader out = out.failed ≡ true
+
+abbrev pub Leaves : Result Status Fault → List ℕ → Bool → Output → Type 0
+Leaves (Ok status) zs reader out = (status ≡ Accepted) × IsBundled zs out
+Leaves (Err CommandLine) zs reader out = ⊥
+Leaves (Err (Script line)) zs reader out = (script_of zs ≡ Err line) × WroteNothing out
+Leaves (Err (BadBundle offset)) zs reader out = ⊥
+Leaves (Err (NotARun replica entry)) zs reader out = ⊥
+Leaves (Err Memory) zs reader out = WroteNothing out
+Leaves (Err Read) zs reader out = (reader ≡ true) × WroteNothing out
+Leaves (Err Write) zs reader out = (out.failed ≡ true) ⊎ IsTooMany zs
+
+abbrev pub Finishes : Result Status Fault → List ℕ → Bool → Output → Type 0
+Finishes (Ok status) zs reader out = IsAudit status zs out
+Finishes (Err CommandLine) zs reader out = ⊥
+Finishes (Err (Script line)) zs reader out = ⊥
+Finishes (Err (BadBundle offset)) zs reader out = ReadsBundle (record { at = 0; bytes = zs }) (Err (bundle.BadBundle offset)) × WroteNothing out
+Finishes (Err (NotARun replica entry)) zs reader out = ReadsBundle (record { at = 0; bytes = zs }) (Err (bundle.NotARun replica entry)) × WroteNothing out
+Finishes (Err Memory) zs reader out = WroteNothing out
+Finishes (Err Read) zs reader out = (reader ≡ true) × WroteNothing out
+Finishes (Err Write) zs reader out = out.failed ≡ true
 
 abbrev pub Prints : Result Status Fault → List ℕ → Output → Type 0
 Prints (Ok status) text out = (status ≡ Accepted) × Wrote out text
 Prints (Err CommandLine) text out = ⊥
 Prints (Err (Script line)) text out = ⊥
+Prints (Err (BadBundle offset)) text out = ⊥
+Prints (Err (NotARun replica entry)) text out = ⊥
 Prints (Err Memory) text out = ⊥
 Prints (Err Read) text out = ⊥
 Prints (Err Write) text out = out.failed ≡ true
 
 abbrev pub Does : Asked → Result Status Fault → List ℕ → Bool → Output → Type 0
 Does (Replay Report) outcome zs reader out = Plays outcome zs reader out
+Does (Replay Bundle) outcome zs reader out = Leaves outcome zs reader out
+Does Audit outcome zs reader out = Finishes outcome zs reader out
 Does (Help text) outcome zs reader out = Prints outcome (string_bytes text) out
 
 -- a fault is told, and decides on the status

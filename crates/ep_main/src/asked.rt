@@ -5,6 +5,8 @@
 pub enum Asked {
     /// To replay a script, and to print this of it.
     Replay(Emit),
+    /// To audit a bundle.
+    Audit,
     /// Help: this text.
     Help(String),
 }
@@ -14,4 +16,6 @@ pub enum Asked {
 pub enum Emit {
     /// The report: what is committed, the history, the receipts, and what was refused.
     Report,
+    /// The bundle: the journals and the receipts, as bytes.
+    Bundle,
 }

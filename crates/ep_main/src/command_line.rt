@@ -2,15 +2,17 @@
 
 ghost use Rattle.std.specs.Prelude.{◌≡◌, Some, Ok, Err, IfErr, IfOk, MatchResult, codes, false, map};
 ghost use Rattle.clap.specs.Values.{kind_of};
-ghost use Rattle.clap.specs.declared.error.ErrorKind.TheVariants.{OutOfMemory};
+ghost use Rattle.clap.specs.declared.error.ErrorKind.TheVariants.{DisplayHelp, OutOfMemory};
 ghost use Rattle.clap.specs.Walk.{first_of, rows_of, rule_of};
 ghost use Rattle.clap.specs.Matches.{found_of};
-ghost use Rattle.clap.specs.Simple.{app_of, subcommand_of, subcommand_rows_of};
+ghost use Rattle.clap.specs.Simple.{app_of, subcommand_rows_of};
 ghost use Rattle.clap.specs.declared.builder.command.Command.TheViews.{out-Command as fields_of};
 ghost use Rattle.ep_main.specs.Faults.{DeclinesBy};
-ghost use Rattle.ep_main.specs.Words.{AskForReport, IsAsked, IsHelp, MetReplay, Names, emit as emit_rule, replay as replay_app, epaxos};
-ghost use Rattle.ep_main.specs.declared.asked.Asked.TheVariants.{Replay};
-ghost use Rattle.ep_main.specs.declared.asked.Emit.TheVariants.{Report};
+ghost use Rattle.ep_main.specs.Words.{AskFor, AskForHelp, IsAsked, IsHelp, IsMet, MetReplay, MetAudit, Names, audit as audit_app, emit as emit_rule, replay as replay_app, epaxos};
+ghost use Rattle.ep_main.specs.declared.asked.Asked.{Asked};
+ghost use Rattle.ep_main.specs.declared.asked.Asked.TheVariants.{Replay, Audit};
+ghost use Rattle.ep_main.specs.declared.asked.Emit.{Emit};
+ghost use Rattle.ep_main.specs.declared.asked.Emit.TheVariants.{Report, Bundle};
 ghost use Rattle.ep_main.specs.declared.fault.Fault.TheVariants.{CommandLine, Memory};
 
 use crate::asked::{Asked, Emit};
@@ -23,8 +25,9 @@ use std::convert::AsStr;
 /// What the words ask for, of which the first is the program's own name. `CommandLine` where they are none that the
 /// program knows.
 pub(crate) fn read_words<T: AsStr>(alloc: Global, words: &[T]) -> Result<Asked, Fault>
-    ensures asked { AskForReport (map T.text words.now) → MatchResult result (λ a. a ≡ Replay Report) (λ e. e ≡ Memory) }
-    ensures only { IfOk result (λ a. IsAsked a (subcommand_of epaxos (map T.text words.now))) }
+    ensures asked { (asked : Asked) → AskFor asked (map T.text words.now) → MatchResult result (λ a. a ≡ asked) (λ e. e ≡ Memory) }
+    ensures help { AskForHelp (map T.text words.now) → MatchResult result IsHelp (λ e. e ≡ Memory) }
+    ensures only { IfOk result (λ a. IsAsked a (map T.text words.now)) }
     ensures declines { IfErr result DeclinesBy }
 {
     let command = program(alloc)?;
@@ -37,7 +40,8 @@ pub(crate) fn read_words<T: AsStr>(alloc: Global, words: &[T]) -> Result<Asked, 
 /// What is asked for where `clap` finds no matches: help at most.
 fn asked_instead(alloc: Global, error: &Error) -> Result<Asked, Fault>
     ensures memory { kind_of error.now ≡ OutOfMemory → result ≡ Err Memory }
-    ensures only { IfOk result IsHelp }
+    ensures help { kind_of error.now ≡ DisplayHelp → MatchResult result IsHelp (λ e. e ≡ Memory) }
+    ensures only { IfOk result (λ a. IsHelp a × (kind_of error.now ≡ DisplayHelp)) }
     ensures declines { IfErr result DeclinesBy }
 {
     match error.kind() {
@@ -48,18 +52,30 @@ fn asked_instead(alloc: Global, error: &Error) -> Result<Asked, Fault>
 }
 
 fn asked_by(matches: &ArgMatches<'_>) -> Result<Asked, Fault>
-    ensures asked { MetReplay Report (subcommand_rows_of matches.now) → result ≡ Ok (Replay Report) }
-    ensures only { IfOk result (λ a. IsAsked a (subcommand_rows_of matches.now)) }
+    ensures replay { (emit : Emit) → MetReplay emit (subcommand_rows_of matches.now) → result ≡ Ok (Replay emit) }
+    ensures audit { MetAudit (subcommand_rows_of matches.now) → result ≡ Ok Audit }
+    ensures only { IfOk result (λ a. IsMet a (subcommand_rows_of matches.now)) }
     ensures declines { IfErr result (λ e. e ≡ CommandLine) }
 {
     match matches.subcommand_matches("replay") {
         Some(options) => Ok(Asked::Replay(emit_of(options)?)),
+        None => audit_by(matches),
+    }
+}
+
+fn audit_by(matches: &ArgMatches<'_>) -> Result<Asked, Fault>
+    ensures asked { MetAudit (subcommand_rows_of matches.now) → result ≡ Ok Audit }
+    ensures only { IfOk result (λ a. (a ≡ Audit) × MetAudit (subcommand_rows_of matches.now)) }
+    ensures declines { IfErr result (λ e. e ≡ CommandLine) }
+{
+    match matches.subcommand_matches("audit") {
+        Some(_) => Ok(Asked::Audit),
         None => Err(Fault::CommandLine),
     }
 }
 
 fn emit_of(options: &ArgMatches<'_>) -> Result<Emit, Fault>
-    ensures report { Names (first_of (codes "emit") (rows_of (found_of options.now))) Report → result ≡ Ok Report }
+    ensures named { (emit : Emit) → Names (first_of (codes "emit") (rows_of (found_of options.now))) emit → result ≡ Ok emit }
     ensures only { IfOk result (Names (first_of (codes "emit") (rows_of (found_of options.now)))) }
     ensures declines { IfErr result (λ e. e ≡ CommandLine) }
 {
@@ -71,11 +87,14 @@ fn emit_of(options: &ArgMatches<'_>) -> Result<Emit, Fault>
 
 fn emit_named(what: &str) -> Result<Emit, Fault>
     ensures report { what.now ≡ codes "report" → result ≡ Ok Report }
+    ensures bundle { what.now ≡ codes "bundle" → result ≡ Ok Bundle }
     ensures only { IfOk result (Names (Some what.now)) }
     ensures declines { IfErr result (λ e. e ≡ CommandLine) }
 {
     if what == "report" {
         Ok(Emit::Report)
+    } else if what == "bundle" {
+        Ok(Emit::Bundle)
     } else {
         Err(Fault::CommandLine)
     }
@@ -85,10 +104,13 @@ fn program<'a>(alloc: Global) -> Result<Command<'a>, AllocError>
     ensures { IfOk result (λ c. app_of c ≡ epaxos) }
 {
     let replay = replay_command(alloc)?;
+    let audit = Command::new(alloc, "audit").about(
+        "Reads a bundle on standard input, audits it, and prints what the audit says",
+    );
     let command = Command::new(alloc, "epaxos")
         .about("A replicated key-value core without a leader")
         .subcommand_required(true);
-    command.subcommand(replay)
+    command.subcommand(replay)?.subcommand(audit)
 }
 
 fn replay_command<'a>(alloc: Global) -> Result<Command<'a>, AllocError>
@@ -97,10 +119,10 @@ fn replay_command<'a>(alloc: Global) -> Result<Command<'a>, AllocError>
     let emit = Arg::new(alloc, "emit")
         .long("emit")
         .value_name("WHAT")
-        .help("What to print: report")
+        .help("What to print: report (the default) or bundle")
         .action(ArgAction::Set);
     let command = Command::new(alloc, "replay").about(
-        "Reads a script on standard input, plays it in one thread, audits what it leaves, and prints a report",
+        "Reads a script on standard input, plays it in one thread, audits what it leaves, and prints a report or a bundle",
     );
     command.arg(emit)
 }

@@ -1,11 +1,12 @@
 //! Why the program ends before its work is done.
 
 ghost use Rattle.std.specs.Prelude.{◌≡◌};
-ghost use Rattle.ep_main.specs.Faults.{of_script, status_of};
+ghost use Rattle.ep_main.specs.Faults.{of_bundle, of_script, status_of};
 ghost use Rattle.ep_main.specs.declared.fault.Fault.TheVariants.{Memory, Write};
 
 use crate::status::Status;
-use ep_base::WriteFailed;
+use ep_base::{ReplicaId, WriteFailed};
+use ep_bundle::{BundleFault, WriteFault};
 use ep_script::ScriptFault;
 use std::alloc::AllocError;
 
@@ -16,6 +17,10 @@ pub enum Fault {
     CommandLine,
     /// The script is refused; this is the first line at fault, counted from 1.
     Script(u32),
+    /// The bundle is refused; this is the offset of its first field at fault, counted from 0.
+    BadBundle(u64),
+    /// The bundle is refused; this entry of this replica, counted from 1, is the first that isn't its replica's next step.
+    NotARun(ReplicaId, u32),
     /// Memory was refused.
     Memory,
     /// Reading failed.
@@ -26,11 +31,12 @@ pub enum Fault {
 
 impl Fault {
     /// How the program then ends.
-    pub fn status(self) -> Status
-        ensures { result ≡ status_of self }
+    pub fn status(&self) -> Status
+        ensures { result ≡ status_of self.now }
     {
         match self {
-            Fault::CommandLine | Fault::Script(_) => Status::Refused,
+            Fault::CommandLine | Fault::Script(_) | Fault::BadBundle(_) | Fault::NotARun(_, _) =>
+                Status::Refused,
             Fault::Memory => Status::OutOfMemory,
             Fault::Read | Fault::Write => Status::Failed,
         }
@@ -49,6 +55,19 @@ impl From<ScriptFault> for Fault {
     }
 }
 
+impl From<BundleFault> for Fault {
+    ghost from_gives = { λ b e. e ≡ of_bundle b };
+
+    fn from(fault: BundleFault) -> Fault {
+        match fault {
+            BundleFault::Memory => Fault::Memory,
+            BundleFault::ReadFailed => Fault::Read,
+            BundleFault::BadBundle(offset) => Fault::BadBundle(offset),
+            BundleFault::NotARun(replica, entry) => Fault::NotARun(replica, entry),
+        }
+    }
+}
+
 impl From<AllocError> for Fault {
     ghost from_gives = { λ _ e. e ≡ Memory };
 
@@ -61,6 +80,15 @@ impl From<WriteFailed> for Fault {
     ghost from_gives = { λ _ e. e ≡ Write };
 
     fn from(_fault: WriteFailed) -> Fault {
+        Fault::Write
+    }
+}
+
+/// A bundle that can't be written since a count doesn't fit its field is told as a writer that fails.
+impl From<WriteFault> for Fault {
+    ghost from_gives = { λ _ e. e ≡ Write };
+
+    fn from(_fault: WriteFault) -> Fault {
         Fault::Write
     }
 }

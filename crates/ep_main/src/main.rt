@@ -1,9 +1,11 @@
-//! `epaxos`: replays scripts of a replicated key-value core, and prints reports.
+//! `epaxos`: replays scripts of a replicated key-value core, audits bundles, and prints reports.
 #![tactic(auto)]
 
 mod asked;
+mod auditing;
 mod command_line;
 mod fault;
+mod judged;
 mod program;
 mod replaying;
 mod status;

@@ -2,15 +2,15 @@
 
 ghost use Rattle.std.specs.Prelude.{◌≡◌, ◌⊎◌, ℕ, List, Some, map};
 ghost use Rattle.ep_main.specs.Outputs.{output};
-ghost use Rattle.ep_main.specs.Runs.{Performs, Declines, Does, Concludes, Replays};
-ghost use Rattle.ep_main.specs.Words.{AskForReport, IsAsked, epaxos};
-ghost use Rattle.clap.specs.Simple.{subcommand_of};
+ghost use Rattle.ep_main.specs.Runs.{Performs, IsHelped, Declines, Does, Concludes};
+ghost use Rattle.ep_main.specs.Words.{AskFor, AskForHelp, IsAsked};
 ghost use Rattle.ep_main.specs.declared.asked.Asked.{Asked};
 
 use crate::asked::{Asked, Emit};
+use crate::auditing::print_audit;
 use crate::command_line::read_words;
 use crate::fault::Fault;
-use crate::replaying::print_replay;
+use crate::replaying::{emit_bundle, print_replay};
 use crate::status::Status;
 use crate::telling::tell;
 use ep_base::{Sink, Source};
@@ -19,9 +19,10 @@ use std::convert::AsStr;
 
 /// Does what the words ask for, of which the first is the program's own name, and answers how the program ends.
 ///
-/// `replay` reads a script to its end, plays it, audits what it leaves, and writes the report in one go. What stops it (a
-/// refused command line or script, want of memory, a reader or a writer that fails) is told by one line on the fault
-/// output; where that one fails, the status stays.
+/// `replay` reads a script to its end, plays it, audits what it leaves, and writes the report in one go, or, with `--emit
+/// bundle`, the bundle of that. `audit` reads a bundle to its end, audits it, and writes what the audit says in one go.
+/// What stops it (a refused command line, script or bundle, want of memory, a reader or a writer that fails) is told by
+/// one line on the fault output; where that one fails, the status stays.
 pub fn engine<T: AsStr, S: Source, W: Sink, F: Sink>(
     alloc: Global,
     words: &[T],
@@ -29,8 +30,13 @@ pub fn engine<T: AsStr, S: Source, W: Sink, F: Sink>(
     writer: &mut W,
     fault_writer: &mut F,
 ) -> Status
-    // where the words ask for a replay and its report
-    ensures replay { AskForReport (map T.text words.now) → (zs : List ℕ) → S.left reader.old ≡ Some zs → Replays result zs (S.has_failed reader.new)
+    // where the words ask for a replay's report, for its bundle, or for an audit, that is done
+    ensures asked { (asked : Asked) → AskFor asked (map T.text words.now) → (zs : List ℕ) → S.left reader.old ≡ Some zs → Performs asked result zs (S.has_failed reader.new)
+        (output (W.held writer.old) (W.held writer.new) (W.has_failed writer.new))
+        (output (F.held fault_writer.old) (F.held fault_writer.new) (F.has_failed fault_writer.new)) }
+
+    // where they ask for help, it is printed
+    ensures help { AskForHelp (map T.text words.now) → (zs : List ℕ) → S.left reader.old ≡ Some zs → IsHelped result
         (output (W.held writer.old) (W.held writer.new) (W.has_failed writer.new))
         (output (F.held fault_writer.old) (F.held fault_writer.new) (F.has_failed fault_writer.new)) }
 
@@ -38,7 +44,7 @@ pub fn engine<T: AsStr, S: Source, W: Sink, F: Sink>(
     ensures other { (zs : List ℕ) → S.left reader.old ≡ Some zs → Declines result
         (output (W.held writer.old) (W.held writer.new) (W.has_failed writer.new))
         (output (F.held fault_writer.old) (F.held fault_writer.new) (F.has_failed fault_writer.new))
-        ⊎ ((asked : Asked) × IsAsked asked (subcommand_of epaxos (map T.text words.now)) × Performs asked result zs (S.has_failed reader.new)
+        ⊎ ((asked : Asked) × IsAsked asked (map T.text words.now) × Performs asked result zs (S.has_failed reader.new)
         (output (W.held writer.old) (W.held writer.new) (W.has_failed writer.new))
         (output (F.held fault_writer.old) (F.held fault_writer.new) (F.has_failed fault_writer.new))) }
 {
@@ -76,6 +82,8 @@ fn attempt<S: Source, W: Sink>(
 {
     match asked {
         Asked::Replay(Emit::Report) => print_replay(alloc, reader, writer),
+        Asked::Replay(Emit::Bundle) => emit_bundle(alloc, reader, writer),
+        Asked::Audit => print_audit(alloc, reader, writer),
         Asked::Help(text) => {
             writer.put(text.as_bytes())?;
             Ok(Status::Accepted)
@@ -90,8 +98,9 @@ pub(crate) fn concluded<F: Sink>(outcome: Result<Status, Fault>, fault_writer: &
     match outcome {
         Ok(status) => status,
         Err(fault) => {
+            let status = fault.status();
             let _ = tell(fault, fault_writer);
-            fault.status()
+            status
         }
     }
 }

@@ -10,7 +10,7 @@ pub enum Status {
     Accepted,
     /// The audit refuses.
     AuditRefused,
-    /// The command line or the script is refused.
+    /// The command line, the script or the bundle is refused.
     Refused,
     /// Memory was refused.
     OutOfMemory,

@@ -1,10 +1,11 @@
 //! Faults on the fault output.
 
+ghost use Rattle.std.specs.Prelude.{◌++◌, decimal};
 ghost use Rattle.ep_base.specs.Devices.{Puts};
-ghost use Rattle.ep_main.specs.Faults.{line_of, script_refused};
+ghost use Rattle.ep_main.specs.Faults.{line_of, script_refused, bad_bundle, not_a_run};
 
 use crate::fault::Fault;
-use ep_base::{Sink, WriteFailed};
+use ep_base::{ReplicaId, Sink, WriteFailed};
 use itoa::Buffer;
 
 /// Writes the line of a fault. It takes no memory.
@@ -14,6 +15,8 @@ pub(crate) fn tell<F: Sink>(fault: Fault, sink: &mut F) -> Result<(), WriteFaile
     match fault {
         Fault::CommandLine => sink.put(b"command line refused\n"),
         Fault::Script(line) => tell_refused(line, sink),
+        Fault::BadBundle(offset) => tell_bad_bundle(offset, sink),
+        Fault::NotARun(replica, entry) => tell_not_a_run(replica, entry, sink),
         Fault::Memory => sink.put(b"out of memory\n"),
         Fault::Read => sink.put(b"reading failed\n"),
         Fault::Write => sink.put(b"writing failed\n"),
@@ -27,4 +30,34 @@ fn tell_refused<F: Sink>(line: u32, sink: &mut F) -> Result<(), WriteFailed>
     sink.put(b"script refused at line ")?;
     sink.put(digits.format(line).as_bytes())?;
     sink.put(b"\n")
+}
+
+fn tell_bad_bundle<F: Sink>(offset: u64, sink: &mut F) -> Result<(), WriteFailed>
+    ensures { Puts (F.held sink.old) (F.held sink.new) (F.has_failed sink.old) (F.has_failed sink.new) result (bad_bundle offset) }
+{
+    let mut digits = Buffer::new();
+    sink.put(b"bundle refused E12 at byte ")?;
+    sink.put(digits.format(offset).as_bytes())?;
+    sink.put(b"\n")
+}
+
+fn tell_not_a_run<F: Sink>(replica: ReplicaId, entry: u32, sink: &mut F) -> Result<(), WriteFailed>
+    ensures { Puts (F.held sink.old) (F.held sink.new) (F.has_failed sink.old) (F.has_failed sink.new) result (not_a_run replica entry) }
+{
+    tell_place(
+        b"bundle refused E11 at replica ",
+        u32::from(replica.index()),
+        sink,
+    )?;
+    tell_place(b" entry ", entry, sink)?;
+    sink.put(b"\n")
+}
+
+/// A name and a number behind it.
+fn tell_place<F: Sink>(name: &[u8], place: u32, sink: &mut F) -> Result<(), WriteFailed>
+    ensures { Puts (F.held sink.old) (F.held sink.new) (F.has_failed sink.old) (F.has_failed sink.new) result (name.now ++ decimal place) }
+{
+    let mut digits = Buffer::new();
+    sink.put(name)?;
+    sink.put(digits.format(place).as_bytes())
 }

@@ -1,5 +1,6 @@
 //! The program over memory: what it writes, and how it ends.
 
+mod audits;
 mod failing;
 mod grammar;
 mod limits;

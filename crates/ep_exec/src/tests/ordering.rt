@@ -1,6 +1,9 @@
-//! Execution orders: the rows, a long chain, also where half of it was executed, a large component.
+//! Execution orders: the rows, also after what isn't closed, a long chain, also where half of it was executed, a large component.
 
-use super::{Place, Row, add, all_at, at, commit, executed_of, planned, reserve, space, space_of};
+use super::{
+    Place, Row, add, all_at, at, commit, executed_of, planned, planned_left, reserve, space,
+    space_of,
+};
 use crate::{Executed, PlanFault};
 use ep_base::InstanceId;
 use ep_space::Space;
@@ -9,6 +12,18 @@ use std::process::Abort;
 
 /// How many instances a long chain and a large component have.
 const MANY: u16 = 300;
+
+/// The order is this one.
+fn assert_places(
+    rt: &impl Abort,
+    alloc: Global,
+    order: Result<Vec<InstanceId>, PlanFault>,
+    places: &[Place],
+) {
+    let order = order.expect(rt, "an order");
+    let expected = all_at(rt, alloc, places);
+    assert!(rt; order.as_slice() == expected.as_slice());
+}
 
 /// The root's order over the rows, after these were executed, is this one.
 fn assert_order(
@@ -21,9 +36,36 @@ fn assert_order(
 ) {
     let space = space_of(rt, alloc, rows);
     let executed = executed_of(rt, alloc, done);
-    let order = planned(rt, alloc, &space, &executed, at(rt, root)).expect(rt, "an order");
-    let expected = all_at(rt, alloc, places);
-    assert!(rt; order.as_slice() == expected.as_slice());
+    let order = planned(alloc, &space, &executed, at(rt, root));
+    assert_places(rt, alloc, order, places);
+}
+
+/// The same of the walk that leaves out what was executed.
+fn assert_order_left(
+    rt: &impl Abort,
+    alloc: Global,
+    rows: &[Row<'_>],
+    done: &[Place],
+    root: Place,
+    places: &[Place],
+) {
+    let space = space_of(rt, alloc, rows);
+    let executed = executed_of(rt, alloc, done);
+    let order = planned_left(rt, alloc, &space, &executed, at(rt, root));
+    assert_places(rt, alloc, order, places);
+}
+
+/// Both, where these are closed.
+fn assert_both(
+    rt: &impl Abort,
+    alloc: Global,
+    rows: &[Row<'_>],
+    done: &[Place],
+    root: Place,
+    places: &[Place],
+) {
+    assert_order(rt, alloc, rows, done, root, places);
+    assert_order_left(rt, alloc, rows, done, root, places);
 }
 
 #[test]
@@ -33,7 +75,7 @@ fn a_circle_of_one_seq(rt: HostRuntime) {
         ((1, 1), 2, &[(2, 1)]),
         ((2, 1), 2, &[(0, 1)]),
     ];
-    assert_order(
+    assert_both(
         &rt,
         rt.alloc(),
         &rows,
@@ -46,15 +88,15 @@ fn a_circle_of_one_seq(rt: HostRuntime) {
 #[test]
 fn a_circle_of_two_seqs(rt: HostRuntime) {
     let rows = [((0, 1), 3, [(1, 1)].as_slice()), ((1, 1), 2, &[(0, 1)])];
-    assert_order(&rt, rt.alloc(), &rows, &[], (0, 1), &[(1, 1), (0, 1)]);
+    assert_both(&rt, rt.alloc(), &rows, &[], (0, 1), &[(1, 1), (0, 1)]);
 }
 
 #[test]
 fn a_dependency_goes_first(rt: HostRuntime) {
     let rows = [((0, 1), 2, [(1, 1)].as_slice()), ((1, 1), 5, &[])];
-    assert_order(&rt, rt.alloc(), &rows, &[], (0, 1), &[(1, 1), (0, 1)]);
-    assert_order(&rt, rt.alloc(), &rows, &[(1, 1)], (0, 1), &[(0, 1)]);
-    assert_order(&rt, rt.alloc(), &rows, &[(1, 1), (0, 1)], (0, 1), &[]);
+    assert_both(&rt, rt.alloc(), &rows, &[], (0, 1), &[(1, 1), (0, 1)]);
+    assert_both(&rt, rt.alloc(), &rows, &[(1, 1)], (0, 1), &[(0, 1)]);
+    assert_both(&rt, rt.alloc(), &rows, &[(1, 1), (0, 1)], (0, 1), &[]);
 }
 
 #[test]
@@ -64,7 +106,7 @@ fn of_two_ready_ones_the_least(rt: HostRuntime) {
         ((0, 1), 2, &[]),
         ((1, 1), 1, &[]),
     ];
-    assert_order(
+    assert_both(
         &rt,
         rt.alloc(),
         &rows,
@@ -75,12 +117,98 @@ fn of_two_ready_ones_the_least(rt: HostRuntime) {
 }
 
 #[test]
+fn beyond_what_was_executed(rt: HostRuntime) {
+    let rows = [
+        ((0, 1), 3, [(1, 1)].as_slice()),
+        ((1, 1), 2, &[(2, 1)]),
+        ((2, 1), 1, &[]),
+    ];
+    assert_order(&rt, rt.alloc(), &rows, &[(1, 1)], (0, 1), &[(2, 1), (0, 1)]);
+}
+
+/// The instance behind the executed one is ready as soon as what is beyond that one is done, and goes before the greater one.
+#[test]
+fn ready_behind_what_was_executed(rt: HostRuntime) {
+    let rows = [
+        ((5, 1), 9, [(1, 1), (2, 1)].as_slice()),
+        ((1, 1), 3, &[(4, 1)]),
+        ((2, 1), 1, &[]),
+        ((4, 1), 2, &[(0, 1)]),
+        ((0, 1), 1, &[]),
+    ];
+    assert_order(
+        &rt,
+        rt.alloc(),
+        &rows,
+        &[(4, 1)],
+        (5, 1),
+        &[(0, 1), (1, 1), (2, 1), (5, 1)],
+    );
+}
+
+#[test]
+fn a_circle_half_executed(rt: HostRuntime) {
+    let rows = [
+        ((0, 1), 4, [(1, 1)].as_slice()),
+        ((1, 1), 3, &[(2, 1)]),
+        ((2, 1), 2, &[(0, 1), (0, 2)]),
+        ((0, 2), 1, &[]),
+    ];
+    assert_order(
+        &rt,
+        rt.alloc(),
+        &rows,
+        &[(1, 1)],
+        (0, 1),
+        &[(0, 2), (2, 1), (0, 1)],
+    );
+}
+
+/// The root waits for this one.
+fn assert_missing(
+    rt: &impl Abort,
+    alloc: Global,
+    rows: &[Row<'_>],
+    done: &[Place],
+    root: Place,
+    missing: Place,
+) {
+    let space = space_of(rt, alloc, rows);
+    let executed = executed_of(rt, alloc, done);
+    let fault = planned(alloc, &space, &executed, at(rt, root)).err();
+    assert_eq!(rt; fault, Some(PlanFault::NotCommitted(at(rt, missing))));
+}
+
+/// The same of the walk that leaves out what was executed.
+fn assert_missing_left(
+    rt: &impl Abort,
+    alloc: Global,
+    rows: &[Row<'_>],
+    done: &[Place],
+    root: Place,
+    missing: Place,
+) {
+    let space = space_of(rt, alloc, rows);
+    let executed = executed_of(rt, alloc, done);
+    let fault = planned_left(rt, alloc, &space, &executed, at(rt, root)).err();
+    assert_eq!(rt; fault, Some(PlanFault::NotCommitted(at(rt, missing))));
+}
+
+#[test]
+fn missing_beyond_what_was_executed(rt: HostRuntime) {
+    let rows = [
+        ((0, 1), 3, [(1, 1), (1, 2)].as_slice()),
+        ((1, 1), 2, &[(0, 2)]),
+    ];
+    assert_missing(&rt, rt.alloc(), &rows, &[(1, 1)], (0, 1), (0, 2));
+    assert_missing(&rt, rt.alloc(), &rows, &[(1, 1), (1, 2)], (0, 1), (0, 2));
+}
+
+#[test]
 fn the_least_that_is_missing(rt: HostRuntime) {
     let rows = [((0, 1), 2, [(1, 1), (1, 2)].as_slice())];
-    let space = space_of(&rt, rt.alloc(), &rows);
-    let executed = Executed::new(rt.alloc());
-    let fault = planned(&rt, rt.alloc(), &space, &executed, at(&rt, (0, 1))).err();
-    assert_eq!(rt; fault, Some(PlanFault::NotCommitted(at(&rt, (1, 1)))));
+    assert_missing(&rt, rt.alloc(), &rows, &[], (0, 1), (1, 1));
+    assert_missing_left(&rt, rt.alloc(), &rows, &[], (0, 1), (1, 1));
 }
 
 /// Each instance depends on all before it.
@@ -99,7 +227,7 @@ fn a_chain_of_many(rt: HostRuntime) {
     let mut space = space(&rt, rt.alloc());
     let expected = chain(&rt, rt.alloc(), &mut space);
     let executed = Executed::new(rt.alloc());
-    let order = planned(&rt, rt.alloc(), &space, &executed, at(&rt, (0, MANY))).expect(
+    let order = planned_left(&rt, rt.alloc(), &space, &executed, at(&rt, (0, MANY))).expect(
         &rt, "an order",
     );
     assert!(rt; order.as_slice() == expected.as_slice());
@@ -115,7 +243,7 @@ fn a_chain_half_executed(rt: HostRuntime) {
         reserve(&rt, &mut executed);
         executed.add(*instance);
     }
-    let order = planned(&rt, rt.alloc(), &space, &executed, at(&rt, (0, MANY))).expect(
+    let order = planned_left(&rt, rt.alloc(), &space, &executed, at(&rt, (0, MANY))).expect(
         &rt, "an order",
     );
     assert!(rt; order.as_slice() == &all[half..]);
@@ -139,7 +267,7 @@ fn a_component_of_many(rt: HostRuntime) {
     let mut space = space(&rt, rt.alloc());
     let expected = circle(&rt, rt.alloc(), &mut space);
     let executed = Executed::new(rt.alloc());
-    let order = planned(&rt, rt.alloc(), &space, &executed, at(&rt, (1, 2))).expect(
+    let order = planned_left(&rt, rt.alloc(), &space, &executed, at(&rt, (1, 2))).expect(
         &rt, "an order",
     );
     assert!(rt; order.as_slice() == expected.as_slice());

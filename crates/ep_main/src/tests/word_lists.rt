@@ -74,6 +74,8 @@ fn words_that_are_refused(rt: HostRuntime) {
     );
     assert!(rt; refuses(rt.alloc(), &["epaxos", "--emit", "report", "replay"]));
     assert!(rt; refuses(rt.alloc(), &["epaxos", "--version"]));
+    assert!(rt; refuses(rt.alloc(), &["epaxos", "audit", "--emit", "report"]));
+    assert!(rt; refuses(rt.alloc(), &["epaxos", "audit", "bundle"]));
 }
 
 #[test]
@@ -85,4 +87,6 @@ fn words_that_ask_for_help(rt: HostRuntime) {
     let about = b"Reads a script";
     assert!(rt; helps(rt.alloc(), &["epaxos", "replay", "--help"], about));
     assert!(rt; helps(rt.alloc(), &["epaxos", "help", "replay"], about));
+    let about = b"Reads a bundle";
+    assert!(rt; helps(rt.alloc(), &["epaxos", "audit", "--help"], about));
 }

@@ -5,4 +5,4 @@ use Rattle.ep_exec.proofs.graph.append_left.Given as goal
 
 abbrev pub invariant-loop-dep : goal.invariant-loop-dep
 invariant-loop-dep l =
-    l.list.items ++ filter (is_out l.executed.list) (drop l.dep-index l.dep-items) ≡ l.fn.list.items ++ filter (is_out l.executed.list) l.dep-items
+    l.list.items ++ filter (is_out l.skipped.list) (drop l.dep-index l.dep-items) ≡ l.fn.list.items ++ filter (is_out l.skipped.list) l.dep-items

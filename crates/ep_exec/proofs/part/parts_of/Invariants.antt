@@ -6,5 +6,5 @@ use Rattle.ep_exec.proofs.part.parts_of.Given as goal
 
 abbrev pub invariant-loop-component : goal.invariant-loop-component
 invariant-loop-component l =
-    l.parts.items ++ map (waiting_of (left_in l.space.records l.executed.list)) (lists (drop l.component-index l.found))
-    ≡ map (waiting_of (left_in l.space.records l.executed.list)) (lists l.found)
+    l.parts.items ++ map (waiting_of (left_in l.space.records l.skipped.list)) (lists (drop l.component-index l.found))
+    ≡ map (waiting_of (left_in l.space.records l.skipped.list)) (lists l.found)

@@ -5,5 +5,5 @@ use Rattle.ep_exec.proofs.part.waits_of.Given as goal
 
 abbrev pub invariant-loop-instance : goal.invariant-loop-instance
 invariant-loop-instance l =
-    l.waits.items ++ waits_for (left_in l.space.records l.executed.list) l.component (drop l.instance-index l.component)
-    ≡ waits_for (left_in l.space.records l.executed.list) l.component l.component
+    l.waits.items ++ waits_for (left_in l.space.records l.skipped.list) l.component (drop l.instance-index l.component)
+    ≡ waits_for (left_in l.space.records l.skipped.list) l.component l.component

@@ -14,9 +14,9 @@ use Rattle.ep_exec.proofs.walk.components.Goals as goal
 pub loop-top-init : goal.loop-top-init
 loop-top-init c =
     let m = c.args.space.now.records in
-    let g = left_in m c.args.executed.now.list in
+    let g = left_in m c.args.skipped.now.list in
     rw (c.new-closed.ensures, c.new-found.ensures.items, c.in_ok-push.ensures, c.new-seen.ensures, c.in_ok-enter.ensures, c.new-path.ensures.items) (record {
-      walk = walk_first g c.args.root (universe m) (λ i x a e h. left_within m c.args.executed.now.list i x a e h);
+      walk = walk_first g c.args.root (universe m) (λ i x a e h. left_within m c.args.skipped.now.list i x a e h);
       seen = sees_fresh g [] [] [] c.args.root sees_none;
     })
 
@@ -28,7 +28,7 @@ follow-requires c =
 
 pub loop-top-preserved-in-None-1 : goal.loop-top-preserved-in-None-1
 loop-top-preserved-in-None-1 c =
-    let g = left_in c.args.space.now.records c.args.executed.now.list in
+    let g = left_in c.args.space.now.records c.args.skipped.now.list in
     let us = universe c.args.space.now.records in
     let top = c.in-Some.top in
     let rest = stack c.pop.new.self.items in
@@ -50,7 +50,7 @@ loop-top-preserved-in-None-1 c =
 
 pub loop-top-smaller : goal.loop-top-smaller
 loop-top-smaller c =
-    let g = left_in c.args.space.now.records c.args.executed.now.list in
+    let g = left_in c.args.space.now.records c.args.skipped.now.list in
     let us = universe c.args.space.now.records in
     let top = c.in-Some.top in
     let d = c.in-Some-pop.instance in
@@ -71,7 +71,7 @@ loop-top-smaller c =
 pub loop-top-preserved : goal.loop-top-preserved
 loop-top-preserved c =
     let m = c.args.space.now.records in
-    let g = left_in m c.args.executed.now.list in
+    let g = left_in m c.args.skipped.now.list in
     let us = universe m in
     let top = c.in-Some.top in
     let d = c.in-Some-pop.instance in
@@ -85,13 +85,13 @@ loop-top-preserved c =
     let w : IsWalk g c.args.root us closed cs (plus t d ∷ rest) = subst (IsWalk g c.args.root us closed cs) opened c.loop-top.invariant.walk in
     let f : Follows g closed t rest d (stack c.follow.new.path.items) = c.in_ok-follow-in-Some-pop.ensures.path in
     record {
-      walk = walk_follow g c.args.root us closed cs t rest d (stack c.follow.new.path.items) (λ i x a e h. left_within m c.args.executed.now.list i x a e h) w f;
+      walk = walk_follow g c.args.root us closed cs t rest d (stack c.follow.new.path.items) (λ i x a e h. left_within m c.args.skipped.now.list i x a e h) w f;
       seen = c.in_ok-follow-in-Some-pop.ensures.seen;
     }
 
 pub returns : goal.returns
 returns c =
-    let g = left_in c.args.space.now.records c.args.executed.now.list in
+    let g = left_in c.args.space.now.records c.args.skipped.now.list in
     let us = universe c.args.space.now.records in
     let none : c.loop-top.path.items ≡ [] = nil_from_length c.loop-top.path.items (omega (arith, c.in_default.ensures.cases.0, c.loop-top.path.ok.0)) in
     let w : IsWalk g c.args.root us c.loop-top.closed (lists c.loop-top.found.items) [] = subst (λ ls. IsWalk g c.args.root us c.loop-top.closed (lists c.loop-top.found.items) (stack ls)) none c.loop-top.invariant.walk in

@@ -18,7 +18,7 @@ returns-then-contains-2-clause-seen c =
 
 pub returns-clause-path : goal.returns-clause-path
 returns-clause-path c =
-    let g = left_in c.args.space.now.records c.args.executed.now.list in
+    let g = left_in c.args.space.now.records c.args.skipped.now.list in
     let open' : ¬ Has c.args.closed.now c.args.instance = (λ h. false≢true (sym c.if-contains.false ∙ c.contains.ensures.1 h)) in
     let new : ¬ Has c.args.seen.now c.args.instance = (λ h. false≢true (sym c.if-contains-2.false ∙ c.contains-2.ensures.1 h)) in
     let is : stack c.enter.new.path.items ≡ fresh g c.args.instance ∷ flat c.args.top ∷ stack c.args.path.now.items =
@@ -28,7 +28,7 @@ returns-clause-path c =
 
 pub returns-clause-seen : goal.returns-clause-seen
 returns-clause-seen c =
-    let g = left_in c.args.space.now.records c.args.executed.now.list in
+    let g = left_in c.args.space.now.records c.args.skipped.now.list in
     let is : stack c.enter.new.path.items ≡ fresh g c.args.instance ∷ flat c.args.top ∷ stack c.args.path.now.items =
     c.in_ok-enter.ensures ∙ ap (λ s. fresh g c.args.instance ∷ s) (ap stack c.in_ok-push-2.ensures.items ∙ stack_push c.args.path.now.items c.args.top)
     in

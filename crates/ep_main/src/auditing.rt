@@ -1,0 +1,54 @@
+//! Audits of bundles.
+
+ghost use Rattle.std.specs.Prelude.{◌≡◌, ℕ, List, Some, IfOk, IfErr};
+ghost use Rattle.ep_main.specs.Audits.{Says};
+ghost use Rattle.ep_main.specs.Outputs.{output};
+ghost use Rattle.ep_main.specs.Runs.{Finishes};
+ghost use Rattle.ep_main.specs.declared.fault.Fault.TheVariants.{Memory};
+
+use crate::fault::Fault;
+use crate::judged::Judged;
+use crate::status::Status;
+use ep_audit::{Refusal, audit};
+use ep_base::{Sink, Source};
+use ep_bundle::{Bundle, read_bundle};
+use ep_report::{accepted, refusal};
+use std::alloc::Global;
+
+/// Reads a bundle to its end, audits it, and prints what the audit says.
+pub(crate) fn print_audit<S: Source, W: Sink>(
+    alloc: Global,
+    reader: &mut S,
+    writer: &mut W,
+) -> Result<Status, Fault>
+    ensures { (zs : List ℕ) → S.left reader.old ≡ Some zs → Finishes result zs (S.has_failed reader.new)
+        (output (W.held writer.old) (W.held writer.new) (W.has_failed writer.new)) }
+{
+    let bundle = read_bundle(alloc, reader)?;
+    let judged = judge_bundle(alloc, &bundle)?;
+    writer.put(judged.text.as_slice())?;
+    Ok(judged.status)
+}
+
+/// What the audit says of a bundle.
+fn judge_bundle(alloc: Global, bundle: &Bundle) -> Result<Judged, Fault>
+    ensures value { IfOk result (λ j. Says bundle.now.journals bundle.now.receipts.items j.status j.text.items) }
+    ensures memory { IfErr result (λ e. e ≡ Memory) }
+{
+    match audit(alloc, &bundle.journals, bundle.receipts.as_slice()) {
+        Ok(verdict) => Ok(Judged {
+            status: Status::Accepted,
+            text: accepted(
+                alloc,
+                verdict.committed.as_slice(),
+                verdict.history.as_slice(),
+                bundle.receipts.as_slice(),
+            )?,
+        }),
+        Err(Refusal::Fault(fault)) => Ok(Judged {
+            status: Status::AuditRefused,
+            text: refusal(alloc, fault)?,
+        }),
+        Err(Refusal::Memory) => Err(Fault::Memory),
+    }
+}

@@ -1,0 +1,10 @@
+//! What an audit says.
+
+use crate::status::Status;
+
+/// What an audit says, as it is printed.
+#[derive(Drop)]
+pub(crate) struct Judged {
+    pub status: Status,
+    pub text: Vec<u8>,
+}
