@@ -174,7 +174,17 @@ fn faults_have_their_texts(rt: HostRuntime) {
     assert_text(&rt, alloc, StepFault::SeqExhausted, "E5 seq exhausted");
     assert_text(&rt, alloc, StepFault::NotLeading, "E6 not leading");
     assert_text(&rt, alloc, StepFault::TooFewAnswers, "E7 too few answers");
-    assert_text(&rt, alloc, StepFault::AlreadyCommitted, "E8 already committed");
-    assert_text(&rt, alloc, StepFault::BallotsExhausted, "E9 ballots exhausted");
+    assert_text(
+        &rt,
+        alloc,
+        StepFault::AlreadyCommitted,
+        "E8 already committed",
+    );
+    assert_text(
+        &rt,
+        alloc,
+        StepFault::BallotsExhausted,
+        "E9 ballots exhausted",
+    );
     assert_text(&rt, alloc, id, "E10 not committed");
 }
