@@ -46,6 +46,35 @@ fn is_played(alloc: Global, script: &[u8], report: &[u8]) -> bool {
     )
 }
 
+/// Whether an audit accepts the bundle, with the report's lines up to those of what was refused.
+fn is_audited(alloc: Global, bundle: &[u8], report: &[u8]) -> bool {
+    let mut reader = Noted::new(bundle);
+    let mut writer = Noted::new(Vec::new(alloc));
+    let mut fault_writer = Noted::new(Vec::new(alloc));
+    let words = ["epaxos", "audit"];
+    let ended = engine(alloc, &words, &mut reader, &mut writer, &mut fault_writer);
+    let printed = writer.inner().as_slice();
+    let Some(rest) = report.get(printed.len()..) else {
+        return false;
+    };
+    ended == Status::Accepted && report.starts_with(printed) && rest.starts_with(b"refused ")
+}
+
+/// Whether the script's bundle is audited to the lines of this report.
+fn is_audited_again(alloc: Global, script: &[u8], report: &[u8]) -> bool {
+    let mut reader = Noted::new(script);
+    let mut writer = Noted::new(Vec::new(alloc));
+    let mut fault_writer = Noted::new(Vec::new(alloc));
+    let words = ["epaxos", "replay", "--emit", "bundle"];
+    let ended = engine(alloc, &words, &mut reader, &mut writer, &mut fault_writer);
+    ended == Status::Accepted && is_audited(alloc, writer.inner().as_slice(), report)
+}
+
+/// Whether a replay of the script is accepted, with just this report, and its bundle is audited to the same lines.
+fn is_played_and_audited(alloc: Global, script: &[u8], report: &[u8]) -> bool {
+    is_played(alloc, script, report) && is_audited_again(alloc, script, report)
+}
+
 /// Whether a replay of the script is refused, with just this line on the fault output.
 fn is_refused(alloc: Global, script: &[u8], line: &[u8]) -> bool {
     ends(

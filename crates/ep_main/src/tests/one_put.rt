@@ -1,6 +1,6 @@
 //! One put: on the fast path, with messages that come late, or again, or never.
 
-use super::is_played;
+use super::is_played_and_audited;
 
 /// The report of one put that was executed where it was proposed.
 const ONE_PUT: &[u8] = b"verdict accepted
@@ -21,7 +21,7 @@ history 0
 receipts 0
 refused 0
 ";
-    assert!(rt; is_played(rt.alloc(), b"replicas 3\n", report));
+    assert!(rt; is_played_and_audited(rt.alloc(), b"replicas 3\n", report));
 }
 
 #[test]
@@ -32,7 +32,7 @@ flush
 flush
 execute 0 0.1
 ";
-    assert!(rt; is_played(rt.alloc(), script, ONE_PUT));
+    assert!(rt; is_played_and_audited(rt.alloc(), script, ONE_PUT));
 }
 
 #[test]
@@ -44,7 +44,7 @@ deliver 2 2 2
 deliver 4 4 4 3 3 3
 execute 0 0.1
 ";
-    assert!(rt; is_played(rt.alloc(), script, ONE_PUT));
+    assert!(rt; is_played_and_audited(rt.alloc(), script, ONE_PUT));
 }
 
 #[test]
@@ -60,7 +60,7 @@ receipts 0
 refused 1
 line 3 E10 not committed 0.1
 ";
-    assert!(rt; is_played(rt.alloc(), script, report));
+    assert!(rt; is_played_and_audited(rt.alloc(), script, report));
 }
 
 #[test]
@@ -76,7 +76,7 @@ receipts 0
 refused 1
 line 3 E18 no such message 2
 ";
-    assert!(rt; is_played(rt.alloc(), script, report));
+    assert!(rt; is_played_and_audited(rt.alloc(), script, report));
 }
 
 #[test]
@@ -89,7 +89,7 @@ deliver 4 5 7 8
 deliver 2
 execute 0 0.1
 ";
-    assert!(rt; is_played(rt.alloc(), script, ONE_PUT));
+    assert!(rt; is_played_and_audited(rt.alloc(), script, ONE_PUT));
 }
 
 #[test]
@@ -108,7 +108,7 @@ history 0
 receipts 0
 refused 0
 ";
-    assert!(rt; is_played(rt.alloc(), script, report));
+    assert!(rt; is_played_and_audited(rt.alloc(), script, report));
 }
 
 #[test]
@@ -124,5 +124,5 @@ deliver 8 11 12
 deliver 14 15 17 18 20 21 23 24 25
 execute 0 0.1
 ";
-    assert!(rt; is_played(rt.alloc(), script, ONE_PUT));
+    assert!(rt; is_played_and_audited(rt.alloc(), script, ONE_PUT));
 }

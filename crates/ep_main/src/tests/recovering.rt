@@ -1,6 +1,6 @@
 //! Recoveries.
 
-use super::is_played;
+use super::is_played_and_audited;
 
 #[test]
 fn a_no_op_in_place_of_a_put(rt: HostRuntime) {
@@ -20,7 +20,7 @@ receipts 1
 client 1 request 1 0.1 lost
 refused 0
 ";
-    assert!(rt; is_played(rt.alloc(), script, report));
+    assert!(rt; is_played_and_audited(rt.alloc(), script, report));
 }
 
 #[test]
@@ -39,5 +39,5 @@ history 0
 receipts 0
 refused 0
 ";
-    assert!(rt; is_played(rt.alloc(), script, report));
+    assert!(rt; is_played_and_audited(rt.alloc(), script, report));
 }

@@ -1,6 +1,6 @@
 //! Several commands of one key.
 
-use super::is_played;
+use super::is_played_and_audited;
 
 #[test]
 fn two_puts_in_conflict(rt: HostRuntime) {
@@ -25,7 +25,7 @@ client 1 request 1 0.1 present 2
 client 2 request 1 1.1 absent
 refused 0
 ";
-    assert!(rt; is_played(rt.alloc(), script, report));
+    assert!(rt; is_played_and_audited(rt.alloc(), script, report));
 }
 
 #[test]
@@ -52,7 +52,7 @@ receipts 1
 client 1 request 1 0.1 absent
 refused 0
 ";
-    assert!(rt; is_played(rt.alloc(), script, report));
+    assert!(rt; is_played_and_audited(rt.alloc(), script, report));
 }
 
 #[test]
@@ -85,7 +85,7 @@ client 1 request 2 0.2 present 1
 client 2 request 1 1.1 present 1
 refused 0
 ";
-    assert!(rt; is_played(rt.alloc(), script, report));
+    assert!(rt; is_played_and_audited(rt.alloc(), script, report));
 }
 
 #[test]
@@ -113,7 +113,7 @@ client 1 request 1 0.1 absent
 client 1 request 2 0.2 present 1
 refused 0
 ";
-    assert!(rt; is_played(rt.alloc(), script, report));
+    assert!(rt; is_played_and_audited(rt.alloc(), script, report));
 }
 
 #[test]
@@ -139,5 +139,5 @@ client 1 request 1 0.1 absent
 refused 1
 line 5 E10 not committed 1.1
 ";
-    assert!(rt; is_played(rt.alloc(), script, report));
+    assert!(rt; is_played_and_audited(rt.alloc(), script, report));
 }

@@ -1,6 +1,6 @@
 //! Five replicas whose answers differ.
 
-use super::is_played;
+use super::is_played_and_audited;
 
 #[test]
 fn answers_that_differ(rt: HostRuntime) {
@@ -21,7 +21,7 @@ receipts 0
 refused 1
 line 8 E10 not committed 1.1
 ";
-    assert!(rt; is_played(rt.alloc(), script, report));
+    assert!(rt; is_played_and_audited(rt.alloc(), script, report));
 }
 
 #[test]
@@ -45,5 +45,5 @@ receipts 0
 refused 1
 line 6 E7 too few answers
 ";
-    assert!(rt; is_played(rt.alloc(), script, report));
+    assert!(rt; is_played_and_audited(rt.alloc(), script, report));
 }
