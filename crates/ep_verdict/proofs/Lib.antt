@@ -1,5 +1,7 @@
+mod Answering
 mod Covering
 mod Lining
 mod Replaying
 mod Saying
+mod Seen
 mod Turning

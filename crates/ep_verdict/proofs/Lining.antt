@@ -1,6 +1,6 @@
 -- The lines that are made are those of the history.
 use Rattle.std.proofs.Common.{◌≡◌, ◌↔◌, ℕ, zero, suc, ◌+◌, ◌<◌, ◌≤◌, Bool, true, false, cond, eqb, ltb, ◌-◌, ◌⊎◌, inl, inr, Option, Some, None, List, [], ◌∷◌, ◌++◌, length, take, drop, map, slice_get, get_or, refl, sym, ap, subst, ◌∙◌, arith, append-nil, append_assoc}
-use Rattle.std.proofs.lemmas.Bool.{le-leb, lt-leb, lt-ltb, false≢true}
+use Rattle.std.proofs.lemmas.Bool.{lt-ltb, false≢true}
 use Rattle.std.specs.Borrow.{Bor}
 use Rattle.std.specs.List.{filter}
 use Rattle.std.specs.Option.{IfSome, is_some, option_copied}
@@ -29,20 +29,16 @@ use Rattle.ep_rules.proofs.JournalsExecutions.{executions}
 use Rattle.ep_rules.proofs.JournalsGrow.{numbers_are_places_lem}
 use Rattle.ep_rules.proofs.JournalsReplies.{merged_same, locals, each_reply_lem}
 use Rattle.ep_rules.proofs.Merged.{in_at, at_in}
-use Rattle.ep_rules.proofs.Places.{has_or, not_has, has_left, has_right, has_split, has_filter, filter_has, has_cons, has_tail, same_refl, place_cons, place_head, Once, once_filter}
+use Rattle.ep_rules.proofs.Places.{has_or, has_left, has_right, has_split, has_filter, filter_has, has_cons, has_tail, same_refl, place_cons, place_head, Once, once_filter}
 use Rattle.ep_journal.specs.Entries.{Collected, entry_of, entries_of, entries_at, journals_of}
 use Rattle.ep_journal.specs.declared.entry.Entry.{Entry as Written}
 use Rattle.ep_verdict.specs.Lines.{told_by, line_at, line_of, lines_of, lines_in}
 use Rattle.ep_verdict.specs.Verdicts.{places_of, instances_in, commands_in, replies_in, IsHistory}
+use Rattle.ep_verdict.proofs.Answering.{each_told}
+use Rattle.ep_verdict.proofs.Seen.{new_false, new_true}
 use Rattle.ep_report.specs.declared.happening.Happening.{Happening}
 
 -- What was seen.
-
-pub new_false : (xs : List ℕ) (i : ℕ) → Has xs i → is_new xs i ≡ false
-new_false xs i h = lt-leb (length xs) (place xs i) h
-
-pub new_true : (xs : List ℕ) (i : ℕ) → ¬ Has xs i → is_new xs i ≡ true
-new_true xs i n = let e = not_has xs i n in le-leb (length xs) (place xs i) (omega arith)
 
 abbrev SameSeen : List ℕ → List ℕ → Type 0
 SameSeen xs ys = (i : ℕ) → Has xs i ↔ Has ys i
@@ -418,6 +414,7 @@ history_is f journal schedule =
     record {
       instances = instances;
       commands = commands;
+      told = each_told g schedule;
       replies = λ given.
           let told : replies_in lines ≡ map (here g h) (instances_in lines) = in_replies g h [] schedule (λ a i x k m. each_reply_lem f journal schedule given a i x k m) in
           let once : Once h = once_filter (real g) (merged_of [] schedule) (once_merged f journal schedule given) in

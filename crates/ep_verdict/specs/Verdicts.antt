@@ -1,12 +1,17 @@
 -- What journals say, as the code tells it.
-use Rattle.std.specs.Prelude.{◌≡◌, ℕ, List, [], ◌∷◌, map}
+use Rattle.std.specs.Prelude.{◌≡◌, ℕ, List, [], ◌∷◌, ◌++◌, map}
+use Rattle.ep_base.specs.Places.{Has}
 use Rattle.ep_base.specs.declared.command.Command.{Command}
+use Rattle.ep_base.specs.declared.reply.Answer.{Answer}
 use Rattle.ep_base.specs.declared.reply.Reply.{Reply}
 use Rattle.ep_rules.specs.Journals.{Journals, Scheduled, IsSchedule}
 use Rattle.ep_rules.specs.Merging.{Merges}
 use Rattle.ep_rules.specs.OneMap.{empty, replies}
+use Rattle.ep_rules.specs.Steps.{order_of}
 use Rattle.ep_rules.specs.Verdicts.{command_at, history_of, IsTable}
+use Rattle.ep_rules.specs.Worlds.{In}
 use Rattle.ep_report.specs.declared.happening.Happening.{Happening}
+use Rattle.ep_verdict.specs.Lines.{told_by}
 use Rattle.ep_verdict.specs.declared.verdict.Verdict.{Verdict}
 
 -- the replica of each entry, with the entry's number
@@ -26,10 +31,21 @@ abbrev pub replies_in : List Happening → List Reply
 replies_in [] = []
 replies_in (h ∷ hs) = h.reply ∷ replies_in hs
 
--- the history of a schedule: each command once, at its first execution, no-ops left out, with the replies of one map where the journals match
+-- the first entry of a schedule that executes i answers this
+pub record AnswersFirst (schedule : List Scheduled) (i : ℕ) (answer : Answer) : Type 0 where
+  pub before : List Scheduled
+  pub first : Scheduled
+  pub rest : List Scheduled
+  pub split : before ++ (first ∷ rest) ≡ schedule
+  pub new : (a : Scheduled) → In a before → ¬ Has (order_of a.entry.done) i
+  pub done : In (i, answer) first.entry.done
+
+-- the history of a schedule: each command once, at its first execution, no-ops left out, with the reply that this told; these are the replies of one map
+-- where the journals match
 pub record IsHistory (f : ℕ) (journal : Journals) (schedule : List Scheduled) (lines : List Happening) : Type 0 where
   pub instances : instances_in lines ≡ history_of (command_at f journal) schedule
   pub commands : commands_in lines ≡ map (command_at f journal) (instances_in lines)
+  pub told : (h : Happening) → In h lines → (answer : Answer) × AnswersFirst schedule h.instance answer × (told_by answer ≡ h.reply)
   pub replies : Merges f journal schedule → replies_in lines ≡ replies empty (commands_in lines)
 
 -- the schedule of the journals, all that they commit, and their history

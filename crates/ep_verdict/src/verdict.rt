@@ -27,7 +27,8 @@ pub struct Verdict {
 impl Verdict {
     /// What the journals say; where several commit in an instance, what the least of these replicas commits.
     ///
-    /// The replies are those of one map to the history where the journals match, which an audit finds out.
+    /// Each reply is what the instance's first execution told: one map's reply to the history where the journals match,
+    /// which an audit finds out.
     pub fn of(alloc: Global, journals: &Journals) -> Result<Verdict, AllocError>
         ensures { IfOk result (λ v. IsVerdict journals.now.faults (journals_of journals.now) v) }
     {
