@@ -84,6 +84,7 @@ shows_more w these r taken e k lt there h a among = record {
 
 journals_more : (w : Played) (r : ℕ) (taken : Happening) (e : Entry) (k : Kept) → r < size w.faults → r < length w.entries → AreJournals (collected w) → Applied (replica_in w r) taken e k → AreJournals (collected (grown w r e))
 journals_more w r taken e k lt there h a = record {
+  count = with_length w.entries r e ∙ h.count;
   journal = λ q less. elim (cases_eq r q) [
     | inl is ↦ subst (λ z. IsJournal w.faults z (entries_in (grown w r e) z)) is (subst (λ (es : List Entry). IsJournal w.faults r es) (sym (mine w r e there)) (journal_grows (replica_in w r) taken e k (h.journal r lt) a))
     | inr ne ↦ subst (λ (es : List Entry). IsJournal w.faults q es) (sym (with_other w.entries r q e ne)) (h.journal q less)
@@ -94,9 +95,8 @@ journals_more w r taken e k lt there h a = record {
 -- what a world keeps to, it keeps to with what one of its replicas takes
 pub goes_on : (w : Played) (r : ℕ) (taken : Happening) (e : Entry) (k : Kept) (h : IsWorld w) → r < size w.faults → Applied (replica_in w r) taken e k → IsAmong (frames_of h.schedule) (event_of taken) → IsWorld (grown w r e)
 goes_on w r taken e k h lt a among =
-    let there : r < length w.entries = (let n = h.all in omega arith) in
+    let there : r < length w.entries = (let n = h.journals.count in omega arith) in
     record {
-      all = with_length w.entries r e ∙ h.all;
       schedule = h.schedule ++ (act r e ∷ []);
       shows = shows_more w h.schedule r taken e k lt there h.shows a among;
       journals = journals_more w r taken e k lt there h.journals a;

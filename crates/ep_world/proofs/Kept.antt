@@ -120,10 +120,9 @@ this_replica f r ks steps messages k h is =
 
 pub new_world : (f : ℕ) (ks : List Kept) (steps : List (ℕ × ℕ)) (messages : List Place) → AreReplicas f 0 ks → ((r : ℕ) → get_or (all_kept ks) r [] ≡ []) → steps ≡ [] → messages ≡ [] → IsWorld (world_of f ks steps messages)
 new_world f ks steps messages h none no_steps no_messages = record {
-  all = count_all ks ∙ as_many f ks h;
   schedule = [];
   shows = record { journals = λ r. ap entries_of (sym (none r)); steps = no_steps; messages = no_messages; played = tt };
-  journals = record { journal = λ r lt. subst (λ (es : List Entry). IsJournal f r es) (sym (none r)) (record { run = (tt, tt); readable = tt }); others = λ r ge. none r };
+  journals = record { count = count_all ks ∙ as_many f ks h; journal = λ r lt. subst (λ (es : List Entry). IsJournal f r es) (sym (none r)) (record { run = (tt, tt); readable = tt }); others = λ r ge. none r };
   clocked = λ r. subst (λ (es : List Entry). AreClocked 0 (entries_of es)) (sym (none r)) tt;
 }
 

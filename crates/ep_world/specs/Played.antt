@@ -1,5 +1,5 @@
 -- A world of replicas: their journals, and in which order it played their entries.
-use Rattle.std.specs.Prelude.{◌≡◌, ℕ, zero, suc, List, [], ◌∷◌, Option, Some, None, refl, length, slice_get}
+use Rattle.std.specs.Prelude.{◌≡◌, ℕ, zero, suc, List, [], ◌∷◌, Option, Some, None, refl, slice_get}
 use Rattle.std.specs.Coded.{Coded, code_by, coded×, coded_ℕ, coded_list}
 use Rattle.ep_base.specs.Quorums.{size}
 use Rattle.ep_rules.specs.Journals as rules
@@ -87,7 +87,6 @@ pub record IsPlayed (w : Played) : Type 0 where
 
 -- all that a world keeps to
 pub record IsWorld (w : Played) : Type 0 where
-  pub all : length w.entries ≡ size w.faults
   pub schedule : List Scheduled
   pub shows : Shows w schedule
   pub journals : AreJournals (collected w)
