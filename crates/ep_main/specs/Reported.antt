@@ -1,15 +1,12 @@
 -- The report of a script.
 use Rattle.std.specs.Prelude.{◌≡◌, ℕ, List, ◌++◌}
 use Rattle.ep_journal.specs.Entries.{journals_of}
-use Rattle.ep_rules.specs.Audits.{IsAccepted}
 use Rattle.ep_report.specs.Reports.{text_of, accepted_lines, refused_lines}
 use Rattle.ep_script.specs.Plan.{Plan}
 use Rattle.ep_verdict.specs.declared.verdict.Verdict.{Verdict}
 use Rattle.ep_audit.specs.Audited.{IsAudited}
 use Rattle.ep_replay.specs.Outcome.{IsReplay}
 use Rattle.ep_replay.specs.declared.replayed.Replayed.{Replayed}
-use Rattle.ep_main.specs.declared.judged.Judged.{Judged}
-use Rattle.ep_main.specs.declared.status.Status.TheVariants.{Accepted}
 
 -- The audit accepts what the run left, and the text is the audit's verdict, the receipts, and the lines that were refused.
 pub record IsReportOf (played : Replayed) (text : List ℕ) : Type 0 where
@@ -22,7 +19,3 @@ pub record IsReport (plan : Plan) (text : List ℕ) : Type 0 where
   pub played : Replayed
   pub replay : IsReplay plan played
   pub report : IsReportOf played text
-
--- what the audit accepts is reported
-abbrev pub IsJudged : Replayed → Judged → Type 0
-IsJudged played j = IsAccepted played.journals.faults (journals_of played.journals) played.receipts.items → (j.status ≡ Accepted) × IsReportOf played j.text.items

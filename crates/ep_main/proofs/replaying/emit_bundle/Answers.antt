@@ -1,3 +1,4 @@
+use Rattle.std.proofs.Common.{refl}
 use Rattle.ep_bundle.specs.Bytes.{bundle_bytes}
 use Rattle.ep_main.proofs.Bundling.{bundled, not_bundled}
 use Rattle.ep_main.proofs.replaying.emit_bundle.Goals as goal
@@ -11,7 +12,7 @@ returns-in_err-write_bundle g c zs known =
 
 pub returns : goal.returns
 returns g c zs known = (
-  c.in_ok-status.ensures.value c.in_ok-played.ensures.accepted,
+  refl,
   bundled c.in_ok-played.played _ zs _ c.as_slice.ensures.value
       (record { plan = c.in_ok-script.script; script = c.in_ok-script.ensures.bytes zs known; replay = c.in_ok-played.ensures.value })
       c.in_ok-played.ensures.accepted c.in_ok-write_bundle.ensures.1,
