@@ -21,6 +21,21 @@ const TO_OTHERS_OF_0: &str =
 const TOLD_BY_0: &str =
     "1 commit seq 2 deps 1.1\n2 commit seq 2 deps 1.1\n3 commit seq 2 deps 1.1\n4 commit seq 2 deps 1.1\n";
 
+const ASKED_BY_0: &str =
+    "1 pre-accept (0,0) seq 1 deps\n2 pre-accept (0,0) seq 1 deps\n3 pre-accept (0,0) seq 1 deps\n";
+
+const ASKED_BY_1: &str =
+    "0 pre-accept (1,1) seq 1 deps\n2 pre-accept (1,1) seq 1 deps\n3 pre-accept (1,1) seq 1 deps\n4 pre-accept (1,1) seq 1 deps\n";
+
+const TO_OTHERS_OF_1: &str =
+    "0 accept (1,1) seq 1 deps\n2 accept (1,1) seq 1 deps\n3 accept (1,1) seq 1 deps\n4 accept (1,1) seq 1 deps\n";
+
+const TO_OTHERS_OF_4: &str =
+    "0 accept (3,4) seq 2 deps 1.1\n1 accept (3,4) seq 2 deps 1.1\n2 accept (3,4) seq 2 deps 1.1\n3 accept (3,4) seq 2 deps 1.1\n";
+
+/// The promised ballot, the last vote's status and sequence number, and what is led.
+type Known = ((u16, u8), (u8, u32), u8);
+
 fn replica(rt: &impl Abort, index: u8) -> ReplicaId {
     ReplicaId::new(index).expect(rt, "a replica")
 }
@@ -206,8 +221,8 @@ fn status(space: &Space, id: InstanceId) -> (u8, u32) {
     }
 }
 
-/// The promised ballot, the last vote's status and sequence number, and what is led; taken without memory.
-fn known(space: &Space, lead: &Lead, id: InstanceId) -> ((u16, u8), (u8, u32), u8) {
+/// Taken without memory.
+fn known(space: &Space, lead: &Lead, id: InstanceId) -> Known {
     let promised = space.promised(id);
     (
         (promised.counter(), promised.replica().index()),
@@ -216,13 +231,32 @@ fn known(space: &Space, lead: &Lead, id: InstanceId) -> ((u16, u8), (u8, u32), u
     )
 }
 
+fn assert_known(rt: &impl Abort, space: &Space, lead: &Lead, id: InstanceId, expected: Known) {
+    assert_eq!(rt; known(space, lead, id), expected);
+}
+
+/// These are the messages, sent at the call of this name, which this replica made or caused.
+fn assert_sent(
+    rt: &impl Abort,
+    alloc: Global,
+    out: Outgoing,
+    call: &str,
+    by: ReplicaId,
+    expected: &str,
+) {
+    let text = text(rt, alloc, &out);
+    let by = by.index();
+    assert_eq!(rt; text.as_str(), expected, "at {call} by {by}");
+}
+
 fn begin(
     rt: &impl Abort,
     alloc: Global,
     space: &mut Space,
     lead: &mut Lead,
     id: InstanceId,
-) -> String
+    sent: &str,
+)
     requires place { HasPlace space.old.places id }
     requires led { HasPlace lead.old.places id }
     ensures kept { Keeps space.old lead.old space.new lead.new }
@@ -230,12 +264,12 @@ fn begin(
     let before = known(space, lead, id);
     let command = put(rt, alloc);
     match start(alloc, space, lead, id, command) {
-        Ok(out) => text(rt, alloc, &out),
+        Ok(out) => assert_sent(rt, alloc, out, "start", id.replica(), sent),
         Err(_) => {
             assert_eq!(rt; known(space, lead, id), before);
             let command = put(rt, alloc);
             let out = start(alloc, space, lead, id, command).expect(rt, "memory");
-            text(rt, alloc, &out)
+            assert_sent(rt, alloc, out, "start", id.replica(), sent)
         }
     }
 }
@@ -247,7 +281,8 @@ fn begin_at(
     lead: &mut Lead,
     id: InstanceId,
     ballot: Ballot,
-) -> String
+    sent: &str,
+)
     requires place { HasPlace space.old.places id }
     requires led { HasPlace lead.old.places id }
     ensures kept { Keeps space.old lead.old space.new lead.new }
@@ -256,12 +291,12 @@ fn begin_at(
     let before = known(space, lead, id);
     let command = put(rt, alloc);
     match start_at(alloc, space, lead, me, id, ballot, command) {
-        Ok(out) => text(rt, alloc, &out),
+        Ok(out) => assert_sent(rt, alloc, out, "start", me, sent),
         Err(_) => {
             assert_eq!(rt; known(space, lead, id), before);
             let command = put(rt, alloc);
             let out = start_at(alloc, space, lead, me, id, ballot, command).expect(rt, "memory");
-            text(rt, alloc, &out)
+            assert_sent(rt, alloc, out, "start", me, sent)
         }
     }
 }
@@ -272,7 +307,8 @@ fn pre_accept(
     space: &mut Space,
     lead: &mut Lead,
     id: InstanceId,
-) -> String
+    sent: &str,
+)
     requires place { HasPlace space.old.places id }
     requires led { HasPlace lead.old.places id }
     ensures kept { Keeps space.old lead.old space.new lead.new }
@@ -282,14 +318,14 @@ fn pre_accept(
     let before = known(space, lead, id);
     let decree = put_one(rt, alloc);
     match on_pre_accept(alloc, space, lead, from, id, default, decree) {
-        Ok(out) => text(rt, alloc, &out),
+        Ok(out) => assert_sent(rt, alloc, out, "a pre-accept", from, sent),
         Err(_) => {
             assert_eq!(rt; known(space, lead, id), before);
             let decree = put_one(rt, alloc);
             let out = on_pre_accept(alloc, space, lead, from, id, default, decree).expect(
                 rt, "memory",
             );
-            text(rt, alloc, &out)
+            assert_sent(rt, alloc, out, "a pre-accept", from, sent)
         }
     }
 }
@@ -303,7 +339,8 @@ fn answer(
     ballot: Ballot,
     from: u8,
     seq: u32,
-) -> String
+    sent: &str,
+)
     requires place { HasPlace space.old.places id }
     requires led { HasPlace lead.old.places id }
     ensures kept { Keeps space.old lead.old space.new lead.new }
@@ -313,14 +350,14 @@ fn answer(
     let before = known(space, lead, id);
     let told = attrs(rt, alloc, seq);
     match on_pre_accept_ok(alloc, space, lead, me, from, id, ballot, told) {
-        Ok(out) => text(rt, alloc, &out),
+        Ok(out) => assert_sent(rt, alloc, out, "an answer", from, sent),
         Err(_) => {
             assert_eq!(rt; known(space, lead, id), before);
             let told = attrs(rt, alloc, seq);
             let out = on_pre_accept_ok(alloc, space, lead, me, from, id, ballot, told).expect(
                 rt, "memory",
             );
-            text(rt, alloc, &out)
+            assert_sent(rt, alloc, out, "an answer", from, sent)
         }
     }
 }
@@ -332,18 +369,17 @@ fn give(
     lead: &mut Lead,
     me: ReplicaId,
     id: InstanceId,
-) -> Result<String, PhaseFault>
+) -> Result<Outgoing, PhaseFault>
     requires place { HasPlace space.old.places id }
     requires led { HasPlace lead.old.places id }
     ensures kept { Keeps space.old lead.old space.new lead.new }
 {
     let before = known(space, lead, id);
     match give_up(alloc, space, lead, me, id) {
-        Ok(out) => Ok(text(rt, alloc, &out)),
+        Ok(out) => Ok(out),
         Err(PhaseFault::Memory) => {
             assert_eq!(rt; known(space, lead, id), before);
-            let out = give_up(alloc, space, lead, me, id).expect(rt, "memory");
-            Ok(text(rt, alloc, &out))
+            Ok(give_up(alloc, space, lead, me, id).expect(rt, "memory"))
         }
         Err(fault) => Err(fault),
     }
@@ -356,7 +392,8 @@ fn accept(
     lead: &mut Lead,
     id: InstanceId,
     ballot: Ballot,
-) -> String
+    sent: &str,
+)
     requires place { HasPlace space.old.places id }
     requires led { HasPlace lead.old.places id }
     ensures kept { Keeps space.old lead.old space.new lead.new }
@@ -365,12 +402,12 @@ fn accept(
     let before = known(space, lead, id);
     let decree = put_one(rt, alloc);
     match on_accept(alloc, space, lead, from, id, ballot, decree) {
-        Ok(out) => text(rt, alloc, &out),
+        Ok(out) => assert_sent(rt, alloc, out, "an accept", from, sent),
         Err(_) => {
             assert_eq!(rt; known(space, lead, id), before);
             let decree = put_one(rt, alloc);
             let out = on_accept(alloc, space, lead, from, id, ballot, decree).expect(rt, "memory");
-            text(rt, alloc, &out)
+            assert_sent(rt, alloc, out, "an accept", from, sent)
         }
     }
 }
@@ -383,7 +420,8 @@ fn accepted(
     id: InstanceId,
     ballot: Ballot,
     from: u8,
-) -> String
+    sent: &str,
+)
     requires place { HasPlace space.old.places id }
     requires led { HasPlace lead.old.places id }
     ensures kept { Keeps space.old lead.old space.new lead.new }
@@ -392,11 +430,11 @@ fn accepted(
     let from = replica(rt, from);
     let before = known(space, lead, id);
     match on_accept_ok(alloc, space, lead, me, from, id, ballot) {
-        Ok(out) => text(rt, alloc, &out),
+        Ok(out) => assert_sent(rt, alloc, out, "an acceptance", from, sent),
         Err(_) => {
             assert_eq!(rt; known(space, lead, id), before);
             let out = on_accept_ok(alloc, space, lead, me, from, id, ballot).expect(rt, "memory");
-            text(rt, alloc, &out)
+            assert_sent(rt, alloc, out, "an acceptance", from, sent)
         }
     }
 }
@@ -409,7 +447,8 @@ fn accept_two(
     lead: &mut Lead,
     id: InstanceId,
     ballot: Ballot,
-) -> String
+    sent: &str,
+)
     requires place { HasPlace space.old.places id }
     requires led { HasPlace lead.old.places id }
     ensures kept { Keeps space.old lead.old space.new lead.new }
@@ -418,12 +457,12 @@ fn accept_two(
     let before = known(space, lead, id);
     let decree = put_two(rt, alloc);
     match begin_accept(alloc, space, lead, me, id, ballot, decree) {
-        Ok(out) => text(rt, alloc, &out),
+        Ok(out) => assert_sent(rt, alloc, out, "an accept phase", me, sent),
         Err(_) => {
             assert_eq!(rt; known(space, lead, id), before);
             let decree = put_two(rt, alloc);
             let out = begin_accept(alloc, space, lead, me, id, ballot, decree).expect(rt, "memory");
-            text(rt, alloc, &out)
+            assert_sent(rt, alloc, out, "an accept phase", me, sent)
         }
     }
 }
@@ -436,7 +475,8 @@ fn commit_two(
     lead: &mut Lead,
     me: ReplicaId,
     id: InstanceId,
-) -> String
+    sent: &str,
+)
     requires place { HasPlace space.old.places id }
     requires led { HasPlace lead.old.places id }
     ensures kept { Keeps space.old lead.old space.new lead.new }
@@ -444,14 +484,59 @@ fn commit_two(
     let before = known(space, lead, id);
     let decree = put_two(rt, alloc);
     match begin_commit(alloc, space, lead, me, id, decree) {
-        Ok(out) => text(rt, alloc, &out),
+        Ok(out) => assert_sent(rt, alloc, out, "a commit phase", me, sent),
         Err(_) => {
             assert_eq!(rt; known(space, lead, id), before);
             let decree = put_two(rt, alloc);
             let out = begin_commit(alloc, space, lead, me, id, decree).expect(rt, "memory");
-            text(rt, alloc, &out)
+            assert_sent(rt, alloc, out, "a commit phase", me, sent)
         }
     }
+}
+
+fn assert_not_given_up(
+    rt: &impl Abort,
+    alloc: Global,
+    space: &mut Space,
+    lead: &mut Lead,
+    me: ReplicaId,
+    id: InstanceId,
+    fault: PhaseFault,
+)
+    requires place { HasPlace space.old.places id }
+    requires led { HasPlace lead.old.places id }
+    ensures kept { Keeps space.old lead.old space.new lead.new }
+{
+    let given = give(rt, alloc, space, lead, me, id).err();
+    assert_eq!(rt; given, Some(fault));
+}
+
+fn assert_given_up(
+    rt: &impl Abort,
+    alloc: Global,
+    space: &mut Space,
+    lead: &mut Lead,
+    me: ReplicaId,
+    id: InstanceId,
+    sent: &str,
+)
+    requires place { HasPlace space.old.places id }
+    requires led { HasPlace lead.old.places id }
+    ensures kept { Keeps space.old lead.old space.new lead.new }
+{
+    let out = give(rt, alloc, space, lead, me, id).expect(rt, "answers");
+    assert_sent(rt, alloc, out, "giving up", me, sent);
+}
+
+/// The commit of `put x 1`, which sends nothing.
+fn commit(rt: &impl Abort, alloc: Global, space: &mut Space, lead: &mut Lead, id: InstanceId)
+    requires place { HasPlace space.old.places id }
+    requires led { HasPlace lead.old.places id }
+    ensures kept { Keeps space.old lead.old space.new lead.new }
+{
+    let decree = put_one(rt, alloc);
+    let out = on_commit(alloc, space, lead, id, decree);
+    assert_sent(rt, alloc, out, "a commit", id.replica(), "");
 }
 
 #[test]
@@ -464,12 +549,17 @@ fn a_pre_accept_is_voted_for_once(rt: HostRuntime) {
     space.vote_pre(other, ballot(&rt, 0, 1), held);
     place(&rt, &mut space, id);
     let mut lead = lead(&rt, alloc, id);
-    let out = pre_accept(&rt, alloc, &mut space, &mut lead, id);
-    assert_eq!(rt; out.as_str(), "0 pre-accepted (0,0) seq 2 deps 1.1\n");
-    assert_eq!(rt; known(&space, &lead, id), ((0, 0), (1, 2), 0));
-    let out = pre_accept(&rt, alloc, &mut space, &mut lead, id);
-    assert_eq!(rt; out.as_str(), "");
-    assert_eq!(rt; known(&space, &lead, id), ((0, 0), (1, 2), 0));
+    pre_accept(
+        &rt,
+        alloc,
+        &mut space,
+        &mut lead,
+        id,
+        "0 pre-accepted (0,0) seq 2 deps 1.1\n",
+    );
+    assert_known(&rt, &space, &lead, id, ((0, 0), (1, 2), 0));
+    pre_accept(&rt, alloc, &mut space, &mut lead, id, "");
+    assert_known(&rt, &space, &lead, id, ((0, 0), (1, 2), 0));
 }
 
 #[test]
@@ -479,11 +569,24 @@ fn a_ballot_below_the_promised_one_is_refused(rt: HostRuntime) {
     let mut space = space(&rt, alloc, id);
     let mut lead = lead(&rt, alloc, id);
     space.join_ballot(id, ballot(&rt, 1, 4));
-    let out = pre_accept(&rt, alloc, &mut space, &mut lead, id);
-    assert_eq!(rt; out.as_str(), "0 refused (0,0) promised (1,4)\n");
-    let out = accept(&rt, alloc, &mut space, &mut lead, id, ballot(&rt, 1, 3));
-    assert_eq!(rt; out.as_str(), "3 refused (1,3) promised (1,4)\n");
-    assert_eq!(rt; known(&space, &lead, id), ((1, 4), (0, 0), 0));
+    pre_accept(
+        &rt,
+        alloc,
+        &mut space,
+        &mut lead,
+        id,
+        "0 refused (0,0) promised (1,4)\n",
+    );
+    accept(
+        &rt,
+        alloc,
+        &mut space,
+        &mut lead,
+        id,
+        ballot(&rt, 1, 3),
+        "3 refused (1,3) promised (1,4)\n",
+    );
+    assert_known(&rt, &space, &lead, id, ((1, 4), (0, 0), 0));
 }
 
 #[test]
@@ -493,26 +596,26 @@ fn unequal_answers_go_the_slow_path(rt: HostRuntime) {
     let default = ballot(&rt, 0, 0);
     let mut space = space(&rt, alloc, id);
     let mut lead = lead(&rt, alloc, id);
-    let out = begin(&rt, alloc, &mut space, &mut lead, id);
-    assert_eq!(rt;
-        out.as_str(),
-        "1 pre-accept (0,0) seq 1 deps\n2 pre-accept (0,0) seq 1 deps\n3 pre-accept (0,0) seq 1 deps\n"
+    begin(&rt, alloc, &mut space, &mut lead, id, ASKED_BY_0);
+    assert_known(&rt, &space, &lead, id, ((0, 0), (1, 1), 1));
+    answer(&rt, alloc, &mut space, &mut lead, id, default, 1, 1, "");
+    answer(&rt, alloc, &mut space, &mut lead, id, default, 2, 2, "");
+    answer(
+        &rt,
+        alloc,
+        &mut space,
+        &mut lead,
+        id,
+        default,
+        3,
+        1,
+        TO_OTHERS_OF_0,
     );
-    assert_eq!(rt; known(&space, &lead, id), ((0, 0), (1, 1), 1));
-    let out = answer(&rt, alloc, &mut space, &mut lead, id, default, 1, 1);
-    assert_eq!(rt; out.as_str(), "");
-    let out = answer(&rt, alloc, &mut space, &mut lead, id, default, 2, 2);
-    assert_eq!(rt; out.as_str(), "");
-    let out = answer(&rt, alloc, &mut space, &mut lead, id, default, 3, 1);
-    assert_eq!(rt; out.as_str(), TO_OTHERS_OF_0);
-    assert_eq!(rt; known(&space, &lead, id), ((0, 0), (2, 2), 2));
-    let out = accepted(&rt, alloc, &mut space, &mut lead, id, default, 1);
-    assert_eq!(rt; out.as_str(), "");
-    let out = accepted(&rt, alloc, &mut space, &mut lead, id, default, 1);
-    assert_eq!(rt; out.as_str(), "");
-    let out = accepted(&rt, alloc, &mut space, &mut lead, id, default, 4);
-    assert_eq!(rt; out.as_str(), TOLD_BY_0);
-    assert_eq!(rt; known(&space, &lead, id), ((0, 0), (3, 2), 0));
+    assert_known(&rt, &space, &lead, id, ((0, 0), (2, 2), 2));
+    accepted(&rt, alloc, &mut space, &mut lead, id, default, 1, "");
+    accepted(&rt, alloc, &mut space, &mut lead, id, default, 1, "");
+    accepted(&rt, alloc, &mut space, &mut lead, id, default, 4, TOLD_BY_0);
+    assert_known(&rt, &space, &lead, id, ((0, 0), (3, 2), 0));
 }
 
 #[test]
@@ -522,12 +625,13 @@ fn equal_answers_commit(rt: HostRuntime) {
     let default = ballot(&rt, 0, 0);
     let mut space = space(&rt, alloc, id);
     let mut lead = lead(&rt, alloc, id);
-    begin(&rt, alloc, &mut space, &mut lead, id);
-    answer(&rt, alloc, &mut space, &mut lead, id, default, 1, 2);
-    answer(&rt, alloc, &mut space, &mut lead, id, default, 2, 2);
-    let out = answer(&rt, alloc, &mut space, &mut lead, id, default, 3, 2);
-    assert_eq!(rt; out.as_str(), TOLD_BY_0);
-    assert_eq!(rt; known(&space, &lead, id), ((0, 0), (3, 2), 0));
+    begin(&rt, alloc, &mut space, &mut lead, id, ASKED_BY_0);
+    answer(&rt, alloc, &mut space, &mut lead, id, default, 1, 2, "");
+    answer(&rt, alloc, &mut space, &mut lead, id, default, 2, 2, "");
+    answer(
+        &rt, alloc, &mut space, &mut lead, id, default, 3, 2, TOLD_BY_0,
+    );
+    assert_known(&rt, &space, &lead, id, ((0, 0), (3, 2), 0));
 }
 
 #[test]
@@ -538,21 +642,33 @@ fn giving_up_needs_the_lead_first_and_then_answers(rt: HostRuntime) {
     let default = ballot(&rt, 0, 0);
     let mut space = space(&rt, alloc, id);
     let mut lead = lead(&rt, alloc, id);
-    begin(&rt, alloc, &mut space, &mut lead, id);
-    answer(&rt, alloc, &mut space, &mut lead, id, default, 1, 1);
-    let out = give(&rt, alloc, &mut space, &mut lead, me, id);
-    assert_eq!(rt; out.err(), Some(PhaseFault::TooFewAnswers));
-    answer(&rt, alloc, &mut space, &mut lead, id, default, 2, 2);
+    begin(&rt, alloc, &mut space, &mut lead, id, ASKED_BY_0);
+    answer(&rt, alloc, &mut space, &mut lead, id, default, 1, 1, "");
+    assert_not_given_up(
+        &rt,
+        alloc,
+        &mut space,
+        &mut lead,
+        me,
+        id,
+        PhaseFault::TooFewAnswers,
+    );
+    answer(&rt, alloc, &mut space, &mut lead, id, default, 2, 2, "");
     let earlier = again(&rt, alloc, &space, id);
     space.join_ballot(id, ballot(&rt, 1, 4));
-    let out = give(&rt, alloc, &mut space, &mut lead, me, id);
-    assert_eq!(rt; out.err(), Some(PhaseFault::NotLeading));
-    let out = answer(&rt, alloc, &mut space, &mut lead, id, default, 3, 1);
-    assert_eq!(rt; out.as_str(), "");
-    assert_eq!(rt; known(&space, &lead, id), ((1, 4), (1, 1), 1));
+    assert_not_given_up(
+        &rt,
+        alloc,
+        &mut space,
+        &mut lead,
+        me,
+        id,
+        PhaseFault::NotLeading,
+    );
+    answer(&rt, alloc, &mut space, &mut lead, id, default, 3, 1, "");
+    assert_known(&rt, &space, &lead, id, ((1, 4), (1, 1), 1));
     space.put_back(id, earlier);
-    let out = give(&rt, alloc, &mut space, &mut lead, me, id).expect(&rt, "answers");
-    assert_eq!(rt; out.as_str(), TO_OTHERS_OF_0);
+    assert_given_up(&rt, alloc, &mut space, &mut lead, me, id, TO_OTHERS_OF_0);
 }
 
 #[test]
@@ -562,17 +678,18 @@ fn a_recovery_ballot_has_no_fast_path(rt: HostRuntime) {
     let recovery = ballot(&rt, 1, 1);
     let mut space = space(&rt, alloc, id);
     let mut lead = lead(&rt, alloc, id);
-    let out = begin_at(&rt, alloc, &mut space, &mut lead, id, recovery);
-    assert_eq!(rt;
-        out.as_str(),
-        "0 pre-accept (1,1) seq 1 deps\n2 pre-accept (1,1) seq 1 deps\n3 pre-accept (1,1) seq 1 deps\n4 pre-accept (1,1) seq 1 deps\n"
-    );
-    let out = answer(&rt, alloc, &mut space, &mut lead, id, recovery, 2, 1);
-    assert_eq!(rt; out.as_str(), "");
-    let out = answer(&rt, alloc, &mut space, &mut lead, id, recovery, 3, 1);
-    assert_eq!(rt;
-        out.as_str(),
-        "0 accept (1,1) seq 1 deps\n2 accept (1,1) seq 1 deps\n3 accept (1,1) seq 1 deps\n4 accept (1,1) seq 1 deps\n"
+    begin_at(&rt, alloc, &mut space, &mut lead, id, recovery, ASKED_BY_1);
+    answer(&rt, alloc, &mut space, &mut lead, id, recovery, 2, 1, "");
+    answer(
+        &rt,
+        alloc,
+        &mut space,
+        &mut lead,
+        id,
+        recovery,
+        3,
+        1,
+        TO_OTHERS_OF_1,
     );
 }
 
@@ -584,16 +701,21 @@ fn a_receiver_accepts_and_commits(rt: HostRuntime) {
     let mut space = space(&rt, alloc, id);
     let mut lead = lead(&rt, alloc, id);
     assert_eq!(rt; next_instance(&space, me).ok(), Some(id));
-    begin(&rt, alloc, &mut space, &mut lead, id);
+    begin(&rt, alloc, &mut space, &mut lead, id, ASKED_BY_0);
     let next = next_instance(&space, me).expect(&rt, "a number");
     assert_eq!(rt; next.number(), 2);
-    let out = accept(&rt, alloc, &mut space, &mut lead, id, ballot(&rt, 1, 2));
-    assert_eq!(rt; out.as_str(), "2 accepted\n");
-    assert_eq!(rt; known(&space, &lead, id), ((1, 2), (2, 1), 1));
-    let decree = put_one(&rt, alloc);
-    let out = on_commit(alloc, &mut space, &mut lead, id, decree);
-    assert_eq!(rt; text(&rt, alloc, &out).as_str(), "");
-    assert_eq!(rt; known(&space, &lead, id), ((1, 2), (3, 1), 0));
+    accept(
+        &rt,
+        alloc,
+        &mut space,
+        &mut lead,
+        id,
+        ballot(&rt, 1, 2),
+        "2 accepted\n",
+    );
+    assert_known(&rt, &space, &lead, id, ((1, 2), (2, 1), 1));
+    commit(&rt, alloc, &mut space, &mut lead, id);
+    assert_known(&rt, &space, &lead, id, ((1, 2), (3, 1), 0));
 }
 
 #[test]
@@ -603,18 +725,20 @@ fn an_accept_phase_votes_and_asks_all_others(rt: HostRuntime) {
     let recovery = ballot(&rt, 3, 4);
     let mut space = space(&rt, alloc, id);
     let mut lead = lead(&rt, alloc, id);
-    let out = accept_two(&rt, alloc, &mut space, &mut lead, id, recovery);
-    assert_eq!(rt;
-        out.as_str(),
-        "0 accept (3,4) seq 2 deps 1.1\n1 accept (3,4) seq 2 deps 1.1\n2 accept (3,4) seq 2 deps 1.1\n3 accept (3,4) seq 2 deps 1.1\n"
+    accept_two(
+        &rt,
+        alloc,
+        &mut space,
+        &mut lead,
+        id,
+        recovery,
+        TO_OTHERS_OF_4,
     );
-    assert_eq!(rt; known(&space, &lead, id), ((3, 4), (2, 2), 2));
+    assert_known(&rt, &space, &lead, id, ((3, 4), (2, 2), 2));
     assert_eq!(rt; space.voted_ballot(id), recovery);
-    let out = accepted(&rt, alloc, &mut space, &mut lead, id, recovery, 4);
-    assert_eq!(rt; out.as_str(), "");
-    let out = accepted(&rt, alloc, &mut space, &mut lead, id, recovery, 0);
-    assert_eq!(rt; out.as_str(), "");
-    assert_eq!(rt; known(&space, &lead, id), ((3, 4), (2, 2), 2));
+    accepted(&rt, alloc, &mut space, &mut lead, id, recovery, 4, "");
+    accepted(&rt, alloc, &mut space, &mut lead, id, recovery, 0, "");
+    assert_known(&rt, &space, &lead, id, ((3, 4), (2, 2), 2));
 }
 
 #[test]
@@ -624,11 +748,10 @@ fn a_commit_phase_keeps_both_ballots(rt: HostRuntime) {
     let id = first_of(&rt, 0);
     let mut space = space(&rt, alloc, id);
     let mut lead = lead(&rt, alloc, id);
-    begin(&rt, alloc, &mut space, &mut lead, id);
+    begin(&rt, alloc, &mut space, &mut lead, id, ASKED_BY_0);
     space.join_ballot(id, ballot(&rt, 2, 3));
-    let out = commit_two(&rt, alloc, &mut space, &mut lead, me, id);
-    assert_eq!(rt; out.as_str(), TOLD_BY_0);
-    assert_eq!(rt; known(&space, &lead, id), ((2, 3), (3, 2), 0));
+    commit_two(&rt, alloc, &mut space, &mut lead, me, id, TOLD_BY_0);
+    assert_known(&rt, &space, &lead, id, ((2, 3), (3, 2), 0));
     assert_eq!(rt; space.voted_ballot(id), ballot(&rt, 0, 0));
 }
 
@@ -639,15 +762,26 @@ fn a_committed_replica_refuses_a_lower_ballot(rt: HostRuntime) {
     let mut space = space(&rt, alloc, id);
     let mut lead = lead(&rt, alloc, id);
     space.join_ballot(id, ballot(&rt, 1, 4));
-    let decree = put_one(&rt, alloc);
-    on_commit(alloc, &mut space, &mut lead, id, decree);
-    let out = pre_accept(&rt, alloc, &mut space, &mut lead, id);
-    assert_eq!(rt; out.as_str(), "0 refused (0,0) promised (1,4)\n");
-    let out = accept(&rt, alloc, &mut space, &mut lead, id, ballot(&rt, 1, 3));
-    assert_eq!(rt; out.as_str(), "3 refused (1,3) promised (1,4)\n");
-    let out = accept(&rt, alloc, &mut space, &mut lead, id, ballot(&rt, 2, 3));
-    assert_eq!(rt; out.as_str(), "");
-    assert_eq!(rt; known(&space, &lead, id), ((1, 4), (3, 1), 0));
+    commit(&rt, alloc, &mut space, &mut lead, id);
+    pre_accept(
+        &rt,
+        alloc,
+        &mut space,
+        &mut lead,
+        id,
+        "0 refused (0,0) promised (1,4)\n",
+    );
+    accept(
+        &rt,
+        alloc,
+        &mut space,
+        &mut lead,
+        id,
+        ballot(&rt, 1, 3),
+        "3 refused (1,3) promised (1,4)\n",
+    );
+    accept(&rt, alloc, &mut space, &mut lead, id, ballot(&rt, 2, 3), "");
+    assert_known(&rt, &space, &lead, id, ((1, 4), (3, 1), 0));
     assert_eq!(rt; space.voted_ballot(id), ballot(&rt, 0, 0));
 }
 
@@ -674,14 +808,14 @@ fn what_was_led_is_put_back(rt: HostRuntime) {
     let default = ballot(&rt, 0, 0);
     let mut space = space(&rt, alloc, id);
     let mut lead = lead(&rt, alloc, id);
-    begin(&rt, alloc, &mut space, &mut lead, id);
+    begin(&rt, alloc, &mut space, &mut lead, id, ASKED_BY_0);
     let earlier = led_again(&rt, alloc, &lead, id);
-    answer(&rt, alloc, &mut space, &mut lead, id, default, 1, 1);
+    answer(&rt, alloc, &mut space, &mut lead, id, default, 1, 1, "");
     let there = lead.put_back(id, earlier);
     assert!(rt; matches!(there, Some(Led::Proposing(_, _))));
     assert_eq!(rt; led(&lead, id), 1);
-    answer(&rt, alloc, &mut space, &mut lead, id, default, 1, 1);
-    answer(&rt, alloc, &mut space, &mut lead, id, default, 2, 1);
+    answer(&rt, alloc, &mut space, &mut lead, id, default, 1, 1, "");
+    answer(&rt, alloc, &mut space, &mut lead, id, default, 2, 1, "");
     assert_eq!(rt; led(&lead, id), 1);
     lead.end(id);
     assert_eq!(rt; led(&lead, id), 0);
