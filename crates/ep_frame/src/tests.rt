@@ -1,13 +1,14 @@
-ghost use Rattle.std.specs.Prelude.{◌≡◌, ◌≢◌, ◌≤◌, IfOk};
+ghost use Rattle.std.specs.Prelude.{◌≡◌, ◌≢◌, ◌≤◌};
 ghost use Rattle.ep_base.specs.Fitting.{BallotsFit};
 ghost use Rattle.ep_base.specs.Instances.{instance_of};
 ghost use Rattle.ep_base.specs.Ballots.{ballot_of};
 
 use super::*;
-use bytes::Bytes;
 use ep_base::{
     Attrs, Ballot, Command, Decree, Deps, InstanceId, Message, ReplicaId, Seq, Stamp, Status, Vote,
 };
+use std::alloc::Global;
+use std::process::Abort;
 use std::test::*;
 
 // `put x 1` proposed at replica 0 in instance 0.1 and told to replica 1.
@@ -44,171 +45,204 @@ fn fault(bytes: &[u8]) -> Option<FrameFault> {
     FrameView::read(bytes).err()
 }
 
-fn replica(index: u8) -> Result<ReplicaId, Fail>
-    ensures { IfOk result (λ r. r ≡ index) }
+fn replica(rt: &impl Abort, index: u8) -> ReplicaId
+    ensures { result ≡ index }
 {
-    Ok(ReplicaId::new(index)?)
+    ReplicaId::new(index).expect(rt, "a replica")
 }
 
-fn instance(leader: u8, number: u16) -> Result<InstanceId, Fail>
-    ensures { IfOk result (λ i. i ≡ instance_of leader number) }
+fn instance(rt: &impl Abort, leader: u8, number: u16) -> InstanceId
+    ensures { result ≡ instance_of leader number }
 {
-    Ok(InstanceId::new(ReplicaId::new(leader)?, number)?)
+    InstanceId::new(replica(rt, leader), number).expect(rt, "an instance")
 }
 
-fn ballot(counter: u16, leader: u8) -> Result<Ballot, Fail>
-    ensures { IfOk result (λ b. b ≡ ballot_of counter leader) }
+fn ballot(rt: &impl Abort, counter: u16, leader: u8) -> Ballot
+    ensures { result ≡ ballot_of counter leader }
 {
-    Ok(Ballot::new(counter, ReplicaId::new(leader)?)?)
+    Ballot::new(counter, replica(rt, leader)).expect(rt, "a ballot")
 }
 
-fn origin(to: u8, entry: u32, stamp: u64) -> Result<Origin, Fail>
-    ensures receiver { IfOk result (λ o. o.to ≡ to) }
-    ensures entry { IfOk result (λ o. o.entry ≡ entry) }
+fn origin(rt: &impl Abort, to: u8, entry: u32, stamp: u64) -> Origin
+    ensures receiver { result.to ≡ to }
+    ensures entry { result.entry ≡ entry }
 {
-    Ok(Origin {
-        to: ReplicaId::new(to)?,
+    Origin {
+        to: replica(rt, to),
         out: 0,
         entry,
-        stamp: Stamp::new(stamp)?,
-    })
+        stamp: Stamp::new(stamp).expect(rt, "a stamp"),
+    }
 }
 
-fn attrs(rt: HostRuntime, seq: u32) -> Result<Attrs, Fail> {
-    Ok(Attrs {
-        seq: Seq::new(seq)?,
-        deps: Deps::new(rt.alloc()),
-    })
+fn attrs(rt: &impl Abort, alloc: Global, seq: u32) -> Attrs {
+    Attrs {
+        seq: Seq::new(seq).expect(rt, "a sequence number"),
+        deps: Deps::new(alloc),
+    }
 }
 
-fn put(rt: HostRuntime) -> Result<Decree, Fail> {
-    Ok(Decree {
-        command: Command::put(rt.alloc(), b"x", b"1")?,
-        attrs: attrs(rt, 1)?,
-    })
+fn put(rt: &impl Abort, alloc: Global) -> Decree {
+    Decree {
+        command: Command::put(alloc, b"x", b"1").expect(rt, "a command"),
+        attrs: attrs(rt, alloc, 1),
+    }
 }
 
-fn pre_accept(rt: HostRuntime) -> Result<Message, Fail>
-    ensures { IfOk result BallotsFit }
+fn pre_accept(rt: &impl Abort, alloc: Global) -> Message
+    ensures { BallotsFit result }
 {
-    let decree = put(rt)?;
-    Ok(Message::PreAccept {
-        instance: instance(0, 1)?,
-        ballot: ballot(0, 0)?,
-        decree,
-    })
+    Message::PreAccept {
+        instance: instance(rt, 0, 1),
+        ballot: ballot(rt, 0, 0),
+        decree: put(rt, alloc),
+    }
 }
 
-fn pre_accept_ok(attrs: Attrs) -> Result<Message, Fail>
-    ensures { IfOk result BallotsFit }
+fn pre_accept_ok(rt: &impl Abort, attrs: Attrs) -> Message
+    ensures { BallotsFit result }
 {
-    Ok(Message::PreAcceptOk {
-        instance: instance(0, 1)?,
-        ballot: ballot(0, 0)?,
+    Message::PreAcceptOk {
+        instance: instance(rt, 0, 1),
+        ballot: ballot(rt, 0, 0),
         attrs,
-    })
+    }
 }
 
-fn nack() -> Result<Message, Fail>
-    ensures { IfOk result BallotsFit }
+fn nack(rt: &impl Abort) -> Message
+    ensures { BallotsFit result }
 {
-    Ok(Message::Nack {
-        instance: instance(0, 1)?,
-        refused: ballot(0, 0)?,
-        promised: ballot(1, 2)?,
-    })
+    Message::Nack {
+        instance: instance(rt, 0, 1),
+        refused: ballot(rt, 0, 0),
+        promised: ballot(rt, 1, 2),
+    }
 }
 
-fn vote(rt: HostRuntime) -> Result<Vote, Fail>
-    ensures { IfOk result (λ v. v.ballot ≡ 0) }
+fn vote(rt: &impl Abort, alloc: Global) -> Vote
+    ensures { result.ballot ≡ 0 }
 {
-    let decree = put(rt)?;
-    Ok(Vote {
+    Vote {
         status: Status::PreAccepted,
-        ballot: ballot(0, 0)?,
-        decree,
-    })
+        ballot: ballot(rt, 0, 0),
+        decree: put(rt, alloc),
+    }
 }
 
-fn prepare_ok(vote: Vote) -> Result<Message, Fail>
-    requires { vote.ballot ≡ 0 }
-    ensures { IfOk result BallotsFit }
+fn prepare_ok(rt: &impl Abort, alloc: Global) -> Message
+    ensures { BallotsFit result }
 {
-    Ok(Message::PrepareOk {
-        instance: instance(0, 1)?,
-        ballot: ballot(1, 2)?,
-        vote: Some(vote),
-    })
+    Message::PrepareOk {
+        instance: instance(rt, 0, 1),
+        ballot: ballot(rt, 1, 2),
+        vote: Some(vote(rt, alloc)),
+    }
 }
 
-fn written(
-    rt: HostRuntime,
+/// The message, from this sender and with this origin, is written as these bytes.
+fn assert_written(
+    rt: &impl Abort,
+    alloc: Global,
     from: u8,
-    to: u8,
-    entry: u32,
-    stamp: u64,
-    message: &Message,
-) -> Result<Bytes, Fail>
-    requires apart { to ≢ from }
-    requires entry { 1 ≤ entry }
-    requires ballots { BallotsFit message.now }
+    origin: Origin,
+    message: Message,
+    expected: &[u8],
+)
+    requires apart { origin.to ≢ from }
+    requires entry { 1 ≤ origin.entry }
+    requires ballots { BallotsFit message }
 {
-    let sender = replica(from)?;
-    let origin = origin(to, entry, stamp)?;
-    Ok(write(rt.alloc(), sender, message, origin)?)
+    let bytes = write(alloc, replica(rt, from), &message, origin).expect(rt, "memory for a frame");
+    assert_eq!(rt; bytes.as_slice(), expected);
 }
 
 #[test]
-fn pre_accept_is_written(rt: HostRuntime) -> Result<(), Fail> {
-    let bytes = written(rt, 0, 1, 1, 1, &pre_accept(rt)?)?;
-    assert_eq!(rt; bytes.as_slice(), PRE_ACCEPT.as_slice());
-    Ok(())
+fn pre_accept_is_written(rt: HostRuntime) {
+    let message = pre_accept(&rt, rt.alloc());
+    assert_written(
+        &rt,
+        rt.alloc(),
+        0,
+        origin(&rt, 1, 1, 1),
+        message,
+        &PRE_ACCEPT,
+    );
 }
 
-#[test]
-fn pre_accept_is_read(rt: HostRuntime) -> Result<(), Fail> {
-    let view = FrameView::read(&PRE_ACCEPT)?;
+fn view<'a>(rt: &impl Abort, bytes: &'a [u8]) -> FrameView<'a> {
+    FrameView::read(bytes).expect(rt, "a frame")
+}
+
+/// The sender, the receiver, the place among the entry's frames, the entry, the stamp, and the instance's number.
+fn numbers_told(view: &FrameView<'_>) -> (u8, u8, u16, u32, u64, u16) {
     let origin = view.origin();
-    assert_eq!(rt; view.from().index(), 0);
-    assert_eq!(rt; origin.to.index(), 1);
-    assert_eq!(rt; origin.out, 0);
-    assert_eq!(rt; origin.entry, 1);
-    assert_eq!(rt; origin.stamp.ticks(), 1);
-    assert_eq!(rt; view.instance().number(), 1);
-    assert_eq!(rt; view.key(), b"x".as_slice());
-    assert_eq!(rt; view.value(), b"1".as_slice());
-    Ok(())
+    (
+        view.from().index(),
+        origin.to.index(),
+        origin.out,
+        origin.entry,
+        origin.stamp.ticks(),
+        view.instance().number(),
+    )
+}
+
+fn assert_pair(rt: &impl Abort, view: FrameView<'_>, key: &[u8], value: &[u8]) {
+    assert_eq!(rt; view.key(), key);
+    assert_eq!(rt; view.value(), value);
 }
 
 #[test]
-fn pre_accept_ok_is_written(rt: HostRuntime) -> Result<(), Fail> {
-    let bytes = written(rt, 1, 0, 1, 2, &pre_accept_ok(attrs(rt, 1)?)?)?;
-    assert_eq!(rt; bytes.as_slice(), PRE_ACCEPT_OK.as_slice());
-    Ok(())
+fn pre_accept_is_read(rt: HostRuntime) {
+    let view = view(&rt, &PRE_ACCEPT);
+    assert_eq!(rt; numbers_told(&view), (0, 1, 0, 1, 1, 1));
+    assert_pair(&rt, view, b"x", b"1");
 }
 
 #[test]
-fn dependencies_are_written(rt: HostRuntime) -> Result<(), Fail> {
-    let mut attrs = attrs(rt, 2)?;
-    let dep = instance(1, 1)?;
-    attrs.deps.insert(rt.alloc(), dep)?;
-    let bytes = written(rt, 1, 0, 2, 2, &pre_accept_ok(attrs)?)?;
-    assert_eq!(rt; bytes.as_slice(), WITH_DEP.as_slice());
-    Ok(())
+fn pre_accept_ok_is_written(rt: HostRuntime) {
+    let message = pre_accept_ok(&rt, attrs(&rt, rt.alloc(), 1));
+    assert_written(
+        &rt,
+        rt.alloc(),
+        1,
+        origin(&rt, 0, 1, 2),
+        message,
+        &PRE_ACCEPT_OK,
+    );
+}
+
+/// With 1.1.
+fn with_dep(rt: &impl Abort, alloc: Global) -> Attrs {
+    let mut attrs = attrs(rt, alloc, 2);
+    attrs
+        .deps
+        .insert(alloc, instance(rt, 1, 1))
+        .expect(rt, "memory for a set");
+    attrs
 }
 
 #[test]
-fn nack_is_written(rt: HostRuntime) -> Result<(), Fail> {
-    let bytes = written(rt, 1, 0, 4, 7, &nack()?)?;
-    assert_eq!(rt; bytes.as_slice(), NACK.as_slice());
-    Ok(())
+fn dependencies_are_written(rt: HostRuntime) {
+    let message = pre_accept_ok(&rt, with_dep(&rt, rt.alloc()));
+    assert_written(&rt, rt.alloc(), 1, origin(&rt, 0, 2, 2), message, &WITH_DEP);
 }
 
 #[test]
-fn prepare_ok_is_written(rt: HostRuntime) -> Result<(), Fail> {
-    let bytes = written(rt, 3, 2, 3, 4, &prepare_ok(vote(rt)?)?)?;
-    assert_eq!(rt; bytes.as_slice(), PREPARE_OK.as_slice());
-    Ok(())
+fn nack_is_written(rt: HostRuntime) {
+    assert_written(&rt, rt.alloc(), 1, origin(&rt, 0, 4, 7), nack(&rt), &NACK);
+}
+
+#[test]
+fn prepare_ok_is_written(rt: HostRuntime) {
+    let message = prepare_ok(&rt, rt.alloc());
+    assert_written(
+        &rt,
+        rt.alloc(),
+        3,
+        origin(&rt, 2, 3, 4),
+        message,
+        &PREPARE_OK,
+    );
 }
 
 #[test]
@@ -220,27 +254,44 @@ fn vectors_are_read(rt: HostRuntime) {
     assert_eq!(rt; fault(&PREPARE_OK), None);
 }
 
-fn longest(rt: HostRuntime) -> Result<Message, Fail>
-    ensures { IfOk result BallotsFit }
+const LONGEST_KEY: [u8; 255] = [7; 255];
+
+const LONGEST_VALUE: [u8; 1024] = [9; 1024];
+
+fn longest(rt: &impl Abort, alloc: Global, key: &[u8], value: &[u8]) -> Message
+    ensures { BallotsFit result }
 {
-    let command = Command::put(rt.alloc(), &[7; 255], &[9; 1024])?;
-    let attrs = attrs(rt, 1_000_000)?;
-    Ok(Message::Commit {
-        instance: instance(6, 1000)?,
+    let command = Command::put(alloc, key, value).expect(rt, "a command");
+    let attrs = attrs(rt, alloc, 1_000_000);
+    Message::Commit {
+        instance: instance(rt, 6, 1000),
         decree: Decree { command, attrs },
-    })
+    }
+}
+
+/// The message is written as so many bytes, and they have this key and this value.
+fn assert_read_whole(
+    rt: &impl Abort,
+    alloc: Global,
+    message: Message,
+    count: usize,
+    key: &[u8],
+    value: &[u8],
+)
+    requires { BallotsFit message }
+{
+    let bytes = write(alloc, replica(rt, 6), &message, origin(rt, 5, 1, 1)).expect(
+        rt,
+        "memory for a frame",
+    );
+    assert_eq!(rt; bytes.len(), count);
+    assert_pair(rt, view(rt, bytes.as_slice()), key, value);
 }
 
 #[test]
-fn the_longest_key_and_value_are_read_whole(rt: HostRuntime) -> Result<(), Fail> {
-    let message = longest(rt)?;
-    let sender = replica(6)?;
-    let bytes = write(rt.alloc(), sender, &message, origin(5, 1, 1)?)?;
-    assert_eq!(rt; bytes.len(), 1319);
-    let view = FrameView::read(bytes.as_slice())?;
-    assert_eq!(rt; view.key(), [7; 255].as_slice());
-    assert_eq!(rt; view.value(), [9; 1024].as_slice());
-    Ok(())
+fn the_longest_key_and_value_are_read_whole(rt: HostRuntime) {
+    let message = longest(&rt, rt.alloc(), &LONGEST_KEY, &LONGEST_VALUE);
+    assert_read_whole(&rt, rt.alloc(), message, 1319, &LONGEST_KEY, &LONGEST_VALUE);
 }
 
 #[test]
@@ -294,28 +345,51 @@ fn named(dep: Option<InstanceId>) -> (u8, u16) {
     }
 }
 
-#[test]
-fn dependencies_are_found(rt: HostRuntime) -> Result<(), Fail> {
-    let deps = FrameView::read(&THREE_DEPS)?.deps();
-    assert_eq!(rt; deps.len(), 3);
-    assert_eq!(rt; named(deps.get(0)), (0, 2));
-    assert_eq!(rt; named(deps.get(2)), (6, 1000));
-    assert_eq!(rt; named(deps.get(3)), (9, 0));
-    assert_eq!(rt; deps.contains(instance(1, 1)?), true);
-    assert_eq!(rt; deps.contains(instance(1, 2)?), false);
-    Ok(())
+fn three_deps(rt: &impl Abort) -> DepsView<'static> {
+    view(rt, &THREE_DEPS).deps()
+}
+
+/// Those at the places 0, 2 and 3.
+fn at_places(deps: &DepsView<'_>) -> [(u8, u16); 3] {
+    [named(deps.get(0)), named(deps.get(2)), named(deps.get(3))]
+}
+
+/// Whether 1.1 is among them, and whether 1.2 is.
+fn among(rt: &impl Abort, deps: &DepsView<'_>) -> (bool, bool) {
+    (
+        deps.contains(instance(rt, 1, 1)),
+        deps.contains(instance(rt, 1, 2)),
+    )
 }
 
 #[test]
-fn dependencies_are_given_from_both_ends(rt: HostRuntime) -> Result<(), Fail> {
-    let mut deps = FrameView::read(&THREE_DEPS)?.deps().iter();
-    assert_eq!(rt; deps.len(), 3);
-    assert_eq!(rt; named(deps.next()), (0, 2));
-    assert_eq!(rt; named(deps.next_back()), (6, 1000));
-    assert_eq!(rt; named(deps.next()), (1, 1));
-    assert_eq!(rt; named(deps.next_back()), (9, 0));
-    assert_eq!(rt; named(deps.next()), (9, 0));
-    Ok(())
+fn dependencies_are_found(rt: HostRuntime) {
+    let deps = three_deps(&rt);
+    assert!(rt; deps.len() == 3);
+    assert_eq!(rt; at_places(&deps), [(0, 2), (6, 1000), (9, 0)]);
+    assert_eq!(rt; among(&rt, &deps), (true, false));
+}
+
+/// What the front, the back, the front, the back and the front give.
+fn from_both_ends(deps: DepsView<'_>) -> [(u8, u16); 5] {
+    let mut deps = deps.iter();
+    [
+        named(deps.next()),
+        named(deps.next_back()),
+        named(deps.next()),
+        named(deps.next_back()),
+        named(deps.next()),
+    ]
+}
+
+#[test]
+fn dependencies_are_given_from_both_ends(rt: HostRuntime) {
+    let deps = three_deps(&rt);
+    assert!(rt; deps.iter().len() == 3);
+    assert_eq!(rt;
+        from_both_ends(deps),
+        [(0, 2), (6, 1000), (1, 1), (9, 0), (9, 0)]
+    );
 }
 
 // The vote that the bytes' message carries: its ballot's leader, and how many bytes its command's key has.
@@ -333,40 +407,37 @@ fn vote_told(message: &Message) -> Option<(u8, usize)> {
 }
 
 #[test]
-fn a_message_is_read(rt: HostRuntime) -> Result<(), Fail> {
-    let message = FrameView::read(&PREPARE_OK)?.to_message(rt.alloc())?;
+fn a_message_is_read(rt: HostRuntime) {
+    let view = FrameView::read(&PREPARE_OK).expect(&rt, "a frame");
+    let message = view
+        .to_message(rt.alloc())
+        .expect(&rt, "memory for a message");
     assert_eq!(rt; vote_told(&message), Some((0, 1)));
-    Ok(())
 }
 
 // The origin is written in place, and the body read meanwhile: whether it is that of `body`.
-fn readdressed(bytes: &mut [u8], origin: Origin, body: &[u8]) -> Result<bool, Fail>
+fn readdressed(rt: &impl Abort, bytes: &mut [u8], origin: Origin, body: &[u8]) -> bool
     requires { 1 ≤ origin.entry }
 {
-    let mut frame = FrameMut::split(bytes)?;
+    let mut frame = FrameMut::split(bytes).expect(rt, "a frame");
     if frame.origin.is_from(origin.to) {
-        return Ok(false);
+        return false;
     }
     frame.origin.set(origin);
-    Ok(frame.body == body)
+    frame.body == body
 }
 
 #[test]
-fn an_origin_is_written_in_place(rt: HostRuntime) -> Result<(), Fail> {
+fn an_origin_is_written_in_place(rt: HostRuntime) {
     let mut bytes = PRE_ACCEPT;
-    let origin = Origin {
-        to: replica(2)?,
-        out: 1,
-        entry: 1,
-        stamp: Stamp::new(1)?,
-    };
-    let same = readdressed(&mut bytes, origin, &PRE_ACCEPT[20..])?;
+    let mut second = origin(&rt, 2, 1, 1);
+    second.out = 1;
+    let same = readdressed(&rt, &mut bytes, second, &PRE_ACCEPT[20..]);
     assert_eq!(rt; same, true);
     let mut expected = PRE_ACCEPT;
     expected[5] = 2;
     expected[7] = 1;
     assert_eq!(rt; bytes.as_slice(), expected.as_slice());
-    Ok(())
 }
 
 // A borrowed key.

@@ -4,7 +4,6 @@
 ghost use Rattle.std.specs.Prelude.{◌≡◌, true};
 ghost use Rattle.std.specs.FinSet as set;
 ghost use Rattle.ep_space.specs.Held.{HasPlace};
-ghost use Rattle.ep_phase.specs.Does.{Keeps};
 
 use super::*;
 use ep_base::{
@@ -20,6 +19,21 @@ const TO_OTHERS_OF_0: &str =
 
 const TOLD_BY_0: &str =
     "1 commit seq 2 deps 1.1\n2 commit seq 2 deps 1.1\n3 commit seq 2 deps 1.1\n4 commit seq 2 deps 1.1\n";
+
+const ASKED_BY_0: &str =
+    "1 pre-accept (0,0) seq 1 deps\n2 pre-accept (0,0) seq 1 deps\n3 pre-accept (0,0) seq 1 deps\n";
+
+const ASKED_BY_1: &str =
+    "0 pre-accept (1,1) seq 1 deps\n2 pre-accept (1,1) seq 1 deps\n3 pre-accept (1,1) seq 1 deps\n4 pre-accept (1,1) seq 1 deps\n";
+
+const TO_OTHERS_OF_1: &str =
+    "0 accept (1,1) seq 1 deps\n2 accept (1,1) seq 1 deps\n3 accept (1,1) seq 1 deps\n4 accept (1,1) seq 1 deps\n";
+
+const TO_OTHERS_OF_4: &str =
+    "0 accept (3,4) seq 2 deps 1.1\n1 accept (3,4) seq 2 deps 1.1\n2 accept (3,4) seq 2 deps 1.1\n3 accept (3,4) seq 2 deps 1.1\n";
+
+/// The promised ballot, the last vote's status and sequence number, and what is led.
+type Known = ((u16, u8), (u8, u32), u8);
 
 fn replica(rt: &impl Abort, index: u8) -> ReplicaId {
     ReplicaId::new(index).expect(rt, "a replica")
@@ -67,15 +81,6 @@ fn put_two(rt: &impl Abort, alloc: Global) -> Decree {
     }
 }
 
-fn space(rt: &impl Abort, alloc: Global, id: InstanceId) -> Space
-    ensures { HasPlace result.places id }
-{
-    let size = Size::new(5).expect(rt, "a size");
-    let mut space = Space::new(alloc, size);
-    place(rt, &mut space, id);
-    space
-}
-
 /// A place for the instance; where memory is refused, there is no record of it as before.
 fn place(rt: &impl Abort, space: &mut Space, id: InstanceId)
     ensures { HasPlace space.new.places id }
@@ -104,20 +109,29 @@ fn lead(rt: &impl Abort, alloc: Global, id: InstanceId) -> Lead
     lead
 }
 
-/// The record again.
-fn again(rt: &impl Abort, alloc: Global, space: &Space, id: InstanceId) -> Option<Record> {
-    match space.copy(alloc, id) {
-        Ok(record) => record,
-        Err(_) => space.copy(alloc, id).expect(rt, "memory for a copy"),
-    }
+/// A replica's records and what it leads, with a place for one instance in both.
+#[derive(Drop)]
+struct Here {
+    space: Space,
+    lead: Lead,
+    id: InstanceId,
+    ghost place: { HasPlace space.places id },
+    ghost led: { HasPlace lead.places id },
 }
 
-/// What is led again.
-fn led_again(rt: &impl Abort, alloc: Global, lead: &Lead, id: InstanceId) -> Option<Led> {
-    match lead.copy(alloc, id) {
-        Ok(led) => led,
-        Err(_) => lead.copy(alloc, id).expect(rt, "memory for a copy"),
-    }
+fn placed_in(rt: &impl Abort, alloc: Global, records: Space, id: InstanceId) -> Here {
+    let mut space = records;
+    place(rt, &mut space, id);
+    let lead = lead(rt, alloc, id);
+    Here { space, lead, id }
+}
+
+fn empty(rt: &impl Abort, alloc: Global) -> Space {
+    Space::new(alloc, Size::new(5).expect(rt, "a size"))
+}
+
+fn placed(rt: &impl Abort, alloc: Global, id: InstanceId) -> Here {
+    placed_in(rt, alloc, empty(rt, alloc), id)
 }
 
 fn attrs_text(alloc: Global, attrs: &Attrs) -> Result<String, AllocError> {
@@ -206,8 +220,8 @@ fn status(space: &Space, id: InstanceId) -> (u8, u32) {
     }
 }
 
-/// The promised ballot, the last vote's status and sequence number, and what is led; taken without memory.
-fn known(space: &Space, lead: &Lead, id: InstanceId) -> ((u16, u8), (u8, u32), u8) {
+/// Taken without memory.
+fn known(space: &Space, lead: &Lead, id: InstanceId) -> Known {
     let promised = space.promised(id);
     (
         (promised.counter(), promised.replica().index()),
@@ -216,242 +230,394 @@ fn known(space: &Space, lead: &Lead, id: InstanceId) -> ((u16, u8), (u8, u32), u
     )
 }
 
-fn begin(
+/// These are the messages, sent at the call of this name, which this replica made or caused.
+fn assert_sent(
     rt: &impl Abort,
     alloc: Global,
-    space: &mut Space,
-    lead: &mut Lead,
-    id: InstanceId,
-) -> String
-    requires place { HasPlace space.old.places id }
-    requires led { HasPlace lead.old.places id }
-    ensures kept { Keeps space.old lead.old space.new lead.new }
-{
-    let before = known(space, lead, id);
-    let command = put(rt, alloc);
-    match start(alloc, space, lead, id, command) {
-        Ok(out) => text(rt, alloc, &out),
-        Err(_) => {
-            assert_eq!(rt; known(space, lead, id), before);
-            let command = put(rt, alloc);
-            let out = start(alloc, space, lead, id, command).expect(rt, "memory");
-            text(rt, alloc, &out)
+    out: Outgoing,
+    call: &str,
+    by: ReplicaId,
+    expected: &str,
+) {
+    let text = text(rt, alloc, &out);
+    let by = by.index();
+    assert_eq!(rt; text.as_str(), expected, "at {call} by {by}");
+}
+
+impl Here {
+    fn known(&self) -> Known {
+        known(&self.space, &self.lead, self.id)
+    }
+
+    fn assert_known(&self, rt: &impl Abort, expected: Known) {
+        assert_eq!(rt; self.known(), expected);
+    }
+
+    /// The last vote was at this ballot.
+    fn assert_voted(&self, rt: &impl Abort, ballot: Ballot) {
+        assert_eq!(rt; self.space.voted_ballot(self.id), ballot);
+    }
+
+    fn assert_led(&self, rt: &impl Abort, expected: u8) {
+        assert_eq!(rt; led(&self.lead, self.id), expected);
+    }
+
+    /// Its replica's next instance has this number.
+    fn assert_next(&self, rt: &impl Abort, number: u16) {
+        let leader = self.id.replica();
+        let next = next_instance(&self.space, leader).expect(rt, "a number");
+        assert_eq!(rt; (next.replica(), next.number()), (leader, number));
+    }
+
+    /// The counter told is this one.
+    fn assert_told(&self, rt: &impl Abort, counter: u16) {
+        assert_eq!(rt; self.lead.told(self.id), counter);
+    }
+
+    fn assert_earlier_told(&self, rt: &impl Abort, counter: Option<u16>) {
+        assert_eq!(rt; self.lead.earlier_told(self.id), counter);
+    }
+
+    fn tell(&mut self, counter: u16) {
+        self.lead.tell(self.id, counter);
+    }
+
+    fn put_back_told(&mut self, counter: Option<u16>) {
+        self.lead.put_back_told(self.id, counter);
+    }
+
+    fn join(&mut self, ballot: Ballot) {
+        self.space.join_ballot(self.id, ballot);
+    }
+
+    /// The record again.
+    fn record_again(&self, rt: &impl Abort, alloc: Global) -> Option<Record> {
+        match self.space.copy(alloc, self.id) {
+            Ok(record) => record,
+            Err(_) => self
+                .space
+                .copy(alloc, self.id)
+                .expect(rt, "memory for a copy"),
         }
+    }
+
+    fn put_back(&mut self, earlier: Option<Record>) {
+        self.space.put_back(self.id, earlier);
+    }
+
+    /// What is led again.
+    fn led_again(&self, rt: &impl Abort, alloc: Global) -> Option<Led> {
+        match self.lead.copy(alloc, self.id) {
+            Ok(led) => led,
+            Err(_) => self
+                .lead
+                .copy(alloc, self.id)
+                .expect(rt, "memory for a copy"),
+        }
+    }
+
+    /// Puts back what was led, where a proposal is there now.
+    fn put_back_led(&mut self, rt: &impl Abort, earlier: Option<Led>) {
+        let there = self.lead.put_back(self.id, earlier);
+        assert!(rt; matches!(there, Some(Led::Proposing(_, _))));
+    }
+
+    fn end(&mut self) {
+        self.lead.end(self.id);
+    }
+
+    fn begin(&mut self, rt: &impl Abort, alloc: Global, sent: &str) {
+        let before = self.known();
+        let command = put(rt, alloc);
+        match start(alloc, &mut self.space, &mut self.lead, self.id, command) {
+            Ok(out) => assert_sent(rt, alloc, out, "start", self.id.replica(), sent),
+            Err(_) => {
+                assert_eq!(rt; self.known(), before);
+                let command = put(rt, alloc);
+                let out = start(alloc, &mut self.space, &mut self.lead, self.id, command).expect(
+                    rt, "memory",
+                );
+                assert_sent(rt, alloc, out, "start", self.id.replica(), sent)
+            }
+        }
+    }
+
+    fn begin_at(&mut self, rt: &impl Abort, alloc: Global, ballot: Ballot, sent: &str) {
+        let me = ballot.replica();
+        let before = self.known();
+        let command = put(rt, alloc);
+        match start_at(
+            alloc,
+            &mut self.space,
+            &mut self.lead,
+            me,
+            self.id,
+            ballot,
+            command,
+        ) {
+            Ok(out) => assert_sent(rt, alloc, out, "start", me, sent),
+            Err(_) => {
+                assert_eq!(rt; self.known(), before);
+                let command = put(rt, alloc);
+                let out = start_at(
+                    alloc,
+                    &mut self.space,
+                    &mut self.lead,
+                    me,
+                    self.id,
+                    ballot,
+                    command,
+                )
+                .expect(rt, "memory");
+                assert_sent(rt, alloc, out, "start", me, sent)
+            }
+        }
+    }
+
+    fn pre_accept(&mut self, rt: &impl Abort, alloc: Global, sent: &str) {
+        let from = self.id.replica();
+        let default = Ballot::default_of(from);
+        let before = self.known();
+        let decree = put_one(rt, alloc);
+        match on_pre_accept(
+            alloc,
+            &mut self.space,
+            &mut self.lead,
+            from,
+            self.id,
+            default,
+            decree,
+        ) {
+            Ok(out) => assert_sent(rt, alloc, out, "a pre-accept", from, sent),
+            Err(_) => {
+                assert_eq!(rt; self.known(), before);
+                let decree = put_one(rt, alloc);
+                let out = on_pre_accept(
+                    alloc,
+                    &mut self.space,
+                    &mut self.lead,
+                    from,
+                    self.id,
+                    default,
+                    decree,
+                )
+                .expect(rt, "memory");
+                assert_sent(rt, alloc, out, "a pre-accept", from, sent)
+            }
+        }
+    }
+
+    fn answer(
+        &mut self,
+        rt: &impl Abort,
+        alloc: Global,
+        ballot: Ballot,
+        from: u8,
+        seq: u32,
+        sent: &str,
+    ) {
+        let me = ballot.replica();
+        let from = replica(rt, from);
+        let before = self.known();
+        let told = attrs(rt, alloc, seq);
+        match on_pre_accept_ok(
+            alloc,
+            &mut self.space,
+            &mut self.lead,
+            me,
+            from,
+            self.id,
+            ballot,
+            told,
+        ) {
+            Ok(out) => assert_sent(rt, alloc, out, "an answer", from, sent),
+            Err(_) => {
+                assert_eq!(rt; self.known(), before);
+                let told = attrs(rt, alloc, seq);
+                let out = on_pre_accept_ok(
+                    alloc,
+                    &mut self.space,
+                    &mut self.lead,
+                    me,
+                    from,
+                    self.id,
+                    ballot,
+                    told,
+                )
+                .expect(rt, "memory");
+                assert_sent(rt, alloc, out, "an answer", from, sent)
+            }
+        }
+    }
+
+    fn give(
+        &mut self,
+        rt: &impl Abort,
+        alloc: Global,
+        me: ReplicaId,
+    ) -> Result<Outgoing, PhaseFault> {
+        let before = self.known();
+        match give_up(alloc, &mut self.space, &mut self.lead, me, self.id) {
+            Ok(out) => Ok(out),
+            Err(PhaseFault::Memory) => {
+                assert_eq!(rt; self.known(), before);
+                Ok(give_up(alloc, &mut self.space, &mut self.lead, me, self.id).expect(
+                    rt, "memory",
+                ))
+            }
+            Err(fault) => Err(fault),
+        }
+    }
+
+    fn accept(&mut self, rt: &impl Abort, alloc: Global, ballot: Ballot, sent: &str) {
+        let from = ballot.replica();
+        let before = self.known();
+        let decree = put_one(rt, alloc);
+        match on_accept(
+            alloc,
+            &mut self.space,
+            &mut self.lead,
+            from,
+            self.id,
+            ballot,
+            decree,
+        ) {
+            Ok(out) => assert_sent(rt, alloc, out, "an accept", from, sent),
+            Err(_) => {
+                assert_eq!(rt; self.known(), before);
+                let decree = put_one(rt, alloc);
+                let out = on_accept(
+                    alloc,
+                    &mut self.space,
+                    &mut self.lead,
+                    from,
+                    self.id,
+                    ballot,
+                    decree,
+                )
+                .expect(rt, "memory");
+                assert_sent(rt, alloc, out, "an accept", from, sent)
+            }
+        }
+    }
+
+    fn accepted(&mut self, rt: &impl Abort, alloc: Global, ballot: Ballot, from: u8, sent: &str) {
+        let me = ballot.replica();
+        let from = replica(rt, from);
+        let before = self.known();
+        match on_accept_ok(
+            alloc,
+            &mut self.space,
+            &mut self.lead,
+            me,
+            from,
+            self.id,
+            ballot,
+        ) {
+            Ok(out) => assert_sent(rt, alloc, out, "an acceptance", from, sent),
+            Err(_) => {
+                assert_eq!(rt; self.known(), before);
+                let out = on_accept_ok(
+                    alloc,
+                    &mut self.space,
+                    &mut self.lead,
+                    me,
+                    from,
+                    self.id,
+                    ballot,
+                )
+                .expect(rt, "memory");
+                assert_sent(rt, alloc, out, "an acceptance", from, sent)
+            }
+        }
+    }
+
+    /// The accept phase of `put x 1` with (2, {1.1}).
+    fn accept_two(&mut self, rt: &impl Abort, alloc: Global, ballot: Ballot, sent: &str) {
+        let me = ballot.replica();
+        let before = self.known();
+        let decree = put_two(rt, alloc);
+        match begin_accept(
+            alloc,
+            &mut self.space,
+            &mut self.lead,
+            me,
+            self.id,
+            ballot,
+            decree,
+        ) {
+            Ok(out) => assert_sent(rt, alloc, out, "an accept phase", me, sent),
+            Err(_) => {
+                assert_eq!(rt; self.known(), before);
+                let decree = put_two(rt, alloc);
+                let out = begin_accept(
+                    alloc,
+                    &mut self.space,
+                    &mut self.lead,
+                    me,
+                    self.id,
+                    ballot,
+                    decree,
+                )
+                .expect(rt, "memory");
+                assert_sent(rt, alloc, out, "an accept phase", me, sent)
+            }
+        }
+    }
+
+    /// The commit of `put x 1` with (2, {1.1}).
+    fn commit_two(&mut self, rt: &impl Abort, alloc: Global, me: ReplicaId, sent: &str) {
+        let before = self.known();
+        let decree = put_two(rt, alloc);
+        match begin_commit(alloc, &mut self.space, &mut self.lead, me, self.id, decree) {
+            Ok(out) => assert_sent(rt, alloc, out, "a commit phase", me, sent),
+            Err(_) => {
+                assert_eq!(rt; self.known(), before);
+                let decree = put_two(rt, alloc);
+                let out = begin_commit(
+                    alloc,
+                    &mut self.space,
+                    &mut self.lead,
+                    me,
+                    self.id,
+                    decree,
+                ).expect(rt, "memory");
+                assert_sent(rt, alloc, out, "a commit phase", me, sent)
+            }
+        }
+    }
+
+    fn assert_not_given_up(
+        &mut self,
+        rt: &impl Abort,
+        alloc: Global,
+        me: ReplicaId,
+        fault: PhaseFault,
+    ) {
+        let given = self.give(rt, alloc, me).err();
+        assert_eq!(rt; given, Some(fault));
+    }
+
+    fn assert_given_up(&mut self, rt: &impl Abort, alloc: Global, me: ReplicaId, sent: &str) {
+        let out = self.give(rt, alloc, me).expect(rt, "answers");
+        assert_sent(rt, alloc, out, "giving up", me, sent);
+    }
+
+    /// The commit of `put x 1`, which sends nothing.
+    fn commit(&mut self, rt: &impl Abort, alloc: Global) {
+        let decree = put_one(rt, alloc);
+        let out = on_commit(alloc, &mut self.space, &mut self.lead, self.id, decree);
+        assert_sent(rt, alloc, out, "a commit", self.id.replica(), "");
     }
 }
 
-fn begin_at(
-    rt: &impl Abort,
-    alloc: Global,
-    space: &mut Space,
-    lead: &mut Lead,
-    id: InstanceId,
-    ballot: Ballot,
-) -> String
-    requires place { HasPlace space.old.places id }
-    requires led { HasPlace lead.old.places id }
-    ensures kept { Keeps space.old lead.old space.new lead.new }
-{
-    let me = ballot.replica();
-    let before = known(space, lead, id);
-    let command = put(rt, alloc);
-    match start_at(alloc, space, lead, me, id, ballot, command) {
-        Ok(out) => text(rt, alloc, &out),
-        Err(_) => {
-            assert_eq!(rt; known(space, lead, id), before);
-            let command = put(rt, alloc);
-            let out = start_at(alloc, space, lead, me, id, ballot, command).expect(rt, "memory");
-            text(rt, alloc, &out)
-        }
-    }
-}
-
-fn pre_accept(
-    rt: &impl Abort,
-    alloc: Global,
-    space: &mut Space,
-    lead: &mut Lead,
-    id: InstanceId,
-) -> String
-    requires place { HasPlace space.old.places id }
-    requires led { HasPlace lead.old.places id }
-    ensures kept { Keeps space.old lead.old space.new lead.new }
-{
-    let from = id.replica();
-    let default = Ballot::default_of(from);
-    let before = known(space, lead, id);
+/// `put x 1` is pre-accepted in this instance.
+fn with_vote(rt: &impl Abort, alloc: Global, id: InstanceId) -> Space {
+    let mut space = empty(rt, alloc);
+    place(rt, &mut space, id);
     let decree = put_one(rt, alloc);
-    match on_pre_accept(alloc, space, lead, from, id, default, decree) {
-        Ok(out) => text(rt, alloc, &out),
-        Err(_) => {
-            assert_eq!(rt; known(space, lead, id), before);
-            let decree = put_one(rt, alloc);
-            let out = on_pre_accept(alloc, space, lead, from, id, default, decree).expect(
-                rt, "memory",
-            );
-            text(rt, alloc, &out)
-        }
-    }
-}
-
-fn answer(
-    rt: &impl Abort,
-    alloc: Global,
-    space: &mut Space,
-    lead: &mut Lead,
-    id: InstanceId,
-    ballot: Ballot,
-    from: u8,
-    seq: u32,
-) -> String
-    requires place { HasPlace space.old.places id }
-    requires led { HasPlace lead.old.places id }
-    ensures kept { Keeps space.old lead.old space.new lead.new }
-{
-    let me = ballot.replica();
-    let from = replica(rt, from);
-    let before = known(space, lead, id);
-    let told = attrs(rt, alloc, seq);
-    match on_pre_accept_ok(alloc, space, lead, me, from, id, ballot, told) {
-        Ok(out) => text(rt, alloc, &out),
-        Err(_) => {
-            assert_eq!(rt; known(space, lead, id), before);
-            let told = attrs(rt, alloc, seq);
-            let out = on_pre_accept_ok(alloc, space, lead, me, from, id, ballot, told).expect(
-                rt, "memory",
-            );
-            text(rt, alloc, &out)
-        }
-    }
-}
-
-fn give(
-    rt: &impl Abort,
-    alloc: Global,
-    space: &mut Space,
-    lead: &mut Lead,
-    me: ReplicaId,
-    id: InstanceId,
-) -> Result<String, PhaseFault>
-    requires place { HasPlace space.old.places id }
-    requires led { HasPlace lead.old.places id }
-    ensures kept { Keeps space.old lead.old space.new lead.new }
-{
-    let before = known(space, lead, id);
-    match give_up(alloc, space, lead, me, id) {
-        Ok(out) => Ok(text(rt, alloc, &out)),
-        Err(PhaseFault::Memory) => {
-            assert_eq!(rt; known(space, lead, id), before);
-            let out = give_up(alloc, space, lead, me, id).expect(rt, "memory");
-            Ok(text(rt, alloc, &out))
-        }
-        Err(fault) => Err(fault),
-    }
-}
-
-fn accept(
-    rt: &impl Abort,
-    alloc: Global,
-    space: &mut Space,
-    lead: &mut Lead,
-    id: InstanceId,
-    ballot: Ballot,
-) -> String
-    requires place { HasPlace space.old.places id }
-    requires led { HasPlace lead.old.places id }
-    ensures kept { Keeps space.old lead.old space.new lead.new }
-{
-    let from = ballot.replica();
-    let before = known(space, lead, id);
-    let decree = put_one(rt, alloc);
-    match on_accept(alloc, space, lead, from, id, ballot, decree) {
-        Ok(out) => text(rt, alloc, &out),
-        Err(_) => {
-            assert_eq!(rt; known(space, lead, id), before);
-            let decree = put_one(rt, alloc);
-            let out = on_accept(alloc, space, lead, from, id, ballot, decree).expect(rt, "memory");
-            text(rt, alloc, &out)
-        }
-    }
-}
-
-fn accepted(
-    rt: &impl Abort,
-    alloc: Global,
-    space: &mut Space,
-    lead: &mut Lead,
-    id: InstanceId,
-    ballot: Ballot,
-    from: u8,
-) -> String
-    requires place { HasPlace space.old.places id }
-    requires led { HasPlace lead.old.places id }
-    ensures kept { Keeps space.old lead.old space.new lead.new }
-{
-    let me = ballot.replica();
-    let from = replica(rt, from);
-    let before = known(space, lead, id);
-    match on_accept_ok(alloc, space, lead, me, from, id, ballot) {
-        Ok(out) => text(rt, alloc, &out),
-        Err(_) => {
-            assert_eq!(rt; known(space, lead, id), before);
-            let out = on_accept_ok(alloc, space, lead, me, from, id, ballot).expect(rt, "memory");
-            text(rt, alloc, &out)
-        }
-    }
-}
-
-/// The accept phase of `put x 1` with (2, {1.1}).
-fn accept_two(
-    rt: &impl Abort,
-    alloc: Global,
-    space: &mut Space,
-    lead: &mut Lead,
-    id: InstanceId,
-    ballot: Ballot,
-) -> String
-    requires place { HasPlace space.old.places id }
-    requires led { HasPlace lead.old.places id }
-    ensures kept { Keeps space.old lead.old space.new lead.new }
-{
-    let me = ballot.replica();
-    let before = known(space, lead, id);
-    let decree = put_two(rt, alloc);
-    match begin_accept(alloc, space, lead, me, id, ballot, decree) {
-        Ok(out) => text(rt, alloc, &out),
-        Err(_) => {
-            assert_eq!(rt; known(space, lead, id), before);
-            let decree = put_two(rt, alloc);
-            let out = begin_accept(alloc, space, lead, me, id, ballot, decree).expect(rt, "memory");
-            text(rt, alloc, &out)
-        }
-    }
-}
-
-/// The commit of `put x 1` with (2, {1.1}).
-fn commit_two(
-    rt: &impl Abort,
-    alloc: Global,
-    space: &mut Space,
-    lead: &mut Lead,
-    me: ReplicaId,
-    id: InstanceId,
-) -> String
-    requires place { HasPlace space.old.places id }
-    requires led { HasPlace lead.old.places id }
-    ensures kept { Keeps space.old lead.old space.new lead.new }
-{
-    let before = known(space, lead, id);
-    let decree = put_two(rt, alloc);
-    match begin_commit(alloc, space, lead, me, id, decree) {
-        Ok(out) => text(rt, alloc, &out),
-        Err(_) => {
-            assert_eq!(rt; known(space, lead, id), before);
-            let decree = put_two(rt, alloc);
-            let out = begin_commit(alloc, space, lead, me, id, decree).expect(rt, "memory");
-            text(rt, alloc, &out)
-        }
-    }
+    space.vote_pre(id, Ballot::default_of(id.replica()), decree);
+    space
 }
 
 #[test]
@@ -459,31 +625,27 @@ fn a_pre_accept_is_voted_for_once(rt: HostRuntime) {
     let alloc = rt.alloc();
     let id = first_of(&rt, 0);
     let other = first_of(&rt, 1);
-    let mut space = space(&rt, alloc, other);
-    let held = put_one(&rt, alloc);
-    space.vote_pre(other, ballot(&rt, 0, 1), held);
-    place(&rt, &mut space, id);
-    let mut lead = lead(&rt, alloc, id);
-    let out = pre_accept(&rt, alloc, &mut space, &mut lead, id);
-    assert_eq!(rt; out.as_str(), "0 pre-accepted (0,0) seq 2 deps 1.1\n");
-    assert_eq!(rt; known(&space, &lead, id), ((0, 0), (1, 2), 0));
-    let out = pre_accept(&rt, alloc, &mut space, &mut lead, id);
-    assert_eq!(rt; out.as_str(), "");
-    assert_eq!(rt; known(&space, &lead, id), ((0, 0), (1, 2), 0));
+    let mut here = placed_in(&rt, alloc, with_vote(&rt, alloc, other), id);
+    here.pre_accept(&rt, alloc, "0 pre-accepted (0,0) seq 2 deps 1.1\n");
+    here.assert_known(&rt, ((0, 0), (1, 2), 0));
+    here.pre_accept(&rt, alloc, "");
+    here.assert_known(&rt, ((0, 0), (1, 2), 0));
 }
 
 #[test]
 fn a_ballot_below_the_promised_one_is_refused(rt: HostRuntime) {
     let alloc = rt.alloc();
     let id = first_of(&rt, 0);
-    let mut space = space(&rt, alloc, id);
-    let mut lead = lead(&rt, alloc, id);
-    space.join_ballot(id, ballot(&rt, 1, 4));
-    let out = pre_accept(&rt, alloc, &mut space, &mut lead, id);
-    assert_eq!(rt; out.as_str(), "0 refused (0,0) promised (1,4)\n");
-    let out = accept(&rt, alloc, &mut space, &mut lead, id, ballot(&rt, 1, 3));
-    assert_eq!(rt; out.as_str(), "3 refused (1,3) promised (1,4)\n");
-    assert_eq!(rt; known(&space, &lead, id), ((1, 4), (0, 0), 0));
+    let mut here = placed(&rt, alloc, id);
+    here.join(ballot(&rt, 1, 4));
+    here.pre_accept(&rt, alloc, "0 refused (0,0) promised (1,4)\n");
+    here.accept(
+        &rt,
+        alloc,
+        ballot(&rt, 1, 3),
+        "3 refused (1,3) promised (1,4)\n",
+    );
+    here.assert_known(&rt, ((1, 4), (0, 0), 0));
 }
 
 #[test]
@@ -491,28 +653,17 @@ fn unequal_answers_go_the_slow_path(rt: HostRuntime) {
     let alloc = rt.alloc();
     let id = first_of(&rt, 0);
     let default = ballot(&rt, 0, 0);
-    let mut space = space(&rt, alloc, id);
-    let mut lead = lead(&rt, alloc, id);
-    let out = begin(&rt, alloc, &mut space, &mut lead, id);
-    assert_eq!(rt;
-        out.as_str(),
-        "1 pre-accept (0,0) seq 1 deps\n2 pre-accept (0,0) seq 1 deps\n3 pre-accept (0,0) seq 1 deps\n"
-    );
-    assert_eq!(rt; known(&space, &lead, id), ((0, 0), (1, 1), 1));
-    let out = answer(&rt, alloc, &mut space, &mut lead, id, default, 1, 1);
-    assert_eq!(rt; out.as_str(), "");
-    let out = answer(&rt, alloc, &mut space, &mut lead, id, default, 2, 2);
-    assert_eq!(rt; out.as_str(), "");
-    let out = answer(&rt, alloc, &mut space, &mut lead, id, default, 3, 1);
-    assert_eq!(rt; out.as_str(), TO_OTHERS_OF_0);
-    assert_eq!(rt; known(&space, &lead, id), ((0, 0), (2, 2), 2));
-    let out = accepted(&rt, alloc, &mut space, &mut lead, id, default, 1);
-    assert_eq!(rt; out.as_str(), "");
-    let out = accepted(&rt, alloc, &mut space, &mut lead, id, default, 1);
-    assert_eq!(rt; out.as_str(), "");
-    let out = accepted(&rt, alloc, &mut space, &mut lead, id, default, 4);
-    assert_eq!(rt; out.as_str(), TOLD_BY_0);
-    assert_eq!(rt; known(&space, &lead, id), ((0, 0), (3, 2), 0));
+    let mut here = placed(&rt, alloc, id);
+    here.begin(&rt, alloc, ASKED_BY_0);
+    here.assert_known(&rt, ((0, 0), (1, 1), 1));
+    here.answer(&rt, alloc, default, 1, 1, "");
+    here.answer(&rt, alloc, default, 2, 2, "");
+    here.answer(&rt, alloc, default, 3, 1, TO_OTHERS_OF_0);
+    here.assert_known(&rt, ((0, 0), (2, 2), 2));
+    here.accepted(&rt, alloc, default, 1, "");
+    here.accepted(&rt, alloc, default, 1, "");
+    here.accepted(&rt, alloc, default, 4, TOLD_BY_0);
+    here.assert_known(&rt, ((0, 0), (3, 2), 0));
 }
 
 #[test]
@@ -520,14 +671,12 @@ fn equal_answers_commit(rt: HostRuntime) {
     let alloc = rt.alloc();
     let id = first_of(&rt, 0);
     let default = ballot(&rt, 0, 0);
-    let mut space = space(&rt, alloc, id);
-    let mut lead = lead(&rt, alloc, id);
-    begin(&rt, alloc, &mut space, &mut lead, id);
-    answer(&rt, alloc, &mut space, &mut lead, id, default, 1, 2);
-    answer(&rt, alloc, &mut space, &mut lead, id, default, 2, 2);
-    let out = answer(&rt, alloc, &mut space, &mut lead, id, default, 3, 2);
-    assert_eq!(rt; out.as_str(), TOLD_BY_0);
-    assert_eq!(rt; known(&space, &lead, id), ((0, 0), (3, 2), 0));
+    let mut here = placed(&rt, alloc, id);
+    here.begin(&rt, alloc, ASKED_BY_0);
+    here.answer(&rt, alloc, default, 1, 2, "");
+    here.answer(&rt, alloc, default, 2, 2, "");
+    here.answer(&rt, alloc, default, 3, 2, TOLD_BY_0);
+    here.assert_known(&rt, ((0, 0), (3, 2), 0));
 }
 
 #[test]
@@ -536,23 +685,18 @@ fn giving_up_needs_the_lead_first_and_then_answers(rt: HostRuntime) {
     let me = replica(&rt, 0);
     let id = first_of(&rt, 0);
     let default = ballot(&rt, 0, 0);
-    let mut space = space(&rt, alloc, id);
-    let mut lead = lead(&rt, alloc, id);
-    begin(&rt, alloc, &mut space, &mut lead, id);
-    answer(&rt, alloc, &mut space, &mut lead, id, default, 1, 1);
-    let out = give(&rt, alloc, &mut space, &mut lead, me, id);
-    assert_eq!(rt; out.err(), Some(PhaseFault::TooFewAnswers));
-    answer(&rt, alloc, &mut space, &mut lead, id, default, 2, 2);
-    let earlier = again(&rt, alloc, &space, id);
-    space.join_ballot(id, ballot(&rt, 1, 4));
-    let out = give(&rt, alloc, &mut space, &mut lead, me, id);
-    assert_eq!(rt; out.err(), Some(PhaseFault::NotLeading));
-    let out = answer(&rt, alloc, &mut space, &mut lead, id, default, 3, 1);
-    assert_eq!(rt; out.as_str(), "");
-    assert_eq!(rt; known(&space, &lead, id), ((1, 4), (1, 1), 1));
-    space.put_back(id, earlier);
-    let out = give(&rt, alloc, &mut space, &mut lead, me, id).expect(&rt, "answers");
-    assert_eq!(rt; out.as_str(), TO_OTHERS_OF_0);
+    let mut here = placed(&rt, alloc, id);
+    here.begin(&rt, alloc, ASKED_BY_0);
+    here.answer(&rt, alloc, default, 1, 1, "");
+    here.assert_not_given_up(&rt, alloc, me, PhaseFault::TooFewAnswers);
+    here.answer(&rt, alloc, default, 2, 2, "");
+    let earlier = here.record_again(&rt, alloc);
+    here.join(ballot(&rt, 1, 4));
+    here.assert_not_given_up(&rt, alloc, me, PhaseFault::NotLeading);
+    here.answer(&rt, alloc, default, 3, 1, "");
+    here.assert_known(&rt, ((1, 4), (1, 1), 1));
+    here.put_back(earlier);
+    here.assert_given_up(&rt, alloc, me, TO_OTHERS_OF_0);
 }
 
 #[test]
@@ -560,40 +704,23 @@ fn a_recovery_ballot_has_no_fast_path(rt: HostRuntime) {
     let alloc = rt.alloc();
     let id = first_of(&rt, 0);
     let recovery = ballot(&rt, 1, 1);
-    let mut space = space(&rt, alloc, id);
-    let mut lead = lead(&rt, alloc, id);
-    let out = begin_at(&rt, alloc, &mut space, &mut lead, id, recovery);
-    assert_eq!(rt;
-        out.as_str(),
-        "0 pre-accept (1,1) seq 1 deps\n2 pre-accept (1,1) seq 1 deps\n3 pre-accept (1,1) seq 1 deps\n4 pre-accept (1,1) seq 1 deps\n"
-    );
-    let out = answer(&rt, alloc, &mut space, &mut lead, id, recovery, 2, 1);
-    assert_eq!(rt; out.as_str(), "");
-    let out = answer(&rt, alloc, &mut space, &mut lead, id, recovery, 3, 1);
-    assert_eq!(rt;
-        out.as_str(),
-        "0 accept (1,1) seq 1 deps\n2 accept (1,1) seq 1 deps\n3 accept (1,1) seq 1 deps\n4 accept (1,1) seq 1 deps\n"
-    );
+    let mut here = placed(&rt, alloc, id);
+    here.begin_at(&rt, alloc, recovery, ASKED_BY_1);
+    here.answer(&rt, alloc, recovery, 2, 1, "");
+    here.answer(&rt, alloc, recovery, 3, 1, TO_OTHERS_OF_1);
 }
 
 #[test]
 fn a_receiver_accepts_and_commits(rt: HostRuntime) {
     let alloc = rt.alloc();
-    let me = replica(&rt, 0);
-    let id = first_of(&rt, 0);
-    let mut space = space(&rt, alloc, id);
-    let mut lead = lead(&rt, alloc, id);
-    assert_eq!(rt; next_instance(&space, me).ok(), Some(id));
-    begin(&rt, alloc, &mut space, &mut lead, id);
-    let next = next_instance(&space, me).expect(&rt, "a number");
-    assert_eq!(rt; next.number(), 2);
-    let out = accept(&rt, alloc, &mut space, &mut lead, id, ballot(&rt, 1, 2));
-    assert_eq!(rt; out.as_str(), "2 accepted\n");
-    assert_eq!(rt; known(&space, &lead, id), ((1, 2), (2, 1), 1));
-    let decree = put_one(&rt, alloc);
-    let out = on_commit(alloc, &mut space, &mut lead, id, decree);
-    assert_eq!(rt; text(&rt, alloc, &out).as_str(), "");
-    assert_eq!(rt; known(&space, &lead, id), ((1, 2), (3, 1), 0));
+    let mut here = placed(&rt, alloc, first_of(&rt, 0));
+    here.assert_next(&rt, 1);
+    here.begin(&rt, alloc, ASKED_BY_0);
+    here.assert_next(&rt, 2);
+    here.accept(&rt, alloc, ballot(&rt, 1, 2), "2 accepted\n");
+    here.assert_known(&rt, ((1, 2), (2, 1), 1));
+    here.commit(&rt, alloc);
+    here.assert_known(&rt, ((1, 2), (3, 1), 0));
 }
 
 #[test]
@@ -601,20 +728,13 @@ fn an_accept_phase_votes_and_asks_all_others(rt: HostRuntime) {
     let alloc = rt.alloc();
     let id = first_of(&rt, 0);
     let recovery = ballot(&rt, 3, 4);
-    let mut space = space(&rt, alloc, id);
-    let mut lead = lead(&rt, alloc, id);
-    let out = accept_two(&rt, alloc, &mut space, &mut lead, id, recovery);
-    assert_eq!(rt;
-        out.as_str(),
-        "0 accept (3,4) seq 2 deps 1.1\n1 accept (3,4) seq 2 deps 1.1\n2 accept (3,4) seq 2 deps 1.1\n3 accept (3,4) seq 2 deps 1.1\n"
-    );
-    assert_eq!(rt; known(&space, &lead, id), ((3, 4), (2, 2), 2));
-    assert_eq!(rt; space.voted_ballot(id), recovery);
-    let out = accepted(&rt, alloc, &mut space, &mut lead, id, recovery, 4);
-    assert_eq!(rt; out.as_str(), "");
-    let out = accepted(&rt, alloc, &mut space, &mut lead, id, recovery, 0);
-    assert_eq!(rt; out.as_str(), "");
-    assert_eq!(rt; known(&space, &lead, id), ((3, 4), (2, 2), 2));
+    let mut here = placed(&rt, alloc, id);
+    here.accept_two(&rt, alloc, recovery, TO_OTHERS_OF_4);
+    here.assert_known(&rt, ((3, 4), (2, 2), 2));
+    here.assert_voted(&rt, recovery);
+    here.accepted(&rt, alloc, recovery, 4, "");
+    here.accepted(&rt, alloc, recovery, 0, "");
+    here.assert_known(&rt, ((3, 4), (2, 2), 2));
 }
 
 #[test]
@@ -622,49 +742,46 @@ fn a_commit_phase_keeps_both_ballots(rt: HostRuntime) {
     let alloc = rt.alloc();
     let me = replica(&rt, 0);
     let id = first_of(&rt, 0);
-    let mut space = space(&rt, alloc, id);
-    let mut lead = lead(&rt, alloc, id);
-    begin(&rt, alloc, &mut space, &mut lead, id);
-    space.join_ballot(id, ballot(&rt, 2, 3));
-    let out = commit_two(&rt, alloc, &mut space, &mut lead, me, id);
-    assert_eq!(rt; out.as_str(), TOLD_BY_0);
-    assert_eq!(rt; known(&space, &lead, id), ((2, 3), (3, 2), 0));
-    assert_eq!(rt; space.voted_ballot(id), ballot(&rt, 0, 0));
+    let mut here = placed(&rt, alloc, id);
+    here.begin(&rt, alloc, ASKED_BY_0);
+    here.join(ballot(&rt, 2, 3));
+    here.commit_two(&rt, alloc, me, TOLD_BY_0);
+    here.assert_known(&rt, ((2, 3), (3, 2), 0));
+    here.assert_voted(&rt, ballot(&rt, 0, 0));
 }
 
 #[test]
 fn a_committed_replica_refuses_a_lower_ballot(rt: HostRuntime) {
     let alloc = rt.alloc();
     let id = first_of(&rt, 0);
-    let mut space = space(&rt, alloc, id);
-    let mut lead = lead(&rt, alloc, id);
-    space.join_ballot(id, ballot(&rt, 1, 4));
-    let decree = put_one(&rt, alloc);
-    on_commit(alloc, &mut space, &mut lead, id, decree);
-    let out = pre_accept(&rt, alloc, &mut space, &mut lead, id);
-    assert_eq!(rt; out.as_str(), "0 refused (0,0) promised (1,4)\n");
-    let out = accept(&rt, alloc, &mut space, &mut lead, id, ballot(&rt, 1, 3));
-    assert_eq!(rt; out.as_str(), "3 refused (1,3) promised (1,4)\n");
-    let out = accept(&rt, alloc, &mut space, &mut lead, id, ballot(&rt, 2, 3));
-    assert_eq!(rt; out.as_str(), "");
-    assert_eq!(rt; known(&space, &lead, id), ((1, 4), (3, 1), 0));
-    assert_eq!(rt; space.voted_ballot(id), ballot(&rt, 0, 0));
+    let mut here = placed(&rt, alloc, id);
+    here.join(ballot(&rt, 1, 4));
+    here.commit(&rt, alloc);
+    here.pre_accept(&rt, alloc, "0 refused (0,0) promised (1,4)\n");
+    here.accept(
+        &rt,
+        alloc,
+        ballot(&rt, 1, 3),
+        "3 refused (1,3) promised (1,4)\n",
+    );
+    here.accept(&rt, alloc, ballot(&rt, 2, 3), "");
+    here.assert_known(&rt, ((1, 4), (3, 1), 0));
+    here.assert_voted(&rt, ballot(&rt, 0, 0));
 }
 
 #[test]
 fn a_counter_is_told_and_put_back(rt: HostRuntime) {
-    let id = first_of(&rt, 0);
-    let mut lead = lead(&rt, rt.alloc(), id);
-    assert_eq!(rt; lead.told(id), 0);
-    lead.tell(id, 7);
-    assert_eq!(rt; lead.told(id), 7);
-    assert_eq!(rt; lead.earlier_told(id), Some(7));
-    lead.put_back_told(id, Some(3));
-    assert_eq!(rt; lead.told(id), 3);
-    lead.put_back_told(id, None);
-    assert_eq!(rt; lead.earlier_told(id), None);
-    assert_eq!(rt; lead.told(id), 0);
-    assert!(rt; lead.get(id).is_none());
+    let mut here = placed(&rt, rt.alloc(), first_of(&rt, 0));
+    here.assert_told(&rt, 0);
+    here.tell(7);
+    here.assert_told(&rt, 7);
+    here.assert_earlier_told(&rt, Some(7));
+    here.put_back_told(Some(3));
+    here.assert_told(&rt, 3);
+    here.put_back_told(None);
+    here.assert_earlier_told(&rt, None);
+    here.assert_told(&rt, 0);
+    here.assert_led(&rt, 0);
 }
 
 #[test]
@@ -672,17 +789,15 @@ fn what_was_led_is_put_back(rt: HostRuntime) {
     let alloc = rt.alloc();
     let id = first_of(&rt, 0);
     let default = ballot(&rt, 0, 0);
-    let mut space = space(&rt, alloc, id);
-    let mut lead = lead(&rt, alloc, id);
-    begin(&rt, alloc, &mut space, &mut lead, id);
-    let earlier = led_again(&rt, alloc, &lead, id);
-    answer(&rt, alloc, &mut space, &mut lead, id, default, 1, 1);
-    let there = lead.put_back(id, earlier);
-    assert!(rt; matches!(there, Some(Led::Proposing(_, _))));
-    assert_eq!(rt; led(&lead, id), 1);
-    answer(&rt, alloc, &mut space, &mut lead, id, default, 1, 1);
-    answer(&rt, alloc, &mut space, &mut lead, id, default, 2, 1);
-    assert_eq!(rt; led(&lead, id), 1);
-    lead.end(id);
-    assert_eq!(rt; led(&lead, id), 0);
+    let mut here = placed(&rt, alloc, id);
+    here.begin(&rt, alloc, ASKED_BY_0);
+    let earlier = here.led_again(&rt, alloc);
+    here.answer(&rt, alloc, default, 1, 1, "");
+    here.put_back_led(&rt, earlier);
+    here.assert_led(&rt, 1);
+    here.answer(&rt, alloc, default, 1, 1, "");
+    here.answer(&rt, alloc, default, 2, 1, "");
+    here.assert_led(&rt, 1);
+    here.end();
+    here.assert_led(&rt, 0);
 }
