@@ -1,5 +1,6 @@
 //! A replica's stamps, what it refuses, and two puts that conflict, by hand: each call with ample memory.
 //! An event that finds no memory leaves the replica as it was and is taken when it is asked for again, so all ends alike whichever allocation is refused.
+//! What owns much is let go by a call of `drop`: that is proved part by part, once, and not in each test anew.
 
 mod recovering;
 mod refusing;
@@ -80,21 +81,32 @@ fn seq(replica: &Replica, id: InstanceId) -> u32 {
     }
 }
 
-/// The stamp of the event's entry; what is refused leaves the replica as it was.
+/// Asks once: what is refused leaves the replica as it was.
+fn asked_once(
+    rt: &impl Abort,
+    alloc: Global,
+    replica: &mut Replica,
+    event: &Event,
+) -> Result<u64, StepFault> {
+    let before = shown(rt, replica);
+    let told = asked(alloc, replica, event);
+    if told.is_err() {
+        assert_eq!(rt; shown(rt, replica), before);
+    }
+    told
+}
+
+/// The stamp of the event's entry; an event that finds no memory is asked again.
 fn stamp(
     rt: &impl Abort,
     alloc: Global,
     replica: &mut Replica,
     event: Event,
 ) -> Result<u64, StepFault> {
-    let before = shown(rt, replica);
-    let mut told = asked(alloc, replica, &event);
+    let mut told = asked_once(rt, alloc, replica, &event);
     if told == Err(StepFault::Memory) {
-        assert_eq!(rt; shown(rt, replica), before);
-        told = asked(alloc, replica, &event);
+        told = asked_once(rt, alloc, replica, &event);
     }
-    if told.is_err() {
-        assert_eq!(rt; shown(rt, replica), before);
-    }
+    drop(event);
     told
 }

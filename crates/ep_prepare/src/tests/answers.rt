@@ -1,7 +1,7 @@
 //! What a replica does with the answers to its Prepare.
 
 use crate::tests::samples::{ballot, decree, instance, replica, vote};
-use crate::tests::trial::{Kind, Trial, assert_decree, assert_sent};
+use crate::tests::trial::{Kind, Trial, assert_decree, assert_nothing, assert_sent};
 use ep_base::{Ballot, Command, Decree, Status, Vote};
 use ep_rules::{Led, Outgoing};
 use std::alloc::Global;
@@ -23,6 +23,7 @@ fn recovering(rt: &impl Abort, alloc: Global, size: u8) -> Trial {
     let mut it = Trial::new(rt, alloc, size, 2, instance(rt, 0));
     let out = it.recovers(alloc).expect(rt, "a recovery");
     assert_sent(rt, &out, others(size), Kind::Prepare, ballot(rt, 1, 2));
+    drop(out);
     it
 }
 
@@ -35,18 +36,23 @@ fn others(size: u8) -> &'static [u8] {
     }
 }
 
+/// The replica uses no answer of this one, which voted for nothing.
+fn uses_none(rt: &impl Abort, alloc: Global, it: &mut Trial, from: u8) {
+    assert_nothing(rt, answered(rt, alloc, it, from, &None));
+}
+
 /// These answer in turn; the last one of them is the one that the replica waited for, and a no-op is proposed.
 fn counts(rt: &impl Abort, alloc: Global, size: u8, early: &[u8], last: u8, late: u8) {
     let mut it = recovering(rt, alloc, size);
     for from in early {
-        let first = answered(rt, alloc, &mut it, *from, &None);
-        let second = answered(rt, alloc, &mut it, *from, &None);
-        assert!(rt; first.as_slice().is_empty() && second.as_slice().is_empty());
+        uses_none(rt, alloc, &mut it, *from);
+        uses_none(rt, alloc, &mut it, *from);
     }
     let out = answered(rt, alloc, &mut it, last, &None);
     assert_sent(rt, &out, others(size), Kind::PreAccept, ballot(rt, 1, 2));
-    let out = answered(rt, alloc, &mut it, late, &None);
-    assert!(rt; out.as_slice().is_empty());
+    drop(out);
+    uses_none(rt, alloc, &mut it, late);
+    drop(it);
 }
 
 /// The first F+1 answers count, each replica's once: then the replica begins the phase, and uses no further answer.
@@ -62,8 +68,9 @@ fn counts_the_first_answers(rt: HostRuntime) {
 fn uses_no_answer_elsewhere(rt: HostRuntime) {
     let mut it = recovering(&rt, rt.alloc(), 3);
     let out = it.answered(&rt, rt.alloc(), replica(&rt, 0), ballot(&rt, 2, 2), &None);
-    assert!(rt; out.as_slice().is_empty());
-    assert_eq!(rt; led_at(&it), Some((Kind::Prepare, ballot(&rt, 1, 2))));
+    assert_nothing(&rt, out);
+    assert_led(&rt, &it, Some((Kind::Prepare, ballot(&rt, 1, 2))));
+    drop(it);
 }
 
 /// Nor is one after a higher promise.
@@ -72,8 +79,9 @@ fn uses_no_answer_after_a_promise(rt: HostRuntime) {
     let mut it = recovering(&rt, rt.alloc(), 3);
     let out = it.asked(&rt, rt.alloc(), replica(&rt, 1), ballot(&rt, 2, 1));
     assert_sent(&rt, &out, &[1], Kind::PrepareOk, ballot(&rt, 2, 1));
-    let out = answered(&rt, rt.alloc(), &mut it, 0, &None);
-    assert!(rt; out.as_slice().is_empty());
+    drop(out);
+    uses_none(&rt, rt.alloc(), &mut it, 0);
+    drop(it);
 }
 
 /// The phase that is led, and its ballot.
@@ -86,6 +94,10 @@ fn led_at(it: &Trial) -> Option<(Kind, Ballot)> {
     }
 }
 
+fn assert_led(rt: &impl Abort, it: &Trial, expected: Option<(Kind, Ballot)>) {
+    assert_eq!(rt; led_at(it), expected);
+}
+
 /// A committed answer is committed, and all others are told.
 #[test]
 fn commits_what_was_committed(rt: HostRuntime) {
@@ -93,9 +105,12 @@ fn commits_what_was_committed(rt: HostRuntime) {
     let vote = vote(&rt, rt.alloc(), Status::Committed, ballot(&rt, 0, 0), true);
     let out = answered(&rt, rt.alloc(), &mut it, 1, &vote);
     assert_sent(&rt, &out, &[0, 1], Kind::Commit, ballot(&rt, 0, 0));
-    assert_decree(&rt, &out, &decree(&rt, rt.alloc(), true));
+    assert_decree(&rt, &out, decree(&rt, rt.alloc(), true));
     assert!(rt; it.space.is_committed(it.id));
-    assert_eq!(rt; led_at(&it), None);
+    assert_led(&rt, &it, None);
+    drop(vote);
+    drop(out);
+    drop(it);
 }
 
 /// The decree of an answer of this status is accepted at the new ballot.
@@ -104,8 +119,11 @@ fn accepts(rt: &impl Abort, alloc: Global, status: Status) {
     let vote = vote(rt, alloc, status, ballot(rt, 0, 0), true);
     let out = answered(rt, alloc, &mut it, 1, &vote);
     assert_sent(rt, &out, &[0, 1], Kind::Accept, ballot(rt, 1, 2));
-    assert_decree(rt, &out, &decree(rt, alloc, true));
-    assert_eq!(rt; led_at(&it), Some((Kind::Accept, ballot(rt, 1, 2))));
+    assert_decree(rt, &out, decree(rt, alloc, true));
+    assert_led(rt, &it, Some((Kind::Accept, ballot(rt, 1, 2))));
+    drop(vote);
+    drop(out);
+    drop(it);
 }
 
 /// What may have been committed on the fast path, or was accepted, is accepted at the new ballot.
@@ -116,13 +134,25 @@ fn accepts_what_may_be_committed(rt: HostRuntime) {
 }
 
 /// After this answer of the leader's the command is proposed anew, with this replica's attributes.
-fn proposes(rt: &impl Abort, alloc: Global, vote: &Option<Vote>, command: Command) {
+fn proposes(rt: &impl Abort, alloc: Global, vote: Option<Vote>, command: Command) {
     let mut it = recovering(rt, alloc, 3);
-    let out = answered(rt, alloc, &mut it, 0, vote);
+    let out = answered(rt, alloc, &mut it, 0, &vote);
+    drop(vote);
     assert_sent(rt, &out, &[0, 1], Kind::PreAccept, ballot(rt, 1, 2));
-    let attrs = decree(rt, alloc, false).attrs;
-    assert_decree(rt, &out, &Decree { command, attrs });
-    assert_eq!(rt; led_at(&it), Some((Kind::PreAccept, ballot(rt, 1, 2))));
+    assert_decree(rt, &out, with_command(rt, alloc, command));
+    assert_led(rt, &it, Some((Kind::PreAccept, ballot(rt, 1, 2))));
+    drop(out);
+    drop(it);
+}
+
+/// The command, with sequence number 1 and no dependencies.
+fn with_command(rt: &impl Abort, alloc: Global, command: Command) -> Decree {
+    let Decree {
+        command: other,
+        attrs,
+    } = decree(rt, alloc, false);
+    drop(other);
+    Decree { command, attrs }
 }
 
 /// What the leader alone pre-accepted is proposed anew; where nobody voted, a no-op is.
@@ -135,11 +165,6 @@ fn proposes_anew(rt: HostRuntime) {
         ballot(&rt, 0, 0),
         true,
     );
-    proposes(
-        &rt,
-        rt.alloc(),
-        &vote,
-        decree(&rt, rt.alloc(), true).command,
-    );
-    proposes(&rt, rt.alloc(), &None, Command::noop());
+    proposes(&rt, rt.alloc(), vote, decree(&rt, rt.alloc(), true).command);
+    proposes(&rt, rt.alloc(), None, Command::noop());
 }

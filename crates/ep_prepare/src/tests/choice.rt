@@ -21,8 +21,7 @@ fn answer(rt: &impl Abort, alloc: Global, row: Row) -> PrepareAnswer {
     }
 }
 
-/// The choice among these answers has this number, from 1 to 5, and this decree.
-fn assert_choice(rt: &impl Abort, alloc: Global, size: u8, rows: &[Row], case: u8, depends: bool) {
+fn answers(rt: &impl Abort, alloc: Global, rows: &[Row]) -> Vec<PrepareAnswer> {
     let mut answers = Vec::new(alloc);
     if answers.reserve(rows.len()).is_err() {
         answers.reserve(rows.len()).expect(rt, "memory");
@@ -31,9 +30,17 @@ fn assert_choice(rt: &impl Abort, alloc: Global, size: u8, rows: &[Row], case: u
         let next = answer(rt, alloc, *row);
         answers.push(next).expect(rt, "memory");
     }
+    answers
+}
+
+/// The choice among these answers has this number, from 1 to 5, and this decree.
+fn assert_choice(rt: &impl Abort, alloc: Global, size: u8, rows: &[Row], case: u8, depends: bool) {
+    let answers = answers(rt, alloc, rows);
     let size = Size::new(size).expect(rt, "a size");
     let wanted = decree(rt, alloc, depends);
     let (found, same) = looked_at(choose(&answers, replica(rt, 0), size), &wanted);
+    drop(answers);
+    drop(wanted);
     assert_eq!(rt; found, case);
     assert!(rt; same, "another decree in case {case}");
 }

@@ -10,6 +10,7 @@ use std::alloc::{AllocError, Global};
 use std::process::Abort;
 
 /// What a replica knows, with a place for one instance. A call that finds no memory is made again.
+/// It is let go by a call of `drop`, as all that owns much: that is proved part by part, once, and not in each test anew.
 #[derive(Drop)]
 pub struct Trial {
     pub me: ReplicaId,
@@ -115,9 +116,9 @@ impl Trial {
         ballot: Ballot,
         vote: &Option<Vote>,
     ) -> Result<Outgoing, PrepareFault> {
-        let vote = vote.duplicate(alloc)?;
         self.space.reserve(self.id)?;
         self.lead.reserve(self.id)?;
+        let vote = vote.duplicate(alloc)?;
         on_prepare_ok(
             alloc,
             &mut self.space,
@@ -142,6 +143,11 @@ impl Trial {
         self.space.reserve(self.id)?;
         self.lead.reserve(self.id)?;
         Ok(on_nack(alloc, &mut self.space, &mut self.lead, self.id, promised))
+    }
+
+    /// It has promised this ballot.
+    pub fn assert_promised(&self, rt: &impl Abort, ballot: Ballot) {
+        assert_eq!(rt; self.space.promised(self.id), ballot);
     }
 }
 
@@ -194,20 +200,34 @@ fn decree_of(message: &Message) -> Option<&Decree> {
     }
 }
 
+/// To whom the message goes, of which kind it is and at which ballot.
+fn seen(rt: &impl Abort, sent: &(ReplicaId, Message)) -> (u8, Kind, Ballot) {
+    let (to, message) = sent;
+    (to.index(), kind_of(message), ballot_of(rt, message))
+}
+
+fn assert_is(rt: &impl Abort, sent: &(ReplicaId, Message), expected: (u8, Kind, Ballot)) {
+    assert_eq!(rt; seen(rt, sent), expected);
+}
+
 /// Messages of this kind at this ballot go to these replicas, and nothing else is sent.
 pub fn assert_sent(rt: &impl Abort, out: &Outgoing, receivers: &[u8], kind: Kind, ballot: Ballot) {
     assert_eq!(rt; out.as_slice().len(), receivers.len());
-    for ((to, message), receiver) in out.as_slice().iter().zip(receivers) {
-        assert_eq!(rt; to.index(), *receiver);
-        assert_eq!(rt; kind_of(message), kind, "to {receiver}");
-        assert_eq!(rt; ballot_of(rt, message), ballot, "to {receiver}");
+    for (sent, receiver) in out.as_slice().iter().zip(receivers) {
+        assert_is(rt, sent, (*receiver, kind, ballot));
     }
 }
 
+pub fn assert_nothing(rt: &impl Abort, out: Outgoing) {
+    assert!(rt; out.as_slice().is_empty());
+    drop(out);
+}
+
 /// Each of the messages bears this decree.
-pub fn assert_decree(rt: &impl Abort, out: &Outgoing, wanted: &Decree) {
+pub fn assert_decree(rt: &impl Abort, out: &Outgoing, wanted: Decree) {
     for (to, message) in out.as_slice() {
         let decree = decree_of(message).expect(rt, "a decree");
-        assert!(rt; decree.is_same(wanted), "to {}", to.index());
+        assert!(rt; decree.is_same(&wanted), "to {}", to.index());
     }
+    drop(wanted);
 }

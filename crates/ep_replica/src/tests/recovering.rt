@@ -151,6 +151,7 @@ fn assert_told(
     let id = first_of(rt, replica.me().index());
     let told = outcome(rt, alloc, replica, id);
     assert!(rt; is_of(&told, client, entry, stamp));
+    drop(told);
     let all = receipts(rt, alloc, replica, 0);
     assert!(rt; is_one(&all, client, entry, stamp));
     let last = receipts(rt, alloc, replica, entry.saturating_sub(1));
@@ -201,6 +202,8 @@ fn the_first_of_two_puts_finds_nothing(rt: HostRuntime) {
     assert_told(&rt, alloc, &zero, 1, 7, 11);
     assert!(rt; is_answer(&rt, &zero, &Answer::Told(Reply::Absent)));
     assert!(rt; zero.outcome(first_of(&rt, 1)).is_none());
+    drop(zero);
+    drop(one);
 }
 
 #[test]
@@ -217,6 +220,8 @@ fn the_second_of_two_puts_finds_the_first(rt: HostRuntime) {
     assert_told(&rt, alloc, &one, 2, 8, 12);
     assert!(rt; is_answer(&rt, &one, &present(&rt, alloc, b"1")));
     assert!(rt; one.outcome(first_of(&rt, 0)).is_none());
+    drop(zero);
+    drop(one);
 }
 
 #[test]
@@ -234,7 +239,11 @@ fn who_proposed_nothing_gives_no_receipts(rt: HostRuntime) {
     assert!(rt; receipts(&rt, alloc, &two, 0).is_empty());
     assert!(rt; two.outcome(first_of(&rt, 0)).is_none());
     assert!(rt; two.outcome(first_of(&rt, 1)).is_none());
-    assert_eq!(rt; two.into_journal().entries().len(), 3);
+    drop(zero);
+    drop(one);
+    let journal = two.into_journal();
+    assert_eq!(rt; journal.entries().len(), 3);
+    drop(journal);
 }
 
 /// Replicas 1 and 2 know nothing of 0.1, and commit a no-op there.
@@ -263,4 +272,7 @@ fn a_put_that_came_late_is_lost(rt: HostRuntime) {
     ask(&rt, alloc, &mut zero, Event::Execute(first_of(&rt, 0)), 9);
     assert_told(&rt, alloc, &zero, 1, 3, 9);
     assert!(rt; is_answer(&rt, &zero, &Answer::Lost));
+    drop(zero);
+    drop(one);
+    drop(two);
 }

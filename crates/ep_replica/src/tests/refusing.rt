@@ -15,6 +15,7 @@ fn assert_refused(rt: &impl Abort, alloc: Global, me: u8, event: Event, fault: S
     assert_eq!(rt; refused, Err(fault));
     let event = propose(rt, alloc, 1, b"1", 0);
     assert_eq!(rt; stamp(rt, alloc, &mut replica, event), Ok(1));
+    drop(replica);
 }
 
 /// A replica of three is below 3.
@@ -22,7 +23,9 @@ fn assert_refused(rt: &impl Abort, alloc: Global, me: u8, event: Event, fault: S
 fn a_replica_of_a_larger_cluster(rt: HostRuntime) {
     let size = Size::new(3).expect(&rt, "a size");
     let me = ReplicaId::new(3).expect(&rt, "a replica");
-    assert!(rt; Replica::new(rt.alloc(), size, me).is_err());
+    let made = Replica::new(rt.alloc(), size, me);
+    assert!(rt; made.is_err());
+    drop(made);
 }
 
 #[test]

@@ -22,6 +22,7 @@ fn a_stamp_is_above_what_was_seen_and_heard(rt: HostRuntime) {
     assert_eq!(rt; stamp(&rt, alloc, &mut replica, event), Ok(9));
     let event = handle(&rt, alloc, &stamped(20));
     assert_eq!(rt; stamp(&rt, alloc, &mut replica, event), Ok(21));
+    drop(replica);
 }
 
 /// What is refused for its stamp leaves the clock as it was.
@@ -42,6 +43,7 @@ fn a_stamp_stays_in_range(rt: HostRuntime) {
     let event = propose(&rt, alloc, 1, b"1", 0);
     let refused = stamp(&rt, alloc, &mut replica, event);
     assert_eq!(rt; refused, Err(StepFault::StampFull));
+    drop(replica);
 }
 
 #[test]
@@ -51,4 +53,5 @@ fn a_frame_of_the_last_stamp(rt: HostRuntime) {
     let event = handle(&rt, alloc, &stamped(281_474_976_710_655));
     let refused = stamp(&rt, alloc, &mut replica, event);
     assert_eq!(rt; refused, Err(StepFault::StampFull));
+    drop(replica);
 }
