@@ -1,7 +1,10 @@
 //! Bundles as bytes: read, written, and refused where one of their bytes is changed.
 
-use crate::{BundleFault, WriteFault, read_bundle, read_journal, write_bundle, write_journal};
+use crate::{
+    Bundle, BundleFault, WriteFault, read_bundle, read_journal, write_bundle, write_journal,
+};
 use ep_base::{FailAt, Noted, ReplicaId, Size, Source};
+use ep_journal::Journal;
 use std::alloc::Global;
 use std::process::Abort;
 
@@ -143,14 +146,51 @@ fn not_a_run(entry: u32) -> Option<BundleFault> {
     Some(BundleFault::NotARun(ReplicaId::first(), entry))
 }
 
+/// The bytes are no bundle, from this one on.
+fn assert_bad(rt: &impl Abort, alloc: Global, bytes: &[u8], at: u64) {
+    assert_eq!(*rt; fault_in(alloc, bytes), Some(BundleFault::BadBundle(at)));
+}
+
+/// With another byte at this place the bytes are no bundle, from that one on.
+fn assert_bad_with(
+    rt: &impl Abort,
+    alloc: Global,
+    bytes: &mut [u8],
+    place: usize,
+    byte: u8,
+    at: u64,
+) {
+    let fault = fault_with(alloc, bytes, place, byte);
+    assert_eq!(*rt; fault, Some(BundleFault::BadBundle(at)));
+}
+
+/// With another byte at this place an entry of replica 0 is not its next step.
+fn assert_no_run_with(
+    rt: &impl Abort,
+    alloc: Global,
+    bytes: &mut [u8],
+    place: usize,
+    byte: u8,
+    entry: u32,
+) {
+    let fault = fault_with(alloc, bytes, place, byte);
+    assert_eq!(*rt; fault, not_a_run(entry));
+}
+
+/// The bundle as it is written again.
+fn written(rt: &impl Abort, alloc: Global, bundle: &Bundle) -> Vec<u8> {
+    let mut sink = Noted::new(Vec::new(alloc));
+    let written = write_bundle(&bundle.journals, bundle.receipts.as_slice(), &mut sink);
+    written.expect(rt, "a bundle written");
+    sink.into_inner()
+}
+
 fn assert_same_when_written(rt: &impl Abort, alloc: Global, bytes: &[u8]) {
     let bundle = read_bundle(alloc, &mut Noted::new(bytes)).expect(rt, "a bundle");
-    let mut sink = Noted::new(Vec::new(alloc));
-    write_bundle(&bundle.journals, bundle.receipts.as_slice(), &mut sink).expect(
-        rt,
-        "a bundle written",
-    );
-    assert_eq!(*rt; sink.into_inner().as_slice(), bytes);
+    let again = written(rt, alloc, &bundle);
+    drop(bundle);
+    assert_eq!(*rt; again.as_slice(), bytes);
+    drop(again);
 }
 
 #[test]
@@ -158,27 +198,12 @@ fn empty_journals(rt: HostRuntime) {
     let alloc = rt.alloc();
     assert_same_when_written(&rt, alloc, &EMPTY);
     let mut bytes = EMPTY;
-    assert_eq!(rt;
-        fault_with(alloc, &mut bytes, 5, 4),
-        Some(BundleFault::BadBundle(5))
-    );
-    assert_eq!(rt;
-        fault_in(alloc, &EMPTY[..24]),
-        Some(BundleFault::BadBundle(21))
-    );
-    assert_eq!(rt;
-        fault_with(alloc, &mut bytes, 3, 4),
-        Some(BundleFault::BadBundle(0))
-    );
-    assert_eq!(rt;
-        fault_with(alloc, &mut bytes, 4, 2),
-        Some(BundleFault::BadBundle(4))
-    );
-    assert_eq!(rt;
-        fault_with(alloc, &mut bytes, 15, 0),
-        Some(BundleFault::BadBundle(15))
-    );
-    assert_eq!(rt; fault_in(alloc, &[]), Some(BundleFault::BadBundle(0)));
+    assert_bad_with(&rt, alloc, &mut bytes, 5, 4, 5);
+    assert_bad(&rt, alloc, &EMPTY[..24], 21);
+    assert_bad_with(&rt, alloc, &mut bytes, 3, 4, 0);
+    assert_bad_with(&rt, alloc, &mut bytes, 4, 2, 4);
+    assert_bad_with(&rt, alloc, &mut bytes, 15, 0, 15);
+    assert_bad(&rt, alloc, &[], 0);
 }
 
 #[test]
@@ -187,30 +212,16 @@ fn one_proposal(rt: HostRuntime) {
     let mut bytes = one_put(&rt, alloc);
     assert_eq!(rt; bytes.len(), 106);
     assert_same_when_written(&rt, alloc, bytes.as_slice());
-    assert_eq!(rt;
-        fault_in(alloc, part(bytes.as_slice(), 0, 105)),
-        Some(BundleFault::BadBundle(102))
-    );
-    assert_eq!(rt; fault_with(alloc, &mut bytes, 93, 0x32), not_a_run(1));
+    assert_bad(&rt, alloc, part(bytes.as_slice(), 0, 105), 102);
+    assert_no_run_with(&rt, alloc, &mut bytes, 93, 0x32, 1);
 
     // The client is 0; the operation is a no-op; a get has a value.
-    assert_eq!(rt;
-        fault_with(alloc, &mut bytes, 27, 0),
-        Some(BundleFault::BadBundle(24))
-    );
-    assert_eq!(rt;
-        fault_with(alloc, &mut bytes, 40, 1),
-        Some(BundleFault::BadBundle(40))
-    );
-    assert_eq!(rt;
-        fault_with(alloc, &mut bytes, 40, 2),
-        Some(BundleFault::BadBundle(42))
-    );
+    assert_bad_with(&rt, alloc, &mut bytes, 27, 0, 24);
+    assert_bad_with(&rt, alloc, &mut bytes, 40, 1, 40);
+    assert_bad_with(&rt, alloc, &mut bytes, 40, 2, 42);
     append(&rt, &mut bytes, &[0]);
-    assert_eq!(rt;
-        fault_in(alloc, bytes.as_slice()),
-        Some(BundleFault::BadBundle(106))
-    );
+    assert_bad(&rt, alloc, bytes.as_slice(), 106);
+    drop(bytes);
 }
 
 #[test]
@@ -221,61 +232,76 @@ fn executions_and_receipts(rt: HostRuntime) {
     assert_same_when_written(&rt, alloc, bytes.as_slice());
 
     // Entry 2 of replica 0 begins at byte 96, and entry 3 at byte 245.
-    assert_eq!(rt; fault_with(alloc, &mut bytes, 104, 1), not_a_run(2));
-    assert_eq!(rt; fault_with(alloc, &mut bytes, 104, 2), not_a_run(2));
-    assert_eq!(rt; fault_with(alloc, &mut bytes, 264, 2), not_a_run(3));
-    assert_eq!(rt; fault_with(alloc, &mut bytes, 254, 2), not_a_run(3));
-    assert_eq!(rt;
-        fault_with(alloc, &mut bytes, 264, 3),
-        Some(BundleFault::BadBundle(264))
-    );
+    assert_no_run_with(&rt, alloc, &mut bytes, 104, 1, 2);
+    assert_no_run_with(&rt, alloc, &mut bytes, 104, 2, 2);
+    assert_no_run_with(&rt, alloc, &mut bytes, 264, 2, 3);
+    assert_no_run_with(&rt, alloc, &mut bytes, 254, 2, 3);
+    assert_bad_with(&rt, alloc, &mut bytes, 264, 3, 264);
 
     // A receipt's stamp is any number; its replica isn't.
     assert_eq!(rt; fault_with(alloc, &mut bytes, 402, 255), None);
-    assert_eq!(rt;
-        fault_with(alloc, &mut bytes, 397, 3),
-        Some(BundleFault::BadBundle(397))
-    );
+    assert_bad_with(&rt, alloc, &mut bytes, 397, 3, 397);
+    drop(bytes);
+}
+
+/// The journal as it is written again.
+fn journal_written(rt: &impl Abort, alloc: Global, journal: &Journal) -> Vec<u8> {
+    let mut sink = Noted::new(Vec::new(alloc));
+    write_journal(journal, &mut sink).expect(rt, "a journal written");
+    sink.into_inner()
+}
+
+/// Replica 0's journal of three, at place 10 of the bytes: it ends at byte 96, before those of the others.
+fn assert_read_alone(rt: &impl Abort, alloc: Global, bytes: &[u8]) {
+    let mut source = Noted::new(part(bytes, 10, 106));
+    let mut place = 10;
+    let size = Size::new(3).expect(rt, "a size");
+    let read = read_journal(alloc, size, ReplicaId::first(), &mut source, &mut place);
+    let journal = read.expect(rt, "a journal");
+    assert_eq!(*rt; place, 96);
+    assert_eq!(*rt; source.into_inner(), OTHERS.as_slice());
+    let again = journal_written(rt, alloc, &journal);
+    drop(journal);
+    assert_eq!(*rt; again.as_slice(), part(bytes, 10, 96));
+    drop(again);
 }
 
 #[test]
 fn one_journal_is_read_from_its_place(rt: HostRuntime) {
-    let alloc = rt.alloc();
-    let bytes = one_put(&rt, alloc);
-    let mut source = Noted::new(part(bytes.as_slice(), 10, 106));
-    let mut place = 10;
-    let size = Size::new(3).expect(&rt, "a size");
-    let journal = read_journal(alloc, size, ReplicaId::first(), &mut source, &mut place).expect(
-        &rt,
-        "a journal",
-    );
-    assert_eq!(rt; place, 96);
-    assert_eq!(rt; source.into_inner(), OTHERS.as_slice());
-    let mut sink = Noted::new(Vec::new(alloc));
-    write_journal(&journal, &mut sink).expect(&rt, "a journal written");
-    assert_eq!(rt;
-        sink.into_inner().as_slice(),
-        part(bytes.as_slice(), 10, 96)
-    );
+    let bytes = one_put(&rt, rt.alloc());
+    assert_read_alone(&rt, rt.alloc(), bytes.as_slice());
+    drop(bytes);
+}
+
+/// The bundle of empty journals is read by 11 calls: where one of them fails, so does the reading.
+fn assert_read_failing(rt: &impl Abort, alloc: Global, call: u64) {
+    let mut source = FailAt::new(Noted::new(EMPTY.as_slice()), call);
+    let fault = read_bundle(alloc, &mut source).err();
+    let failed = call <= 11;
+    assert_eq!(*rt; fault.is_some(), failed);
+    assert_eq!(*rt; fault == Some(BundleFault::ReadFailed), failed);
+    assert_eq!(*rt; source.failed(), failed);
+}
+
+/// It is written by 10 calls.
+fn assert_write_failing(rt: &impl Abort, alloc: Global, bundle: &Bundle, call: u64) {
+    let mut sink = FailAt::new(Noted::new(Vec::new(alloc)), call);
+    let written = write_bundle(&bundle.journals, bundle.receipts.as_slice(), &mut sink);
+    drop(sink);
+    assert_eq!(*rt; written == Err(WriteFault::WriteFailed), call <= 10);
 }
 
 #[test]
 fn faults_of_source_and_sink(rt: HostRuntime) {
     let alloc = rt.alloc();
     for call in 1..=16 {
-        let mut source = FailAt::new(Noted::new(EMPTY.as_slice()), call);
-        let read = read_bundle(alloc, &mut source);
-        let failed = call <= 11;
-        assert_eq!(rt; read.is_err(), failed);
-        assert_eq!(rt; read.err() == Some(BundleFault::ReadFailed), failed);
-        assert_eq!(rt; source.failed(), failed);
+        assert_read_failing(&rt, alloc, call);
     }
     let bundle = read_bundle(alloc, &mut Noted::new(EMPTY.as_slice())).expect(&rt, "a bundle");
     for call in 1..=12 {
-        let mut sink = FailAt::new(Noted::new(Vec::new(alloc)), call);
-        let written = write_bundle(&bundle.journals, bundle.receipts.as_slice(), &mut sink);
-        assert_eq!(rt; written == Err(WriteFault::WriteFailed), call <= 10);
+        assert_write_failing(&rt, alloc, &bundle, call);
     }
+    drop(bundle);
 }
 
 #[test]

@@ -1,5 +1,6 @@
 //! Worked events of a replica's state, refusals in their order, and the journals of a cluster: each call with ample memory.
 //! What finds no memory is asked for again, so that all ends alike whichever allocation is refused.
+//! What owns much is let go by a call of `drop`: that is proved part by part, once, and not in each test anew.
 
 mod gathering;
 mod refusing;

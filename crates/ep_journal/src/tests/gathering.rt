@@ -46,6 +46,7 @@ fn the_journals_of_a_cluster(rt: HostRuntime) {
     assert_eq!(rt; found(&rt, &journals, 0), Some((3, 0, 0)));
     assert_eq!(rt; found(&rt, &journals, 2), Some((3, 2, 0)));
     assert_eq!(rt; found(&rt, &journals, 3), None);
+    drop(journals);
 }
 
 fn assert_refused(rt: &impl Abort, alloc: Global, owners: &[Owner]) {
@@ -70,4 +71,5 @@ fn room_for_an_entry(rt: HostRuntime) {
     }
     assert_eq!(rt; (journal.size().count(), journal.me().index()), (5, 4));
     assert!(rt; journal.entries().is_empty());
+    drop(journal);
 }

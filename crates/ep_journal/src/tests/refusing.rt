@@ -16,16 +16,20 @@ const NACK: [u8; 40] = [
 /// Why this replica refuses the event, with a mark for its entry.
 fn refusal(rt: &impl Abort, alloc: Global, me: u8, event: &Event) -> Option<StepFault> {
     let mut state = state(rt, alloc, 3, me);
-    stepped(rt, alloc, &mut state, event, 1, 1).err()
+    let refused = stepped(rt, alloc, &mut state, event, 1, 1).err();
+    drop(state);
+    refused
 }
 
 /// Why it does without a mark.
 fn unmarked(rt: &impl Abort, alloc: Global, me: u8, event: &Event) -> Option<StepFault> {
     let mut state = state(rt, alloc, 3, me);
-    match asked(alloc, &mut state, event, None).err() {
-        Some(StepFault::Memory) => asked(alloc, &mut state, event, None).err(),
-        told => told,
+    let mut refused = asked(alloc, &mut state, event, None).err();
+    if refused == Some(StepFault::Memory) {
+        refused = asked(alloc, &mut state, event, None).err();
     }
+    drop(state);
+    refused
 }
 
 /// The fault comes before the want of a mark.
@@ -33,11 +37,13 @@ fn assert_first(rt: &impl Abort, alloc: Global, me: u8, event: Event, fault: Ste
     let fault = Some(fault);
     assert_eq!(rt; refusal(rt, alloc, me, &event), fault);
     assert_eq!(rt; unmarked(rt, alloc, me, &event), fault);
+    drop(event);
 }
 
 /// The want of a mark comes before what the rule refuses.
 fn assert_full(rt: &impl Abort, alloc: Global, me: u8, event: Event) {
     assert_eq!(rt; unmarked(rt, alloc, me, &event), Some(StepFault::StampFull));
+    drop(event);
 }
 
 #[test]
@@ -127,7 +133,10 @@ fn refusal_after(
     let mut state = state(rt, alloc, 3, me);
     let handled = handle(rt, alloc, frame);
     assert!(rt; stepped(rt, alloc, &mut state, &handled, 1, 2).is_ok());
-    stepped(rt, alloc, &mut state, event, 2, 3).err()
+    let refused = stepped(rt, alloc, &mut state, event, 2, 3).err();
+    drop(handled);
+    drop(state);
+    refused
 }
 
 /// After a put of sequence number 1,000,000, another one to its key would pass it.
@@ -141,6 +150,7 @@ fn no_sequence_number_is_left(rt: HostRuntime) {
     let event = propose(&rt, alloc, 2, 1);
     let refused = refusal_after(&rt, alloc, 1, &frame, &event);
     assert_eq!(rt; refused, Some(StepFault::SeqExhausted));
+    drop(event);
 }
 
 #[test]
@@ -149,6 +159,7 @@ fn no_ballot_is_left(rt: HostRuntime) {
     let event = Event::Recover(first_of(&rt, 0));
     let refused = refusal_after(&rt, alloc, 0, &NACK, &event);
     assert_eq!(rt; refused, Some(StepFault::BallotsExhausted));
+    drop(event);
 }
 
 /// The fault is printed so.

@@ -78,12 +78,15 @@ fn entry(
     let entry = stepped(rt, alloc, state, &event, number, stamp).expect(rt, "an entry");
     assert_eq!(rt; entry.number, number);
     assert_eq!(rt; entry.stamp.ticks(), stamp);
+    drop(event);
     entry
 }
 
 /// Why the event is refused.
 fn fault(rt: &impl Abort, alloc: Global, state: &mut State, event: Event) -> Option<StepFault> {
-    stepped(rt, alloc, state, &event, 9, 9).err()
+    let refused = stepped(rt, alloc, state, &event, 9, 9).err();
+    drop(event);
+    refused
 }
 
 /// `put x 1` is proposed, as entry 1 of stamp 1, and so many are asked, replica 1 first.
@@ -92,6 +95,7 @@ fn proposed(rt: &impl Abort, alloc: Global, count: u8) -> State {
     let event = propose(rt, alloc, 1, 1);
     let entry = entry(rt, alloc, &mut leader, event, 1, 1);
     assert!(rt; sends(&entry, usize::from(count.saturating_sub(2)), &PRE_ACCEPT));
+    drop(entry);
     leader
 }
 
@@ -103,6 +107,8 @@ fn a_vote_is_answered(rt: HostRuntime) {
     let entry = entry(&rt, alloc, &mut voter, event, 1, 2);
     assert!(rt; sends(&entry, 1, &PRE_ACCEPT_OK));
     assert!(rt; entry.done.as_slice().is_empty());
+    drop(entry);
+    drop(voter);
 }
 
 /// After its answer, `put x 1` is committed at replica 0.
@@ -111,6 +117,7 @@ fn committed_at_0(rt: &impl Abort, alloc: Global) -> State {
     let event = handle(rt, alloc, &PRE_ACCEPT_OK);
     let entry = entry(rt, alloc, &mut leader, event, 2, 3);
     assert!(rt; sends(&entry, 2, &COMMIT));
+    drop(entry);
     leader
 }
 
@@ -122,6 +129,7 @@ fn a_put_waits_for_its_commit(rt: HostRuntime) {
     assert_eq!(rt; committed(&leader, id), None);
     let refused = fault(&rt, alloc, &mut leader, Event::Execute(id));
     assert_eq!(rt; refused, Some(StepFault::NotCommitted(id)));
+    drop(leader);
 }
 
 #[test]
@@ -133,6 +141,8 @@ fn a_committed_put_is_executed(rt: HostRuntime) {
     let entry = entry(&rt, alloc, &mut leader, Event::Execute(id), 3, 4);
     assert!(rt; tells_absent(&entry, id));
     assert!(rt; entry.frames.as_slice().is_empty());
+    drop(entry);
+    drop(leader);
 }
 
 #[test]
@@ -140,6 +150,7 @@ fn an_ignored_frame_has_an_entry(rt: HostRuntime) {
     let alloc = rt.alloc();
     let mut leader = committed_at_0(&rt, alloc);
     hears(&rt, alloc, &mut leader, &PRE_ACCEPT_OK, 3);
+    drop(leader);
 }
 
 /// The frame has an entry that sends nothing; its stamp is one above its number.
@@ -147,6 +158,7 @@ fn hears(rt: &impl Abort, alloc: Global, state: &mut State, frame: &[u8], number
     let event = handle(rt, alloc, frame);
     let entry = entry(rt, alloc, state, event, number, u64::from(number) + 1);
     assert!(rt; entry.frames.as_slice().is_empty());
+    drop(entry);
 }
 
 /// Five replicas: with one answer it is too early, with two the others are asked to accept.
@@ -161,6 +173,8 @@ fn a_give_up_asks_to_accept(rt: HostRuntime) {
     hears(&rt, alloc, &mut leader, &PRE_ACCEPT_OK_OF_2, 3);
     let entry = entry(&rt, alloc, &mut leader, Event::GiveUp(id), 4, 5);
     assert!(rt; sends(&entry, 4, &ACCEPT));
+    drop(entry);
+    drop(leader);
 }
 
 #[test]
@@ -170,6 +184,8 @@ fn a_recovery_asks_the_others(rt: HostRuntime) {
     let mut other = state(&rt, alloc, 3, 2);
     let entry = entry(&rt, alloc, &mut other, Event::Recover(id), 1, 1);
     assert!(rt; sends(&entry, 2, &PREPARE));
+    drop(entry);
+    drop(other);
 }
 
 #[test]
@@ -179,4 +195,5 @@ fn a_committed_put_is_not_recovered(rt: HostRuntime) {
     let mut leader = committed_at_0(&rt, alloc);
     let refused = fault(&rt, alloc, &mut leader, Event::Recover(id));
     assert_eq!(rt; refused, Some(StepFault::AlreadyCommitted));
+    drop(leader);
 }
