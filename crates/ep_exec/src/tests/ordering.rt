@@ -1,4 +1,5 @@
 //! Execution orders: the rows, also after what isn't closed, a long chain, also where half of it was executed, a large component.
+//! What owns much is let go by a call of `drop`: that is proved part by part, once, and not in each test anew.
 
 use super::{
     Place, Row, add, all_at, at, commit, executed_of, planned, planned_left, reserve, space,
@@ -23,6 +24,8 @@ fn assert_places(
     let order = order.expect(rt, "an order");
     let expected = all_at(rt, alloc, places);
     assert!(rt; order.as_slice() == expected.as_slice());
+    drop(order);
+    drop(expected);
 }
 
 /// The root's order over the rows, after these were executed, is this one.
@@ -38,6 +41,8 @@ fn assert_order(
     let executed = executed_of(rt, alloc, done);
     let order = planned(alloc, &space, &executed, at(rt, root));
     assert_places(rt, alloc, order, places);
+    drop(executed);
+    drop(space);
 }
 
 /// The same of the walk that leaves out what was executed.
@@ -53,6 +58,8 @@ fn assert_order_left(
     let executed = executed_of(rt, alloc, done);
     let order = planned_left(rt, alloc, &space, &executed, at(rt, root));
     assert_places(rt, alloc, order, places);
+    drop(executed);
+    drop(space);
 }
 
 /// Both, where these are closed.
@@ -177,6 +184,8 @@ fn assert_missing(
     let executed = executed_of(rt, alloc, done);
     let fault = planned(alloc, &space, &executed, at(rt, root)).err();
     assert_eq!(rt; fault, Some(PlanFault::NotCommitted(at(rt, missing))));
+    drop(executed);
+    drop(space);
 }
 
 /// The same of the walk that leaves out what was executed.
@@ -192,6 +201,8 @@ fn assert_missing_left(
     let executed = executed_of(rt, alloc, done);
     let fault = planned_left(rt, alloc, &space, &executed, at(rt, root)).err();
     assert_eq!(rt; fault, Some(PlanFault::NotCommitted(at(rt, missing))));
+    drop(executed);
+    drop(space);
 }
 
 #[test]
@@ -231,6 +242,10 @@ fn a_chain_of_many(rt: HostRuntime) {
         &rt, "an order",
     );
     assert!(rt; order.as_slice() == expected.as_slice());
+    drop(order);
+    drop(expected);
+    drop(executed);
+    drop(space);
 }
 
 #[test]
@@ -247,6 +262,10 @@ fn a_chain_half_executed(rt: HostRuntime) {
         &rt, "an order",
     );
     assert!(rt; order.as_slice() == &all[half..]);
+    drop(order);
+    drop(all);
+    drop(executed);
+    drop(space);
 }
 
 /// Each instance depends on the next, and the last on the first; they rank from the last to the first.
@@ -271,4 +290,8 @@ fn a_component_of_many(rt: HostRuntime) {
         &rt, "an order",
     );
     assert!(rt; order.as_slice() == expected.as_slice());
+    drop(order);
+    drop(expected);
+    drop(executed);
+    drop(space);
 }

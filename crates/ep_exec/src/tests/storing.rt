@@ -64,14 +64,20 @@ fn is_answer(answer: &Answer, byte: Option<u8>) -> bool {
 fn assert_replies(rt: &impl Abort, alloc: Global, store: &mut Store, steps: &[Step]) {
     for step in steps {
         let command = command(rt, alloc, *step);
-        assert!(rt; is_told(&reply(rt, store, &command), step.3));
+        let reply = reply(rt, store, &command);
+        assert!(rt; is_told(&reply, step.3));
+        drop(reply);
+        drop(command);
     }
 }
 
 fn assert_answers(rt: &impl Abort, alloc: Global, trial: &mut Trial, steps: &[Step]) {
     for step in steps {
         let command = command(rt, alloc, *step);
-        assert!(rt; is_answer(&answer(rt, trial, &command), step.3));
+        let answer = answer(rt, trial, &command);
+        assert!(rt; is_answer(&answer, step.3));
+        drop(answer);
+        drop(command);
     }
 }
 
@@ -94,6 +100,7 @@ fn assert_has(rt: &impl Abort, alloc: Global, store: &Store, pairs: &[(u8, Optio
     for (name, byte) in pairs {
         let key = key(rt, alloc, *name);
         assert_eq!(rt; byte_at(store, &key), *byte);
+        drop(key);
     }
 }
 
@@ -125,6 +132,7 @@ fn replies_tell_what_was(rt: HostRuntime) {
     assert_has(&rt, rt.alloc(), &store, &EARLIER);
     assert_replies(&rt, rt.alloc(), &mut store, &LATER);
     assert_has(&rt, rt.alloc(), &store, &LAST);
+    drop(store);
 }
 
 fn copy(rt: &impl Abort, store: &Store) -> Store {
@@ -140,20 +148,26 @@ fn a_copy_stays(rt: HostRuntime) {
     let copy = copy(&rt, &store);
     assert_replies(&rt, rt.alloc(), &mut store, &LATER);
     assert_has(&rt, rt.alloc(), &copy, &EARLIER);
+    drop(copy);
+    drop(store);
 }
 
 #[test]
 fn a_trial_is_taken_back(rt: HostRuntime) {
     let mut trial = first_store(&rt, rt.alloc()).try_out();
     assert_answers(&rt, rt.alloc(), &mut trial, &LATER);
-    assert_has(&rt, rt.alloc(), &trial.take_back(), &EARLIER);
+    let store = trial.take_back();
+    assert_has(&rt, rt.alloc(), &store, &EARLIER);
+    drop(store);
 }
 
 #[test]
 fn a_trial_is_kept(rt: HostRuntime) {
     let mut trial = first_store(&rt, rt.alloc()).try_out();
     assert_answers(&rt, rt.alloc(), &mut trial, &LATER);
-    assert_has(&rt, rt.alloc(), &trial.keep(), &LAST);
+    let store = trial.keep();
+    assert_has(&rt, rt.alloc(), &store, &LAST);
+    drop(store);
 }
 
 #[test]
@@ -161,4 +175,6 @@ fn a_noop_answers_lost(rt: HostRuntime) {
     let mut trial = Store::new(rt.alloc()).try_out();
     let answer = trial.apply(&Command::noop()).expect(&rt, "an answer");
     assert!(rt; matches!(answer, Answer::Lost));
+    drop(answer);
+    drop(trial);
 }
