@@ -218,6 +218,7 @@ pub fn assert_sent(rt: &impl Abort, out: &Outgoing, receivers: &[u8], kind: Kind
     }
 }
 
+/// Nothing is sent.
 pub fn assert_nothing(rt: &impl Abort, out: Outgoing) {
     assert!(rt; out.as_slice().is_empty());
     drop(out);
