@@ -1,19 +1,26 @@
 -- Journals that are accepted make one history.
-use Rattle.std.proofs.Common.{◌≡◌, ℕ, ◌+◌, ◌<◌, ◌≤◌, List, sym, subst, refl, arith}
+use Rattle.std.proofs.Common.{◌≡◌, ℕ, ◌+◌, ◌<◌, ◌≤◌, List, ◌++◌, Some, sym, subst, refl, arith}
 use Rattle.ep_base.specs.Quorums.{size}
+use Rattle.ep_base.specs.declared.decree.Decree.{Decree}
 use Rattle.ep_rules.specs.Audits.{IsAccepted}
-use Rattle.ep_rules.specs.Journals.{Journals, Scheduled, AreLocalRuns}
+use Rattle.ep_rules.specs.Journals.{Entry, Journals, Scheduled, AreLocalRuns, left}
 use Rattle.ep_rules.specs.Merging.{Merges}
-use Rattle.ep_rules.specs.Verdicts.{command_at, history_of}
+use Rattle.ep_rules.specs.States.{fresh_state, committed_in}
+use Rattle.ep_rules.specs.Verdicts.{command_at, committed_by, history_of}
 use Rattle.ep_rules.specs.declared.receipt.Receipt.{Receipt}
 use Rattle.ep_rules.proofs.JournalsCallers.{caller_order_lem}
-use Rattle.ep_rules.proofs.JournalsCommitted.{journals_agree_lem, journals_depend_lem}
+use Rattle.ep_rules.proofs.JournalsCommitted.{journals_agree_lem, journals_depend_lem, journals_propose_lem}
+use Rattle.ep_rules.proofs.JournalsKeep.{journals_keep_lem}
 use Rattle.ep_rules.proofs.JournalsOrders.{journals_order_lem}
 use Rattle.ep_rules.proofs.JournalsReplies.{each_reply_lem}
 use Rattle.ep_rules.proofs.Merged.{merged_is_a_run_lem}
 use Rattle.ep_verdict.specs.Verdicts.{instances_in, IsVerdict}
 use Rattle.ep_verdict.specs.declared.verdict.Verdict.{Verdict}
 use Rattle.ep_audit.specs.Audited.{IsOneHistory, IsAudited}
+
+-- what is committed after some entries is committed after all
+kept : (f : ℕ) (journal : Journals) (r i : ℕ) (x : Decree) (before rest : List Entry) → before ++ rest ≡ journal r → committed_in (left f r fresh_state before).records i ≡ Some x → committed_by f journal r i ≡ Some x
+kept f journal r i x before rest whole h = subst (λ (es : List Entry). committed_in (left f r fresh_state es).records i ≡ Some x) whole (journals_keep_lem f r before rest i x h)
 
 -- the history of the schedule
 one_history : (f : ℕ) (journal : Journals) (receipts : List Receipt) (schedule : List Scheduled) → Merges f journal schedule → IsAccepted f journal receipts →
@@ -24,6 +31,8 @@ one_history f journal receipts schedule m a =
       history = refl;
       run = merged_is_a_run_lem f journal schedule m.local m.matched m.scheduled;
       agreement = journals_agree_lem f journal schedule m;
+      permanence = kept f journal;
+      validity = journals_propose_lem f journal schedule m;
       dependency = journals_depend_lem f journal schedule m;
       replies = each_reply_lem f journal schedule m;
       order = journals_order_lem f journal schedule m;

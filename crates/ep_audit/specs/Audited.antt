@@ -1,13 +1,15 @@
 -- What holds of journals and receipts that an audit accepts.
-use Rattle.std.specs.Prelude.{◌≡◌, ◌≢◌, ◌⊎◌, ◌↔◌, ℕ, ◌<◌, ◌≤◌, true, List, Some}
+use Rattle.std.specs.Prelude.{◌≡◌, ◌≢◌, ◌⊎◌, ◌↔◌, ℕ, ◌<◌, ◌≤◌, true, false, List, ◌++◌, Some}
+use Rattle.ep_base.specs.Instances.{leader_of}
 use Rattle.ep_base.specs.Interference.{interfere}
 use Rattle.ep_base.specs.Places.{place, Has}
+use Rattle.ep_base.specs.Sameness.{is_noop}
 use Rattle.ep_base.specs.declared.decree.Decree.{Decree}
 use Rattle.ep_base.specs.declared.reply.Answer.{Answer}
 use Rattle.ep_rules.specs.Audits.{IsAccepted, IsFault}
-use Rattle.ep_rules.specs.Journals.{Journals, Scheduled, IsSchedule, acts_of, left}
-use Rattle.ep_rules.specs.States.{fresh_state}
-use Rattle.ep_rules.specs.Verdicts.{committed_by, command_at, history_of, IsReply}
+use Rattle.ep_rules.specs.Journals.{Entry, Journals, Scheduled, IsSchedule, acts_of, left}
+use Rattle.ep_rules.specs.States.{fresh_state, committed_in}
+use Rattle.ep_rules.specs.Verdicts.{committed_by, command_at, history_of, IsReply, Proposes}
 use Rattle.ep_rules.specs.Worlds.{In, IsRun, opening}
 use Rattle.ep_rules.specs.declared.receipt.Receipt.{Receipt}
 use Rattle.ep_report.specs.Refusals.{fault_of}
@@ -24,6 +26,14 @@ pub record IsOneHistory (f : ℕ) (journal : Journals) (receipts : List Receipt)
   pub run : IsRun f opening (acts_of schedule)
   -- no two replicas commit different commands or attributes in an instance
   pub agreement : (i r q : ℕ) (x y : Decree) → committed_by f journal r i ≡ Some x → committed_by f journal q i ≡ Some y → x ≡ y
+  -- what a replica has committed after some of its entries it has committed after all of them
+  pub permanence :
+      (r i : ℕ) (x : Decree) (before rest : List Entry) → before ++ rest ≡ journal r → committed_in (left f r fresh_state before).records i ≡ Some x →
+      committed_by f journal r i ≡ Some x
+  -- a committed command other than a no-op was proposed, as this instance, by the replica that leads it
+  pub validity :
+      (r i : ℕ) (x : Decree) → committed_by f journal r i ≡ Some x → is_noop x.command ≡ false →
+      (client request : ℕ) × (p : Proposes f (leader_of i) (journal (leader_of i)) i client request) × (p.command ≡ x.command)
   -- of two interfering committed commands one depends on the other
   pub dependency :
       (i j r q : ℕ) (x y : Decree) → i ≢ j → committed_by f journal r i ≡ Some x → committed_by f journal q j ≡ Some y →

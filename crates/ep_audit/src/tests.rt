@@ -11,6 +11,7 @@ use std::process::Abort;
 fn empty_journal(rt: &impl Abort, alloc: Global, index: u8) -> Journal {
     let size = Size::new(3).expect(rt, "a size");
     let replica = ReplicaId::new(index).expect(rt, "a replica");
+    assert!(rt; replica.index() < size.count());
     Journal::new(alloc, size, replica)
 }
 

@@ -1,4 +1,13 @@
 //! Names, commands, attributes and messages of a replicated key-value core, and the devices that programs read from and write to.
+//!
+//! Every other crate calls this one. It is plain data with ranges: whoever holds a `Seq`, an `InstanceId` or a `Key` knows
+//! that it is in range, and contracts see it as a number or a list of bytes.
+//!
+//! Start with `command.rt` (what a replica may be asked, and which two commands interfere), `decree.rt` (what replicas vote
+//! on) and `message.rt`. `Source` and `Sink` are how crates read and write without knowing what.
+//!
+//! How instances and ballots are packed into numbers is known to specs/Instances.antt and specs/Ballots.antt alone. A change
+//! of a public type or clause here has all crates proved anew.
 #![tactic(auto)]
 
 mod attrs;

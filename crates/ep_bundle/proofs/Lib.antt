@@ -12,6 +12,7 @@ pub mod WrittenStages
 pub mod WrittenParts
 pub mod WrittenFrames
 pub mod WrittenRuns
+pub mod WrittenCounts
 pub mod WrittenJournals
 pub mod WrittenBundles
 pub mod WrittenRanges

@@ -1,7 +1,8 @@
 //! The fields that all else is read by: numbers, the highest byte first, and runs of bytes.
 
-ghost use Rattle.std.specs.Prelude.{◌≡◌, ℕ, List, Some, length, Bool, IfOk, OnErr, true};
-ghost use Rattle.ep_bundle.specs.Reading.{map_ok, field, number, run, Reads, TellsFailed};
+ghost use Rattle.std.specs.Prelude.{◌≡◌, ℕ, List, Some, length, IfOk, true};
+ghost use Rattle.ep_base.specs.Devices.{FailsAsTold};
+ghost use Rattle.ep_bundle.specs.Reading.{map_ok, field, number, run, is_read_failed, Reads};
 ghost use Rattle.ep_bundle.specs.Filling.{Fills};
 
 use crate::bundle_fault::BundleFault;
@@ -13,7 +14,7 @@ use std::alloc::Global;
 pub(crate) fn fill<S: Source>(source: &mut S, buf: &mut [u8]) -> Result<bool, ReadFailed>
     ensures bytes { (zs : List ℕ) → S.left source.old ≡ Some zs → IfOk result (λ full. Fills full zs buf.new (S.left source.new)) }
     ensures long { length buf.new ≡ length buf.old }
-    ensures told { OnErr result (S.has_failed source.new ≡ true) }
+    ensures told { FailsAsTold (λ _. true) result (S.has_failed source.old) (S.has_failed source.new) }
 {
     let mut at = 0;
     while at < buf.len() {
@@ -34,7 +35,7 @@ pub(crate) fn take<S: Source>(
 ) -> Result<(), BundleFault>
     ensures bytes { (zs : List ℕ) → S.left source.old ≡ Some zs → Reads (run (length buf.old) (record { at = place.old; bytes = zs })) (map_ok (λ _. buf.new) result) place.new (S.left source.new) }
     ensures long { length buf.new ≡ length buf.old }
-    ensures told { TellsFailed result (S.has_failed source.new) }
+    ensures told { FailsAsTold is_read_failed result (S.has_failed source.old) (S.has_failed source.new) }
 {
     if !fill(source, buf)? {
         return Err(BundleFault::BadBundle(*place));
@@ -51,7 +52,7 @@ pub(crate) fn read_run<S: Source>(
     len: usize,
 ) -> Result<Vec<u8>, BundleFault>
     ensures bytes { (zs : List ℕ) → S.left source.old ≡ Some zs → Reads (run len (record { at = place.old; bytes = zs })) (map_ok (λ v. v.items) result) place.new (S.left source.new) }
-    ensures told { TellsFailed result (S.has_failed source.new) }
+    ensures told { FailsAsTold is_read_failed result (S.has_failed source.old) (S.has_failed source.new) }
 {
     let mut bytes = vec![in alloc; 0; len]?;
     take(source, place, &mut bytes)?;
@@ -60,7 +61,7 @@ pub(crate) fn read_run<S: Source>(
 
 pub(crate) fn read_u8<S: Source>(source: &mut S, place: &mut u64) -> Result<u8, BundleFault>
     ensures bytes { (zs : List ℕ) → S.left source.old ≡ Some zs → Reads (number 1 (record { at = place.old; bytes = zs })) result place.new (S.left source.new) }
-    ensures told { TellsFailed result (S.has_failed source.new) }
+    ensures told { FailsAsTold is_read_failed result (S.has_failed source.old) (S.has_failed source.new) }
 {
     let mut bytes = [0; 1];
     take(source, place, &mut bytes)?;
@@ -69,7 +70,7 @@ pub(crate) fn read_u8<S: Source>(source: &mut S, place: &mut u64) -> Result<u8, 
 
 pub(crate) fn read_u16<S: Source>(source: &mut S, place: &mut u64) -> Result<u16, BundleFault>
     ensures bytes { (zs : List ℕ) → S.left source.old ≡ Some zs → Reads (number 2 (record { at = place.old; bytes = zs })) result place.new (S.left source.new) }
-    ensures told { TellsFailed result (S.has_failed source.new) }
+    ensures told { FailsAsTold is_read_failed result (S.has_failed source.old) (S.has_failed source.new) }
 {
     let mut bytes = [0; 2];
     take(source, place, &mut bytes)?;
@@ -78,7 +79,7 @@ pub(crate) fn read_u16<S: Source>(source: &mut S, place: &mut u64) -> Result<u16
 
 pub(crate) fn read_u32<S: Source>(source: &mut S, place: &mut u64) -> Result<u32, BundleFault>
     ensures bytes { (zs : List ℕ) → S.left source.old ≡ Some zs → Reads (number 4 (record { at = place.old; bytes = zs })) result place.new (S.left source.new) }
-    ensures told { TellsFailed result (S.has_failed source.new) }
+    ensures told { FailsAsTold is_read_failed result (S.has_failed source.old) (S.has_failed source.new) }
 {
     let mut bytes = [0; 4];
     take(source, place, &mut bytes)?;
@@ -87,7 +88,7 @@ pub(crate) fn read_u32<S: Source>(source: &mut S, place: &mut u64) -> Result<u32
 
 pub(crate) fn read_u64<S: Source>(source: &mut S, place: &mut u64) -> Result<u64, BundleFault>
     ensures bytes { (zs : List ℕ) → S.left source.old ≡ Some zs → Reads (number 8 (record { at = place.old; bytes = zs })) result place.new (S.left source.new) }
-    ensures told { TellsFailed result (S.has_failed source.new) }
+    ensures told { FailsAsTold is_read_failed result (S.has_failed source.old) (S.has_failed source.new) }
 {
     let mut bytes = [0; 8];
     take(source, place, &mut bytes)?;
@@ -102,7 +103,7 @@ pub(crate) fn field_u8<S: Source>(
     high: u8,
 ) -> Result<u8, BundleFault>
     ensures bytes { (zs : List ℕ) → S.left source.old ≡ Some zs → Reads (field 1 low high (record { at = place.old; bytes = zs })) result place.new (S.left source.new) }
-    ensures told { TellsFailed result (S.has_failed source.new) }
+    ensures told { FailsAsTold is_read_failed result (S.has_failed source.old) (S.has_failed source.new) }
 {
     let at = *place;
     let number = read_u8(source, place)?;
@@ -120,7 +121,7 @@ pub(crate) fn field_u16<S: Source>(
     high: u16,
 ) -> Result<u16, BundleFault>
     ensures bytes { (zs : List ℕ) → S.left source.old ≡ Some zs → Reads (field 2 low high (record { at = place.old; bytes = zs })) result place.new (S.left source.new) }
-    ensures told { TellsFailed result (S.has_failed source.new) }
+    ensures told { FailsAsTold is_read_failed result (S.has_failed source.old) (S.has_failed source.new) }
 {
     let at = *place;
     let number = read_u16(source, place)?;
@@ -138,7 +139,7 @@ pub(crate) fn field_u32<S: Source>(
     high: u32,
 ) -> Result<u32, BundleFault>
     ensures bytes { (zs : List ℕ) → S.left source.old ≡ Some zs → Reads (field 4 low high (record { at = place.old; bytes = zs })) result place.new (S.left source.new) }
-    ensures told { TellsFailed result (S.has_failed source.new) }
+    ensures told { FailsAsTold is_read_failed result (S.has_failed source.old) (S.has_failed source.new) }
 {
     let at = *place;
     let number = read_u32(source, place)?;
@@ -156,7 +157,7 @@ pub(crate) fn field_u64<S: Source>(
     high: u64,
 ) -> Result<u64, BundleFault>
     ensures bytes { (zs : List ℕ) → S.left source.old ≡ Some zs → Reads (field 8 low high (record { at = place.old; bytes = zs })) result place.new (S.left source.new) }
-    ensures told { TellsFailed result (S.has_failed source.new) }
+    ensures told { FailsAsTold is_read_failed result (S.has_failed source.old) (S.has_failed source.new) }
 {
     let at = *place;
     let number = read_u64(source, place)?;

@@ -1,4 +1,14 @@
 //! The bytes of journals and bundles.
+//!
+//! `ep_main` reads and writes bundles by this crate, and a program that keeps journals may. It keeps to docs/FORMATS.md,
+//! section 2: what is read is what would be written for it, what is written is read back, and each entry is stepped again as
+//! it is read, so that a `Journal` from a file is as good as one that was made by steps.
+//!
+//! Start with `journal.rt` and `bundle.rt` (reading), `writing.rt`, and specs/Bytes.antt; the four laws are `read_laws.rt` and
+//! `write_laws.rt`.
+//!
+//! Bytes are judged in their order: a field where it is read, an entry once it is whole. A stage added to the reader wants
+//! its definition in specs/Stages.antt first.
 #![tactic(auto)]
 
 mod bundle;
@@ -12,7 +22,6 @@ mod parts;
 mod putting;
 mod read_laws;
 mod receipts;
-mod write_fault;
 mod write_laws;
 mod writing;
 
@@ -20,7 +29,6 @@ pub use bundle::{Bundle, read_bundle};
 pub use bundle_fault::BundleFault;
 pub use journal::read_journal;
 pub use read_laws::{bundles_are_canonical, journals_are_canonical};
-pub use write_fault::WriteFault;
 pub use write_laws::{bundle_is_read_back, journal_is_read_back};
 pub use writing::{write_bundle, write_journal};
 

@@ -1,9 +1,10 @@
 //! Instances, commands and answers.
 
 ghost use Rattle.std.specs.Prelude.{◌≡◌, ℕ, List, Some, IfOk, IfErr};
+ghost use Rattle.ep_base.specs.Devices.{FailsAsTold};
 ghost use Rattle.ep_bundle.specs.declared.bundle_fault.BundleFault.TheVariants.{Memory};
 ghost use Rattle.ep_base.specs.Quorums.{size};
-ghost use Rattle.ep_bundle.specs.Reading.{field, Reads, TellsFailed};
+ghost use Rattle.ep_bundle.specs.Reading.{field, is_read_failed, Reads};
 ghost use Rattle.ep_bundle.specs.Stages.{answer, command, command_of, instance, most_value, replica, reply_by, texts, value};
 
 use crate::bundle_fault::BundleFault;
@@ -18,7 +19,7 @@ pub(crate) fn read_replica<S: Source>(
     cluster: Size,
 ) -> Result<ReplicaId, BundleFault>
     ensures bytes { (zs : List ℕ) → S.left source.old ≡ Some zs → Reads (replica (size cluster) (record { at = place.old; bytes = zs })) result place.new (S.left source.new) }
-    ensures told { TellsFailed result (S.has_failed source.new) }
+    ensures told { FailsAsTold is_read_failed result (S.has_failed source.old) (S.has_failed source.new) }
 {
     let at = *place;
     let index = field_u8(source, place, 0, cluster.count() - 1)?;
@@ -32,7 +33,7 @@ pub(crate) fn read_instance<S: Source>(
     cluster: Size,
 ) -> Result<InstanceId, BundleFault>
     ensures bytes { (zs : List ℕ) → S.left source.old ≡ Some zs → Reads (instance (size cluster) (record { at = place.old; bytes = zs })) result place.new (S.left source.new) }
-    ensures told { TellsFailed result (S.has_failed source.new) }
+    ensures told { FailsAsTold is_read_failed result (S.has_failed source.old) (S.has_failed source.new) }
 {
     let replica = read_replica(source, place, cluster)?;
     let at = *place;
@@ -47,7 +48,7 @@ fn read_value<S: Source>(
     place: &mut u64,
 ) -> Result<Value, BundleFault>
     ensures bytes { (zs : List ℕ) → S.left source.old ≡ Some zs → Reads (value (record { at = place.old; bytes = zs })) result place.new (S.left source.new) }
-    ensures told { TellsFailed result (S.has_failed source.new) }
+    ensures told { FailsAsTold is_read_failed result (S.has_failed source.old) (S.has_failed source.new) }
 {
     let len = field_u16(source, place, 0, 1024)?;
     let bytes = read_run(alloc, source, place, len as usize)?;
@@ -63,7 +64,7 @@ fn read_reply<S: Source>(
     code: u8,
 ) -> Result<Answer, BundleFault>
     ensures bytes { (zs : List ℕ) → S.left source.old ≡ Some zs → Reads (reply_by code (record { at = place.old; bytes = zs })) result place.new (S.left source.new) }
-    ensures told { TellsFailed result (S.has_failed source.new) }
+    ensures told { FailsAsTold is_read_failed result (S.has_failed source.old) (S.has_failed source.new) }
 {
     if code == 1 {
         let value = read_value(alloc, source, place)?;
@@ -82,7 +83,7 @@ pub(crate) fn read_answer<S: Source>(
     place: &mut u64,
 ) -> Result<Answer, BundleFault>
     ensures bytes { (zs : List ℕ) → S.left source.old ≡ Some zs → Reads (answer (record { at = place.old; bytes = zs })) result place.new (S.left source.new) }
-    ensures told { TellsFailed result (S.has_failed source.new) }
+    ensures told { FailsAsTold is_read_failed result (S.has_failed source.old) (S.has_failed source.new) }
 {
     let code = field_u8(source, place, 0, 2)?;
     read_reply(alloc, source, place, code)
@@ -111,7 +112,7 @@ fn read_texts<S: Source>(
     value_len: u16,
 ) -> Result<Command, BundleFault>
     ensures bytes { (zs : List ℕ) → S.left source.old ≡ Some zs → Reads (texts op key_len value_len (record { at = place.old; bytes = zs })) result place.new (S.left source.new) }
-    ensures told { TellsFailed result (S.has_failed source.new) }
+    ensures told { FailsAsTold is_read_failed result (S.has_failed source.old) (S.has_failed source.new) }
 {
     let key = read_run(alloc, source, place, key_len as usize)?;
     let value = read_run(alloc, source, place, value_len as usize)?;
@@ -128,7 +129,7 @@ fn most_value(op: u8) -> u16
 /// The length of the operation's value.
 fn read_value_len<S: Source>(source: &mut S, place: &mut u64, op: u8) -> Result<u16, BundleFault>
     ensures bytes { (zs : List ℕ) → S.left source.old ≡ Some zs → Reads (field 2 0 (most_value op) (record { at = place.old; bytes = zs })) result place.new (S.left source.new) }
-    ensures told { TellsFailed result (S.has_failed source.new) }
+    ensures told { FailsAsTold is_read_failed result (S.has_failed source.old) (S.has_failed source.new) }
 {
     field_u16(source, place, 0, most_value(op))
 }
@@ -140,7 +141,7 @@ pub(crate) fn read_command<S: Source>(
     place: &mut u64,
 ) -> Result<Command, BundleFault>
     ensures bytes { (zs : List ℕ) → S.left source.old ≡ Some zs → Reads (command (record { at = place.old; bytes = zs })) result place.new (S.left source.new) }
-    ensures told { TellsFailed result (S.has_failed source.new) }
+    ensures told { FailsAsTold is_read_failed result (S.has_failed source.old) (S.has_failed source.new) }
 {
     let op = field_u8(source, place, 2, 4)?;
     let key_len = field_u8(source, place, 1, 255)?;

@@ -1,8 +1,9 @@
 //! Receipts.
 
 ghost use Rattle.std.specs.Prelude.{◌≡◌, ℕ, List, [], Some};
+ghost use Rattle.ep_base.specs.Devices.{FailsAsTold};
 ghost use Rattle.ep_base.specs.Quorums.{size};
-ghost use Rattle.ep_bundle.specs.Reading.{map_ok, many, Reads, TellsFailed};
+ghost use Rattle.ep_bundle.specs.Reading.{map_ok, many, is_read_failed, Reads};
 ghost use Rattle.ep_bundle.specs.Stages.{receipt};
 
 use crate::bundle_fault::BundleFault;
@@ -20,7 +21,7 @@ fn read_receipt<S: Source>(
     cluster: Size,
 ) -> Result<Receipt, BundleFault>
     ensures bytes { (zs : List ℕ) → S.left source.old ≡ Some zs → Reads (receipt (size cluster) (record { at = place.old; bytes = zs })) result place.new (S.left source.new) }
-    ensures told { TellsFailed result (S.has_failed source.new) }
+    ensures told { FailsAsTold is_read_failed result (S.has_failed source.old) (S.has_failed source.new) }
 {
     let client = read_counted(source, place)?;
     let request = read_counted(source, place)?;
@@ -51,7 +52,7 @@ pub(crate) fn read_receipts<S: Source>(
     count: u32,
 ) -> Result<Vec<Receipt>, BundleFault>
     ensures bytes { (zs : List ℕ) → S.left source.old ≡ Some zs → Reads (many (receipt (size cluster)) count [] (record { at = place.old; bytes = zs })) (map_ok (λ v. v.items) result) place.new (S.left source.new) }
-    ensures told { TellsFailed result (S.has_failed source.new) }
+    ensures told { FailsAsTold is_read_failed result (S.has_failed source.old) (S.has_failed source.new) }
 {
     let mut receipts = Vec::new(alloc);
     for _ in 0..count {

@@ -1,9 +1,7 @@
 //! Bundles as bytes: read, written, and refused where one of their bytes is changed.
 
-use crate::{
-    Bundle, BundleFault, WriteFault, read_bundle, read_journal, write_bundle, write_journal,
-};
-use ep_base::{FailAt, Noted, ReplicaId, Size, Source};
+use crate::{Bundle, BundleFault, read_bundle, read_journal, write_bundle, write_journal};
+use ep_base::{FailAt, Noted, ReplicaId, Size, Source, WriteFailed};
 use ep_journal::Journal;
 use std::alloc::Global;
 use std::process::Abort;
@@ -180,6 +178,7 @@ fn assert_no_run_with(
 /// The bundle as it is written again.
 fn written(rt: &impl Abort, alloc: Global, bundle: &Bundle) -> Vec<u8> {
     let mut sink = Noted::new(Vec::new(alloc));
+    assert!(*rt; bundle.receipts.len() <= 4_294_967_295);
     let written = write_bundle(&bundle.journals, bundle.receipts.as_slice(), &mut sink);
     written.expect(rt, "a bundle written");
     sink.into_inner()
@@ -286,9 +285,10 @@ fn assert_read_failing(rt: &impl Abort, alloc: Global, call: u64) {
 /// It is written by 10 calls.
 fn assert_write_failing(rt: &impl Abort, alloc: Global, bundle: &Bundle, call: u64) {
     let mut sink = FailAt::new(Noted::new(Vec::new(alloc)), call);
+    assert!(*rt; bundle.receipts.len() <= 4_294_967_295);
     let written = write_bundle(&bundle.journals, bundle.receipts.as_slice(), &mut sink);
     drop(sink);
-    assert_eq!(*rt; written == Err(WriteFault::WriteFailed), call <= 10);
+    assert_eq!(*rt; written == Err(WriteFailed), call <= 10);
 }
 
 #[test]
@@ -302,6 +302,63 @@ fn faults_of_source_and_sink(rt: HostRuntime) {
         assert_write_failing(&rt, alloc, &bundle, call);
     }
     drop(bundle);
+}
+
+/// A bundle is read from a source that failed in an earlier call, and written to such a sink.
+fn assert_bundle_again(rt: &impl Abort, alloc: Global, bytes: &[u8]) {
+    let mut source = FailAt::new(Noted::new(bytes), 1);
+    let fault = read_bundle(alloc, &mut source).err();
+    assert_eq!(*rt; fault, Some(BundleFault::ReadFailed));
+    let bundle = read_bundle(alloc, &mut source).expect(rt, "a bundle");
+    let mut sink = FailAt::new(Noted::new(Vec::new(alloc)), 1);
+    assert!(*rt; bundle.receipts.len() <= 4_294_967_295);
+    let first = write_bundle(&bundle.journals, bundle.receipts.as_slice(), &mut sink).is_ok();
+    let second = write_bundle(&bundle.journals, bundle.receipts.as_slice(), &mut sink).is_ok();
+    drop(bundle);
+    let again = sink.into_inner().into_inner();
+    assert_eq!(*rt; again.as_slice(), bytes);
+    drop(again);
+    assert_eq!(*rt; [first, second], [false, true]);
+}
+
+/// So is the journal at place 10 of the bytes.
+fn assert_journal_again(rt: &impl Abort, alloc: Global, bytes: &[u8]) {
+    let mut source = FailAt::new(Noted::new(part(bytes, 10, 106)), 1);
+    let mut place = 10;
+    let size = Size::new(3).expect(rt, "a size");
+    let failed = read_journal(alloc, size, ReplicaId::first(), &mut source, &mut place);
+    let fault = failed.err();
+    assert_eq!(*rt; fault, Some(BundleFault::ReadFailed));
+    assert_eq!(*rt; place, 10);
+    let read = read_journal(alloc, size, ReplicaId::first(), &mut source, &mut place);
+    let journal = read.expect(rt, "a journal");
+    let mut sink = FailAt::new(Noted::new(Vec::new(alloc)), 1);
+    let first = write_journal(&journal, &mut sink).is_ok();
+    let second = write_journal(&journal, &mut sink).is_ok();
+    drop(journal);
+    let again = sink.into_inner().into_inner();
+    assert_eq!(*rt; again.as_slice(), part(bytes, 10, 96));
+    drop(again);
+    assert_eq!(*rt; [first, second], [false, true]);
+}
+
+/// The call after the one in which a source failed answers by the bytes that are left.
+fn assert_bad_again(rt: &impl Abort, alloc: Global, bytes: &[u8], at: u64) {
+    let mut source = FailAt::new(Noted::new(bytes), 1);
+    let first = read_bundle(alloc, &mut source).err();
+    assert_eq!(*rt; first, Some(BundleFault::ReadFailed));
+    let second = read_bundle(alloc, &mut source).err();
+    assert_eq!(*rt; second, Some(BundleFault::BadBundle(at)));
+}
+
+#[test]
+fn an_earlier_fault_is_not_told_again(rt: HostRuntime) {
+    let alloc = rt.alloc();
+    assert_bundle_again(&rt, alloc, &EMPTY);
+    assert_bad_again(&rt, alloc, &EMPTY[..24], 21);
+    let bytes = one_put(&rt, alloc);
+    assert_journal_again(&rt, alloc, bytes.as_slice());
+    drop(bytes);
 }
 
 #[test]

@@ -180,7 +180,7 @@ clear_deps g out c w p e i d a h f q = elim (p.deps i d a h f q) [
 ]
 
 -- each of the list is among these
-in_then : (xs ds : List ℕ) → are_in xs ds ≡ true → (d : ℕ) → Has ds d → Has xs d
+pub in_then : (xs ds : List ℕ) → are_in xs ds ≡ true → (d : ℕ) → Has ds d → Has xs d
 in_then xs [] e d h = absurd (omega arith)
 in_then xs (x ∷ ds) e d h =
     let p = and_parts (ltb (place xs x) (length xs)) (are_in xs ds) e in

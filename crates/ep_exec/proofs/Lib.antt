@@ -10,3 +10,4 @@ pub mod Size
 pub mod Seen
 pub mod Clear
 pub mod Cut
+pub mod Alone

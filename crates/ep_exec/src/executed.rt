@@ -2,6 +2,7 @@
 
 ghost use Rattle.std.specs.Prelude.{◌≡◌, ◌<◌, ◌≤◌, ◌+◌, ◌↔◌, [], ◌∷◌, ◌++◌, IsTrue, OnOk};
 ghost use Rattle.ep_base.specs.Places.{Has};
+ghost use Rattle.ep_exec.specs.Ready.{are_in};
 
 use ep_base::InstanceId;
 use indexmap::IndexSet;
@@ -40,6 +41,18 @@ impl Executed {
         ensures { IsTrue result ↔ Has self.now.list instance }
     {
         self.set.contains(&instance)
+    }
+
+    /// Whether each of the list is in the set.
+    pub(crate) fn contains_all(&self, list: &[InstanceId]) -> bool
+        ensures { result ≡ are_in self.now.list list.now }
+    {
+        for instance in list {
+            if !self.contains(*instance) {
+                return false;
+            }
+        }
+        true
     }
 
     /// The instances, in the order in which they were added.

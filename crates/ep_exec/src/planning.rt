@@ -4,6 +4,7 @@ ghost use Rattle.std.specs.Prelude.{◌≡◌, ℕ, ◌↔◌, None, IsTrue, IfO
 ghost use Rattle.ep_base.specs.Places.{Has};
 ghost use Rattle.ep_rules.specs.Order.{IsPlan, IsClosed};
 ghost use Rattle.ep_rules.specs.States.{graph_in};
+ghost use Rattle.ep_exec.specs.Cut.{is_alone};
 ghost use Rattle.ep_exec.specs.Found.{IsLeast};
 ghost use Rattle.ep_exec.specs.Refusal.{Refuses};
 ghost use Rattle.ep_exec.specs.Walk.{lists};
@@ -49,7 +50,18 @@ fn members_of(alloc: Global, found: &[Vec<InstanceId>]) -> Result<Vec<InstanceId
     Ok(all)
 }
 
-/// The plan, by a walk that leaves out what is skipped: what was executed, as far as it is closed.
+/// Whether the instance is committed, and all that it depends on is skipped.
+fn is_alone(space: &Space, skipped: &Executed, instance: InstanceId) -> bool
+    ensures { result ≡ is_alone skipped.now.list (graph_in space.now.records instance) }
+{
+    match attrs_at(space, instance) {
+        Some(attrs) => skipped.contains_all(attrs.deps.as_slice()),
+        None => false,
+    }
+}
+
+/// The plan, by a walk that leaves out what is skipped: what was executed, as far as it is closed. Where that is all that the root depends on,
+/// nothing is walked.
 fn plan_past(
     alloc: Global,
     space: &Space,
@@ -64,6 +76,9 @@ fn plan_past(
 {
     if executed.contains(root) {
         return Ok(Vec::new(alloc));
+    }
+    if is_alone(space, skipped, root) {
+        return Ok(Vec::from_slice(alloc, &[root])?);
     }
     let found = components(alloc, space, skipped, root)?;
     let members = members_of(alloc, &found)?;

@@ -1,4 +1,4 @@
-ghost use Rattle.std.specs.Prelude.{◌≡◌, ◌≢◌, ◌≤◌};
+ghost use Rattle.std.specs.Prelude.{◌≡◌, ◌≢◌, ◌≤◌, ◌<◌};
 ghost use Rattle.ep_base.specs.Fitting.{BallotsFit};
 ghost use Rattle.ep_base.specs.Instances.{instance_of};
 ghost use Rattle.ep_base.specs.Ballots.{ballot_of};
@@ -438,6 +438,51 @@ fn an_origin_is_written_in_place(rt: HostRuntime) {
     expected[5] = 2;
     expected[7] = 1;
     assert_eq!(rt; bytes.as_slice(), expected.as_slice());
+}
+
+/// The bytes are refused for this fault, and each of them stays.
+fn assert_left<const N: usize>(rt: &impl Abort, bytes: [u8; N], expected: FrameFault) {
+    let mut left = bytes;
+    let refused = FrameMut::split(&mut left).err();
+    assert_eq!(rt; refused, Some(expected));
+    assert_eq!(rt; left.as_slice(), bytes.as_slice());
+}
+
+/// The first frame with another byte at this place.
+fn wrong_at(place: usize, byte: u8) -> [u8; 42]
+    requires { place < 42 }
+{
+    let mut bytes = PRE_ACCEPT;
+    bytes[place] = byte;
+    bytes
+}
+
+#[test]
+fn a_wrong_header_is_left(rt: HostRuntime) {
+    assert_left(&rt, wrong_at(1, 0x51), FrameFault::Magic);
+    assert_left(&rt, wrong_at(2, 2), FrameFault::Version);
+    assert_left(&rt, wrong_at(3, 9), FrameFault::Kind);
+    assert_left(&rt, wrong_at(4, 7), FrameFault::Field(4));
+    assert_left(&rt, wrong_at(26, 1), FrameFault::Field(26));
+}
+
+#[test]
+fn a_wrong_length_is_left(rt: HostRuntime) {
+    let mut short = [0; 39];
+    short.copy_from_slice(&PRE_ACCEPT[..39]);
+    assert_left(&rt, short, FrameFault::Short);
+    let mut longer = [7; 43];
+    longer[..42].copy_from_slice(&PRE_ACCEPT);
+    assert_left(&rt, longer, FrameFault::Length);
+}
+
+#[test]
+fn dependencies_in_falling_order_are_left(rt: HostRuntime) {
+    let mut falling = [0; 46];
+    falling[..43].copy_from_slice(&WITH_DEP);
+    falling[39] = 2;
+    falling[43..].copy_from_slice(&[0, 0, 2]);
+    assert_left(&rt, falling, FrameFault::Order);
 }
 
 // A borrowed key.

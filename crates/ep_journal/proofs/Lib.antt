@@ -10,3 +10,6 @@ pub mod Whole
 pub mod InOrder
 pub mod Collected
 pub mod Collecting
+pub mod Still
+pub mod Named
+pub mod Growing

@@ -33,7 +33,7 @@ placed me i (Err e) fit few = tt
 -- the event's rule, at its instance
 writable : (f me : ℕ) (s : State) (e : Event) (i : ℕ) (o : Outcome) → size f ≤ 256 → me < size f → StateFits s → EventFits e → screened f me e ≡ None → acts f me s e ≡ at i o → Writable me o
 writable f me s e i o few here fits event sc is =
-    let small : length (sends f me s e) ≤ size f + 1 = sends_few f me s e in
+    let small : length (sends f me s e) ≤ size f = sends_few f me s e in
     let most : length (sends f me s e) ≤ 1000 = omega arith in
     placed me i o (subst (λ r. AllSpellable me (sent_by me r)) is (sends_fit f me s e few here fits event sc)) (subst (λ r. length (sent_by me r) ≤ 1000) is most)
 

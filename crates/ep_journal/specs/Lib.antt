@@ -6,3 +6,5 @@ pub mod Inputs
 pub mod Stepping
 pub mod Entries
 pub mod Standing
+pub mod Blocks
+pub mod Leaving

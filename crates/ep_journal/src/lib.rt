@@ -1,6 +1,16 @@
 //! One step of a replica, and journals: each entry is the step from what the earlier ones leave.
+//!
+//! `ep_replica` steps a `State` and appends to a `Journal`; `ep_bundle` steps one again as it reads a journal's bytes. The
+//! step is `IsStep` of `ep_rules`, with every refusal in its order, and a refusal leaves the state as it was.
+//!
+//! Start with `event.rt`, `entry.rt` and `state.rt` (`State::step`), then specs/Standing.antt (`Advances`, `IsRefused`). A
+//! `Journal` is a local run by its type, so whoever holds one knows it.
+//!
+//! Where a step's frames can't be written, `saved.rt` puts back what there was of the instance; several executions are tried
+//! first, and kept or taken back together. Nothing else is ever undone: keep it so.
 #![tactic(auto)]
 
+mod blocked;
 mod entry;
 mod event;
 mod execute;
@@ -12,6 +22,7 @@ mod input;
 mod journal;
 mod journals;
 mod mark;
+mod naming;
 mod proposal;
 mod protocol;
 mod saved;

@@ -3,6 +3,7 @@
 //! What owns much is let go by a call of `drop`: that is proved part by part, once, and not in each test anew.
 
 mod gathering;
+mod journaling;
 mod refusing;
 mod stepping;
 
@@ -18,6 +19,12 @@ use std::process::Abort;
 const PRE_ACCEPT: [u8; 42] = [
     0x45, 0x50, 1, 1, 0, 1, 0, 0, 0, 0, 0, 1, 0, 0, 0, 0, 0, 0, 0, 1, 0, 0, 1, 0, 0, 0, 0, 0, 0, 0,
     0, 0, 0, 1, 3, 1, 0, 1, 0, 0, 0x78, 0x31,
+];
+
+/// Replica 1's answer to the first frame.
+const PRE_ACCEPT_OK: [u8; 40] = [
+    0x45, 0x50, 1, 2, 1, 0, 0, 0, 0, 0, 0, 1, 0, 0, 0, 0, 0, 0, 0, 2, 0, 0, 1, 0, 0, 0, 0, 0, 0, 0,
+    0, 0, 0, 1, 0, 0, 0, 0, 0, 0,
 ];
 
 fn replica(rt: &impl Abort, index: u8) -> ReplicaId {

@@ -1,5 +1,6 @@
 mod Bundling
 pub mod Ending
+mod Flags
 mod Judging
 mod Puts
 pub mod Literals

@@ -1,7 +1,6 @@
 -- The bundle of a script.
 use Rattle.std.specs.Prelude.{◌≡◌, ℕ, List, Ok}
 use Rattle.ep_bundle.specs.Bytes.{bundle_bytes}
-use Rattle.ep_bundle.specs.Writing.{BundleFits}
 use Rattle.ep_journal.specs.Entries.{journals_of}
 use Rattle.ep_rules.specs.Audits.{IsAccepted}
 use Rattle.ep_script.specs.Plan.{Plan, script_of}
@@ -21,9 +20,3 @@ pub record IsBundled (zs : List ℕ) (out : Output) : Type 0 where
   pub replay : IsPlayed zs played
   pub accepted : IsAccepted played.journals.faults (journals_of played.journals) played.receipts.items
   pub wrote : Wrote out (bundle_bytes played.journals played.receipts.items)
-
--- The bytes are a script, and a count of what its run leaves doesn't fit its field of a bundle.
-pub record IsTooMany (zs : List ℕ) : Type 0 where
-  pub played : Replayed
-  pub replay : IsPlayed zs played
-  pub many : ¬ BundleFits played.journals played.receipts.items

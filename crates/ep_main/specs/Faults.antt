@@ -1,5 +1,5 @@
 -- How the program ends at a fault, and the line that it then tells.
-use Rattle.std.specs.Prelude.{ℕ, List, ◌++◌, codes, decimal}
+use Rattle.std.specs.Prelude.{ℕ, Bool, true, false, List, ◌++◌, codes, decimal}
 use Rattle.ep_bundle.specs.declared.bundle_fault.BundleFault.{BundleFault}
 use Rattle.ep_bundle.specs.declared.bundle_fault.BundleFault.TheVariants as bundle
 use Rattle.ep_script.specs.declared.script_fault.ScriptFault.{ScriptFault}
@@ -57,6 +57,26 @@ status_of (NotARun replica entry) = Refused
 status_of Memory = OutOfMemory
 status_of Read = Failed
 status_of Write = Failed
+
+-- the reader's own fault
+abbrev pub is_read : Fault → Bool
+is_read CommandLine = false
+is_read (Script line) = false
+is_read (BadBundle offset) = false
+is_read (NotARun replica entry) = false
+is_read Memory = false
+is_read Read = true
+is_read Write = false
+
+-- the writer's own fault
+abbrev pub is_write : Fault → Bool
+is_write CommandLine = false
+is_write (Script line) = false
+is_write (BadBundle offset) = false
+is_write (NotARun replica entry) = false
+is_write Memory = false
+is_write Read = false
+is_write Write = true
 
 -- a script's fault as the program's
 abbrev pub of_script : ScriptFault → Fault

@@ -1,15 +1,24 @@
--- What is written on an output.
+-- What is written on an output, and which device has failed.
 use Rattle.std.specs.Prelude.{◌≡◌, ◌⊎◌, ℕ, Bool, true, List, [], Option}
 use Rattle.std.specs.Io.KnownBytes.{Appends}
 
--- an output: the bytes that it held before and holds after, where these are known, and whether it has then failed
+-- an input: whether it had failed before, and has after
+pub record Input : Type 0 where
+  pub had_failed : Bool
+  pub failed : Bool
+
+abbrev pub input : Bool → Bool → Input
+input had_failed failed = record { had_failed = had_failed; failed = failed }
+
+-- an output: the bytes that it held before and holds after, where these are known, and whether it had failed before, and has after
 pub record Output : Type 0 where
   pub before : Option (List ℕ)
   pub after : Option (List ℕ)
+  pub had_failed : Bool
   pub failed : Bool
 
-abbrev pub output : Option (List ℕ) → Option (List ℕ) → Bool → Output
-output before after failed = record { before = before; after = after; failed = failed }
+abbrev pub output : Option (List ℕ) → Option (List ℕ) → Bool → Bool → Output
+output before after had_failed failed = record { before = before; after = after; had_failed = had_failed; failed = failed }
 
 -- these bytes were written, and nothing else
 abbrev pub Wrote : Output → List ℕ → Type 0
@@ -21,3 +30,14 @@ WroteNothing o = Wrote o []
 -- this line was written, and nothing else, unless the output has failed
 abbrev pub Told : Output → List ℕ → Type 0
 Told o line = (o.failed ≡ true) ⊎ Wrote o line
+
+-- In between, neither failed, or just the input, or just the output.
+
+abbrev pub NoneFailed : Input → Output → Type 0
+NoneFailed i o = (i.failed ≡ i.had_failed) × (o.failed ≡ o.had_failed)
+
+abbrev pub InputFailed : Input → Output → Type 0
+InputFailed i o = (i.failed ≡ true) × (o.failed ≡ o.had_failed)
+
+abbrev pub OutputFailed : Input → Output → Type 0
+OutputFailed i o = (i.failed ≡ i.had_failed) × (o.failed ≡ true)

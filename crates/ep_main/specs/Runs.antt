@@ -1,12 +1,12 @@
--- What the program does, by the status that it answers: of the bytes zs that it reads, whether its reader has then failed, its output and its fault output.
-use Rattle.std.specs.Prelude.{◌≡◌, ◌⊎◌, ℕ, Bool, true, List, Result, Ok, Err, string_bytes}
+-- What the program does, by the status that it answers: of the bytes zs that it reads, its reader, its output and its fault output.
+use Rattle.std.specs.Prelude.{◌≡◌, ◌⊎◌, ℕ, true, List, Result, Ok, Err, string_bytes}
 use Rattle.ep_bundle.specs.Journals.{ReadsBundle}
 use Rattle.ep_bundle.specs.declared.bundle_fault.BundleFault.TheVariants as bundle
 use Rattle.ep_script.specs.Plan.{Plan, script_of}
 use Rattle.ep_main.specs.Audits.{IsAudit}
-use Rattle.ep_main.specs.Bundled.{IsBundled, IsTooMany}
+use Rattle.ep_main.specs.Bundled.{IsBundled}
 use Rattle.ep_main.specs.Faults.{command_line_refused, script_refused, bad_bundle, not_a_run, out_of_memory, reading_failed, writing_failed, line_of, status_of}
-use Rattle.ep_main.specs.Outputs.{Output, Wrote, WroteNothing, Told}
+use Rattle.ep_main.specs.Outputs.{Input, Output, Wrote, WroteNothing, Told, NoneFailed, InputFailed, OutputFailed}
 use Rattle.ep_main.specs.Reported.{IsReport}
 use Rattle.ep_main.specs.declared.asked.Asked.{Asked}
 use Rattle.ep_main.specs.declared.asked.Asked.TheVariants.{Replay, Audit, Help}
@@ -51,28 +51,28 @@ pub record IsOutOfMemory (out fault : Output) : Type 0 where
   pub silent : WroteNothing out
   pub told : Told fault out_of_memory
 
--- The reader has failed, or the output.
-abbrev pub HasFailed : Bool → Output → Output → Type 0
-HasFailed reader out fault = ((reader ≡ true) × WroteNothing out × Told fault reading_failed) ⊎ ((out.failed ≡ true) × Told fault writing_failed)
+-- The reader has failed, and nothing was written on the output; or the output has failed.
+abbrev pub HasFailed : Input → Output → Output → Type 0
+HasFailed reader out fault = (InputFailed reader out × WroteNothing out × Told fault reading_failed) ⊎ (OutputFailed reader out × Told fault writing_failed)
 
 -- a replay, of which a report is asked for: the audit refuses none
-abbrev pub Replays : Status → List ℕ → Bool → Output → Output → Type 0
+abbrev pub Replays : Status → List ℕ → Input → Output → Output → Type 0
 Replays Accepted zs reader out fault = IsReplayed zs out × WroteNothing fault
 Replays AuditRefused zs reader out fault = ⊥
 Replays Refused zs reader out fault = IsScriptRefused zs out fault
 Replays OutOfMemory zs reader out fault = IsOutOfMemory out fault
 Replays Failed zs reader out fault = HasFailed reader out fault
 
--- a replay, of which the bundle is asked for; one that has more of something than its field can count is told as a failure
-abbrev pub Emits : Status → List ℕ → Bool → Output → Output → Type 0
+-- a replay, of which the bundle is asked for: the audit refuses none
+abbrev pub Emits : Status → List ℕ → Input → Output → Output → Type 0
 Emits Accepted zs reader out fault = IsBundled zs out × WroteNothing fault
 Emits AuditRefused zs reader out fault = ⊥
 Emits Refused zs reader out fault = IsScriptRefused zs out fault
 Emits OutOfMemory zs reader out fault = IsOutOfMemory out fault
-Emits Failed zs reader out fault = HasFailed reader out fault ⊎ (IsTooMany zs × Told fault writing_failed)
+Emits Failed zs reader out fault = HasFailed reader out fault
 
 -- an audit of a bundle
-abbrev pub Audits : Status → List ℕ → Bool → Output → Output → Type 0
+abbrev pub Audits : Status → List ℕ → Input → Output → Output → Type 0
 Audits Accepted zs reader out fault = IsAudit Accepted zs out × WroteNothing fault
 Audits AuditRefused zs reader out fault = IsAudit AuditRefused zs out × WroteNothing fault
 Audits Refused zs reader out fault = IsBadBundle zs out fault ⊎ IsNotARun zs out fault
@@ -95,7 +95,7 @@ IsHelped Refused out fault = ⊥
 IsHelped OutOfMemory out fault = IsOutOfMemory out fault
 IsHelped Failed out fault = (out.failed ≡ true) × Told fault writing_failed
 
-abbrev pub Performs : Asked → Status → List ℕ → Bool → Output → Output → Type 0
+abbrev pub Performs : Asked → Status → List ℕ → Input → Output → Output → Type 0
 Performs (Replay Report) status zs reader out fault = Replays status zs reader out fault
 Performs (Replay Bundle) status zs reader out fault = Emits status zs reader out fault
 Performs Audit status zs reader out fault = Audits status zs reader out fault
@@ -109,37 +109,54 @@ Declines Accepted out fault = ⊥
 Declines AuditRefused out fault = ⊥
 Declines Failed out fault = ⊥
 
--- Before a fault is told.
+-- Whatever is asked for and is read: the status is that of a failure exactly where the reader or the output failed in this run, and the line
+-- tells which of them; and the fault output fails only where a line is told on it.
+abbrev pub Ends : Status → Input → Output → Output → Type 0
+Ends Accepted reader out fault = NoneFailed reader out × (fault.failed ≡ fault.had_failed)
+Ends AuditRefused reader out fault = NoneFailed reader out × (fault.failed ≡ fault.had_failed)
+Ends Refused reader out fault = NoneFailed reader out
+Ends OutOfMemory reader out fault = NoneFailed reader out
+Ends Failed reader out fault = (InputFailed reader out × Told fault reading_failed) ⊎ (OutputFailed reader out × Told fault writing_failed)
 
-abbrev pub Plays : Result Status Fault → List ℕ → Bool → Output → Type 0
-Plays (Ok status) zs reader out = (status ≡ Accepted) × IsReplayed zs out
-Plays (Err CommandLine) zs reader out = ⊥
-Plays (Err (Script line)) zs reader out = (script_of zs ≡ Err line) × WroteNothing out
-Plays (Err (BadBundle offset)) zs reader out = ⊥
-Plays (Err (NotARun replica entry)) zs reader out = ⊥
-Plays (Err Memory) zs reader out = WroteNothing out
-Plays (Err Read) zs reader out = (reader ≡ true) × WroteNothing out
-Plays (Err Write) zs reader out = out.failed ≡ true
+-- a status that tells no fault
+abbrev pub IsVerdict : Status → Type 0
+IsVerdict Accepted = Unit {0}
+IsVerdict AuditRefused = Unit {0}
+IsVerdict Refused = ⊥
+IsVerdict OutOfMemory = ⊥
+IsVerdict Failed = ⊥
 
-abbrev pub Leaves : Result Status Fault → List ℕ → Bool → Output → Type 0
-Leaves (Ok status) zs reader out = (status ≡ Accepted) × IsBundled zs out
-Leaves (Err CommandLine) zs reader out = ⊥
-Leaves (Err (Script line)) zs reader out = (script_of zs ≡ Err line) × WroteNothing out
-Leaves (Err (BadBundle offset)) zs reader out = ⊥
-Leaves (Err (NotARun replica entry)) zs reader out = ⊥
-Leaves (Err Memory) zs reader out = WroteNothing out
-Leaves (Err Read) zs reader out = (reader ≡ true) × WroteNothing out
-Leaves (Err Write) zs reader out = (out.failed ≡ true) ⊎ IsTooMany zs
+-- Before a fault is told: what was written. Which device failed, the fault says itself.
 
-abbrev pub Finishes : Result Status Fault → List ℕ → Bool → Output → Type 0
-Finishes (Ok status) zs reader out = IsAudit status zs out
-Finishes (Err CommandLine) zs reader out = ⊥
-Finishes (Err (Script line)) zs reader out = ⊥
-Finishes (Err (BadBundle offset)) zs reader out = ReadsBundle (record { at = 0; bytes = zs }) (Err (bundle.BadBundle offset)) × WroteNothing out
-Finishes (Err (NotARun replica entry)) zs reader out = ReadsBundle (record { at = 0; bytes = zs }) (Err (bundle.NotARun replica entry)) × WroteNothing out
-Finishes (Err Memory) zs reader out = WroteNothing out
-Finishes (Err Read) zs reader out = (reader ≡ true) × WroteNothing out
-Finishes (Err Write) zs reader out = out.failed ≡ true
+abbrev pub Plays : Result Status Fault → List ℕ → Output → Type 0
+Plays (Ok status) zs out = (status ≡ Accepted) × IsReplayed zs out
+Plays (Err CommandLine) zs out = ⊥
+Plays (Err (Script line)) zs out = (script_of zs ≡ Err line) × WroteNothing out
+Plays (Err (BadBundle offset)) zs out = ⊥
+Plays (Err (NotARun replica entry)) zs out = ⊥
+Plays (Err Memory) zs out = WroteNothing out
+Plays (Err Read) zs out = WroteNothing out
+Plays (Err Write) zs out = Unit {0}
+
+abbrev pub Leaves : Result Status Fault → List ℕ → Output → Type 0
+Leaves (Ok status) zs out = (status ≡ Accepted) × IsBundled zs out
+Leaves (Err CommandLine) zs out = ⊥
+Leaves (Err (Script line)) zs out = (script_of zs ≡ Err line) × WroteNothing out
+Leaves (Err (BadBundle offset)) zs out = ⊥
+Leaves (Err (NotARun replica entry)) zs out = ⊥
+Leaves (Err Memory) zs out = WroteNothing out
+Leaves (Err Read) zs out = WroteNothing out
+Leaves (Err Write) zs out = Unit {0}
+
+abbrev pub Finishes : Result Status Fault → List ℕ → Output → Type 0
+Finishes (Ok status) zs out = IsAudit status zs out
+Finishes (Err CommandLine) zs out = ⊥
+Finishes (Err (Script line)) zs out = ⊥
+Finishes (Err (BadBundle offset)) zs out = ReadsBundle (record { at = 0; bytes = zs }) (Err (bundle.BadBundle offset)) × WroteNothing out
+Finishes (Err (NotARun replica entry)) zs out = ReadsBundle (record { at = 0; bytes = zs }) (Err (bundle.NotARun replica entry)) × WroteNothing out
+Finishes (Err Memory) zs out = WroteNothing out
+Finishes (Err Read) zs out = WroteNothing out
+Finishes (Err Write) zs out = Unit {0}
 
 abbrev pub Prints : Result Status Fault → List ℕ → Output → Type 0
 Prints (Ok status) text out = (status ≡ Accepted) × Wrote out text
@@ -149,15 +166,15 @@ Prints (Err (BadBundle offset)) text out = ⊥
 Prints (Err (NotARun replica entry)) text out = ⊥
 Prints (Err Memory) text out = ⊥
 Prints (Err Read) text out = ⊥
-Prints (Err Write) text out = out.failed ≡ true
+Prints (Err Write) text out = Unit {0}
 
-abbrev pub Does : Asked → Result Status Fault → List ℕ → Bool → Output → Type 0
-Does (Replay Report) outcome zs reader out = Plays outcome zs reader out
-Does (Replay Bundle) outcome zs reader out = Leaves outcome zs reader out
-Does Audit outcome zs reader out = Finishes outcome zs reader out
-Does (Help text) outcome zs reader out = Prints outcome (string_bytes text) out
+abbrev pub Does : Asked → Result Status Fault → List ℕ → Output → Type 0
+Does (Replay Report) outcome zs out = Plays outcome zs out
+Does (Replay Bundle) outcome zs out = Leaves outcome zs out
+Does Audit outcome zs out = Finishes outcome zs out
+Does (Help text) outcome zs out = Prints outcome (string_bytes text) out
 
 -- a fault is told, and decides on the status
 abbrev pub Concludes : Result Status Fault → Status → Output → Type 0
-Concludes (Ok said) status fault = (status ≡ said) × WroteNothing fault
+Concludes (Ok said) status fault = (status ≡ said) × WroteNothing fault × (fault.failed ≡ fault.had_failed)
 Concludes (Err e) status fault = (status ≡ status_of e) × Told fault (line_of e)

@@ -1,9 +1,11 @@
 //! Audits of bundles.
 
 ghost use Rattle.std.specs.Prelude.{◌≡◌, ℕ, List, Some, IfOk, IfErr};
+ghost use Rattle.ep_base.specs.Devices.{FailsAsTold};
 ghost use Rattle.ep_main.specs.Audits.{Says};
+ghost use Rattle.ep_main.specs.Faults.{is_read, is_write};
 ghost use Rattle.ep_main.specs.Outputs.{output};
-ghost use Rattle.ep_main.specs.Runs.{Finishes};
+ghost use Rattle.ep_main.specs.Runs.{Finishes, IsVerdict};
 ghost use Rattle.ep_main.specs.declared.fault.Fault.TheVariants.{Memory};
 
 use crate::fault::Fault;
@@ -21,8 +23,11 @@ pub(crate) fn print_audit<S: Source, W: Sink>(
     reader: &mut S,
     writer: &mut W,
 ) -> Result<Status, Fault>
-    ensures { (zs : List ℕ) → S.left reader.old ≡ Some zs → Finishes result zs (S.has_failed reader.new)
-        (output (W.held writer.old) (W.held writer.new) (W.has_failed writer.new)) }
+    ensures finishes { (zs : List ℕ) → S.left reader.old ≡ Some zs → Finishes result zs
+        (output (W.held writer.old) (W.held writer.new) (W.has_failed writer.old) (W.has_failed writer.new)) }
+    ensures verdict { IfOk result IsVerdict }
+    ensures read { FailsAsTold is_read result (S.has_failed reader.old) (S.has_failed reader.new) }
+    ensures written { FailsAsTold is_write result (W.has_failed writer.old) (W.has_failed writer.new) }
 {
     let bundle = read_bundle(alloc, reader)?;
     let judged = judge_bundle(alloc, &bundle)?;

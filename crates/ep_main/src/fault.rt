@@ -6,7 +6,7 @@ ghost use Rattle.ep_main.specs.declared.fault.Fault.TheVariants.{Memory, Write};
 
 use crate::status::Status;
 use ep_base::{ReplicaId, WriteFailed};
-use ep_bundle::{BundleFault, WriteFault};
+use ep_bundle::BundleFault;
 use ep_script::ScriptFault;
 use std::alloc::AllocError;
 
@@ -80,15 +80,6 @@ impl From<WriteFailed> for Fault {
     ghost from_gives = { λ _ e. e ≡ Write };
 
     fn from(_fault: WriteFailed) -> Fault {
-        Fault::Write
-    }
-}
-
-/// A bundle that can't be written since a count doesn't fit its field is told as a writer that fails.
-impl From<WriteFault> for Fault {
-    ghost from_gives = { λ _ e. e ≡ Write };
-
-    fn from(_fault: WriteFault) -> Fault {
         Fault::Write
     }
 }

@@ -1,4 +1,12 @@
 //! `epaxos`: replays scripts of a replicated key-value core, audits bundles, and prints reports.
+//!
+//! `main` hands the words and the standard streams to `engine`, in `program.rt`, which is all of the program: over any source
+//! and sinks, so that its contract can say what the bytes and the status mean, and tests can run it over memory.
+//!
+//! Start with `program.rt`, `command_line.rt` (the words, by `clap`) and specs/Runs.antt (what is done, by status).
+//!
+//! It does no more than call `ep_replay`, `ep_audit` and `ep_bundle`. A fault has one line on the fault output and one status
+//! (`fault.rt`, `telling.rt`, `status.rt`), as docs/FORMATS.md, section 6, lists them.
 #![tactic(auto)]
 
 mod asked;

@@ -1,8 +1,10 @@
 //! The program, over any source and sinks.
 
-ghost use Rattle.std.specs.Prelude.{◌≡◌, ◌⊎◌, ℕ, List, Some, map};
-ghost use Rattle.ep_main.specs.Outputs.{output};
-ghost use Rattle.ep_main.specs.Runs.{Performs, IsHelped, Declines, Does, Concludes};
+ghost use Rattle.std.specs.Prelude.{◌≡◌, ◌⊎◌, ℕ, List, Some, IfOk, map};
+ghost use Rattle.ep_base.specs.Devices.{FailsAsTold};
+ghost use Rattle.ep_main.specs.Faults.{is_read, is_write};
+ghost use Rattle.ep_main.specs.Outputs.{input, output};
+ghost use Rattle.ep_main.specs.Runs.{Performs, IsHelped, Declines, Ends, Does, Concludes, IsVerdict};
 ghost use Rattle.ep_main.specs.Words.{AskFor, AskForHelp, IsAsked};
 ghost use Rattle.ep_main.specs.declared.asked.Asked.{Asked};
 
@@ -31,22 +33,27 @@ pub fn engine<T: AsStr, S: Source, W: Sink, F: Sink>(
     fault_writer: &mut F,
 ) -> Status
     // where the words ask for a replay's report, for its bundle, or for an audit, that is done
-    ensures asked { (asked : Asked) → AskFor asked (map T.text words.now) → (zs : List ℕ) → S.left reader.old ≡ Some zs → Performs asked result zs (S.has_failed reader.new)
-        (output (W.held writer.old) (W.held writer.new) (W.has_failed writer.new))
-        (output (F.held fault_writer.old) (F.held fault_writer.new) (F.has_failed fault_writer.new)) }
+    ensures asked { (asked : Asked) → AskFor asked (map T.text words.now) → (zs : List ℕ) → S.left reader.old ≡ Some zs → Performs asked result zs (input (S.has_failed reader.old) (S.has_failed reader.new))
+        (output (W.held writer.old) (W.held writer.new) (W.has_failed writer.old) (W.has_failed writer.new))
+        (output (F.held fault_writer.old) (F.held fault_writer.new) (F.has_failed fault_writer.old) (F.has_failed fault_writer.new)) }
 
     // where they ask for help, it is printed
     ensures help { AskForHelp (map T.text words.now) → (zs : List ℕ) → S.left reader.old ≡ Some zs → IsHelped result
-        (output (W.held writer.old) (W.held writer.new) (W.has_failed writer.new))
-        (output (F.held fault_writer.old) (F.held fault_writer.new) (F.has_failed fault_writer.new)) }
+        (output (W.held writer.old) (W.held writer.new) (W.has_failed writer.old) (W.has_failed writer.new))
+        (output (F.held fault_writer.old) (F.held fault_writer.new) (F.has_failed fault_writer.old) (F.has_failed fault_writer.new)) }
 
     // whatever the words are, they are refused, or what they ask for is done
     ensures other { (zs : List ℕ) → S.left reader.old ≡ Some zs → Declines result
-        (output (W.held writer.old) (W.held writer.new) (W.has_failed writer.new))
-        (output (F.held fault_writer.old) (F.held fault_writer.new) (F.has_failed fault_writer.new))
-        ⊎ ((asked : Asked) × IsAsked asked (map T.text words.now) × Performs asked result zs (S.has_failed reader.new)
-        (output (W.held writer.old) (W.held writer.new) (W.has_failed writer.new))
-        (output (F.held fault_writer.old) (F.held fault_writer.new) (F.has_failed fault_writer.new))) }
+        (output (W.held writer.old) (W.held writer.new) (W.has_failed writer.old) (W.has_failed writer.new))
+        (output (F.held fault_writer.old) (F.held fault_writer.new) (F.has_failed fault_writer.old) (F.has_failed fault_writer.new))
+        ⊎ ((asked : Asked) × IsAsked asked (map T.text words.now) × Performs asked result zs (input (S.has_failed reader.old) (S.has_failed reader.new))
+        (output (W.held writer.old) (W.held writer.new) (W.has_failed writer.old) (W.has_failed writer.new))
+        (output (F.held fault_writer.old) (F.held fault_writer.new) (F.has_failed fault_writer.old) (F.has_failed fault_writer.new))) }
+
+    // whatever the words and the bytes are, status 4 is that of a device that failed in this run
+    ensures ends { Ends result (input (S.has_failed reader.old) (S.has_failed reader.new))
+        (output (W.held writer.old) (W.held writer.new) (W.has_failed writer.old) (W.has_failed writer.new))
+        (output (F.held fault_writer.old) (F.held fault_writer.new) (F.has_failed fault_writer.old) (F.has_failed fault_writer.new)) }
 {
     match read_words(alloc, words) {
         Ok(asked) => perform(alloc, asked, reader, writer, fault_writer),
@@ -62,9 +69,12 @@ pub fn perform<S: Source, W: Sink, F: Sink>(
     writer: &mut W,
     fault_writer: &mut F,
 ) -> Status
-    ensures { (zs : List ℕ) → S.left reader.old ≡ Some zs → Performs asked result zs (S.has_failed reader.new)
-        (output (W.held writer.old) (W.held writer.new) (W.has_failed writer.new))
-        (output (F.held fault_writer.old) (F.held fault_writer.new) (F.has_failed fault_writer.new)) }
+    ensures performs { (zs : List ℕ) → S.left reader.old ≡ Some zs → Performs asked result zs (input (S.has_failed reader.old) (S.has_failed reader.new))
+        (output (W.held writer.old) (W.held writer.new) (W.has_failed writer.old) (W.has_failed writer.new))
+        (output (F.held fault_writer.old) (F.held fault_writer.new) (F.has_failed fault_writer.old) (F.has_failed fault_writer.new)) }
+    ensures ends { Ends result (input (S.has_failed reader.old) (S.has_failed reader.new))
+        (output (W.held writer.old) (W.held writer.new) (W.has_failed writer.old) (W.has_failed writer.new))
+        (output (F.held fault_writer.old) (F.held fault_writer.new) (F.has_failed fault_writer.old) (F.has_failed fault_writer.new)) }
 {
     let outcome = attempt(alloc, asked, reader, writer);
     concluded(outcome, fault_writer)
@@ -77,8 +87,11 @@ fn attempt<S: Source, W: Sink>(
     reader: &mut S,
     writer: &mut W,
 ) -> Result<Status, Fault>
-    ensures { (zs : List ℕ) → S.left reader.old ≡ Some zs → Does asked result zs (S.has_failed reader.new)
-        (output (W.held writer.old) (W.held writer.new) (W.has_failed writer.new)) }
+    ensures done { (zs : List ℕ) → S.left reader.old ≡ Some zs → Does asked result zs
+        (output (W.held writer.old) (W.held writer.new) (W.has_failed writer.old) (W.has_failed writer.new)) }
+    ensures verdict { IfOk result IsVerdict }
+    ensures read { FailsAsTold is_read result (S.has_failed reader.old) (S.has_failed reader.new) }
+    ensures written { FailsAsTold is_write result (W.has_failed writer.old) (W.has_failed writer.new) }
 {
     match asked {
         Asked::Replay(Emit::Report) => print_replay(alloc, reader, writer),
@@ -93,7 +106,7 @@ fn attempt<S: Source, W: Sink>(
 
 /// How the program ends. A fault is told on the fault output; where that fails, the status stays.
 pub(crate) fn concluded<F: Sink>(outcome: Result<Status, Fault>, fault_writer: &mut F) -> Status
-    ensures { Concludes outcome result (output (F.held fault_writer.old) (F.held fault_writer.new) (F.has_failed fault_writer.new)) }
+    ensures { Concludes outcome result (output (F.held fault_writer.old) (F.held fault_writer.new) (F.has_failed fault_writer.old) (F.has_failed fault_writer.new)) }
 {
     match outcome {
         Ok(status) => status,

@@ -1,11 +1,13 @@
 //! Replays.
 
 ghost use Rattle.std.specs.Prelude.{◌≡◌, ℕ, List, Some, IfOk, IfErr};
+ghost use Rattle.ep_base.specs.Devices.{FailsAsTold};
+ghost use Rattle.ep_main.specs.Faults.{is_read, is_write};
 ghost use Rattle.ep_main.specs.Outputs.{output};
 ghost use Rattle.ep_main.specs.Reported.{IsReportOf};
 ghost use Rattle.ep_journal.specs.Entries.{journals_of};
 ghost use Rattle.ep_rules.specs.Audits.{IsAccepted};
-ghost use Rattle.ep_main.specs.Runs.{Plays, Leaves};
+ghost use Rattle.ep_main.specs.Runs.{Plays, Leaves, IsVerdict};
 ghost use Rattle.ep_main.specs.declared.fault.Fault.TheVariants.{Memory};
 
 use crate::fault::Fault;
@@ -24,8 +26,11 @@ pub(crate) fn print_replay<S: Source, W: Sink>(
     reader: &mut S,
     writer: &mut W,
 ) -> Result<Status, Fault>
-    ensures { (zs : List ℕ) → S.left reader.old ≡ Some zs → Plays result zs (S.has_failed reader.new)
-        (output (W.held writer.old) (W.held writer.new) (W.has_failed writer.new)) }
+    ensures plays { (zs : List ℕ) → S.left reader.old ≡ Some zs → Plays result zs
+        (output (W.held writer.old) (W.held writer.new) (W.has_failed writer.old) (W.has_failed writer.new)) }
+    ensures verdict { IfOk result IsVerdict }
+    ensures read { FailsAsTold is_read result (S.has_failed reader.old) (S.has_failed reader.new) }
+    ensures written { FailsAsTold is_write result (W.has_failed writer.old) (W.has_failed writer.new) }
 {
     let script = read_script(alloc, reader)?;
     let played = replay(alloc, &script)?;
@@ -40,8 +45,11 @@ pub(crate) fn emit_bundle<S: Source, W: Sink>(
     reader: &mut S,
     writer: &mut W,
 ) -> Result<Status, Fault>
-    ensures { (zs : List ℕ) → S.left reader.old ≡ Some zs → Leaves result zs (S.has_failed reader.new)
-        (output (W.held writer.old) (W.held writer.new) (W.has_failed writer.new)) }
+    ensures leaves { (zs : List ℕ) → S.left reader.old ≡ Some zs → Leaves result zs
+        (output (W.held writer.old) (W.held writer.new) (W.has_failed writer.old) (W.has_failed writer.new)) }
+    ensures verdict { IfOk result IsVerdict }
+    ensures read { FailsAsTold is_read result (S.has_failed reader.old) (S.has_failed reader.new) }
+    ensures written { FailsAsTold is_write result (W.has_failed writer.old) (W.has_failed writer.new) }
 {
     let script = read_script(alloc, reader)?;
     let played = replay(alloc, &script)?;

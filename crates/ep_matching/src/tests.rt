@@ -14,6 +14,7 @@ fn empty_journals(rt: &impl Abort, alloc: Global) -> Journals {
     let mut journals = Vec::new(alloc);
     for index in 0..3 {
         let replica = ReplicaId::new(index).expect(rt, "a replica");
+        assert!(rt; replica.index() < size.count());
         journals
             .push(Journal::new(alloc, size, replica))
             .expect(rt, "memory for a journal");

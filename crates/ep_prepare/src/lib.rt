@@ -2,6 +2,12 @@
 //!
 //! Each call takes one event of one instance, which has a place in both tables. It changes the records and what is led,
 //! and gives the messages to send, with their receivers. Where it answers an error, nothing has changed.
+//!
+//! `ep_journal` calls it for Recover, Prepare, PrepareOK and Nack. Each call does what its rule in `ep_rules`,
+//! specs/Recovery.antt, says.
+//!
+//! Start with `choosing.rt`, the five cases of the choice, on which safety turns: a case that is tested a little otherwise
+//! breaks agreement, and docs/SAFETY.md tells why. Then `recovering.rt`, `preparing.rt` and `counting.rt`.
 #![tactic(auto)]
 
 mod choice;

@@ -2,3 +2,5 @@ mod Counting
 mod Flagging
 mod Receiving
 mod Leading
+mod OneReceipt
+mod ReceiptsOnce

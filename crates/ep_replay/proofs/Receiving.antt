@@ -16,7 +16,7 @@ use Rattle.ep_world.specs.Playing.{Happens, with_entry}
 use Rattle.ep_world.specs.declared.world_event.WorldEvent.{WorldEvent}
 use Rattle.ep_replay.specs.Tables.{AreOwn}
 
-entries_append : (xs ys : List Entry) → entries_of (xs ++ ys) ≡ entries_of xs ++ entries_of ys
+pub entries_append : (xs ys : List Entry) → entries_of (xs ++ ys) ≡ entries_of xs ++ entries_of ys
 entries_append [] ys = refl
 entries_append (x ∷ xs) ys = ap (λ es. entry_of x ∷ es) (entries_append xs ys)
 

@@ -3,3 +3,4 @@ pub mod Clients
 pub mod Replays
 pub mod Tables
 pub mod Outcome
+pub mod Told

@@ -1,4 +1,12 @@
 //! Replays of scripts: a script's lines are played in a world, one after another.
+//!
+//! `ep_main` calls `replay`. It numbers each client's requests, hands in the greatest stamp that the client was told, gives
+//! messages by their numbers, and lists what was refused. What it leaves, the audit accepts: that is in its contract.
+//!
+//! Start with `player.rt`, then specs/Replays.antt (what each line plays) and specs/Clients.antt.
+//!
+//! All of it is the meaning of a script, as docs/FORMATS.md, sections 4.3 and 4.4, tells it; the protocol is in `ep_world`
+//! and below.
 #![tactic(auto)]
 
 mod causes;

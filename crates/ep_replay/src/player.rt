@@ -1,7 +1,8 @@
 //! Replays of scripts.
 
-ghost use Rattle.std.specs.Prelude.{◌≡◌, ℕ, ◌++◌, List, OnOk, IfOk};
+ghost use Rattle.std.specs.Prelude.{◌≡◌, ℕ, ◌≤◌, ◌++◌, List, length, OnOk, IfOk};
 ghost use Rattle.ep_rules.specs.Audits.{IsAccepted};
+ghost use Rattle.ep_rules.specs.Counts.{AreOnce};
 ghost use Rattle.ep_rules.specs.declared.receipt.Receipt.{Receipt as Told};
 ghost use Rattle.ep_journal.specs.Entries.{entry_of, journals_of};
 ghost use Rattle.ep_replica.specs.Receipts.{receipts_of};
@@ -11,6 +12,7 @@ ghost use Rattle.ep_world.specs.declared.world_event.WorldEvent.{WorldEvent as E
 ghost use Rattle.ep_replay.specs.Outcome.{IsReplay};
 ghost use Rattle.ep_replay.specs.Replays.{was_sent};
 ghost use Rattle.ep_replay.specs.Tables.{AreCounted, AreOwn};
+ghost use Rattle.ep_replay.specs.Told.{instances_of};
 
 use crate::causes::list;
 use crate::clients::Clients;
@@ -268,14 +270,18 @@ impl Player {
 /// ends the replay.
 ///
 /// A client's requests are numbered from 1 in the script's order, refused ones included. What it has seen is the
-/// greatest stamp of its receipts so far. After each event the replica that took it gives its receipts. The audit accepts
-/// what a replay leaves.
+/// greatest stamp of its receipts so far. After each event the replica that took it gives its receipts: one at most for
+/// each instance, so at most 7,000 in all. The audit accepts what a replay leaves.
 pub fn replay(alloc: Global, script: &Script) -> Result<Replayed, AllocError>
     ensures value { IfOk result (λ d. IsReplay script.now d) }
     ensures accepted { IfOk result (λ d. IsAccepted d.journals.faults (journals_of d.journals) d.receipts.items) }
+    ensures once { IfOk result (λ d. AreOnce (instances_of d.receipts.items)) }
+    ensures few { IfOk result (λ d. length d.receipts.items ≤ 7000) }
 {
     let mut player = Player::new(alloc, script.size())?;
     player.play_all(script.lines())?;
     let left = player.end(alloc)?;
+    left.journals.are_local_runs();
+    let _faults = left.journals.size().faults();
     Ok(left)
 }

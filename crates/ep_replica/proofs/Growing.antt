@@ -1,54 +1,38 @@
 -- A replica's journal with one entry more.
-use Rattle.std.proofs.Common.{◌≡◌, ℕ, suc, ◌+◌, ◌<◌, ◌-◌, max, length, length-append, get_or, cond, Bool, true, false, ◌&&◌, ltb, Option, Some, None, List, [], ◌∷◌, ◌++◌, refl, sym, ap, subst, ◌∙◌, arith}
+use Rattle.std.proofs.Common.{◌≡◌, ℕ, ◌+◌, ◌<◌, ◌-◌, max, length, length-append, get_or, cond, Bool, true, false, ◌&&◌, ltb, Option, Some, None, Result, Ok, Err, List, [], ◌∷◌, ◌++◌, refl, sym, ap, subst, ◌∙◌, arith}
 use Rattle.std.proofs.lemmas.List.{get_or_push}
-use Rattle.ep_rules.specs.Journals.{AreClocked, left, last_stamp, heard, IsLocalRun}
-use Rattle.ep_rules.specs.States.{State, fresh_state}
-use Rattle.ep_rules.specs.Steps.{leaves}
-use Rattle.ep_rules.proofs.JournalsGrow.{left_grows, stamp_grows, local_runs_grow_lem, clocks_grow_lem}
-use Rattle.ep_journal.specs.Entries.{Log, entry_of, entries_of, AreFrames, AreReadable, IsJournal}
+use Rattle.std.specs.Prelude.{IfSome, OnOk, OnErr}
+use Rattle.ep_rules.specs.Journals.{AreClocked, last_stamp, heard}
+use Rattle.ep_rules.proofs.JournalsGrow.{clocks_grow_lem}
+use Rattle.ep_journal.specs.Entries.{Log, entry_of, entries_of, IsJournal}
 use Rattle.ep_journal.specs.Events.{event_of, IsReadable}
-use Rattle.ep_journal.specs.Standing.{Standing, Advances}
+use Rattle.ep_journal.specs.Leaving.{MarksNext, Continues}
 use Rattle.ep_journal.specs.Stepping.{MarkedBy}
 use Rattle.ep_journal.specs.declared.entry.Entry.{Entry}
 use Rattle.ep_journal.specs.declared.event.Event.{Event as Happening}
 use Rattle.ep_journal.specs.declared.mark.Mark.{Mark}
-use Rattle.ep_replica.specs.Kept.{Kept, kept_of, standing, state_left}
-use Rattle.ep_replica.specs.Applied.{Applied, Advanced, mark_of, mark_after, next_stamp}
-
-pub entries_grow : (es : List Entry) (e : Entry) → entries_of (es ++ e ∷ []) ≡ entries_of es ++ entry_of e ∷ []
-entries_grow [] e = refl
-entries_grow (x ∷ es) e = ap (λ xs. entry_of x ∷ xs) (entries_grow es e)
-
-pub count_entries : (es : List Entry) → length (entries_of es) ≡ length es
-count_entries [] = refl
-count_entries (x ∷ es) = ap suc (count_entries es)
-
-pub readable_grow : (es : List Entry) (e : Entry) → AreReadable es → IsReadable e.event → AreFrames e.frames → AreReadable (es ++ e ∷ [])
-readable_grow [] e h r fs = (r, fs, tt)
-readable_grow (x ∷ es) e h r fs = (h.0, h.1, readable_grow es e h.2 r fs)
+use Rattle.ep_journal.specs.declared.step_fault.StepFault.{StepFault}
+use Rattle.ep_journal.proofs.Growing.{entries_grow, next_journal}
+use Rattle.ep_replica.specs.Kept.{Kept, kept_of}
+use Rattle.ep_replica.specs.Slots.{found, Tells}
+use Rattle.ep_replica.specs.declared.proposal.Proposal.{Proposal}
+use Rattle.ep_replica.specs.Applied.{Applied, mark_of, mark_after, next_stamp}
 
 -- the journal goes on
 pub journal_grows : (k : Kept) (event : Happening) (e : Entry) (k' : Kept) → IsJournal k.faults k.me k.entries → Applied k event e k' → IsJournal k.faults k.me (k.entries ++ e ∷ [])
-journal_grows k event e k' j a = record {
-  run = subst (λ xs. IsLocalRun k.faults k.me xs) (sym (entries_grow k.entries e))
-      (local_runs_grow_lem k.faults k.me (entries_of k.entries) (entry_of e) j.run a.step
-      (a.number ∙ ap (λ n. n + 1) (sym (count_entries k.entries)))
-      (let is : e.stamp ≡ 1 + max (last_stamp (entries_of k.entries)) (heard (event_of event)) = a.stamp in omega arith) a.marked);
-  readable = readable_grow k.entries e j.readable a.readable a.frames;
-}
+journal_grows k event e k' j a = next_journal k.faults k.me k.entries e j a.number (record {
+  step = a.step;
+  stamp = (let is : e.stamp ≡ 1 + max (last_stamp (entries_of k.entries)) (heard (event_of event)) = a.stamp in omega arith);
+  marked = a.marked;
+  readable = a.readable;
+  frames = a.frames;
+})
 
 -- so does the clock
 pub clock_grows : (k : Kept) (event : Happening) (e : Entry) (k' : Kept) → AreClocked 0 (entries_of k.entries) → Applied k event e k' → AreClocked 0 (entries_of (k.entries ++ e ∷ []))
 clock_grows k event e k' h a =
     subst (λ xs. AreClocked 0 xs) (sym (entries_grow k.entries e))
     (clocks_grow_lem (entries_of k.entries) (entry_of e) h (a.stamp ∙ ap (λ (h : Happening). next_stamp k.entries h) (sym a.event)))
-
-pub last_grows : (es : List Entry) (e : Entry) → last_stamp (entries_of (es ++ e ∷ [])) ≡ e.stamp
-last_grows es e = ap last_stamp (entries_grow es e) ∙ stamp_grows 0 (entries_of es) (entry_of e)
-
--- the state that one entry more leaves
-pub state_grows : (f me : ℕ) (es : List Entry) (e : Entry) → state_left f me (es ++ e ∷ []) ≡ leaves f me (state_left f me es) (event_of e.event) e.done
-state_grows f me es e = ap (left f me fresh_state) (entries_grow es e) ∙ left_grows f me fresh_state (entries_of es) (entry_of e)
 
 mark_is : (number stamp : ℕ) (m : Mark) → Some m ≡ mark_of number stamp → (m.number ≡ number) × (m.stamp ≡ stamp)
 mark_is number stamp m is = go (ltb number 4294967296 && ltb stamp 281474976710656) is
@@ -57,75 +41,79 @@ mark_is number stamp m is = go (ltb number 4294967296 && ltb stamp 2814749767106
     go true is = (let same : m ≡ record { number = number; stamp = stamp } = (cc) in (ap (λ (x : Mark). x.number) same, ap (λ (x : Mark). x.stamp) same))
     go false is = absurd (cc)
 
--- a step with the clock's mark is the replica's
-pub applied : (k : Kept) (event : Happening) (e : Entry) (mark : Option Mark) (t : Standing) → (IsReadable event → mark ≡ mark_after k.entries event) → MarkedBy (λ m. Advances (standing k) m event e t) mark
-    → Applied k event e (record k { entries = k.entries ++ e ∷ [] }) × (t ≡ standing (record k { entries = k.entries ++ e ∷ [] }))
-applied k event e None t clock a = absurd a
-applied k event e (Some m) t clock a =
-    let is = mark_is (length k.entries + 1) (next_stamp k.entries event) m (clock (subst IsReadable a.event a.readable)) in (
+-- the clock's mark may come next
+pub clock_next : (es : List Entry) (count last told : ℕ) (o : Option Mark) → count ≡ length es → last ≡ last_stamp (entries_of es) → o ≡ mark_of (count + 1) (1 + max last told) → IfSome o (λ m. MarksNext es m)
+clock_next es count last told None number stamp is = tt
+clock_next es count last told (Some m) number stamp is =
+    let at = mark_is (count + 1) (1 + max last told) m is in
+    let ticks : m.stamp ≡ 1 + max last told = at.1 in
+    record { number = at.0 ∙ ap (λ n. n + 1) number; stamp = omega arith }
+
+-- the step with the clock's mark is the replica's
+pub applied : (j j' : Log) (es : List Entry) (event : Happening) (mark : Option Mark) → es ≡ j.entries → (IsReadable event → mark ≡ mark_after es event) → MarkedBy (λ m. Continues j m event j') mark
+    → (e : Entry) × Applied (kept_of j) event e (kept_of j')
+applied j j' es event None same clock a = absurd a
+applied j j' es event (Some m) same clock a =
+    let readable : IsReadable event = subst IsReadable a.step.event a.step.readable in
+    let is = mark_is (length j.entries + 1) (next_stamp j.entries event) m (clock readable ∙ ap (λ (xs : List Entry). mark_after xs event) same) in (
+      a.entry,
       record {
-        event = a.event;
-        number = a.number ∙ is.0;
-        stamp = a.stamp ∙ is.1;
-        step = a.entry;
-        marked = a.marked;
-        readable = a.readable;
-        frames = a.frames;
-        appended = refl;
+        event = a.step.event;
+        number = a.step.number ∙ is.0;
+        stamp = a.step.stamp ∙ is.1;
+        step = a.step.entry;
+        marked = a.step.marked;
+        readable = a.step.readable;
+        frames = a.step.frames;
+        appended = ap kept_of a.appended;
       },
-      a.leaves ∙ ap (λ (s : State). record { faults = k.faults; me = k.me; state = s })
-          (ap (λ (h : Happening). leaves k.faults k.me (state_left k.faults k.me k.entries) (event_of h) e.done) (sym a.event) ∙ sym (state_grows k.faults k.me k.entries e)),
     )
 
--- a replica's step, by its journal and its state
-pub record Stepped (l : Log) (event : Happening) (e : Entry) (t : Standing) : Type 0 where
-  pub applied : Applied (kept_of l) event e (record (kept_of l) { entries = l.entries ++ e ∷ [] })
-  pub leaves : t ≡ standing (record (kept_of l) { entries = l.entries ++ e ∷ [] })
-
-pub stepped : (l : Log) (s : Standing) (es : List Entry) (event : Happening) (e : Entry) (mark : Option Mark) (t : Standing) → s ≡ standing (kept_of l) → es ≡ l.entries
-    → (IsReadable event → mark ≡ mark_after es event) → MarkedBy (λ m. Advances s m event e t) mark → Stepped l event e t
-stepped l s es event e mark t is same clock a =
-    let r =
-    applied (kept_of l) event e mark t (λ h. clock h ∙ ap (λ (xs : List Entry). mark_after xs event) same)
-    (subst (λ (z : Standing). MarkedBy (λ m. Advances z m event e t) mark) is a) in
-    record { applied = r.0; leaves = r.1 }
-
--- the entry is the next one
-pub next_entry : (l j : Log) (event : Happening) (e : Entry) (t : Standing) → Stepped l event e t → IsJournal l.faults l.me l.entries → j.faults ≡ l.faults → j.me ≡ l.me → j.entries ≡ l.entries → IsJournal j.faults j.me (j.entries ++ e ∷ [])
-next_entry l j event e t st run ef em ee = rw (ef, em, ee) (journal_grows (kept_of l) event e (record (kept_of l) { entries = l.entries ++ e ∷ [] }) run st.applied)
-
-same_kept : (l j : Log) (e : Entry) → j.faults ≡ l.faults → j.me ≡ l.me → j.entries ≡ l.entries ++ e ∷ [] → record (kept_of l) { entries = l.entries ++ e ∷ [] } ≡ kept_of j
-same_kept l j e ef em ee = λ t. record { faults = sym ef t; me = sym em t; entries = sym ee t }
-
-pub advanced : (l j : Log) (event : Happening) (e : Entry) (t : Standing) → Stepped l event e t → j.faults ≡ l.faults → j.me ≡ l.me → j.entries ≡ l.entries ++ e ∷ [] → Advanced (kept_of l) event (kept_of j) t e.stamp
-advanced l j event e t st ef em ee =
-    let same = same_kept l j e ef em ee in
-    record { entry = e; applied = subst (λ (k : Kept). Applied (kept_of l) event e k) same st.applied; leaves = subst (λ (k : Kept). t ≡ standing k) same st.leaves; stamped = refl }
-
 -- what holds of a replica holds after one entry more
-pub record Holds (l : Log) (t : Standing) (last : ℕ) : Type 0 where
-  pub state : t ≡ standing (kept_of l)
-  pub stamp : last ≡ last_stamp (entries_of l.entries)
-  pub clock : AreClocked 0 (entries_of l.entries)
-  pub some : 0 < l.faults
+pub record Holds (j : Log) : Type 0 where
+  pub clock : AreClocked 0 (entries_of j.entries)
+  pub some : 0 < j.faults
 
-pub goes_on : (l j : Log) (event : Happening) (t : Standing) (stamp last : ℕ) → AreClocked 0 (entries_of l.entries) → 0 < l.faults → last ≡ stamp → Advanced (kept_of l) event (kept_of j) t stamp → Holds j t last
-goes_on l j event t stamp last clock some is a =
-    let more : j.entries ≡ l.entries ++ a.entry ∷ [] = ap (λ (k : Kept). k.entries) a.applied.appended in
+holds_next : (j j' : Log) (event : Happening) → AreClocked 0 (entries_of j.entries) → 0 < j.faults → (e : Entry) × Applied (kept_of j) event e (kept_of j') → Holds j'
+holds_next j j' event clock some p =
+    let more : j'.entries ≡ j.entries ++ p.0 ∷ [] = ap (λ (k : Kept). k.entries) p.1.appended in
     record {
-      state = a.leaves;
-      stamp = is ∙ a.stamped ∙ sym (ap (λ (es : List Entry). last_stamp (entries_of es)) more ∙ last_grows l.entries a.entry);
-      clock = subst (λ (es : List Entry). AreClocked 0 (entries_of es)) (sym more) (clock_grows (kept_of l) event a.entry (kept_of j) clock a.applied);
-      some = subst (λ n. 0 < n) (sym (ap (λ (k : Kept). k.faults) a.applied.appended)) some;
+      clock = subst (λ (es : List Entry). AreClocked 0 (entries_of es)) (sym more) (clock_grows (kept_of j) event p.0 (kept_of j') clock p.1);
+      some = subst (λ n. 0 < n) (sym (ap (λ (k : Kept). k.faults) p.1.appended)) some;
     }
 
+pub goes_on : (r : Result (Unit {0}) StepFault) (j j' : Log) (event : Happening) → AreClocked 0 (entries_of j.entries) → 0 < j.faults → OnOk r ((e : Entry) × Applied (kept_of j) event e (kept_of j')) → OnErr r (j' ≡ j) → Holds j'
+goes_on (Ok u) j j' event clock some ok err = holds_next j j' event clock some ok
+goes_on (Err fault) j j' event clock some ok err = subst (λ (l : Log). Holds l) (sym err) (record { clock = clock; some = some })
+
 -- the last entry of what a step left is the one that it made
-pub lent : (k k' : Kept) (event : Happening) (r : Entry) → (e : Entry) × Applied k event e k' → r ≡ get_or k'.entries (length k'.entries - 1) r → Applied k event r (record k { entries = k.entries ++ r ∷ [] })
-lent k k' event r p is =
+pub last_made : (k k' : Kept) (event : Happening) (r : Entry) → (e : Entry) × Applied k event e k' → r ≡ get_or k'.entries (length k'.entries - 1) r → Applied k event r k'
+last_made k k' event r p is =
     let more : k'.entries ≡ k.entries ++ p.0 ∷ [] = ap (λ (z : Kept). z.entries) p.1.appended in
     let place : length k.entries ≡ length k'.entries - 1 = (let n : length k'.entries ≡ length k.entries + 1 = ap length more ∙ length-append k.entries (p.0 ∷ []) in omega arith) in
     let same : p.0 ≡ r = sym (is ∙ ap (λ (xs : List Entry). get_or xs (length k'.entries - 1) r) more ∙ get_or_push k.entries p.0 r (length k'.entries - 1) place) in
-    subst (λ (z : Entry). Applied k event z (record k { entries = k.entries ++ z ∷ [] })) same (subst (λ (z : Kept). Applied k event p.0 z) p.1.appended p.1)
+    subst (λ (z : Entry). Applied k event z k') same p.1
+
+pub lent : (k k' : Kept) (event : Happening) (r : Entry) → (e : Entry) × Applied k event e k' → r ≡ get_or k'.entries (length k'.entries - 1) r → Applied k event r (record k { entries = k.entries ++ r ∷ [] })
+lent k k' event r p is = let a = last_made k k' event r p is in subst (λ (z : Kept). Applied k event r z) a.appended a
 
 pub some_entry : (k k' : Kept) (event : Happening) → (e : Entry) × Applied k event e k' → 0 < length k'.entries
 some_entry k k' event p = let n : length k'.entries ≡ length k.entries + 1 = ap length (ap (λ (z : Kept). z.entries) p.1.appended) ∙ length-append k.entries (p.0 ∷ []) in omega arith
+
+-- where the entries are read off the journal that the step left
+pub read_off : (j j' : Log) (es es' : List Entry) (event : Happening) (mark : Option Mark) (r : Entry) → es ≡ j.entries → (IsReadable event → mark ≡ mark_after es event) → MarkedBy (λ m. Continues j m event j') mark
+    → es' ≡ j'.entries → r ≡ get_or es' (length es' - 1) r → Applied (kept_of j) event r (kept_of j')
+read_off j j' es es' event mark r same clock a same' is =
+    last_made (kept_of j) (kept_of j') event r (applied j j' es event mark same clock a) (subst (λ (xs : List Entry). r ≡ get_or xs (length xs - 1) r) same' is)
+
+pub some_read : (j j' : Log) (es es' : List Entry) (event : Happening) (mark : Option Mark) → es ≡ j.entries → (IsReadable event → mark ≡ mark_after es event) → MarkedBy (λ m. Continues j m event j') mark → es' ≡ j'.entries → 0 < length es'
+some_read j j' es es' event mark same clock a same' = subst (λ (xs : List Entry). 0 < length xs) (sym same') (some_entry (kept_of j) (kept_of j') event (applied j j' es event mark same clock a))
+
+-- what the entry proposes is noted
+pub tells_next : (j j' : Log) (event : Happening) (r : Entry) (me : ℕ) (old mid new : List (Option Proposal)) → Applied (kept_of j) event r (kept_of j') → me ≡ j'.me → Tells j.me j.entries old → ((n : ℕ) → found mid n ≡ found old n)
+    → ((es : List Entry) → Tells me es mid → Tells me (es ++ r ∷ []) new) → Tells j'.me j'.entries new
+tells_next j j' event r me old mid new a is h same noted =
+    let em : j'.me ≡ j.me = ap (λ (k : Kept). k.me) a.appended in
+    let ee : j'.entries ≡ j.entries ++ r ∷ [] = ap (λ (k : Kept). k.entries) a.appended in
+    let here : Tells me j.entries mid = subst (λ m. Tells m j.entries mid) (sym (is ∙ em)) (λ n le. same n ∙ h n le) in
+    subst (λ m. Tells m j'.entries new) is (subst (λ (es : List Entry). Tells me es new) (sym ee) (noted j.entries here))

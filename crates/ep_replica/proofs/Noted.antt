@@ -15,7 +15,7 @@ use Rattle.ep_journal.specs.declared.event.Event.TheVariants.{Propose}
 use Rattle.ep_replica.specs.Receipts.{proposed_by, proposal_of, or_else}
 use Rattle.ep_replica.specs.Slots.{found, named, Tells}
 use Rattle.ep_replica.specs.declared.proposal.Proposal.{Proposal}
-use Rattle.ep_replica.proofs.Growing.{entries_grow}
+use Rattle.ep_journal.proofs.Growing.{entries_grow}
 
 or_else_assoc : (a b c : Option Proposal) → or_else (or_else a b) c ≡ or_else a (or_else b c)
 or_else_assoc None b c = refl

@@ -3,12 +3,15 @@ use Rattle.std.specs.Prelude.{◌≡◌, ℕ, ◌+◌, ◌&&◌, ltb, max, lengt
 use Rattle.ep_rules.specs.Journals.{IsEntry, AreMarked, last_stamp, heard}
 use Rattle.ep_journal.specs.Entries.{entry_of, entries_of, AreFrames}
 use Rattle.ep_journal.specs.Events.{event_of, IsReadable}
-use Rattle.ep_journal.specs.Standing.{Standing, IsRefused}
+use Rattle.ep_journal.specs.Leaving.{state_left}
+use Rattle.ep_journal.specs.Standing.{IsRefused}
 use Rattle.ep_journal.specs.declared.entry.Entry.{Entry}
 use Rattle.ep_journal.specs.declared.event.Event.{Event as Happening}
 use Rattle.ep_journal.specs.declared.mark.Mark.{Mark}
 use Rattle.ep_journal.specs.declared.step_fault.StepFault.{StepFault}
-use Rattle.ep_replica.specs.Kept.{Kept, standing, state_left}
+use Rattle.ep_replica.specs.Faults.{in_numbers}
+use Rattle.ep_replica.specs.Kept.{Kept, standing}
+use Rattle.ep_replica.specs.declared.replica_fault.ReplicaFault.{ReplicaFault}
 
 -- one more than the greatest stamp that is known: the last entry's, or what the event tells of
 abbrev pub next_stamp : List Entry → Happening → ℕ
@@ -37,9 +40,6 @@ pub record Applied (k : Kept) (taken : Happening) (e : Entry) (k' : Kept) : Type
 abbrev pub IsDeclined : Kept → Happening → StepFault → Type 0
 IsDeclined k event fault = IsRefused (standing k) event (mark_after k.entries event) fault
 
--- an entry was made and appended; the state is what the journal leaves, and the stamp is the entry's
-pub record Advanced (k : Kept) (event : Happening) (k' : Kept) (s' : Standing) (stamp : ℕ) : Type 0 where
-  pub entry : Entry
-  pub applied : Applied k event entry k'
-  pub leaves : s' ≡ standing k'
-  pub stamped : stamp ≡ entry.stamp
+-- the same, an instance by its two numbers
+abbrev pub IsDeclinedFor : Kept → Happening → ReplicaFault → Type 0
+IsDeclinedFor k event fault = (why : StepFault) × IsDeclined k event why × (fault ≡ in_numbers why)

@@ -1,9 +1,8 @@
 -- A replica: its journal, and the state that this leaves.
 use Rattle.std.specs.Prelude.{ℕ, List, refl}
 use Rattle.std.specs.Coded.{Coded, code_by, coded×, coded_ℕ, coded_list}
-use Rattle.ep_rules.specs.Journals.{left}
-use Rattle.ep_rules.specs.States.{State, fresh_state}
-use Rattle.ep_journal.specs.Entries.{Log, entries_of}
+use Rattle.ep_journal.specs.Entries.{Log}
+use Rattle.ep_journal.specs.Leaving as journals
 use Rattle.ep_journal.specs.Standing.{Standing}
 use Rattle.ep_journal.specs.contracts.entry.Entry as entry_facts
 use Rattle.ep_journal.specs.declared.entry.Entry.{Entry}
@@ -19,13 +18,9 @@ kept_code =
     code_by (ℕ × (ℕ × List Entry)) (coded× coded_ℕ (coded× coded_ℕ (coded_list entry_facts.the_row.coded)))
     (λ k. (k.faults, (k.me, k.entries))) (λ p. record { faults = p.0; me = p.1.0; entries = p.1.1 }) (λ _. refl)
 
--- the state that the entries leave
-abbrev pub state_left : ℕ → ℕ → List Entry → State
-state_left f me es = left f me fresh_state (entries_of es)
-
 -- what the replica knows, has executed and stores
 abbrev pub standing : Kept → Standing
-standing k = record { faults = k.faults; me = k.me; state = state_left k.faults k.me k.entries }
+standing k = journals.standing (record { faults = k.faults; me = k.me; entries = k.entries })
 
 -- the replica whose journal it is
 abbrev pub kept_of : Log → Kept

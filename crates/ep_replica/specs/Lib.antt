@@ -1,4 +1,5 @@
 pub mod Kept
+pub mod Faults
 pub mod Applied
 pub mod Receipts
 pub mod Slots

@@ -1,15 +1,25 @@
 //! A replica: what it knows is what its journal leaves. It takes events, one entry each, by its clock, and gives receipts.
+//!
+//! This is the crate to build on: a program hands events to `Replica::take`, keeps the new entry, and sends its frames.
+//! docs/EMBEDDING.md tells how, and `ep_example` does it. `ep_world` holds replicas too.
+//!
+//! Start with `replica.rt`, then specs/Applied.antt (one event), specs/Receipts.antt (what callers are told) and `clock.rt`.
+//!
+//! It keeps to `ep_journal`'s step, with the number and the stamp of its own clock, and its state is what its journal leaves,
+//! by its type. No disk, no socket, no time and no thread is in here; leave those to the program.
 #![tactic(auto)]
 
 mod clock;
 mod proposal;
 mod receipt_view;
 mod replica;
+mod replica_fault;
 mod slots;
 
 pub use proposal::Proposal;
 pub use receipt_view::ReceiptView;
 pub use replica::Replica;
+pub use replica_fault::ReplicaFault;
 
 #[cfg(test)]
 mod tests;

@@ -2,14 +2,17 @@
 //! An event that finds no memory leaves the replica as it was and is taken when it is asked for again, so all ends alike whichever allocation is refused.
 //! What owns much is let go by a call of `drop`: that is proved part by part, once, and not in each test anew.
 
+ghost use Rattle.std.specs.Prelude.{◌≡◌, OnErr};
+
+mod printing;
 mod recovering;
 mod refusing;
 mod stamping;
 
-use crate::Replica;
+use crate::{Replica, ReplicaFault};
 use bytes::Bytes;
 use ep_base::{Command, InstanceId, ReplicaId, Size};
-use ep_journal::{Event, StepFault};
+use ep_journal::Event;
 use std::alloc::Global;
 use std::process::Abort;
 
@@ -59,8 +62,12 @@ fn handle(rt: &impl Abort, alloc: Global, frame: &[u8]) -> Event {
 }
 
 /// The stamp of the entry that a copy of the event makes.
-fn asked(alloc: Global, replica: &mut Replica, event: &Event) -> Result<u64, StepFault> {
-    let event = event.copy(alloc)?;
+fn asked(alloc: Global, replica: &mut Replica, event: &Event) -> Result<u64, ReplicaFault>
+    ensures err { OnErr result (replica.new ≡ replica.old) }
+{
+    let Ok(event) = event.copy(alloc) else {
+        return Err(ReplicaFault::Memory);
+    };
     let entry = replica.apply(event)?;
     Ok(entry.stamp.ticks())
 }
@@ -87,7 +94,7 @@ fn asked_once(
     alloc: Global,
     replica: &mut Replica,
     event: &Event,
-) -> Result<u64, StepFault> {
+) -> Result<u64, ReplicaFault> {
     let before = shown(rt, replica);
     let told = asked(alloc, replica, event);
     if told.is_err() {
@@ -102,9 +109,9 @@ fn stamp(
     alloc: Global,
     replica: &mut Replica,
     event: Event,
-) -> Result<u64, StepFault> {
+) -> Result<u64, ReplicaFault> {
     let mut told = asked_once(rt, alloc, replica, &event);
-    if told == Err(StepFault::Memory) {
+    if told == Err(ReplicaFault::Memory) {
         told = asked_once(rt, alloc, replica, &event);
     }
     drop(event);

@@ -1,4 +1,12 @@
 //! The reports of a replicated key-value core: what the program prints of a run, byte for byte.
+//!
+//! `ep_main` prints them. `ep_replay` names why a line was refused by `Cause`, `ep_matching` an audit's fault by `AuditFault`,
+//! and `ep_verdict` a place of the history by `Happening`. It keeps to docs/FORMATS.md, section 5.
+//!
+//! Start with `reports.rt` and specs/Reports.antt, which says the lines in order.
+//!
+//! Each text of a cause or a fault is written in specs/ and in code, and the check compares them: change both, and
+//! docs/FORMATS.md.
 #![tactic(auto)]
 
 mod audit_fault;

@@ -1,9 +1,10 @@
 -- Playing a list of events, in which a message is named by its place among those sent (from 1).
-use Rattle.std.proofs.Common.{ℕ, pred, List, [], ◌∷◌, Option, Some, None, slice_get}
+use Rattle.std.proofs.Common.{ℕ, pred, List, [], ◌∷◌, ◌++◌, Option, Some, None, slice_get}
 use Rattle.std.specs.Prelude.{Result, Ok, Err}
 use Rattle.ep_base.specs.declared.command.Command.{Command}
+use Rattle.ep_base.specs.declared.reply.Answer.{Answer}
 use Rattle.ep_rules.specs.Cells.{Change, Refusal, OutOfRange}
-use Rattle.ep_rows.specs.Steps.{Sent, Event, Propose, Handle, GiveUp, Recover, screened, acts}
+use Rattle.ep_rows.specs.Steps.{Sent, Event, Propose, Handle, GiveUp, Recover, Execute, screened, acts}
 use Rattle.ep_rows.specs.Worlds.{World, opening, Act, moved}
 
 pub data Line : Type 0 where
@@ -11,6 +12,8 @@ pub data Line : Type 0 where
   Resignation : (r i : ℕ) → Line
   Recovery : (r i : ℕ) → Line
   Deliver : (m : ℕ) → Line
+  -- of one instance, with its answer
+  Execution : (r i : ℕ) → (x : Answer) → Line
 
 abbrev act : ℕ → Event → Act
 act r e = record { replica = r; event = e; done = [] }
@@ -24,6 +27,7 @@ act_of w (Proposal r c) = Some (act r (Propose 1 1 c 0))
 act_of w (Resignation r i) = Some (act r (GiveUp i))
 act_of w (Recovery r i) = Some (act r (Recover i))
 act_of w (Deliver m) = deliver (slice_get w.sent (pred m))
+act_of w (Execution r i x) = Some (record { replica = r; event = Execute i; done = (i, x) ∷ [] })
 
 -- the event is a step, or why it is refused
 abbrev tried : Option Refusal → Result (ℕ × Change) Refusal → Option Refusal
@@ -34,17 +38,18 @@ tried None (Err e) = Some e
 abbrev refusal : ℕ → World → Act → Option Refusal
 refusal f w a = tried (screened f a.replica a.event) (acts f a.replica (w.states a.replica) a.event)
 
--- the world after the lines, and what was refused, the last first
+-- the world after the lines, its acts, and what was refused, the last first
 pub record Played : Type 0 where
   pub world : World
+  pub acts : List Act
   pub refused : List Refusal
 
 abbrev step : ℕ → Played → Act → Option Refusal → Played
-step f p a None = record { world = moved f p.world a; refused = p.refused }
-step f p a (Some e) = record { world = p.world; refused = e ∷ p.refused }
+step f p a None = record { world = moved f p.world a; acts = p.acts ++ (a ∷ []); refused = p.refused }
+step f p a (Some e) = record { world = p.world; acts = p.acts; refused = e ∷ p.refused }
 
 abbrev take : ℕ → Played → Option Act → Played
-take f p None = record { world = p.world; refused = OutOfRange ∷ p.refused }
+take f p None = record { world = p.world; acts = p.acts; refused = OutOfRange ∷ p.refused }
 take f p (Some a) = step f p a (refusal f p.world a)
 
 abbrev pub play : ℕ → Played → List Line → Played
@@ -52,7 +57,7 @@ play f p [] = p
 play f p (l ∷ ls) = play f (take f p (act_of p.world l)) ls
 
 abbrev pub fresh : Played
-fresh = record { world = opening; refused = [] }
+fresh = record { world = opening; acts = []; refused = [] }
 
 abbrev pub given : List ℕ → List Line → List Line
 given [] ls = ls

@@ -1,15 +1,21 @@
 -- Worked runs, computed from the definitions.
-use Rattle.std.proofs.Common.{◌≡◌, ℕ, List, [], ◌∷◌, map, Option, Some, None, slice_get, refl}
+use Rattle.std.proofs.Common.{◌≡◌, ℕ, List, [], ◌∷◌, map, Option, Some, None, slice_get, refl, arith}
 use Rattle.ep_base.specs.Ballots.{ballot_of}
 use Rattle.ep_base.specs.Instances.{instance_of}
+use Rattle.ep_base.specs.declared.attrs.Attrs.{Attrs}
 use Rattle.ep_base.specs.declared.command.Command.{Command}
 use Rattle.ep_base.specs.declared.command.Command.TheVariants.{Noop, Put, Get}
 use Rattle.ep_base.specs.declared.decree.Decree.{Decree}
 use Rattle.ep_base.specs.declared.message.Message.TheVariants.{PrepareOk, Nack}
+use Rattle.ep_base.specs.declared.reply.Answer.TheVariants.{Told}
+use Rattle.ep_base.specs.declared.reply.Reply.TheVariants.{Absent, Present}
 use Rattle.ep_base.specs.declared.vote.Status.TheVariants.{PreAccepted}
 use Rattle.ep_rules.specs.Cells.{TooFewAnswers}
-use Rattle.ep_rows.specs.States.{committed_in}
-use Rattle.ep_rows.proofs.Playing.{Line, Proposal, Resignation, Recovery, Deliver, Played, play, fresh, given}
+use Rattle.ep_rows.specs.Operations.{Operation, history_of}
+use Rattle.ep_rows.specs.States.{State, committed_in}
+use Rattle.ep_rows.specs.Steps.{IsExecution}
+use Rattle.ep_rows.proofs.OneByOne.{execution, closed_none, closed_one}
+use Rattle.ep_rows.proofs.Playing.{Line, Proposal, Resignation, Recovery, Deliver, Execution, Played, play, fresh, given}
 
 abbrev committed : Played → ℕ → ℕ → Option Decree
 committed p r i = committed_in (p.world.states r).records i
@@ -20,8 +26,15 @@ put_x n = Put (120 ∷ []) (n ∷ [])
 abbrev get_x : Command
 get_x = Get (120 ∷ [])
 
+abbrev attrs : ℕ → List ℕ → Attrs
+attrs seq deps = record { seq = seq; deps = deps }
+
 abbrev decree : Command → ℕ → List ℕ → Decree
-decree c seq deps = record { command = c; attrs = record { seq = seq; deps = deps } }
+decree c seq deps = record { command = c; attrs = attrs seq deps }
+
+-- the put as the first instance of replica r
+abbrev put_as : ℕ → ℕ → Operation
+put_as r n = record { instance = instance_of r 1; command = put_x n }
 
 -- one put, three replicas: the fast path, and all three commit
 abbrev one_put : Played
@@ -120,3 +133,58 @@ both = play 1 fresh (Proposal 0 (put_x 49) ∷ (Proposal 1 (put_x 50) ∷ given 
 
 both_commit : map (λ i. committed both 0 i) (instance_of 0 1 ∷ instance_of 1 1 ∷ []) ≡ Some (decree (put_x 49) 2 (instance_of 1 1 ∷ [])) ∷ Some (decree (put_x 50) 3 (instance_of 0 1 ∷ [])) ∷ []
 both_commit = refl
+
+-- two puts of one key, by callers that tell each other nothing: the second one is proposed at another replica, after the first was executed
+abbrev in_turn : List Line → Played
+in_turn ls =
+    play 1 fresh (Proposal 0 (put_x 49) ∷ given (1 ∷ 2 ∷ 3 ∷ 4 ∷ []) (Execution 0 (instance_of 0 1) (Told Absent) ∷ (Proposal 1 (put_x 50) ∷ given (5 ∷ 6 ∷ 7 ∷ 8 ∷ []) (Execution 1 (instance_of 0 1) (Told Absent) ∷ ls))))
+
+abbrev both_in_turn : Played
+both_in_turn = in_turn (Execution 1 (instance_of 1 1) (Told (Present (49 ∷ []))) ∷ [])
+
+in_turn_refuses_nothing : both_in_turn.refused ≡ []
+in_turn_refuses_nothing = refl
+
+in_turn_commits : map (λ i. committed both_in_turn 1 i) (instance_of 0 1 ∷ instance_of 1 1 ∷ []) ≡ Some (decree (put_x 49) 1 []) ∷ Some (decree (put_x 50) 2 (instance_of 0 1 ∷ [])) ∷ []
+in_turn_commits = refl
+
+in_turn_history : history_of 1 both_in_turn.acts ≡ put_as 0 49 ∷ (put_as 1 50 ∷ [])
+in_turn_history = refl
+
+-- the first and the last execution are what the definition gives in the states that they find
+abbrev first_executes : State
+first_executes = (play 1 fresh (Proposal 0 (put_x 49) ∷ given (1 ∷ 2 ∷ 3 ∷ 4 ∷ []) [])).world.states 0
+
+in_turn_first : IsExecution first_executes (instance_of 0 1) ((instance_of 0 1, Told Absent) ∷ [])
+in_turn_first = execution first_executes (instance_of 0 1) (attrs 1 []) (Told Absent) (closed_none _) refl (λ j h. absurd (omega arith)) (λ h. absurd (omega arith)) refl
+
+abbrev last_executes : State
+last_executes = (in_turn []).world.states 1
+
+in_turn_last : IsExecution last_executes (instance_of 1 1) ((instance_of 1 1, Told (Present (49 ∷ []))) ∷ [])
+in_turn_last =
+    execution last_executes (instance_of 1 1) (attrs 2 (instance_of 0 1 ∷ [])) (Told (Present (49 ∷ []))) (closed_one _ (instance_of 0 1) 1 refl) refl (λ j h. h) (λ h. absurd (omega arith)) refl
+
+-- another replica executes a put before its own leader does, and a second put too: the leader's answer comes last, and the history has its put first
+abbrev overtaken : List Line → Played
+overtaken ls =
+    play 1 fresh (Proposal 0 (put_x 49) ∷ given (1 ∷ 2 ∷ 3 ∷ []) (Execution 1 (instance_of 0 1) (Told Absent) ∷ (Proposal 1 (put_x 50) ∷ given (5 ∷ 6 ∷ []) (Execution 1 (instance_of 1 1) (Told (Present (49 ∷ []))) ∷ ls))))
+
+abbrev leader_last : Played
+leader_last = overtaken (Execution 0 (instance_of 0 1) (Told Absent) ∷ [])
+
+overtaken_refuses_nothing : leader_last.refused ≡ []
+overtaken_refuses_nothing = refl
+
+overtaken_history : history_of 1 leader_last.acts ≡ put_as 0 49 ∷ (put_as 1 50 ∷ [])
+overtaken_history = refl
+
+-- before its leader has answered it has its place already
+overtaken_history_before : history_of 1 (overtaken []).acts ≡ put_as 0 49 ∷ (put_as 1 50 ∷ [])
+overtaken_history_before = refl
+
+abbrev leader_executes : State
+leader_executes = (overtaken []).world.states 0
+
+overtaken_last : IsExecution leader_executes (instance_of 0 1) ((instance_of 0 1, Told Absent) ∷ [])
+overtaken_last = execution leader_executes (instance_of 0 1) (attrs 1 []) (Told Absent) (closed_none _) refl (λ j h. absurd (omega arith)) (λ h. absurd (omega arith)) refl

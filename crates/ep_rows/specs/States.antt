@@ -9,7 +9,7 @@ use Rattle.ep_rules.specs.Cells.{Change, Cell, record_or_fresh, committed_decree
 use Rattle.ep_rules.specs.Counting.{least}
 use Rattle.ep_rules.specs.Graph.{Graph}
 use Rattle.ep_rows.specs.Maps.{Map, none, get, insert, remove}
-use Rattle.ep_rules.specs.OneMap.{Contents, empty}
+use Rattle.ep_rows.specs.OneMap.{Contents, empty}
 use Rattle.ep_rules.specs.declared.led.Led.{Led}
 use Rattle.ep_rules.specs.declared.record.Record.{Record}
 

@@ -13,7 +13,7 @@ use Rattle.ep_base.specs.declared.vote.Vote.{Vote}
 use Rattle.ep_rules.specs.Cells.{Change, nothing, Refusal, OutOfRange, NotMine, SpaceFull, NotCommitted}
 use Rattle.ep_rows.specs.InterferenceSet.{interference}
 use Rattle.ep_rows.specs.Maps.{get}
-use Rattle.ep_rules.specs.OneMap.{answers_of, after_all}
+use Rattle.ep_rows.specs.OneMap.{answers_of, after_all}
 use Rattle.ep_rules.specs.Order.{IsPlan, IsBlocked}
 use Rattle.ep_rules.specs.Phases.{Outcome, propose, give_up, on_pre_accept, on_pre_accept_ok, on_accept, on_accept_ok, on_commit}
 use Rattle.ep_rules.specs.Recovery.{recover, on_prepare, on_prepare_ok, on_nack}

@@ -21,12 +21,12 @@ new_has h xs i k = elim (has_or h i) [
   | inr n ↦ has_right h (filter (is_new h) xs) i (filter_has (is_new h) xs i (Rattle.std.proofs.lemmas.Bool.le-leb (length h) (place h i) (let e = not_has h i n in omega arith)) k)
 ]
 
-executed_has : (h : List ℕ) (es : List Execution) (i : ℕ) → IsExecutedIn es i → Has (merged h es) i
+pub executed_has : (h : List ℕ) (es : List Execution) (i : ℕ) → IsExecutedIn es i → Has (merged h es) i
 executed_has h (e ∷ es) i (inl k) = merged_keeps (h ++ filter (is_new h) e.order) es i (new_has h e.order i k)
 executed_has h (e ∷ es) i (inr k) = executed_has (h ++ filter (is_new h) e.order) es i k
 executed_has h [] i k = absurd k
 
-has_executed : (h : List ℕ) (es : List Execution) (i : ℕ) → Has (merged h es) i → Has h i ⊎ IsExecutedIn es i
+pub has_executed : (h : List ℕ) (es : List Execution) (i : ℕ) → Has (merged h es) i → Has h i ⊎ IsExecutedIn es i
 has_executed h [] i k = inl k
 has_executed h (e ∷ es) i k = elim (has_executed (h ++ filter (is_new h) e.order) es i k) [
   | inl a ↦ elim (has_split h (filter (is_new h) e.order) i a) [ inl q ↦ inl q | inr q ↦ inr (inl (has_filter (is_new h) e.order i q).0) ]

@@ -1,4 +1,4 @@
--- A step sends at most one message more than there are replicas.
+-- A step sends no more messages than there are replicas.
 use Rattle.std.proofs.Common.{◌≡◌, ℕ, zero, suc, ◌+◌, ◌≤◌, Bool, true, false, cond, eqb, ltb, leb, List, [], ◌∷◌, length, Option, Some, None, Result, Ok, Err, refl, ap, sym, subst, arith}
 use Rattle.std.proofs.lemmas.List.{length-append}
 use Rattle.ep_base.specs.Attributes.{join}
@@ -16,6 +16,7 @@ use Rattle.ep_base.specs.declared.vote.Vote.{Vote}
 use Rattle.ep_rules.specs.Answers.{Answers, answer}
 use Rattle.ep_rules.specs.Cells.{Change, is_committed, is_done_at, is_settled_at, nothing, answered, recorded, kept, voted, Refusal, TooFewAnswers, AlreadyCommitted, BallotsExhausted}
 use Rattle.ep_rules.specs.Counting.{to_those, is_other}
+use Rattle.ep_rules.specs.Counts.{SendsFew}
 use Rattle.ep_rules.specs.InterferenceSet.{interference}
 use Rattle.ep_rules.specs.Maps.{get}
 use Rattle.ep_rules.specs.Phases.{Outcome, with_attrs, with_commit, is_usable, others, fast_answered, all_equal, limited, propose, slow_path, fast_path, count_pre_accept_ok, use_pre_accept_ok, more_proposing, give_up, commit_own, use_accept_ok, more_accepting}
@@ -30,14 +31,14 @@ abbrev Small : ℕ → List (ℕ × Message) → Type 0
 Small n out = length out ≤ n
 
 abbrev FewIn : ℕ → Outcome → Type 0
-FewIn f (Ok ch) = length ch.out ≤ size f + 1
+FewIn f (Ok ch) = length ch.out ≤ size f
 FewIn f (Err e) = Unit {0}
 
 abbrev FewAt : ℕ → Result (ℕ × Change) Refusal → Type 0
-FewAt f (Ok p) = length p.1.out ≤ size f + 1
+FewAt f (Ok p) = length p.1.out ≤ size f
 FewAt f (Err e) = Unit {0}
 
-either : (f : ℕ) (t : Bool) (x y : Change) → length x.out ≤ size f + 1 → length y.out ≤ size f + 1 → length (cond t x y).out ≤ size f + 1
+either : (f : ℕ) (t : Bool) (x y : Change) → length x.out ≤ size f → length y.out ≤ size f → length (cond t x y).out ≤ size f
 either f true x y p q = p
 either f false x y p q = q
 
@@ -57,34 +58,34 @@ those_few p (suc n) m =
     let more : length last ≤ 1 = at_most_one (p n) n m in
     omega (arith, length-append (to_those p n m) last)
 
-few : (f : ℕ) (p : ℕ → Bool) (m : Message) → length (to_those p (size f) m) ≤ size f + 1
+few : (f : ℕ) (p : ℕ → Bool) (m : Message) → length (to_those p (size f) m) ≤ size f
 few f p m = let h : length (to_those p (size f) m) ≤ size f = those_few p (size f) m in omega arith
 
-one_out : (f : ℕ) → 1 ≤ size f + 1
+one_out : (f : ℕ) → 1 ≤ size f
 one_out f = omega arith
 
-none_out : (f : ℕ) → Small (size f + 1) []
+none_out : (f : ℕ) → Small (size f) []
 none_out f = omega arith
 
-limited_few : (f : ℕ) (own : Attrs) (ch : Change) → length ch.out ≤ size f + 1 → FewIn f (limited own ch)
+limited_few : (f : ℕ) (own : Attrs) (ch : Change) → length ch.out ≤ size f → FewIn f (limited own ch)
 limited_few f own ch h = either_outcome f (leb own.seq 1000000) (Ok ch) _ h tt
 
-slow_few : (f i me b : ℕ) (answers : Answers Attrs) (v : Option Vote) → length (slow_path f i me b answers v).out ≤ size f + 1
+slow_few : (f i me b : ℕ) (answers : Answers Attrs) (v : Option Vote) → length (slow_path f i me b answers v).out ≤ size f
 slow_few f i me b answers None = none_out f
 slow_few f i me b answers (Some v) = few f (is_other me) _
 
-fast_few : (f i me : ℕ) (a : Attrs) (r : Record) (v : Option Vote) → length (fast_path f i me a r v).out ≤ size f + 1
+fast_few : (f i me : ℕ) (a : Attrs) (r : Record) (v : Option Vote) → length (fast_path f i me a r v).out ≤ size f
 fast_few f i me a r None = none_out f
 fast_few f i me a r (Some v) = few f (is_other me) _
 
-count_few : (f i me b : ℕ) (a : Attrs) (answers : Answers Attrs) (r : Record) → length (count_pre_accept_ok f i me b a answers r).out ≤ size f + 1
+count_few : (f i me b : ℕ) (a : Attrs) (answers : Answers Attrs) (r : Record) → length (count_pre_accept_ok f i me b a answers r).out ≤ size f
 count_few f i me b a answers r =
-    let slow : length (slow_path f i me b answers r.vote).out ≤ size f + 1 = slow_few f i me b answers r.vote in
+    let slow : length (slow_path f i me b answers r.vote).out ≤ size f = slow_few f i me b answers r.vote in
     either f (eqb b (leader_of i)) _ _
     (either f (fast_answered f (leader_of i) answers) _ (kept (Proposing b answers)) (either f (all_equal f a answers) _ _ (fast_few f i me a r r.vote) slow) (none_out f))
     (either f (leb f (others f me answers)) _ (kept (Proposing b answers)) slow (none_out f))
 
-pre_accept_ok_few : (f i me b : ℕ) (a : Attrs) (r : Record) (more : Option (ℕ × Answers Attrs)) → length (use_pre_accept_ok f i me b a r more).out ≤ size f + 1
+pre_accept_ok_few : (f i me b : ℕ) (a : Attrs) (r : Record) (more : Option (ℕ × Answers Attrs)) → length (use_pre_accept_ok f i me b a r more).out ≤ size f
 pre_accept_ok_few f i me b a r None = none_out f
 pre_accept_ok_few f i me b a r (Some more) = either f (is_usable b r more.0) _ nothing (count_few f i me b a more.1 r) (none_out f)
 
@@ -95,11 +96,11 @@ give_up_few f i me r (Some (Proposing b answers)) =
 give_up_few f i me r (Some (Accepting b answers)) = tt
 give_up_few f i me r (Some (Preparing b answers)) = tt
 
-own_few : (f i me : ℕ) (r : Record) (v : Option Vote) → length (commit_own f i me r v).out ≤ size f + 1
+own_few : (f i me : ℕ) (r : Record) (v : Option Vote) → length (commit_own f i me r v).out ≤ size f
 own_few f i me r None = none_out f
 own_few f i me r (Some v) = few f (is_other me) _
 
-accept_ok_few : (f i me b : ℕ) (r : Record) (more : Option (ℕ × Answers (Unit {0}))) → length (use_accept_ok f i me b r more).out ≤ size f + 1
+accept_ok_few : (f i me b : ℕ) (r : Record) (more : Option (ℕ × Answers (Unit {0}))) → length (use_accept_ok f i me b r more).out ≤ size f
 accept_ok_few f i me b r None = none_out f
 accept_ok_few f i me b r (Some more) =
     either f (is_usable b r more.0) _ nothing (either f (leb f (others f me more.1)) (commit_own f i me r r.vote) (kept (Accepting b more.1)) (own_few f i me r r.vote) (none_out f)) (none_out f)
@@ -165,9 +166,12 @@ as_many : (me : ℕ) (out : List (ℕ × Message)) → length (sent_from me out)
 as_many me [] = refl
 as_many me (m ∷ ms) = ap suc (as_many me ms)
 
-sent_few : (f me : ℕ) (o : Result (ℕ × Change) Refusal) → FewAt f o → length (sent_by me o) ≤ size f + 1
-sent_few f me (Ok p) h = subst (λ n. n ≤ size f + 1) (sym (as_many me p.1.out)) h
+sent_few : (f me : ℕ) (o : Result (ℕ × Change) Refusal) → FewAt f o → length (sent_by me o) ≤ size f
+sent_few f me (Ok p) h = subst (λ n. n ≤ size f) (sym (as_many me p.1.out)) h
 sent_few f me (Err e) h = omega arith
 
-pub sends_few : (f me : ℕ) (s : State) (e : Event) → length (sends f me s e) ≤ size f + 1
+pub sends_few : (f me : ℕ) (s : State) (e : Event) → length (sends f me s e) ≤ size f
 sends_few f me s e = sent_few f me (acts f me s e) (acts_few f me s e)
+
+pub sends_few_lem : SendsFew
+sends_few_lem = sends_few

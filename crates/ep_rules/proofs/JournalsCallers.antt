@@ -55,19 +55,19 @@ module _ (f : ℕ) (i : ℕ) where
       record { early = []; late = a ∷ these; whole = refl; replica = a.replica; decree = x.0; committed = x.1 }
   executed_step w a these (Execute root) h rec (inr more) = later w a these (rec more)
 
-  executed_in : (these : List Act) (w : World) → IsRun f w these → IsExecutedIn (executions f w these) i → WasExecuted f w these i
+  pub executed_in : (these : List Act) (w : World) → IsRun f w these → IsExecutedIn (executions f w these) i → WasExecuted f w these i
   executed_in [] w h k = absurd k
   executed_in (a ∷ these) w h k = executed_step w a these a.event h.0.step.executes (executed_in these (moved f w a) h.1) k
 
   -- and forth
-  executed_rest : (w : World) (a : Act) (rest : List Execution) (e : Event) → IsExecutedIn rest i → IsExecutedIn (exec_of w a e rest) i
+  pub executed_rest : (w : World) (a : Act) (rest : List Execution) (e : Event) → IsExecutedIn rest i → IsExecutedIn (exec_of w a e rest) i
   executed_rest w a rest (Propose client request c seen) k = k
   executed_rest w a rest (Handle m) k = k
   executed_rest w a rest (GiveUp j) k = k
   executed_rest w a rest (Recover j) k = k
   executed_rest w a rest (Execute root) k = inr k
 
-  executed_here : (w : World) (a : Act) (rest : List Execution) (e : Event) → Executes (w.states a.replica) e a.done → Has (order_of a.done) i → IsExecutedIn (exec_of w a e rest) i
+  pub executed_here : (w : World) (a : Act) (rest : List Execution) (e : Event) → Executes (w.states a.replica) e a.done → Has (order_of a.done) i → IsExecutedIn (exec_of w a e rest) i
   executed_here w a rest (Propose client request c seen) h k = absurd (nothing_done a.done i h k)
   executed_here w a rest (Handle m) h k = absurd (nothing_done a.done i h k)
   executed_here w a rest (GiveUp j) h k = absurd (nothing_done a.done i h k)
@@ -87,7 +87,7 @@ exec_both w a xs ys (GiveUp j) = refl
 exec_both w a xs ys (Recover j) = refl
 exec_both w a xs ys (Execute root) = refl
 
-executions_both : (f : ℕ) (early late : List Act) (w : World) → executions f w (early ++ late) ≡ executions f w early ++ executions f (ends f w early) late
+pub executions_both : (f : ℕ) (early late : List Act) (w : World) → executions f w (early ++ late) ≡ executions f w early ++ executions f (ends f w early) late
 executions_both f [] late w = refl
 executions_both f (a ∷ early) late w =
     ap (λ es. exec_of w a a.event es) (executions_both f early late (moved f w a)) ∙ exec_both w a (executions f (moved f w a) early) (executions f (ends f (moved f w a) early) late) a.event

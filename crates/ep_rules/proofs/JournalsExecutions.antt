@@ -89,11 +89,11 @@ module _ (f : ℕ) (all : ℕ → Option Decree) where
   abbrev pub Stored : World → Type 0
   Stored w = (r : ℕ) → (w.states r).store ≡ after_all told empty (w.states r).executed
 
-  known_next : (w : World) (a : Act) (these : List Act) → Known w (a ∷ these) → Known (moved f w a) these
+  pub known_next : (w : World) (a : Act) (these : List Act) → Known w (a ∷ these) → Known (moved f w a) these
   known_next w a these known early late e = known (a ∷ early) late (ap (λ z. a ∷ z) e)
 
   -- the commands of what is executed
-  same_commands : (w : World) (a : Act) (these : List Act) → Known w (a ∷ these) → Executes (w.states a.replica) a.event a.done → (i : ℕ) → Has (order_of a.done) i → command_in (w.states a.replica).records i ≡ told i
+  pub same_commands : (w : World) (a : Act) (these : List Act) → Known w (a ∷ these) → Executes (w.states a.replica) a.event a.done → (i : ℕ) → Has (order_of a.done) i → command_in (w.states a.replica).records i ≡ told i
   same_commands w a these known h i k =
       let x = step_known (w.states a.replica) a.event a.done i h k in
       ap command_of x.1 ∙ sym (ap command_of (known [] (a ∷ these) refl a.replica i x.0 x.1))

@@ -30,7 +30,7 @@ module _ (f : ℕ) where
   none_merged : (done : List (ℕ × Answer)) (seen : List ℕ) (rest : List Execution) → done ≡ [] → merged seen rest ≡ merged (seen ++ filter (is_new seen) (order_of done)) rest
   none_merged done seen rest none = ap (λ s. merged s rest) (sym (ap (λ d. seen ++ filter (is_new seen) (order_of d)) none ∙ append-nil seen))
 
-  merged_step : (w : World) (a : Act) (seen : List ℕ) (rest : List Execution) (e : Event) → Executes (w.states a.replica) e a.done → merged seen (exec_of w a e rest) ≡ merged (seen ++ filter (is_new seen) (order_of a.done)) rest
+  pub merged_step : (w : World) (a : Act) (seen : List ℕ) (rest : List Execution) (e : Event) → Executes (w.states a.replica) e a.done → merged seen (exec_of w a e rest) ≡ merged (seen ++ filter (is_new seen) (order_of a.done)) rest
   merged_step w a seen rest (Propose client request c known) h = none_merged a.done seen rest h
   merged_step w a seen rest (Handle m) h = none_merged a.done seen rest h
   merged_step w a seen rest (GiveUp i) h = none_merged a.done seen rest h
@@ -49,7 +49,7 @@ at_place (d ∷ ds) zero i x e = let s = some_same d (i, x) e in (omega arith, a
 at_place (d ∷ ds) (suc k) i x e = let t = at_place ds k i x e in ((let l = t.0 in omega arith), t.1, t.2)
 
 module _ (f : ℕ) (c : ℕ → Command) (h : List ℕ) where
-  all_rest : (w : World) (a : Act) (rest : List Execution) (e : Event) → AllByRecursion (AnswersBy c h) (exec_of w a e rest) → AllByRecursion (AnswersBy c h) rest
+  pub all_rest : (w : World) (a : Act) (rest : List Execution) (e : Event) → AllByRecursion (AnswersBy c h) (exec_of w a e rest) → AllByRecursion (AnswersBy c h) rest
   all_rest w a rest (Propose client request x seen) all = all
   all_rest w a rest (Handle m) all = all
   all_rest w a rest (GiveUp i) all = all
@@ -59,7 +59,7 @@ module _ (f : ℕ) (c : ℕ → Command) (h : List ℕ) where
   done_none : (done : List (ℕ × Answer)) (k i : ℕ) (x : Answer) → done ≡ [] → slice_get done k ≡ Some (i, x) → IsReply c h i x
   done_none done k i x none e = none_some (i, x) (sym (ap (λ d. slice_get d k) none) ∙ e)
 
-  here : (w : World) (a : Act) (rest : List Execution) (e : Event) → Executes (w.states a.replica) e a.done → AllByRecursion (AnswersBy c h) (exec_of w a e rest) → (k i : ℕ) (x : Answer) → slice_get a.done k ≡ Some (i, x) → IsReply c h i x
+  pub here : (w : World) (a : Act) (rest : List Execution) (e : Event) → Executes (w.states a.replica) e a.done → AllByRecursion (AnswersBy c h) (exec_of w a e rest) → (k i : ℕ) (x : Answer) → slice_get a.done k ≡ Some (i, x) → IsReply c h i x
   here w a rest (Propose client request x' seen) done all k i x e = done_none a.done k i x done e
   here w a rest (Handle m) done all k i x e = done_none a.done k i x done e
   here w a rest (GiveUp j) done all k i x e = done_none a.done k i x done e

@@ -48,3 +48,8 @@ pub mod JournalsKeep
 pub mod OneFault
 pub mod ByPlace
 pub mod Closed
+pub mod RunCommits
+pub mod RunHistories
+pub mod RunsLinear
+pub mod OnceDone
+pub mod FewInstances

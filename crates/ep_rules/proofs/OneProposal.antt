@@ -24,7 +24,7 @@ use Rattle.ep_rules.proofs.Named.{proposals_name_lem}
 use Rattle.ep_rules.proofs.JournalsCommitted.{some_same, none_some}
 use Rattle.ep_rules.proofs.Counting.{least_some}
 
-none_of : {X : Type 0} (o : Option X) → is_none o ≡ true → o ≡ None
+pub none_of : {X : Type 0} (o : Option X) → is_none o ≡ true → o ≡ None
 none_of None e = refl
 none_of (Some x) e = absurd (false≢true e)
 

@@ -15,6 +15,9 @@ pub mod Fitting
 pub mod Safety
 pub mod Journals
 pub mod History
+pub mod Operations
+pub mod Linearizable
 pub mod Verdicts
 pub mod Audits
 pub mod Merging
+pub mod Counts

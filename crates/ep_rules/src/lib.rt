@@ -1,10 +1,22 @@
 //! The rule book: what a replica knows, the definitions of its steps, and the laws of every run.
+//!
+//! Every crate above cites it. Its definitions, in specs/, are what the words of all contracts mean; docs/PROTOCOL.md is
+//! what they are to be read against. Its code is the plain data that they speak of, and laws: public functions with empty
+//! bodies, whose contracts are theorems.
+//!
+//! Start with specs/Phases.antt and specs/Recovery.antt (the rules), then specs/Steps.antt (one step of a replica) and
+//! specs/Worlds.antt (runs). The laws are the public modules below; docs/SAFETY.md tells how their proof goes.
+//!
+//! A rule that is changed has to be changed in the code that follows it too (`ep_phase`, `ep_prepare`), and copied by
+//! tools/make-rows; tools/wrong-rules shows which laws a wrong one breaks.
 #![tactic(auto)]
 
 mod answers;
+pub mod counts;
 mod duplicate;
 pub mod history;
 mod led;
+pub mod linearizable;
 pub mod merging;
 mod outgoing;
 mod receipt;

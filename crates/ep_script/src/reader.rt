@@ -1,9 +1,10 @@
 //! Whole scripts from a source.
 
-ghost use Rattle.std.specs.Prelude.{◌≡◌, ℕ, List, Some, true, IfErr};
+ghost use Rattle.std.specs.Prelude.{◌≡◌, ℕ, List, Some};
+ghost use Rattle.ep_base.specs.Devices.{FailsAsTold};
+ghost use Rattle.ep_script.specs.Faults.{is_read_failed};
 ghost use Rattle.ep_script.specs.Plan.{script_of};
 ghost use Rattle.ep_script.specs.Outcome.{IsScript};
-ghost use Rattle.ep_script.specs.declared.script_fault.ScriptFault.TheVariants.{ReadFailed};
 
 use crate::draft::Draft;
 use crate::got::Got;
@@ -17,11 +18,11 @@ use std::alloc::Global;
 const LINES: u32 = 100_000;
 
 /// Reads a script for a replay to the end of the source. `Refused` tells the first line at fault, `ReadFailed` that the
-/// source failed, `Memory` that memory was refused. Past that line, or past 100,000 lines, nothing is read: so a source
+/// source failed in this call, `Memory` that memory was refused. Past that line, or past 100,000 lines, nothing is read: so a source
 /// without an end is refused too.
 pub fn read_script<S: Source>(alloc: Global, source: &mut S) -> Result<Script, ScriptFault>
     ensures bytes { (zs : List ℕ) → S.left source.old ≡ Some zs → IsScript result (script_of zs) }
-    ensures failed { IfErr result (λ e. e ≡ ReadFailed → S.has_failed source.new ≡ true) }
+    ensures failed { FailsAsTold is_read_failed result (S.has_failed source.old) (S.has_failed source.new) }
 {
     let mut window = Window::new();
     let mut line = Vec::new(alloc);

@@ -1,10 +1,8 @@
 //! Rows of words, numbers and scripts.
 
-use crate::{
-    Line, Messages, Script, ScriptFault, number, push_word, read_script, read_word, word_law,
-};
+use crate::{Line, Messages, ScriptFault, number, push_word, read_script, read_word, word_law};
 use ep_base::{Command, FailAt, InstanceId, Noted, ReadFailed, ReplicaId, Source};
-use std::alloc::Global;
+use std::alloc::{AllocError, Global};
 use std::test::Fail;
 
 fn word_of(alloc: Global, bytes: &[u8]) -> Result<Vec<u8>, Fail> {
@@ -49,28 +47,32 @@ fn words_are_read(rt: HostRuntime) -> Result<(), Fail> {
     Ok(())
 }
 
-#[test]
-fn numbers_are_read(rt: HostRuntime) {
-    assert_eq!(rt; number(b"0"), Some(0));
-    assert_eq!(rt; number(b"0000000012"), Some(12));
-    assert_eq!(rt; number(b"9999999999"), Some(9_999_999_999));
-    assert_eq!(rt; number(b"00000000012"), None);
-    assert_eq!(rt; number(b""), None);
-    assert_eq!(rt; number(b"-1"), None);
-    assert_eq!(rt; number(b"1a"), None);
+fn reads(word: &[u8], wanted: Option<u64>) -> bool {
+    number(word) == wanted
 }
 
-// The line at which the script is refused; 0 where it is read.
-fn refused_at(alloc: Global, text: &[u8]) -> Result<u32, Fail> {
+#[test]
+fn numbers_are_read(rt: HostRuntime) {
+    assert!(rt; reads(b"0", Some(0)));
+    assert!(rt; reads(b"0000000012", Some(12)));
+    assert!(rt; reads(b"9999999999", Some(9_999_999_999)));
+    assert!(rt; reads(b"00000000012", None));
+    assert!(rt; reads(b"", None));
+    assert!(rt; reads(b"-1", None));
+    assert!(rt; reads(b"1a", None));
+}
+
+// Whether the script is refused at this line, or read where it is 0.
+fn is_refused_at(alloc: Global, text: &[u8], line: u32) -> bool {
     match read_script(alloc, &mut Noted::new(text)) {
-        Ok(_) => Ok(0),
-        Err(ScriptFault::Refused(line)) => Ok(line),
-        Err(fault) => Err(Fail::from(fault)),
+        Ok(_) => line == 0,
+        Err(ScriptFault::Refused(refused)) => refused == line,
+        Err(_) => false,
     }
 }
 
 #[test]
-fn scripts_are_refused_at_their_first_fault(rt: HostRuntime) -> Result<(), Fail> {
+fn scripts_are_refused_at_their_first_fault(rt: HostRuntime) {
     let alloc = rt.alloc();
     let rows: [(&[u8], u32); 44] = [
         (b"", 1),
@@ -119,13 +121,12 @@ fn scripts_are_refused_at_their_first_fault(rt: HostRuntime) -> Result<(), Fail>
         (b"replicas 3\n\n#\n\x0cflush\n", 4),
     ];
     for (text, line) in &rows {
-        assert_eq!(rt; refused_at(alloc, text)?, *line);
+        assert!(rt; is_refused_at(alloc, text, *line));
     }
-    Ok(())
 }
 
 // A comment of so many bytes, and then these.
-fn with_comment(alloc: Global, length: usize, end: &[u8]) -> Result<Vec<u8>, Fail> {
+fn with_comment(alloc: Global, length: usize, end: &[u8]) -> Result<Vec<u8>, AllocError> {
     let mut text = Vec::from_slice(alloc, b"replicas 3\n")?;
     for _ in 0..length {
         text.push(b'#')?;
@@ -134,37 +135,50 @@ fn with_comment(alloc: Global, length: usize, end: &[u8]) -> Result<Vec<u8>, Fai
     Ok(text)
 }
 
-#[test]
-fn lines_have_8192_bytes(rt: HostRuntime) -> Result<(), Fail> {
-    let alloc = rt.alloc();
-    let rows: [(usize, &[u8], u32); 8] = [
-        (8192, b"", 0),
-        (8192, b"\r", 0),
-        (8192, b"\r\n", 0),
-        (8192, b"\n", 0),
-        (8192, b"\r\r\n", 2),
-        (8193, b"", 2),
-        (8193, b"\r\n", 2),
-        (20_000, b"\nfault", 2),
-    ];
-    for (length, end, line) in &rows {
-        let text = with_comment(alloc, *length, end)?;
-        assert_eq!(rt; refused_at(alloc, text.as_slice())?, *line);
+// Whether the script with that comment is refused at this line, or read where it is 0.
+fn is_comment_refused_at(alloc: Global, length: usize, end: &[u8], line: u32) -> bool {
+    match with_comment(alloc, length, end) {
+        Ok(text) => is_refused_at(alloc, text.as_slice(), line),
+        Err(_) => false,
     }
-    Ok(())
 }
 
 #[test]
-fn scripts_have_100000_lines(rt: HostRuntime) -> Result<(), Fail> {
+fn lines_have_8192_bytes(rt: HostRuntime) {
     let alloc = rt.alloc();
+    assert!(rt; is_comment_refused_at(alloc, 8192, b"", 0));
+    assert!(rt; is_comment_refused_at(alloc, 8192, b"\r", 0));
+    assert!(rt; is_comment_refused_at(alloc, 8192, b"\r\n", 0));
+    assert!(rt; is_comment_refused_at(alloc, 8192, b"\n", 0));
+    assert!(rt; is_comment_refused_at(alloc, 8192, b"\r\r\n", 2));
+    assert!(rt; is_comment_refused_at(alloc, 8193, b"", 2));
+    assert!(rt; is_comment_refused_at(alloc, 8193, b"\r\n", 2));
+    assert!(rt; is_comment_refused_at(alloc, 20_000, b"\nfault", 2));
+}
+
+// A script of so many lines, of which all but the first are empty, and then these bytes.
+fn with_lines(alloc: Global, count: usize, end: &[u8]) -> Result<Vec<u8>, AllocError> {
     let mut text = Vec::from_slice(alloc, b"replicas 3\n")?;
-    for _ in 1..100_000 {
+    for _ in 1..count {
         text.push(b'\n')?;
     }
-    assert_eq!(rt; refused_at(alloc, text.as_slice())?, 0);
-    text.push(b'#')?;
-    assert_eq!(rt; refused_at(alloc, text.as_slice())?, 100_001);
-    Ok(())
+    text.extend_from_slice(end)?;
+    Ok(text)
+}
+
+// Whether the script of so many lines, and then these bytes, is refused at this line, or read where it is 0.
+fn are_lines_refused_at(alloc: Global, count: usize, end: &[u8], line: u32) -> bool {
+    match with_lines(alloc, count, end) {
+        Ok(text) => is_refused_at(alloc, text.as_slice(), line),
+        Err(_) => false,
+    }
+}
+
+#[test]
+fn scripts_have_100000_lines(rt: HostRuntime) {
+    let alloc = rt.alloc();
+    assert!(rt; are_lines_refused_at(alloc, 100_000, b"", 0));
+    assert!(rt; are_lines_refused_at(alloc, 100_000, b"#", 100_001));
 }
 
 /// Line feeds without an end.
@@ -184,21 +198,22 @@ fn sources_without_an_end_are_refused(rt: HostRuntime) {
     assert!(rt; matches!(read, Err(ScriptFault::Refused(100_001))));
 }
 
-fn instance(replica: u8, number: u16) -> Result<InstanceId, Fail> {
-    Ok(InstanceId::new(ReplicaId::new(replica)?, number)?)
+// Whether these are this replica and this instance, by their numbers.
+fn is_of(at: ReplicaId, asked: InstanceId, replica: u8, leader: u8, number: u16) -> bool {
+    at.index() == replica && asked.replica().index() == leader && asked.number() == number
 }
 
-#[test]
-fn scripts_are_read(rt: HostRuntime) -> Result<(), Fail> {
-    let alloc = rt.alloc();
-    let text =
-        b"# one line of each kind\nreplicas 3\npropose 0 1 put k%20 v\n\ngiveup 0 0.1\nrecover 1 0.2\nexecute 2 1.3\ndeliver 2 1\nflush";
-    let script: Script = read_script(alloc, &mut Noted::new(text.as_slice()))?;
-    assert_eq!(rt; script.size().count(), 3);
-    let lines = script.lines();
-    assert_eq!(rt; lines.len(), 6);
-    let put = Command::put(alloc, b"k ", b"v")?;
-    match &lines[0] {
+fn is_put(command: &Command) -> bool {
+    match command {
+        Command::Put(key, value) => {
+            key.as_slice() == b"k ".as_slice() && value.as_slice() == b"v".as_slice()
+        }
+        _ => false,
+    }
+}
+
+fn is_proposal(line: &(u32, Line)) -> bool {
+    match line {
         (
             3,
             Line::Propose {
@@ -206,33 +221,62 @@ fn scripts_are_read(rt: HostRuntime) -> Result<(), Fail> {
                 client,
                 command,
             },
-        ) => {
-            assert_eq!(rt; replica.index(), 0);
-            assert_eq!(rt; *client, 1);
-            assert!(rt; command.is_same(&put));
-        }
-        _ => return Err(Fail::new("no proposal")),
+        ) => replica.index() == 0 && *client == 1 && is_put(command),
+        _ => false,
     }
-    let zero = ReplicaId::new(0)?;
-    let one = ReplicaId::new(1)?;
-    let two = ReplicaId::new(2)?;
-    let given_up = instance(0, 1)?;
-    let recovered = instance(0, 2)?;
-    let executed = instance(1, 3)?;
-    assert!(rt;
-        matches!(&lines[1], (5, Line::GiveUp(replica, asked)) if *replica == zero && *asked == given_up)
-    );
-    assert!(rt;
-        matches!(&lines[2], (6, Line::Recover(replica, asked)) if *replica == one && *asked == recovered)
-    );
-    assert!(rt;
-        matches!(&lines[3], (7, Line::Execute(replica, asked)) if *replica == two && *asked == executed)
-    );
-    assert!(rt;
-        matches!(&lines[4], (8, Line::Deliver(messages)) if messages.as_slice() == [2, 1].as_slice())
-    );
-    assert!(rt; matches!(&lines[5], (9, Line::Flush)));
-    Ok(())
+}
+
+fn is_given_up(line: &(u32, Line)) -> bool {
+    match line {
+        (5, Line::GiveUp(at, asked)) => is_of(*at, *asked, 0, 0, 1),
+        _ => false,
+    }
+}
+
+fn is_recovered(line: &(u32, Line)) -> bool {
+    match line {
+        (6, Line::Recover(at, asked)) => is_of(*at, *asked, 1, 0, 2),
+        _ => false,
+    }
+}
+
+fn is_executed(line: &(u32, Line)) -> bool {
+    match line {
+        (7, Line::Execute(at, asked)) => is_of(*at, *asked, 2, 1, 3),
+        _ => false,
+    }
+}
+
+fn is_delivery(line: &(u32, Line)) -> bool {
+    match line {
+        (8, Line::Deliver(messages)) => messages.as_slice() == [2, 1].as_slice(),
+        _ => false,
+    }
+}
+
+fn are_read(lines: &[(u32, Line)]) -> bool {
+    lines.len() == 6
+        && is_proposal(&lines[0])
+        && is_given_up(&lines[1])
+        && is_recovered(&lines[2])
+        && is_executed(&lines[3])
+        && is_delivery(&lines[4])
+        && matches!(&lines[5], (9, Line::Flush))
+}
+
+// Whether the script is read as a cluster of three and these lines.
+fn is_script_read(alloc: Global, text: &[u8]) -> bool {
+    match read_script(alloc, &mut Noted::new(text)) {
+        Ok(script) => script.size().count() == 3 && are_read(script.lines()),
+        Err(_) => false,
+    }
+}
+
+#[test]
+fn scripts_are_read(rt: HostRuntime) {
+    let text =
+        b"# one line of each kind\nreplicas 3\npropose 0 1 put k%20 v\n\ngiveup 0 0.1\nrecover 1 0.2\nexecute 2 1.3\ndeliver 2 1\nflush";
+    assert!(rt; is_script_read(rt.alloc(), text.as_slice()));
 }
 
 #[test]
@@ -248,6 +292,31 @@ fn faults_of_a_source_are_told(rt: HostRuntime) -> Result<(), Fail> {
         );
         assert!(rt; Source::failed(&source));
     }
+    Ok(())
+}
+
+/// The call after the one in which the source failed answers by the bytes that are left.
+#[test]
+fn an_earlier_fault_is_not_told_again(rt: HostRuntime) -> Result<(), Fail> {
+    let alloc = rt.alloc();
+    let mut source = FailAt::new(Noted::new(b"replicas 5\nflush\n".as_slice()), 1);
+    assert!(rt;
+        matches!(
+            read_script(alloc, &mut source),
+            Err(ScriptFault::ReadFailed)
+        )
+    );
+    let script = read_script(alloc, &mut source)?;
+    assert_eq!(rt; script.size().count(), 5);
+    let lines = script.lines();
+    assert!(rt; lines.len() == 1);
+    assert!(rt; matches!(&lines[0], (2, Line::Flush)));
+    assert!(rt;
+        matches!(
+            read_script(alloc, &mut source),
+            Err(ScriptFault::Refused(1))
+        )
+    );
     Ok(())
 }
 

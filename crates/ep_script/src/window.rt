@@ -1,6 +1,7 @@
 //! A window on the bytes of a source.
-ghost use Rattle.std.specs.Prelude.{◌≡◌, ◌↔◌, ℕ, List, [], ◌∷◌, IfOk, OnOk, IsTrue, MatchOption};
-ghost use Rattle.ep_script.specs.Window.{HasLeft, NextIs, FailsBy};
+ghost use Rattle.std.specs.Prelude.{◌≡◌, ◌↔◌, ℕ, List, [], ◌∷◌, true, IfOk, OnOk, IsTrue, MatchOption};
+ghost use Rattle.ep_base.specs.Devices.{FailsAsTold};
+ghost use Rattle.ep_script.specs.Window.{HasLeft, NextIs};
 
 use ep_base::{ReadFailed, Source};
 use std::marker::Model;
@@ -40,7 +41,7 @@ impl Window {
     /// Takes the next byte of the window, or of the source where the window is empty.
     pub(crate) fn next<S: Source>(&mut self, source: &mut S) -> Result<Option<u8>, ReadFailed>
         ensures bytes { (zs : List ℕ) → HasLeft self.old (S.left source.old) zs → IfOk result (λ o. NextIs o zs self.new (S.left source.new)) }
-        ensures failed { FailsBy result (S.has_failed source.old) (S.has_failed source.new) }
+        ensures failed { FailsAsTold (λ _. true) result (S.has_failed source.old) (S.has_failed source.new) }
     {
         self.ready(source)?;
         Ok(self.take())
@@ -49,7 +50,7 @@ impl Window {
     // Pulls bytes if there are none.
     fn ready<S: Source>(&mut self, source: &mut S) -> Result<(), ReadFailed>
         ensures bytes { (zs : List ℕ) → HasLeft self.old (S.left source.old) zs → OnOk result (HasLeft self.new (S.left source.new) zs × (self.new ≡ [] → zs ≡ [])) }
-        ensures failed { FailsBy result (S.has_failed source.old) (S.has_failed source.new) }
+        ensures failed { FailsAsTold (λ _. true) result (S.has_failed source.old) (S.has_failed source.new) }
     {
         if !self.is_empty() {
             return Ok(());
@@ -67,7 +68,7 @@ impl Window {
     fn fill<S: Source>(&mut self, source: &mut S) -> Result<(), ReadFailed>
         requires { self.old ≡ [] }
         ensures bytes { (zs : List ℕ) → HasLeft self.old (S.left source.old) zs → OnOk result (HasLeft self.new (S.left source.new) zs × (self.new ≡ [] → zs ≡ [])) }
-        ensures failed { FailsBy result (S.has_failed source.old) (S.has_failed source.new) }
+        ensures failed { FailsAsTold (λ _. true) result (S.has_failed source.old) (S.has_failed source.new) }
     {
         self.start = 0;
         self.end = 0;

@@ -1,9 +1,10 @@
 //! Lines of a source, one at a time.
 
-ghost use Rattle.std.specs.Prelude.{◌≡◌, ℕ, List, true, IfOk, IfErr};
+ghost use Rattle.std.specs.Prelude.{ℕ, List, IfOk};
+ghost use Rattle.ep_base.specs.Devices.{FailsAsTold};
 ghost use Rattle.ep_script.specs.Window.{HasLeft};
 ghost use Rattle.ep_script.specs.RawLines.{GotOf};
-ghost use Rattle.ep_script.specs.declared.line_fault.LineFault.TheVariants.{ReadFailed};
+ghost use Rattle.ep_script.specs.Faults.{is_line_read_failed};
 
 use crate::got::Got;
 use crate::line_fault::LineFault;
@@ -21,7 +22,7 @@ impl Window {
         line: &mut Vec<u8>,
     ) -> Result<Got, LineFault>
         ensures bytes { (zs : List ℕ) → HasLeft self.old (S.left source.old) zs → IfOk result (λ got. GotOf got zs line.new.items self.new (S.left source.new)) }
-        ensures failed { IfErr result (λ e. e ≡ ReadFailed → S.has_failed source.new ≡ true) }
+        ensures failed { FailsAsTold is_line_read_failed result (S.has_failed source.old) (S.has_failed source.new) }
     {
         line.clear();
         for _ in 0..=LONGEST {

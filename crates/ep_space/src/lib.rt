@@ -1,4 +1,13 @@
 //! The records of a replica, and the interference set of a command.
+//!
+//! `ep_phase`, `ep_prepare` and `ep_exec` keep what a replica knows of each instance in a `Space`, which contracts see as a
+//! finite map. Once an instance has a place, reading and writing its record take no memory and can't fail.
+//!
+//! Start with `space.rt`: `get`, `join_ballot`, `vote_pre`, `vote_accept`, `commit`, and `interference`. `table.rt` is the
+//! table below it, which `ep_phase` uses too.
+//!
+//! How places, the index by key and the least free number are kept may change freely: no contract above names them, but for
+//! `key_run` and `instance_at`.
 #![tactic(auto)]
 
 mod gathered;

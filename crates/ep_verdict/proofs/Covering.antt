@@ -7,32 +7,35 @@ use Rattle.ep_base.specs.Quorums.{size}
 use Rattle.ep_base.specs.declared.decree.Decree.{Decree}
 use Rattle.ep_rules.specs.Journals.{Journals, left}
 use Rattle.ep_rules.specs.States.{fresh_state, committed_in}
-use Rattle.ep_rules.specs.Verdicts.{or_else, instances_of, agreed_below, agreed, IsTable}
+use Rattle.ep_rules.specs.Verdicts.{or_else, instances_of, committed_by, agreed_below, agreed, IsTable}
 use Rattle.ep_rules.specs.Worlds.{In}
 use Rattle.ep_rules.proofs.Merged.{in_left, in_right, in_split}
-use Rattle.ep_journal.specs.Standing.{Standing}
-use Rattle.ep_verdict.specs.Replays.{IsNamed, standings}
-use Rattle.ep_verdict.specs.Tables.{first_of, and_row, Covers, Holds}
+use Rattle.ep_journal.specs.Entries.{Log, Collected, entries_of, entries_at, journals_of}
+use Rattle.ep_journal.specs.Leaving.{standing, IsNamed}
+use Rattle.ep_verdict.specs.Tables.{and_row, Covers}
 
 -- The first that commits.
 
-or_else_both : (a b c : Option Decree) → or_else (or_else a b) c ≡ or_else a (or_else b c)
-or_else_both None b c = refl
-or_else_both (Some x) b c = refl
+first_found : (n f : ℕ) (journal : Journals) (i : ℕ) (x : Decree) → n < size f → agreed_below n f journal i ≡ None → committed_by f journal n i ≡ Some x → agreed f journal i ≡ Some x
+first_found n f journal i x lt none here = still (size f) (omega arith)
+  where
+    at : agreed_below (suc n) f journal i ≡ Some x
+    at = ap (λ z. or_else z (committed_by f journal n i)) none ∙ here
 
-or_else_none : (a : Option Decree) → or_else a None ≡ a
-or_else_none None = refl
-or_else_none (Some x) = refl
+    still : (k : ℕ) → suc n ≤ k → agreed_below k f journal i ≡ Some x
+    still zero le = absurd (omega arith)
+    still (suc k) le = elim (cases_lt n k) [
+      | inl less ↦ ap (λ z. or_else z (committed_by f journal k i)) (still k (omega arith))
+      | inr ge ↦ (let same : suc n ≡ suc k = omega arith in subst (λ m. agreed_below m f journal i ≡ Some x) same at)
+    ]
 
-first_append : (ss : List Standing) (s : Standing) (i : ℕ) → first_of (ss ++ (s ∷ [])) i ≡ or_else (first_of ss i) (committed_in s.state.records i)
-first_append [] s i = or_else_none (committed_in s.state.records i)
-first_append (x ∷ ss) s i = ap (or_else (committed_in x.state.records i)) (first_append ss s i) ∙ sym (or_else_both (committed_in x.state.records i) (first_of ss i) (committed_in s.state.records i))
-
-pub first_agreed : (n f : ℕ) (journal : Journals) (i : ℕ) → first_of (standings f journal n) i ≡ agreed_below n f journal i
-first_agreed zero f journal i = refl
-first_agreed (suc n) f journal i =
-    first_append (standings f journal n) (record { faults = f; me = n; state = left f n fresh_state (journal n) }) i
-    ∙ ap (λ o. or_else o (committed_in (left f n fresh_state (journal n)).records i)) (first_agreed n f journal i)
+-- what the journal of n commits is agreed on where none before it commits there
+pub found_here : (c : Collected) (n r : ℕ) (l : Log) (i : ℕ) (x : Decree) → (r < size c.faults) × (l.faults ≡ c.faults) × (l.me ≡ r) × (l.entries ≡ entries_at c r) → r ≡ n → agreed_below n c.faults (journals_of c) i ≡ None
+    → Some x ≡ committed_in (standing l).state.records i → Some x ≡ agreed c.faults (journals_of c) i
+found_here c n r l i x is at none e = sym (first_found n c.faults (journals_of c) i x (subst (λ m. m < size c.faults) at is.0) none (subst (λ m. committed_by c.faults (journals_of c) m i ≡ Some x) at (sym (e ∙ here))))
+  where
+    here : committed_in (standing l).state.records i ≡ committed_by c.faults (journals_of c) r i
+    here = λ t. committed_in (left (is.1 t) (is.2 t) fresh_state (entries_of (is.3 t))).records i
 
 -- Rows in rising order.
 
@@ -110,14 +113,8 @@ covers_leader f leader agreed table named h =
     not_between : (leader i : ℕ) → instance_of leader 1001 ≤ i → i < instance_of (leader + 1) 1 → 1 ≤ number_of i → number_of i ≤ 1000 → ⊥
     not_between leader i ge lt low high = omega arith
 
-pub covers_all : (f : ℕ) (agreed : ℕ → Option Decree) (table : List (ℕ × Decree)) → ((i : ℕ) (x : Decree) → agreed i ≡ Some x → IsNamed f i) → Covers agreed (instance_of (size f) 1) table → Holds agreed table
-covers_all f agreed table named h = record {
+pub covers_all : (f : ℕ) (journal : Journals) (table : List (ℕ × Decree)) → ((i : ℕ) (x : Decree) → agreed f journal i ≡ Some x → IsNamed f i) → Covers (agreed f journal) (instance_of (size f) 1) table → IsTable f journal table
+covers_all f journal table named h = record {
   rises = h.rises;
-  all = λ i x. ((λ k. ((h.below i x).0 k).1), (λ e. (h.below i x).1 (let n = (named i x e).0 in omega arith, e)));
-}
-
-pub table_is : (f : ℕ) (journal : Journals) (table : List (ℕ × Decree)) → Holds (first_of (standings f journal (size f))) table → IsTable f journal table
-table_is f journal table h = record {
-  rises = h.rises;
-  holds = λ i x. let same = first_agreed (size f) f journal i in ((λ k. sym same ∙ (h.all i x).0 k), (λ e. (h.all i x).1 (same ∙ e)));
+  holds = λ i x. ((λ k. ((h.below i x).0 k).1), (λ e. (h.below i x).1 (let n = (named i x e).0 in omega arith, e)));
 }

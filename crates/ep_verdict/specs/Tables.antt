@@ -2,15 +2,13 @@
 use Rattle.std.specs.Prelude.{◌≡◌, ◌↔◌, ℕ, ◌<◌, List, [], ◌∷◌, ◌++◌, Option, Some, None}
 use Rattle.ep_base.specs.Deps.{IsRising}
 use Rattle.ep_base.specs.declared.decree.Decree.{Decree}
-use Rattle.ep_rules.specs.States.{committed_in}
-use Rattle.ep_rules.specs.Verdicts.{or_else, instances_of}
+use Rattle.ep_rules.specs.Verdicts.{agreed, instances_of}
 use Rattle.ep_rules.specs.Worlds.{In}
-use Rattle.ep_journal.specs.Standing.{Standing}
+use Rattle.ep_journal.specs.Entries.{Collected, journals_of}
 
--- what the first of the replicas that commits there commits
-abbrev pub first_of : List Standing → ℕ → Option Decree
-first_of [] i = None
-first_of (s ∷ ss) i = or_else (committed_in s.state.records i) (first_of ss i)
+-- what the journals commit in an instance
+abbrev pub agreed_in : Collected → ℕ → Option Decree
+agreed_in c = agreed c.faults (journals_of c)
 
 -- the table, with what is agreed on in i, if something is
 abbrev pub and_row : List (ℕ × Decree) → ℕ → Option Decree → List (ℕ × Decree)
@@ -21,8 +19,3 @@ and_row table i (Some x) = table ++ ((i, x) ∷ [])
 pub record Covers (agreed : ℕ → Option Decree) (bound : ℕ) (table : List (ℕ × Decree)) : Type 0 where
   pub rises : IsRising (instances_of table)
   pub below : (i : ℕ) (x : Decree) → In (i, x) table ↔ ((i < bound) × (agreed i ≡ Some x))
-
--- in rising order, all that is agreed on
-pub record Holds (agreed : ℕ → Option Decree) (table : List (ℕ × Decree)) : Type 0 where
-  pub rises : IsRising (instances_of table)
-  pub all : (i : ℕ) (x : Decree) → In (i, x) table ↔ (agreed i ≡ Some x)

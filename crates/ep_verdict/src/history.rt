@@ -7,13 +7,13 @@ ghost use Rattle.ep_rules.specs.Steps.{order_of};
 ghost use Rattle.ep_journal.specs.Entries.{entries_at, journals_of};
 ghost use Rattle.ep_journal.specs.declared.entry.Entry.{Entry as Written};
 ghost use Rattle.ep_verdict.specs.Lines.{told_by, line_at, line_of, lines_of, lines_in};
-ghost use Rattle.ep_verdict.specs.Tables.{first_of};
+ghost use Rattle.ep_verdict.specs.Tables.{agreed_in};
 ghost use Rattle.ep_verdict.specs.Verdicts.{places_of};
 
 use crate::table::agreed;
 use ep_base::{Answer, Command, Decree, InstanceId, ReplicaId, Reply};
 use ep_exec::Executed;
-use ep_journal::{Entry, Journals, State};
+use ep_journal::{Entry, Journals};
 use ep_report::Happening;
 use std::alloc::{AllocError, Global};
 
@@ -67,19 +67,19 @@ fn add_line(
 /// Adds the line of an execution, where it is the instance's first one, and no no-op's.
 fn add_execution(
     alloc: Global,
-    states: &[State],
+    journals: &Journals,
     seen: &Executed,
-    instance: InstanceId,
-    answer: &Answer,
+    execution: &(InstanceId, Answer),
     lines: &mut Vec<Happening>,
 ) -> Result<(), AllocError>
-    ensures { OnOk result (lines.new.items ≡ lines.old.items ++ line_of (first_of states.now) seen.now.list instance answer.now) }
+    ensures { OnOk result (lines.new.items ≡ lines.old.items ++ line_of (agreed_in journals.now) seen.now.list execution.now.0 execution.now.1) }
 {
-    if seen.contains(instance) {
+    let (instance, answer) = execution;
+    if seen.contains(*instance) {
         return Ok(());
     }
-    if let Some(decree) = agreed(states, instance) {
-        add_line(alloc, instance, decree, answer, lines)?;
+    if let Some(decree) = agreed(journals, *instance) {
+        add_line(alloc, *instance, decree, answer, lines)?;
     }
     Ok(())
 }
@@ -87,15 +87,15 @@ fn add_execution(
 /// Adds the lines of the executions whose instances weren't seen before.
 fn add_executions(
     alloc: Global,
-    states: &[State],
+    journals: &Journals,
     seen: &Executed,
     done: &[(InstanceId, Answer)],
     lines: &mut Vec<Happening>,
 ) -> Result<(), AllocError>
-    ensures { OnOk result (lines.new.items ≡ lines.old.items ++ lines_of (first_of states.now) seen.now.list done.now) }
+    ensures { OnOk result (lines.new.items ≡ lines.old.items ++ lines_of (agreed_in journals.now) seen.now.list done.now) }
 {
-    for (instance, answer) in done {
-        add_execution(alloc, states, seen, *instance, answer, lines)?;
+    for execution in done {
+        add_execution(alloc, journals, seen, execution, lines)?;
     }
     Ok(())
 }
@@ -120,16 +120,13 @@ fn see_all(seen: &mut Executed, done: &[(InstanceId, Answer)]) -> Result<(), All
 }
 
 /// The commands that were executed, each once, in the order of first executions, with their replies; no-ops are left out.
-///
-/// The states are those that the journals leave.
 pub(crate) fn history_of(
     alloc: Global,
     journals: &Journals,
-    states: &[State],
     schedule: &[(ReplicaId, u32)],
 ) -> Result<Vec<Happening>, AllocError>
     requires { (s : List Scheduled) → IsSchedule (journals_of journals.now) s → schedule.now ≡ places_of s }
-    ensures { IfOk result (λ v. (s : List Scheduled) → IsSchedule (journals_of journals.now) s → v.items ≡ lines_in (first_of states.now) [] s) }
+    ensures { IfOk result (λ v. (s : List Scheduled) → IsSchedule (journals_of journals.now) s → v.items ≡ lines_in (agreed_in journals.now) [] s) }
 {
     journals.are_local_runs();
     let mut seen = Executed::new(alloc);
@@ -137,7 +134,7 @@ pub(crate) fn history_of(
     for (replica, number) in schedule {
         if let Some(entry) = entry_at(journals, *replica, *number) {
             let done = entry.done.as_slice();
-            add_executions(alloc, states, &seen, done, &mut lines)?;
+            add_executions(alloc, journals, &seen, done, &mut lines)?;
             see_all(&mut seen, done)?;
         }
     }

@@ -1,9 +1,16 @@
 //! What journals say: their schedule, the committed table, and the history with replies.
+//!
+//! `ep_audit` calls it once no fault is found. `Verdict::of` merges the entries by stamp and replica, collects what is
+//! committed, and takes each command at its first execution.
+//!
+//! Start with `verdict.rt` and specs/Verdicts.antt. That the replies told are one map's is a law of `ep_rules` on journals
+//! that match, and not work done here.
+//!
+//! How it merges, looks up and learns what is committed may change freely.
 #![tactic(auto)]
 
 mod history;
 mod in_order;
-mod replay;
 mod table;
 mod turn;
 mod verdict;

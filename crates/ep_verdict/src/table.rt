@@ -1,21 +1,22 @@
 //! The table of what is committed.
 
-ghost use Rattle.std.specs.Prelude.{◌≡◌, ◌+◌, ℕ, Some, OnOk, IfOk, option_copied};
+ghost use Rattle.std.specs.Prelude.{◌≡◌, OnOk, IfOk, option_copied};
 ghost use Rattle.ep_base.specs.Instances.{instance_of};
-ghost use Rattle.ep_base.specs.declared.decree.Decree.{Decree};
-ghost use Rattle.ep_verdict.specs.Replays.{IsNamed};
-ghost use Rattle.ep_verdict.specs.Tables.{first_of, and_row, Covers, Holds};
+ghost use Rattle.ep_rules.specs.Verdicts.{IsTable};
+ghost use Rattle.ep_journal.specs.Entries.{journals_of};
+ghost use Rattle.ep_verdict.specs.Tables.{agreed_in, and_row, Covers};
 
-use ep_base::{Decree, InstanceId, ReplicaId, Size};
-use ep_journal::State;
+use ep_base::{Decree, InstanceId, ReplicaId};
+use ep_journal::Journals;
 use std::alloc::{AllocError, Global};
 
-/// What the first of the states that commits in the instance commits there.
-pub(crate) fn agreed(states: &[State], instance: InstanceId) -> Option<&Decree>
-    ensures { option_copied result ≡ first_of states.now instance }
+/// What the journals commit in the instance, the least replica's where several do.
+pub(crate) fn agreed(journals: &Journals, instance: InstanceId) -> Option<&Decree>
+    ensures { option_copied result ≡ agreed_in journals.now instance }
 {
-    for state in states {
-        if let Some(decree) = state.committed(instance) {
+    for replica in 0..journals.size().count() {
+        let id = ReplicaId::new(replica).unwrap();
+        if let Some(decree) = journals.get(id).unwrap().committed(instance) {
             return Some(decree);
         }
     }
@@ -25,13 +26,13 @@ pub(crate) fn agreed(states: &[State], instance: InstanceId) -> Option<&Decree>
 /// Adds what is agreed on in the instance, if something is.
 fn add_agreed(
     alloc: Global,
-    states: &[State],
+    journals: &Journals,
     instance: InstanceId,
     table: &mut Vec<(InstanceId, Decree)>,
 ) -> Result<(), AllocError>
-    ensures { OnOk result (table.new.items ≡ and_row table.old.items instance (first_of states.now instance)) }
+    ensures { OnOk result (table.new.items ≡ and_row table.old.items instance (agreed_in journals.now instance)) }
 {
-    if let Some(decree) = agreed(states, instance) {
+    if let Some(decree) = agreed(journals, instance) {
         let decree = decree.copy(alloc)?;
         table.push((instance, decree))?;
     }
@@ -41,32 +42,31 @@ fn add_agreed(
 /// Adds what is agreed on in the instances that the replica leads.
 fn add_led(
     alloc: Global,
-    states: &[State],
+    journals: &Journals,
     leader: ReplicaId,
     table: &mut Vec<(InstanceId, Decree)>,
 ) -> Result<(), AllocError>
-    ensures { OnOk result (Covers (first_of states.now) (instance_of leader 1) table.old.items → Covers (first_of states.now) (instance_of leader 1001) table.new.items) }
+    ensures { OnOk result (Covers (agreed_in journals.now) (instance_of leader 1) table.old.items → Covers (agreed_in journals.now) (instance_of leader 1001) table.new.items) }
 {
     for place in 0..1000 {
         let instance = InstanceId::new(leader, place + 1).unwrap();
-        add_agreed(alloc, states, instance, table)?;
+        add_agreed(alloc, journals, instance, table)?;
     }
     Ok(())
 }
 
-/// All that the states commit, in rising order of instances, where they commit in the cluster's instances alone.
+/// All that the journals commit, in rising order of instances.
 pub(crate) fn table_of(
     alloc: Global,
-    cluster: Size,
-    states: &[State],
+    journals: &Journals,
 ) -> Result<Vec<(InstanceId, Decree)>, AllocError>
-    requires { (i : ℕ) (x : Decree) → first_of states.now i ≡ Some x → IsNamed cluster i }
-    ensures { IfOk result (λ v. Holds (first_of states.now) v.items) }
+    ensures { IfOk result (λ v. IsTable journals.now.faults (journals_of journals.now) v.items) }
 {
+    journals.commit_in_range();
     let mut table = Vec::new(alloc);
-    for leader in 0..cluster.count() {
+    for leader in 0..journals.size().count() {
         let leader = ReplicaId::new(leader).unwrap();
-        add_led(alloc, states, leader, &mut table)?;
+        add_led(alloc, journals, leader, &mut table)?;
     }
     Ok(table)
 }

@@ -6,7 +6,6 @@ ghost use Rattle.ep_verdict.specs.Verdicts.{IsVerdict};
 
 use crate::history::history_of;
 use crate::in_order::schedule;
-use crate::replay::replayed_all;
 use crate::table::table_of;
 use ep_base::{Decree, InstanceId, ReplicaId};
 use ep_journal::Journals;
@@ -34,9 +33,8 @@ impl Verdict {
     {
         journals.are_local_runs();
         let schedule = schedule(alloc, journals)?;
-        let states = replayed_all(alloc, journals)?;
-        let committed = table_of(alloc, journals.size(), &states)?;
-        let history = history_of(alloc, journals, &states, &schedule)?;
+        let committed = table_of(alloc, journals)?;
+        let history = history_of(alloc, journals, &schedule)?;
         Ok(Verdict {
             schedule,
             committed,

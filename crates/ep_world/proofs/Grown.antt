@@ -15,7 +15,8 @@ use Rattle.ep_journal.specs.declared.entry.Entry.{Entry}
 use Rattle.ep_journal.specs.declared.event.Event.{Event as Happening}
 use Rattle.ep_replica.specs.Applied.{Applied}
 use Rattle.ep_replica.specs.Kept.{Kept}
-use Rattle.ep_replica.proofs.Growing.{entries_grow, journal_grows, clock_grows}
+use Rattle.ep_journal.proofs.Growing.{entries_grow}
+use Rattle.ep_replica.proofs.Growing.{journal_grows, clock_grows}
 use Rattle.ep_world.specs.Played.{Played, collected, journals_in, entries_in, replica_in, steps_of, places_of, Shows, IsWorld}
 use Rattle.ep_world.specs.Playing.{with_entry, grown}
 use Rattle.ep_world.specs.Replicas.{places_up_to}
@@ -129,7 +130,7 @@ places_are f r s e step marked =
 
 pub few_frames : (f r : ℕ) (s : State) (e : Entry) → IsEntry f r s (entry_of e) → length e.frames ≤ size f + 1
 few_frames f r s e step =
-    let few : length (sends f r s (event_of e.event)) ≤ size f + 1 = sends_few f r s (event_of e.event) in
+    let few : length (sends f r s (event_of e.event)) ≤ size f = sends_few f r s (event_of e.event) in
     let count : length (messages_of (frames_at e.frames)) ≡ length (sends f r s (event_of e.event)) = ap length step.sent in
     let ms : length (messages_of (frames_at e.frames)) ≡ length (frames_at e.frames) = count_messages (frames_at e.frames) in
     let bs : length (frames_at e.frames) ≡ length e.frames = count_frames e.frames in

@@ -6,7 +6,7 @@ use Rattle.std.proofs.lemmas.Option.{slice_get-get_or}
 use Rattle.ep_base.specs.Quorums.{size}
 use Rattle.ep_rules.specs.Audits.{IsAccepted}
 use Rattle.ep_rules.specs.Journals as rules
-use Rattle.ep_rules.specs.Journals.{Scheduled, AreLocalRuns, IsMatched, IsSchedule, left}
+use Rattle.ep_rules.specs.Journals.{Scheduled, AreLocalRuns, IsMatched, IsSchedule, acts_of, left}
 use Rattle.ep_rules.specs.Merging.{Merges}
 use Rattle.ep_rules.specs.States.{fresh_state, committed_in}
 use Rattle.ep_rules.specs.Verdicts.{IsOwn}
@@ -17,16 +17,17 @@ use Rattle.ep_rules.proofs.JournalsGrow.{played_sends_lem}
 use Rattle.ep_rules.proofs.JournalsKeep.{journals_keep_lem}
 use Rattle.ep_rules.proofs.OneFault.{played_accepted_lem}
 use Rattle.ep_rules.proofs.Played.{played_is_a_run_lem, played_match_lem}
+use Rattle.ep_rules.proofs.RunsLinear.{linearizability_holds}
 use Rattle.ep_rules.proofs.Sorted.{some_schedule_lem}
 use Rattle.ep_journal.specs.Entries.{entry_of, entries_of}
 use Rattle.ep_journal.specs.declared.entry.Entry.{Entry}
 use Rattle.ep_journal.specs.declared.event.Event.{Event as Happening}
 use Rattle.ep_replica.specs.Kept.{Kept}
-use Rattle.ep_replica.proofs.Growing.{entries_grow}
+use Rattle.ep_journal.proofs.Growing.{entries_grow}
 use Rattle.ep_world.specs.Played.{Played, collected, journals_in, entries_in, IsPlayed, IsWorld}
 use Rattle.ep_world.specs.Playing.{asked, Happens, Happen, Ends, IsNotEnabled}
 use Rattle.ep_world.specs.Replicas.{world_of, Took}
-use Rattle.ep_world.specs.Safe.{committed, Agree, Keeps, WereProposed, Depend}
+use Rattle.ep_world.specs.Safe.{committed, Agree, Keeps, WereProposed, Depend, Linearizable}
 use Rattle.ep_world.specs.declared.place.Place.{Place}
 use Rattle.ep_world.specs.declared.cause.Cause.{Cause}
 use Rattle.ep_world.specs.declared.refused.Refused.{Refused}
@@ -60,6 +61,13 @@ were_proposed w h some few r i x = let m = merges w h some few in journals_propo
 
 pub depend : (w : Played) → IsWorld w → 1 ≤ w.faults → w.faults ≤ 3 → Depend w
 depend w h some few i j r q x y = let m = merges w h some few in journals_depend_lem w.faults (journals_in w) m.0 m.1 i j r q x y
+
+pub linearizable : (w : Played) → IsWorld w → 1 ≤ w.faults → w.faults ≤ 3 → Linearizable w
+linearizable w h some few = record {
+  schedule = h.schedule;
+  shows = h.shows;
+  run = linearizability_holds w.faults (omega arith) (omega arith) (acts_of h.schedule) (played_is_a_run_lem w.faults h.schedule h.shows.played);
+}
 
 -- What is committed stays so, event by event.
 

@@ -7,8 +7,9 @@ use Rattle.ep_journal.specs.Entries.{frames_at}
 use Rattle.ep_journal.specs.declared.entry.Entry.{Entry}
 use Rattle.ep_journal.specs.declared.event.Event.{Event as Happening}
 use Rattle.ep_journal.specs.declared.step_fault.StepFault.{StepFault}
+use Rattle.ep_journal.specs.Leaving.{state_left}
 use Rattle.ep_replica.specs.Applied.{Applied, IsDeclined}
-use Rattle.ep_replica.specs.Kept.{Kept, state_left}
+use Rattle.ep_replica.specs.Kept.{Kept}
 use Rattle.ep_world.specs.Played.{Played, replica_in, places_of, IsWorld}
 use Rattle.ep_world.specs.Playing.{asked, with_entry, IsNotEnabled}
 use Rattle.ep_world.specs.Replicas.{all_kept, AreReplicas, world_of, places_up_to, Took, IsUntaken}

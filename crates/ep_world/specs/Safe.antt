@@ -1,12 +1,14 @@
 -- What holds of a world, whatever was played.
-use Rattle.std.specs.Prelude.{◌≡◌, ◌≢◌, ◌⊎◌, ℕ, true, false, Option, Some}
+use Rattle.std.specs.Prelude.{◌≡◌, ◌≢◌, ◌⊎◌, ℕ, true, false, List, Option, Some}
 use Rattle.ep_base.specs.Instances.{leader_of}
 use Rattle.ep_base.specs.Interference.{interfere}
 use Rattle.ep_base.specs.Places.{Has}
 use Rattle.ep_base.specs.Sameness.{is_noop}
 use Rattle.ep_base.specs.declared.decree.Decree.{Decree}
+use Rattle.ep_rules.specs.Journals.{Scheduled, acts_of}
+use Rattle.ep_rules.specs.Linearizable.{IsLinearizable}
 use Rattle.ep_rules.specs.Verdicts.{committed_by, Proposes}
-use Rattle.ep_world.specs.Played.{Played, journals_in}
+use Rattle.ep_world.specs.Played.{Played, journals_in, Shows}
 
 -- what replica r has committed in instance i
 abbrev pub committed : Played → ℕ → ℕ → Option Decree
@@ -31,3 +33,9 @@ abbrev pub Depend : Played → Type 0
 Depend w =
     (i j r q : ℕ) (x y : Decree) → i ≢ j → committed w r i ≡ Some x → committed w q j ≡ Some y →
     interfere x.command y.command ≡ true → Has x.attrs.deps j ⊎ Has y.attrs.deps i
+
+-- what the world played is linearizable: its history, in the order of first executions, is a linearization
+pub record Linearizable (w : Played) : Type 0 where
+  pub schedule : List Scheduled
+  pub shows : Shows w schedule
+  pub run : IsLinearizable w.faults (acts_of schedule)

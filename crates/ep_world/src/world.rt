@@ -49,7 +49,7 @@ impl World {
     ghost use Rattle.ep_world.specs.Played.{collected, entries_in, replica_in, journals_in, message_in, IsPlayed};
     ghost use Rattle.ep_world.specs.Playing.{asked, Happens, IsNotEnabled, Happen, Ends};
     ghost use Rattle.ep_world.specs.declared.world_event.WorldEvent.TheVariants.{Deliver};
-    ghost use Rattle.ep_world.specs.Safe.{Agree, Keeps, WereProposed, Depend};
+    ghost use Rattle.ep_world.specs.Safe.{Agree, Keeps, WereProposed, Depend, Linearizable};
 
     /// A world of this many replicas, before any event.
     pub fn new(alloc: Global, cluster: Size) -> Result<World, AllocError>
@@ -144,8 +144,8 @@ impl World {
     ///
     /// Whatever was played, by any number of calls, and whatever this call answers, the world left is a run: no two
     /// replicas commit different commands or attributes in an instance; what was committed stays so; a committed
-    /// command other than a no-op was proposed there, by the instance's leader; and of two interfering committed
-    /// commands one depends on the other.
+    /// command other than a no-op was proposed there, by the instance's leader; of two interfering committed commands
+    /// one depends on the other; and the run is linearizable, by its commands in the order of their first executions.
     pub fn play(&mut self, events: &[WorldEvent]) -> Result<(), Refused>
         ensures ok { OnOk result (Happen self.old events.now self.new) }
         ensures refused { IfErr result (λ refused. Ends self.old events.now refused self.new) }
@@ -153,6 +153,7 @@ impl World {
         ensures permanence { Keeps self.old self.new }
         ensures validity { WereProposed self.new }
         ensures dependency { Depend self.new }
+        ensures linearizable { Linearizable self.new }
     {
         let played = self.play_all(events);
         self.is_safe();
@@ -217,12 +218,13 @@ impl World {
     }
 
     /// Whatever was played, no two replicas commit different commands or attributes in an instance; a committed command
-    /// other than a no-op was proposed there; and of two interfering committed commands one depends on the other: a law,
-    /// which costs nothing to call.
+    /// other than a no-op was proposed there; of two interfering committed commands one depends on the other; and the
+    /// run is linearizable: a law, which costs nothing to call.
     pub fn is_safe(&self)
         ensures agreement { Agree self.now }
         ensures validity { WereProposed self.now }
         ensures dependency { Depend self.now }
+        ensures linearizable { Linearizable self.now }
     {
         let _faults = self.size.faults();
     }

@@ -11,7 +11,9 @@ type Owner = (u8, u8);
 
 fn journal(rt: &impl Abort, alloc: Global, owner: Owner) -> Journal {
     let size = Size::new(owner.0).expect(rt, "a size");
-    Journal::new(alloc, size, replica(rt, owner.1))
+    let me = replica(rt, owner.1);
+    assert!(rt; me.index() < size.count());
+    Journal::new(alloc, size, me)
 }
 
 /// The empty journals of these, together.
@@ -61,15 +63,4 @@ fn journals_of_no_cluster(rt: HostRuntime) {
     assert_refused(&rt, alloc, &[(3, 0), (3, 1), (3, 2), (3, 2)]);
     assert_refused(&rt, alloc, &[(3, 1), (3, 0), (3, 2)]);
     assert_refused(&rt, alloc, &[(3, 0), (5, 1), (3, 2)]);
-}
-
-#[test]
-fn room_for_an_entry(rt: HostRuntime) {
-    let mut journal = journal(&rt, rt.alloc(), (5, 4));
-    if journal.reserve().is_err() {
-        journal.reserve().expect(&rt, "memory for an entry");
-    }
-    assert_eq!(rt; (journal.size().count(), journal.me().index()), (5, 4));
-    assert!(rt; journal.entries().is_empty());
-    drop(journal);
 }

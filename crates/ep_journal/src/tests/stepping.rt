@@ -1,16 +1,10 @@
 //! Events, each with what it sends and executes.
 
-use super::{PRE_ACCEPT, first_of, handle, propose, state, stepped};
+use super::{PRE_ACCEPT, PRE_ACCEPT_OK, first_of, handle, propose, replica, state, stepped};
 use crate::{Entry, Event, State, StepFault};
 use ep_base::{Answer, InstanceId, Reply};
 use std::alloc::Global;
 use std::process::Abort;
-
-/// Replica 1's answer to the first frame.
-const PRE_ACCEPT_OK: [u8; 40] = [
-    0x45, 0x50, 1, 2, 1, 0, 0, 0, 0, 0, 0, 1, 0, 0, 0, 0, 0, 0, 0, 2, 0, 0, 1, 0, 0, 0, 0, 0, 0, 0,
-    0, 0, 0, 1, 0, 0, 0, 0, 0, 0,
-];
 
 /// Replica 2's answer.
 const PRE_ACCEPT_OK_OF_2: [u8; 40] = [
@@ -28,6 +22,12 @@ const ACCEPT: [u8; 42] = [
 const COMMIT: [u8; 42] = [
     0x45, 0x50, 1, 5, 0, 1, 0, 0, 0, 0, 0, 2, 0, 0, 0, 0, 0, 0, 0, 3, 0, 0, 1, 0, 0, 0, 0, 0, 0, 0,
     0, 0, 0, 1, 3, 1, 0, 1, 0, 0, 0x78, 0x31,
+];
+
+/// The same of `put x 1` in 0.2, which depends on 0.1, by its entry 4 of stamp 5.
+const COMMIT_BEHIND: [u8; 45] = [
+    0x45, 0x50, 1, 5, 0, 1, 0, 0, 0, 0, 0, 4, 0, 0, 0, 0, 0, 0, 0, 5, 0, 0, 2, 0, 0, 0, 0, 0, 0, 0,
+    0, 0, 0, 2, 3, 1, 0, 1, 0, 1, 0x78, 0x31, 0, 0, 1,
 ];
 
 /// Replica 2 asks replica 0 for what it knows of 0.1, at ballot (1, 2).
@@ -196,4 +196,68 @@ fn a_committed_put_is_not_recovered(rt: HostRuntime) {
     let refused = fault(&rt, alloc, &mut leader, Event::Recover(id));
     assert_eq!(rt; refused, Some(StepFault::AlreadyCommitted));
     drop(leader);
+}
+
+/// Instance 0.N.
+fn own_of_0(rt: &impl Abort, number: u16) -> InstanceId {
+    InstanceId::new(replica(rt, 0), number).expect(rt, "an instance")
+}
+
+/// 0.2 is refused, since 0.1 is not committed.
+fn assert_waits(rt: &impl Abort, alloc: Global, state: &mut State) {
+    let refused = fault(rt, alloc, state, Event::Execute(own_of_0(rt, 2)));
+    assert_eq!(rt; refused, Some(StepFault::NotCommitted(own_of_0(rt, 1))));
+}
+
+/// The instance is executed alone, as an entry whose stamp is one above its number.
+fn executes_alone(rt: &impl Abort, alloc: Global, state: &mut State, id: InstanceId, number: u32) {
+    let entry = entry(
+        rt,
+        alloc,
+        state,
+        Event::Execute(id),
+        number,
+        u64::from(number) + 1,
+    );
+    assert!(rt; tells_absent(&entry, id));
+    drop(entry);
+}
+
+/// Whether the entry executes these two, in this order.
+fn executes_both(entry: &Entry, first: InstanceId, second: InstanceId) -> bool {
+    let done = entry.done.as_slice();
+    match (done.first(), done.get(1)) {
+        (Some((one, _)), Some((other, _))) => {
+            done.len() == 2 && *one == first && *other == second
+        }
+        _ => false,
+    }
+}
+
+/// What waits is refused each time, also after another execution, until what it waits for is committed.
+#[test]
+fn a_refused_root_is_tried_again(rt: HostRuntime) {
+    let alloc = rt.alloc();
+    let mut other = COMMIT;
+    other[22] = 3;
+    other[40] = 0x79;
+    let mut state = state(&rt, alloc, 3, 1);
+    hears(&rt, alloc, &mut state, &other, 1);
+    hears(&rt, alloc, &mut state, &COMMIT_BEHIND, 2);
+    assert_waits(&rt, alloc, &mut state);
+    assert_waits(&rt, alloc, &mut state);
+    executes_alone(&rt, alloc, &mut state, own_of_0(&rt, 3), 3);
+    assert_waits(&rt, alloc, &mut state);
+    hears(&rt, alloc, &mut state, &COMMIT, 4);
+    let entry = entry(
+        &rt,
+        alloc,
+        &mut state,
+        Event::Execute(own_of_0(&rt, 2)),
+        5,
+        6,
+    );
+    assert!(rt; executes_both(&entry, own_of_0(&rt, 1), own_of_0(&rt, 2)));
+    drop(entry);
+    drop(state);
 }

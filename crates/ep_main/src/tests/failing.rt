@@ -49,6 +49,35 @@ fn each_write_fails(rt: HostRuntime) {
     }
 }
 
+/// Whether a reader that failed in an earlier run is read as any other.
+fn is_read_again(alloc: Global) -> bool {
+    let mut reader = FailAt::new(Noted::new(SCRIPT), 1);
+    let mut writer = Noted::new(Vec::new(alloc));
+    let mut fault_writer = Noted::new(Vec::new(alloc));
+    let first = engine(alloc, &WORDS, &mut reader, &mut writer, &mut fault_writer);
+    let second = engine(alloc, &WORDS, &mut reader, &mut writer, &mut fault_writer);
+    let told = fault_writer.inner().as_slice() == b"reading failed\n".as_slice();
+    first == Status::Failed && second == Status::Accepted && told
+}
+
+/// Whether a writer that failed in an earlier run is written on as any other.
+fn is_written_again(alloc: Global) -> bool {
+    let mut writer = FailAt::new(Noted::new(Vec::new(alloc)), 1);
+    let mut fault_writer = Noted::new(Vec::new(alloc));
+    let mut reader = Noted::new(SCRIPT);
+    let first = engine(alloc, &WORDS, &mut reader, &mut writer, &mut fault_writer);
+    let mut reader = Noted::new(SCRIPT);
+    let second = engine(alloc, &WORDS, &mut reader, &mut writer, &mut fault_writer);
+    let told = fault_writer.inner().as_slice() == b"writing failed\n".as_slice();
+    first == Status::Failed && second == Status::Accepted && told
+}
+
+#[test]
+fn an_earlier_fault_is_not_told_again(rt: HostRuntime) {
+    assert!(rt; is_read_again(rt.alloc()));
+    assert!(rt; is_written_again(rt.alloc()));
+}
+
 #[test]
 fn a_fault_output_that_fails(rt: HostRuntime) {
     let alloc = rt.alloc();

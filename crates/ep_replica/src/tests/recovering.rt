@@ -1,9 +1,9 @@
 //! Proposals that others recover: two puts that conflict, and one that a no-op replaces. Frames are given by hand.
 
 use super::{PRE_ACCEPT, first_of, propose, replica, shown, stamp};
-use crate::Replica;
+use crate::{Replica, ReplicaFault};
 use ep_base::{Answer, InstanceId, Reply, Value};
-use ep_journal::{Entry, Event, StepFault};
+use ep_journal::{Entry, Event};
 use ep_rules::Receipt;
 use std::alloc::Global;
 use std::process::Abort;
@@ -194,7 +194,13 @@ fn the_first_of_two_puts_finds_nothing(rt: HostRuntime) {
     let mut one = replica(&rt, alloc, 1);
     first_is_committed(&rt, alloc, &mut zero, &mut one);
     let refused = stamp(&rt, alloc, &mut zero, Event::Execute(first_of(&rt, 0)));
-    assert_eq!(rt; refused, Err(StepFault::NotCommitted(first_of(&rt, 1))));
+    assert_eq!(rt;
+        refused,
+        Err(ReplicaFault::NotCommitted {
+            replica: 1,
+            number: 1
+        })
+    );
     second_is_recovered(&rt, alloc, &mut zero, &mut one);
     assert!(rt; zero.outcome(first_of(&rt, 0)).is_none());
     ask(&rt, alloc, &mut zero, Event::Execute(first_of(&rt, 0)), 11);

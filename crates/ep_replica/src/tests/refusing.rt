@@ -1,15 +1,15 @@
 //! What a new replica refuses.
 
 use super::{PRE_ACCEPT, handle, propose, replica, stamp};
-use crate::Replica;
+use crate::{Replica, ReplicaFault};
 use ep_base::{Command, ReplicaId, Size};
 use ep_frame::FrameFault;
-use ep_journal::{Event, StepFault};
+use ep_journal::Event;
 use std::alloc::Global;
 use std::process::Abort;
 
 /// A new replica refuses the event for this fault, and takes its first proposal as if nothing had been asked.
-fn assert_refused(rt: &impl Abort, alloc: Global, me: u8, event: Event, fault: StepFault) {
+fn assert_refused(rt: &impl Abort, alloc: Global, me: u8, event: Event, fault: ReplicaFault) {
     let mut replica = replica(rt, alloc, me);
     let refused = stamp(rt, alloc, &mut replica, event);
     assert_eq!(rt; refused, Err(fault));
@@ -33,7 +33,7 @@ fn a_frame_for_another(rt: HostRuntime) {
     let alloc = rt.alloc();
     for me in [0, 2] {
         let event = handle(&rt, alloc, &PRE_ACCEPT);
-        assert_refused(&rt, alloc, me, event, StepFault::NotMine);
+        assert_refused(&rt, alloc, me, event, ReplicaFault::NotMine);
     }
 }
 
@@ -46,7 +46,7 @@ fn a_frame_of_a_larger_cluster(rt: HostRuntime) {
     frame[25] = 5;
     for me in [1, 2] {
         let event = handle(&rt, alloc, &frame);
-        assert_refused(&rt, alloc, me, event, StepFault::OutOfRange);
+        assert_refused(&rt, alloc, me, event, ReplicaFault::OutOfRange);
     }
 }
 
@@ -54,7 +54,7 @@ fn a_frame_of_a_larger_cluster(rt: HostRuntime) {
 fn bytes_that_are_no_frame(rt: HostRuntime) {
     let alloc = rt.alloc();
     let event = handle(&rt, alloc, &PRE_ACCEPT[..39]);
-    let fault = StepFault::BadFrame(FrameFault::Short);
+    let fault = ReplicaFault::BadFrame(FrameFault::Short);
     assert_refused(&rt, alloc, 1, event, fault);
 }
 
@@ -65,7 +65,7 @@ fn a_frame_from_its_receiver(rt: HostRuntime) {
     let mut frame = PRE_ACCEPT;
     frame[4] = 1;
     let event = handle(&rt, alloc, &frame);
-    let fault = StepFault::BadFrame(FrameFault::Field(5));
+    let fault = ReplicaFault::BadFrame(FrameFault::Field(5));
     assert_refused(&rt, alloc, 1, event, fault);
 }
 
@@ -73,7 +73,7 @@ fn a_frame_from_its_receiver(rt: HostRuntime) {
 fn nobodys_request(rt: HostRuntime) {
     let alloc = rt.alloc();
     let event = propose(&rt, alloc, 0, b"1", 0);
-    assert_refused(&rt, alloc, 0, event, StepFault::OutOfRange);
+    assert_refused(&rt, alloc, 0, event, ReplicaFault::OutOfRange);
 }
 
 #[test]
@@ -84,5 +84,5 @@ fn a_proposed_noop(rt: HostRuntime) {
         command: Command::noop(),
         seen: 0,
     };
-    assert_refused(&rt, rt.alloc(), 0, event, StepFault::OutOfRange);
+    assert_refused(&rt, rt.alloc(), 0, event, ReplicaFault::OutOfRange);
 }

@@ -1,7 +1,7 @@
 //! The clock.
 
 use super::{PRE_ACCEPT, handle, propose, replica, stamp};
-use ep_journal::StepFault;
+use crate::ReplicaFault;
 
 /// The first frame with this stamp.
 fn stamped(stamp: u64) -> [u8; 42] {
@@ -33,7 +33,7 @@ fn a_stamp_stays_in_range(rt: HostRuntime) {
     for seen in [281_474_976_710_655, u64::MAX] {
         let event = propose(&rt, alloc, 1, b"1", seen);
         let refused = stamp(&rt, alloc, &mut replica, event);
-        assert_eq!(rt; refused, Err(StepFault::StampFull));
+        assert_eq!(rt; refused, Err(ReplicaFault::StampFull));
     }
     let event = propose(&rt, alloc, 1, b"1", 0);
     assert_eq!(rt; stamp(&rt, alloc, &mut replica, event), Ok(1));
@@ -42,7 +42,7 @@ fn a_stamp_stays_in_range(rt: HostRuntime) {
     assert_eq!(rt; last, Ok(281_474_976_710_655));
     let event = propose(&rt, alloc, 1, b"1", 0);
     let refused = stamp(&rt, alloc, &mut replica, event);
-    assert_eq!(rt; refused, Err(StepFault::StampFull));
+    assert_eq!(rt; refused, Err(ReplicaFault::StampFull));
     drop(replica);
 }
 
@@ -52,6 +52,6 @@ fn a_frame_of_the_last_stamp(rt: HostRuntime) {
     let mut replica = replica(&rt, alloc, 1);
     let event = handle(&rt, alloc, &stamped(281_474_976_710_655));
     let refused = stamp(&rt, alloc, &mut replica, event);
-    assert_eq!(rt; refused, Err(StepFault::StampFull));
+    assert_eq!(rt; refused, Err(ReplicaFault::StampFull));
     drop(replica);
 }

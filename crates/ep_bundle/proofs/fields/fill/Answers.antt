@@ -1,4 +1,4 @@
-use Rattle.std.proofs.Common.{rules, arith, ◌≡◌, ℕ, ◌-◌, ◌+◌, length, subst}
+use Rattle.std.proofs.Common.{rules, arith, ◌≡◌, ℕ, ◌-◌, ◌+◌, length, subst, ◌∙◌}
 use Rattle.ep_bundle.proofs.Filled.{Consumed, more, front, full, short}
 use Rattle.ep_bundle.proofs.fields.fill.Goals as goal
 
@@ -11,4 +11,5 @@ loop-at-preserved g c =
       bytes = λ zs h.
           subst (λ bs. Consumed zs bs (g.S.Source.left c.pull.new.self)) (front c.loop-at.at (length c.loop-at.buf - c.loop-at.at) c.in_ok-count.count c.loop-at.buf c.pull.new.buf c.loop-at.invariant.within step.bound)
           (more zs _ _ _ _ (c.loop-at.invariant.bytes zs h) step.bytes.0);
+      told = step.bytes.2 ∙ c.loop-at.invariant.told;
     }

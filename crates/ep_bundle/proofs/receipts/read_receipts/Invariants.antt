@@ -1,7 +1,11 @@
+use Rattle.std.proofs.Common.{◌≡◌}
 use Rattle.ep_base.specs.Quorums.{size}
 use Rattle.ep_bundle.specs.Stages.{receipt}
 use Rattle.ep_bundle.proofs.Loops.{Going}
 use Rattle.ep_bundle.proofs.receipts.read_receipts.Given as goal
 
 abbrev pub invariant-loop : goal.invariant-loop
-invariant-loop g l = Going (receipt (size l.cluster)) l.count l.counter l.receipts.items l.initial.place l.place (g.S.Source.left l.initial.source) (g.S.Source.left l.source)
+invariant-loop g l = record {
+  bytes : Going (receipt (size l.cluster)) l.count l.counter l.receipts.items l.initial.place l.place (g.S.Source.left l.initial.source) (g.S.Source.left l.source);
+  told : g.S.Source.has_failed l.source ≡ g.S.Source.has_failed l.initial.source;
+}

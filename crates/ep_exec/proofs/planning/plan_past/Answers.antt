@@ -3,11 +3,21 @@ use Rattle.std.proofs.lemmas.Bool.{false≢true}
 use Rattle.std.specs.Global.{Global}
 use Rattle.std.specs.List.{flat_map}
 use Rattle.ep_base.specs.Places.{Has}
+use Rattle.ep_rules.specs.Order.{IsPlan}
 use Rattle.ep_rules.specs.States.{graph_in}
 use Rattle.ep_exec.specs.Found.{IsLeast}
 use Rattle.ep_exec.specs.Walk.{lists}
+use Rattle.ep_exec.proofs.Alone.{plan_alone}
 use Rattle.ep_exec.proofs.Cut.{plan_up, blocked_up}
 use Rattle.ep_exec.proofs.planning.plan_past.Goals as goal
+
+pub returns-then-is_alone-clause-order : goal.returns-then-is_alone-clause-order
+returns-then-is_alone-clause-order c =
+    let g = graph_in c.args.space.now.records in
+    let executed : List ℕ = c.args.executed.now.list in
+    let left : ¬ Has executed c.args.root = (λ h. false≢true (sym c.if-contains.false ∙ c.contains.ensures.1 h)) in
+    subst (IsPlan g executed c.args.root) (sym c.in_ok-from_slice.ensures.items)
+    (plan_alone g c.args.skipped.now.list executed c.args.root c.requires.closed c.requires.within left (sym c.is_alone.ensures ∙ c.if-is_alone.true))
 
 pub returns-in-Some-clause-refused : goal.returns-in-Some-clause-refused
 returns-in-Some-clause-refused c =

@@ -1,8 +1,13 @@
-use Rattle.std.proofs.Common.{ℕ, List, [], subst}
+use Rattle.std.proofs.Common.{◌≤◌, ◌∙◌, ℕ, List, [], subst}
+use Rattle.ep_journal.specs.Entries.{journals_of}
+use Rattle.ep_rules.proofs.OnceDone.{as_once}
 use Rattle.ep_script.specs.declared.line.Line.{Line}
 use Rattle.ep_replay.specs.Replays.{IsOpening, PlayAll}
 use Rattle.ep_replay.specs.Tables.{told, Leads}
+use Rattle.ep_replay.specs.Told.{instances_of}
 use Rattle.ep_replay.proofs.Leading.{replayed, own_at_end}
+use Rattle.ep_replay.proofs.OneReceipt.{few_receipts}
+use Rattle.ep_replay.proofs.ReceiptsOnce.{replay_once}
 use Rattle.ep_replay.proofs.player.replay.Goals as goal
 
 pub returns-clause-value : goal.returns-clause-value
@@ -13,3 +18,11 @@ returns-clause-value c =
 
 pub returns-clause-accepted : goal.returns-clause-accepted
 returns-clause-accepted c = c.in_ok-left.ensures.accepted (own_at_end c.lines.result.now c.in_ok-player.player c.play_all.new.self c.in_ok-player.ensures.tells c.in_ok-play_all.ensures)
+
+pub returns-clause-once : goal.returns-clause-once
+returns-clause-once c = as_once (instances_of c.in_ok-left.left.receipts.items) (replay_once c.args.script.now c.in_ok-left.left (returns-clause-value c))
+
+pub returns-clause-few : goal.returns-clause-few
+returns-clause-few c =
+    few_receipts c.in_ok-left.left.journals.faults (journals_of c.in_ok-left.left.journals) c.in_ok-left.left.receipts.items (subst (λ n. n ≤ 3) (c.faults-faults.ensures.value ∙ c.size-2.ensures) c.faults-faults.ensures.in_range.1) c.are_local_runs.ensures (returns-clause-accepted c)
+    (replay_once c.args.script.now c.in_ok-left.left (returns-clause-value c))

@@ -5,6 +5,8 @@ use Rattle.ep_script.specs.Plan.{reads, script_of}
 use Rattle.ep_script.proofs.reader.read_script.Given as goal
 
 abbrev pub invariant-loop-number : goal.invariant-loop-number
-invariant-loop-number g l =
-    (zs : List ℕ) → g.S.Source.left l.initial.source ≡ Some zs
-    → (ws : List ℕ) × HasLeft l.window (g.S.Source.left l.source) ws × (script_of zs ≡ reads l.number l.draft (raw_lines ws))
+invariant-loop-number g l = record {
+  bytes : (zs : List ℕ) → g.S.Source.left l.initial.source ≡ Some zs
+      → (ws : List ℕ) × HasLeft l.window (g.S.Source.left l.source) ws × (script_of zs ≡ reads l.number l.draft (raw_lines ws));
+  failed : g.S.Source.has_failed l.source ≡ g.S.Source.has_failed l.initial.source;
+}

@@ -1,13 +1,13 @@
 use Rattle.std.proofs.Common.{◌≡◌, ◌+◌, ℕ, List, Option, IfOk, sym, ap, subst, ◌∙◌, arith}
 use Rattle.ep_base.specs.Instances.{instance_of}
 use Rattle.ep_base.specs.declared.decree.Decree.{Decree}
-use Rattle.ep_verdict.specs.Tables.{first_of, and_row, Covers}
+use Rattle.ep_verdict.specs.Tables.{agreed_in, and_row, Covers}
 use Rattle.ep_verdict.proofs.Covering.{covers_next}
 use Rattle.ep_verdict.proofs.table.add_led.Goals as goal
 
 pub loop-place-preserved : goal.loop-place-preserved
 loop-place-preserved c = λ h.
-    let g : ℕ → Option Decree = first_of c.args.states.now in
+    let g : ℕ → Option Decree = agreed_in c.args.journals.now in
     let b : ℕ = instance_of c.args.leader (c.loop-place.place + 1) in
     let old : List (ℕ × Decree) = c.loop-place.table.items in
     let new : List (ℕ × Decree) = c.add_agreed.new.table.items in

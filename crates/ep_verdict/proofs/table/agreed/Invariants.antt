@@ -1,6 +1,7 @@
-use Rattle.std.proofs.Common.{◌≡◌, drop}
-use Rattle.ep_verdict.specs.Tables.{first_of}
+use Rattle.std.proofs.Common.{◌≡◌, None}
+use Rattle.ep_rules.specs.Verdicts.{agreed_below}
+use Rattle.ep_journal.specs.Entries.{journals_of}
 use Rattle.ep_verdict.proofs.table.agreed.Given as goal
 
-abbrev pub invariant-loop-state : goal.invariant-loop-state
-invariant-loop-state l = first_of (drop l.state-index l.states) l.instance ≡ first_of l.states l.instance
+abbrev pub invariant-loop-replica : goal.invariant-loop-replica
+invariant-loop-replica l = agreed_below l.replica l.journals.faults (journals_of l.journals) l.instance ≡ None

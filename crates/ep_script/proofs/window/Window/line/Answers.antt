@@ -1,4 +1,4 @@
-use Rattle.std.proofs.Common.{rules, arith, ◌≤◌, ℕ, [], ◌∷◌, length, refl, ap, length-append}
+use Rattle.std.proofs.Common.{rules, arith, ◌≤◌, ℕ, [], ◌∷◌, length, refl, ap, ◌∙◌, length-append}
 use Rattle.std.proofs.lemmas.List.{nil_from_length}
 use Rattle.std.proofs.lemmas.List.Elements.{All-nil}
 use Rattle.ep_script.specs.RawLines.{longest}
@@ -10,6 +10,7 @@ pub loop-init : goal.loop-init
 loop-init g c = record {
   bytes = λ zs h. (zs, rw c.clear.ensures.items refl, h, rw c.clear.ensures.items (All-nil IsNoFeed));
   len = rw c.clear.ensures.items refl;
+  failed = refl;
 }
 
 pub returns-then-is_empty-clause-bytes : goal.returns-then-is_empty-clause-bytes
@@ -35,6 +36,7 @@ loop-preserved g c =
     let items = c.in_ok-push-in-Some.ensures.items in record {
       bytes = λ zs h. rw items (so_far_more zs c.loop.line.items c.loop.self c.next.new.self _ _ c.in-Some.byte c.in-Some.byte-test.1 next (c.loop.invariant.bytes zs h));
       len = rw items (omega (arith, length-append c.loop.line.items (c.in-Some.byte ∷ []), c.loop.invariant.len));
+      failed = ◌∙◌ {b = g.S.Source.has_failed c.loop.source} c.in_ok-next.ensures.failed c.loop.invariant.failed;
     }
 
 pub returns-clause-bytes : goal.returns-clause-bytes

@@ -7,4 +7,5 @@ abbrev pub invariant-loop : goal.invariant-loop
 invariant-loop g l = record {
   bytes : (zs : List ℕ) → HasLeft l.initial.self (g.S.Source.left l.initial.source) zs → SoFar zs l.line.items l.self (g.S.Source.left l.source);
   len : length l.line.items ≡ l.counter;
+  failed : g.S.Source.has_failed l.source ≡ g.S.Source.has_failed l.initial.source;
 }

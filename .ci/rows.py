@@ -1,0 +1,159 @@
+#!/usr/bin/env python3
+"""Runs of the built program: words and input against the output, the fault output and the status that are wanted.
+
+  .ci/rows.py PROGRAM [WORD]     the rows whose names have the word, of that program
+
+A row is a folder .ci/rows/NAME with files, each of which may lack:
+  args       one word a line. Behind a line '|' stand the words of a second run, which reads what the first one wrote
+  stdin      the input; stdin.gz: packed; stdin.hex: in hexadecimal, a line from '#' on is a comment
+  change     lines 'PLACE BYTE', in decimal and hexadecimal: bytes that are others where the second run reads them
+  redirect   the shell's redirections of the last run
+  stdout stderr status     what is wanted: nothing, nothing and 0 where there is no such file; stdout.gz: packed
+More rows are made of the scripts and reports in docs/FORMATS.md, examples/ and .ci/scripts/, and by .ci/made.py from a rule.
+"""
+
+import gzip
+import os
+import re
+import subprocess
+import sys
+from dataclasses import dataclass, field
+
+sys.dont_write_bytecode = True
+TOP = os.path.dirname(os.path.dirname(os.path.abspath(__file__)))
+SECONDS = 120
+
+
+@dataclass
+class Row:
+    name: str
+    words: list
+    given: bytes = b""
+    wanted: bytes = b""
+    told: bytes = b""
+    status: int = 0
+    redirect: str = ""
+    change: list = field(default_factory=list)
+
+    def run(self, program):
+        """Returns what is wrong with a run of the program, or nothing."""
+        given, runs = self.given, [it.split("\n") for it in "\n".join(self.words).split("\n|\n")]
+        for words in runs[:-1]:
+            first = self.one(program, words, given, "")
+            if first[0] or first[2]:
+                return f"the first run ended with status {first[0]}: {first[2][:200]!r}"
+            given = bytearray(first[1])
+        for place, byte in self.change:
+            given[place] = byte
+        status, wrote, told = self.one(program, runs[-1], bytes(given), self.redirect)
+        if status != self.status:
+            return f"status {status} and not {self.status}; on standard error {told[:200]!r}"
+        if told != self.told:
+            return f"standard error has {told[:200]!r} and not {self.told[:200]!r}"
+        if wrote != self.wanted:
+            at = next((place for place, (a, b) in enumerate(zip(wrote, self.wanted)) if a != b), min(len(wrote), len(self.wanted)))
+            return f"standard output has {len(wrote)} bytes and not {len(self.wanted)}, or differs first in line {wrote[:at].count(10) + 1}: {wrote[at : at + 80]!r} and not {self.wanted[at : at + 80]!r}"
+        return ""
+
+    def one(self, program, words, given, redirect):
+        """Runs the program as epaxos, and gives its status, its output and its fault output."""
+        script = 'program=$1; shift; exec -a epaxos "$program" "$@" ' + redirect
+        words = ["bash", "-c", script, "", program, *[it for it in words if it]]
+        try:
+            ran = subprocess.run(words, input=given, stdout=subprocess.PIPE, stderr=subprocess.PIPE, timeout=SECONDS)
+        except subprocess.TimeoutExpired:
+            return None, b"", b"it had not ended after %d seconds" % SECONDS
+        return ran.returncode, ran.stdout, ran.stderr
+
+
+def text(folder, name):
+    """The bytes of a row's file, or nothing."""
+    path = f"{folder}/{name}"
+    if os.path.isfile(f"{path}.gz"):
+        with gzip.open(f"{path}.gz") as it:
+            return it.read()
+    if os.path.isfile(f"{path}.hex"):
+        with open(f"{path}.hex") as it:
+            return bytes.fromhex("".join(line.partition("#")[0] for line in it))
+    if not os.path.isfile(path):
+        return b""
+    with open(path, "rb") as it:
+        return it.read()
+
+
+def stored():
+    """The rows of .ci/rows."""
+    for name in sorted(os.listdir(f"{TOP}/.ci/rows")):
+        folder = f"{TOP}/.ci/rows/{name}"
+        words = text(folder, "args").decode().splitlines()
+        change = [line.split() for line in text(folder, "change").decode().splitlines()]
+        yield Row(
+            name,
+            words,
+            text(folder, "stdin"),
+            text(folder, "stdout"),
+            text(folder, "stderr"),
+            int(text(folder, "status") or 0),
+            text(folder, "redirect").decode().strip(),
+            [(int(place), int(byte, 16)) for place, byte in change],
+        )
+
+
+def played(name, script, report):
+    """A script's row, and that of its bundle, audited to the same lines."""
+    yield Row(name, ["replay"], script, report)
+    yield Row(f"{name}, its bundle audited", ["replay", "--emit", "bundle", "|", "audit"], script, report[: report.rindex(b"refused ")])
+
+
+def written():
+    """The rows of scripts and reports that stand as files, or in the page on formats."""
+    with open(f"{TOP}/docs/FORMATS.md", "rb") as it:
+        page = it.read()
+    for place, (script, report) in enumerate(re.findall(rb"\n```script\n(.*?)```\n```report\n(.*?)```\n", page, re.S)):
+        yield from played(f"docs/FORMATS.md, script {place + 1}", script, report)
+    for folder in ("examples", ".ci/scripts"):
+        for name in sorted(os.listdir(f"{TOP}/{folder}")):
+            if name.endswith(".script"):
+                report = text(f"{TOP}/{folder}", f"{name.removesuffix('.script')}.report")
+                yield from played(f"{folder}/{name}", text(f"{TOP}/{folder}", name), report)
+
+
+def every():
+    """All rows."""
+    sys.path.insert(0, f"{TOP}/.ci")
+    import made
+
+    yield from stored()
+    yield from written()
+    for name, script, report in made.every():
+        yield from played(name, script, report)
+    for name, script, line in made.refused():
+        yield Row(name, ["replay"], script, told=b"script refused at line %d\n" % line, status=2)
+
+
+def tried(program, word="", by=""):
+    """Runs the program on the rows, prints a line for each that fails, and returns how many passed and how many failed."""
+    passed = failed = 0
+    for row in every():
+        if word in row.name:
+            wrong = row.run(program)
+            passed, failed = passed + (not wrong), failed + bool(wrong)
+            if wrong:
+                print(f"row {row.name}{by}: {wrong}", flush=True)
+    print(f"rows{by}: {passed} passed, {failed} failed", flush=True)
+    return passed, failed
+
+
+def main(words):
+    if words in (["--help"], ["-h"]):
+        print(__doc__, end="")
+        return 0
+    if not 1 <= len(words) <= 2 or not os.path.isfile(words[0]):
+        print(__doc__, end="", file=sys.stderr)
+        return 2
+    passed, failed = tried(os.path.abspath(words[0]), "".join(words[1:]))
+    return 0 if passed and not failed else 1
+
+
+if __name__ == "__main__":
+    sys.exit(main(sys.argv[1:]))

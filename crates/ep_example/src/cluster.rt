@@ -1,0 +1,168 @@
+//! Three replicas, and the frames on their way between them.
+
+ghost use Rattle.std.specs.Prelude.{◌≡◌, Some};
+ghost use Rattle.ep_frame.specs.Meaning.{origin_at};
+ghost use Rattle.ep_frame.specs.Spelling.{IsFrame};
+
+use crate::fault::Fault;
+use bytes::Bytes;
+use ep_base::{InstanceId, ReplicaId, Size};
+use ep_frame::FrameView;
+use ep_journal::{Entry, Event, Journal, StepFault};
+use ep_replica::Replica;
+use ep_rules::Receipt;
+use std::alloc::{AllocError, Global};
+use std::collections::VecDeque;
+use std::mem::replace;
+
+/// More frames than the example sends.
+const FRAMES: u32 = 100;
+
+/// Three replicas in one process, and the frames in flight, oldest first. This transport neither loses nor repeats nor
+/// reorders a frame, which is more than the protocol asks of one.
+#[derive(Drop)]
+pub(crate) struct Cluster {
+    replicas: Vec<Replica>,
+    in_flight: VecDeque<Bytes>,
+    alloc: Global,
+}
+
+impl Cluster {
+    /// Three replicas before any event, and no frames.
+    pub(crate) fn new(alloc: Global) -> Result<Cluster, AllocError> {
+        let mut replicas = Vec::new(alloc);
+        add_three(alloc, &mut replicas)?;
+        Ok(Cluster {
+            replicas,
+            in_flight: VecDeque::new(alloc),
+            alloc,
+        })
+    }
+
+    /// An event happens at a replica, and the frames that it sends are on their way.
+    pub(crate) fn take(&mut self, number: ReplicaId, event: Event) -> Result<(), StepFault> {
+        let Some(replica) = self.replicas.get_mut(number.index() as usize) else {
+            return Err(StepFault::OutOfRange);
+        };
+        replica.take(event)?;
+        // Here a program writes the new entry to its disk and waits for that: only then may the entry's frames leave.
+        if let Some(entry) = replica.journal().entries().last() {
+            send(entry, &mut self.in_flight)?;
+        }
+        Ok(())
+    }
+
+    /// A proposal happens at a replica, and gets an instance.
+    pub(crate) fn propose(
+        &mut self,
+        number: ReplicaId,
+        proposal: Event,
+    ) -> Result<InstanceId, Fault> {
+        self.take(number, proposal)?;
+        match self.replicas.get(number.index() as usize) {
+            Some(replica) => last_proposed(replica).ok_or(Fault::NoReceipt),
+            None => Err(Fault::NoReceipt),
+        }
+    }
+
+    /// The frames in flight reach their receivers, and those that these send, until none is left.
+    pub(crate) fn deliver(&mut self) -> Result<(), StepFault> {
+        for _ in 0..FRAMES {
+            let Some(frame) = self.in_flight.pop_front() else {
+                return Ok(());
+            };
+            self.hand_over(frame)?;
+        }
+        Ok(())
+    }
+
+    /// A frame reaches its receiver.
+    fn hand_over(&mut self, frame: Bytes) -> Result<(), StepFault> {
+        match receiver(&frame) {
+            Some(to) => self.take(to, Event::Handle(frame)),
+            None => Ok(()),
+        }
+    }
+
+    /// The replica executes an instance that was proposed there, and gives the receipt.
+    pub(crate) fn executed(
+        &mut self,
+        number: ReplicaId,
+        instance: InstanceId,
+    ) -> Result<Receipt, Fault> {
+        self.take(number, Event::Execute(instance))?;
+        match self.replicas.get(number.index() as usize) {
+            Some(replica) => receipt_of(self.alloc, replica, instance),
+            None => Err(Fault::NoReceipt),
+        }
+    }
+
+    /// A replica loses all but its journal, and starts again from that.
+    pub(crate) fn restart(&mut self, number: ReplicaId) -> Result<(), StepFault> {
+        let Some(replica) = self.replicas.get_mut(number.index() as usize) else {
+            return Err(StepFault::OutOfRange);
+        };
+        let Ok(fresh) = Replica::new(self.alloc, replica.size(), number) else {
+            return Err(StepFault::OutOfRange);
+        };
+        let journal = replace(replica, fresh).into_journal();
+        let taken = take_again(self.alloc, &journal, replica);
+        drop(journal);
+        taken
+    }
+}
+
+/// Adds three replicas before any event.
+fn add_three(alloc: Global, replicas: &mut Vec<Replica>) -> Result<(), AllocError> {
+    let Ok(size) = Size::new(3) else {
+        return Ok(());
+    };
+    for number in 0..size.count() {
+        if let Ok(me) = ReplicaId::new(number)
+            && let Ok(replica) = Replica::new(alloc, size, me)
+        {
+            replicas.push(replica)?;
+        }
+    }
+    Ok(())
+}
+
+/// Puts the frames of an entry after those in flight.
+fn send(entry: &Entry, in_flight: &mut VecDeque<Bytes>) -> Result<(), AllocError> {
+    for frame in entry.frames.as_slice() {
+        in_flight.push_back(frame.clone()?)?;
+    }
+    Ok(())
+}
+
+/// The instance that the replica's last entry, a proposal, is about: each of its frames names it.
+fn last_proposed(replica: &Replica) -> Option<InstanceId> {
+    let entry = replica.journal().entries().last()?;
+    let frame = entry.frames.as_slice().first()?;
+    let view = FrameView::read(frame).ok()?;
+    Some(view.instance())
+}
+
+/// To whom a frame goes; none where the bytes are no frame.
+fn receiver(bytes: &[u8]) -> Option<ReplicaId>
+    ensures { IsFrame bytes.now → result ≡ Some (origin_at bytes.now).to }
+{
+    let view = FrameView::read(bytes).ok()?;
+    Some(view.origin().to)
+}
+
+/// What the replica tells the client of its command in the instance.
+fn receipt_of(alloc: Global, replica: &Replica, instance: InstanceId) -> Result<Receipt, Fault> {
+    match replica.outcome(instance) {
+        Some(outcome) => Ok(outcome.to_receipt(alloc)?),
+        None => Err(Fault::NoReceipt),
+    }
+}
+
+/// Has a new replica take the events of a journal again, in order. Each step is exact, so it makes the same entries.
+fn take_again(alloc: Global, journal: &Journal, replica: &mut Replica) -> Result<(), StepFault> {
+    for entry in journal.entries() {
+        replica.take(entry.event.copy(alloc)?)?;
+    }
+    Ok(())
+}

@@ -1,0 +1,58 @@
+//! A worked example: three replicas in one program, over a transport that is a queue of frames. docs/EMBEDDING.md goes through it.
+#![tactic(auto)]
+
+mod cluster;
+mod fault;
+mod telling;
+
+use crate::cluster::Cluster;
+use crate::fault::Fault;
+use crate::telling::tell;
+use ep_base::{Command, ReplicaId};
+use ep_journal::Event;
+use std::alloc::Global;
+use std::process::ExitCode;
+
+fn main(rt: HostRuntime) -> ExitCode {
+    let Ok(mut cluster) = Cluster::new(rt.alloc()) else {
+        return ExitCode::FAILURE;
+    };
+    let played = play(&rt, rt.alloc(), &mut cluster);
+    drop(cluster);
+    match played {
+        Ok(()) => ExitCode::SUCCESS,
+        Err(_) => ExitCode::FAILURE,
+    }
+}
+
+/// A client puts at one replica and gets at another, which then restarts from its journal.
+fn play(rt: &impl Print, alloc: Global, cluster: &mut Cluster) -> Result<(), Fault> {
+    let zero = ReplicaId::new(0)?;
+    let one = ReplicaId::new(1)?;
+
+    // The client's first request: it knows of no stamp yet, and is told one.
+    let put = Command::put(alloc, b"x", b"1")?;
+    let first = cluster.propose(zero, request(1, put, 0))?;
+    cluster.deliver()?;
+    let seen = tell(rt, cluster.executed(zero, first)?)?;
+
+    // It hands that stamp in with its second request, at another replica.
+    let get = Command::get(alloc, b"x")?;
+    let second = cluster.propose(one, request(2, get, seen))?;
+    cluster.deliver()?;
+    tell(rt, cluster.executed(one, second)?)?;
+
+    cluster.restart(one)?;
+    tell(rt, cluster.executed(one, second)?)?;
+    Ok(())
+}
+
+/// A request of client 1.
+fn request(number: u32, command: Command, seen: u64) -> Event {
+    Event::Propose {
+        client: 1,
+        request: number,
+        command,
+        seen,
+    }
+}

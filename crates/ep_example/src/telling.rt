@@ -1,0 +1,33 @@
+//! What the example prints.
+
+use crate::fault::Fault;
+use ep_base::{Answer, Reply};
+use ep_rules::Receipt;
+
+/// Prints what the client is told of its command. Answers the stamp, which the client hands in with what it proposes next.
+pub(crate) fn tell(rt: &impl Print, receipt: Receipt) -> Result<u64, Fault> {
+    let stamp = receipt.stamp;
+    let printed = println!(rt;
+        "client {} request {} at replica {}: {}, stamp {stamp}",
+        receipt.client,
+        receipt.request,
+        receipt.replica.index(),
+        words_of(&receipt.answer)
+    );
+    drop(receipt);
+    match printed {
+        Ok(()) => Ok(stamp),
+        Err(_) => Err(Fault::Print),
+    }
+}
+
+/// An answer in words; of what the key had before, its value, where that is text.
+fn words_of(answer: &Answer) -> &str {
+    match answer {
+        Answer::Lost => "lost to a no-op",
+        Answer::Told(Reply::Absent) => "absent",
+        Answer::Told(Reply::Present(value)) => {
+            str::from_utf8(value.as_slice()).unwrap_or("present")
+        }
+    }
+}

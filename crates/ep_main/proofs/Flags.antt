@@ -1,0 +1,65 @@
+-- Whether a device failed, as a fault tells it that was made of another.
+use Rattle.std.proofs.Common.{◌≡◌, ℕ, Bool, true, false, List, Result, Ok, Err, refl, sym, ◌∙◌, ap, subst}
+use Rattle.std.specs.Prelude.{◌||◌, IsErrAnd}
+use Rattle.ep_base.specs.Devices.{FailsAsTold}
+use Rattle.ep_bundle.specs.Reading.{is_read_failed as is_bundle_read}
+use Rattle.ep_bundle.specs.declared.bundle_fault.BundleFault.{BundleFault}
+use Rattle.ep_bundle.specs.declared.bundle_fault.BundleFault.TheVariants as bundle
+use Rattle.ep_script.specs.Faults.{is_read_failed as is_script_read}
+use Rattle.ep_script.specs.declared.script_fault.ScriptFault.{ScriptFault}
+use Rattle.ep_script.specs.declared.script_fault.ScriptFault.TheVariants as script
+use Rattle.ep_journal.specs.Entries.{Collected}
+use Rattle.ep_rules.specs.declared.receipt.Receipt.{Receipt}
+use Rattle.ep_main.specs.Audits.{Says}
+use Rattle.ep_main.specs.Faults.{of_bundle, of_script, is_read, is_write}
+use Rattle.ep_main.specs.Runs.{IsVerdict}
+use Rattle.ep_main.specs.declared.fault.Fault.{Fault}
+use Rattle.ep_main.specs.declared.status.Status.{Status}
+use Rattle.ep_main.specs.declared.status.Status.TheVariants.{Accepted, AuditRefused, Refused, OutOfMemory, Failed}
+
+read_of_script : (s : ScriptFault) → is_read (of_script s) ≡ is_script_read s
+read_of_script script.Memory = refl
+read_of_script script.ReadFailed = refl
+read_of_script (script.Refused n) = refl
+
+write_of_script : (s : ScriptFault) → is_write (of_script s) ≡ false
+write_of_script script.Memory = refl
+write_of_script script.ReadFailed = refl
+write_of_script (script.Refused n) = refl
+
+read_of_bundle : (b : BundleFault) → is_read (of_bundle b) ≡ is_bundle_read b
+read_of_bundle bundle.Memory = refl
+read_of_bundle bundle.ReadFailed = refl
+read_of_bundle (bundle.BadBundle offset) = refl
+read_of_bundle (bundle.NotARun replica entry) = refl
+
+write_of_bundle : (b : BundleFault) → is_write (of_bundle b) ≡ false
+write_of_bundle bundle.Memory = refl
+write_of_bundle bundle.ReadFailed = refl
+write_of_bundle (bundle.BadBundle offset) = refl
+write_of_bundle (bundle.NotARun replica entry) = refl
+
+-- an answer tells the fault e, of which `is_its` says this
+as_told : {A : Type 0} (is_its : Fault → Bool) (e : Fault) (told had has : Bool) (r : Result A Fault) → IsErrAnd r (λ x. x ≡ e) → is_its e ≡ told → has ≡ (told || had) → FailsAsTold is_its r had has
+as_told is_its e told had has (Ok a) is same flag = absurd is
+as_told is_its e told had has (Err x) is same flag = flag ∙ ap (λ (b : Bool). b || had) (sym (ap is_its is ∙ same))
+
+pub script_read : {A : Type 0} (s : ScriptFault) (r : Result A Fault) (had has : Bool) → IsErrAnd r (λ x. x ≡ of_script s) → has ≡ (is_script_read s || had) → FailsAsTold is_read r had has
+script_read s r had has is flag = as_told is_read (of_script s) (is_script_read s) had has r is (read_of_script s) flag
+
+pub script_not_written : {A : Type 0} (s : ScriptFault) (r : Result A Fault) (had : Bool) → IsErrAnd r (λ x. x ≡ of_script s) → FailsAsTold is_write r had had
+script_not_written s r had is = as_told is_write (of_script s) false had had r is (write_of_script s) refl
+
+pub bundle_read : {A : Type 0} (b : BundleFault) (r : Result A Fault) (had has : Bool) → IsErrAnd r (λ x. x ≡ of_bundle b) → has ≡ (is_bundle_read b || had) → FailsAsTold is_read r had has
+bundle_read b r had has is flag = as_told is_read (of_bundle b) (is_bundle_read b) had has r is (read_of_bundle b) flag
+
+pub bundle_not_written : {A : Type 0} (b : BundleFault) (r : Result A Fault) (had : Bool) → IsErrAnd r (λ x. x ≡ of_bundle b) → FailsAsTold is_write r had had
+bundle_not_written b r had is = as_told is_write (of_bundle b) false had had r is (write_of_bundle b) refl
+
+-- what an audit says is a verdict
+pub says_verdict : (journals : Collected) (receipts : List Receipt) (status : Status) (text : List ℕ) → Says journals receipts status text → IsVerdict status
+says_verdict journals receipts Accepted text says = tt
+says_verdict journals receipts AuditRefused text says = tt
+says_verdict journals receipts Refused text says = absurd says
+says_verdict journals receipts OutOfMemory text says = absurd says
+says_verdict journals receipts Failed text says = absurd says
