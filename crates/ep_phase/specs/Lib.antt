@@ -1,3 +1,4 @@
 pub mod Leads
-pub mod Does
+pub mod Known
+pub mod Changes
 pub mod Refused

@@ -1,133 +1,109 @@
 //! The accept phase.
 
-ghost use Rattle.std.specs.Prelude.{◌≡◌, true, Some, None, IfOk, OnErr};
-ghost use Rattle.std.specs.FinSet as set;
-ghost use Rattle.ep_rules.specs.Maps.{get};
+ghost use Rattle.std.specs.Prelude.{◌≡◌, IfOk};
 ghost use Rattle.ep_rules.specs.Phases as rules;
-ghost use Rattle.ep_space.specs.Held.{HasPlace};
-ghost use Rattle.ep_space.specs.Records.{record_at};
-ghost use Rattle.ep_phase.specs.Does.{Does, Keeps};
+ghost use Rattle.ep_phase.specs.Changes.{change_of};
+ghost use Rattle.ep_phase.specs.Known.{record_of};
 
+use crate::cell::Cell;
+use crate::change::Change;
 use crate::commit::begin_commit;
 use crate::counting::others;
-use crate::lead::Lead;
+use crate::leading::Leading;
 use crate::propose::is_usable;
-use crate::sending::to_others;
-use ep_base::{Ballot, Decree, InstanceId, Message, ReplicaId};
-use ep_rules::{Answers, Led, Outgoing};
-use ep_space::Space;
+use crate::recorded::Recorded;
+use crate::receivers::Receivers;
+use crate::sending::Sending;
+use ep_base::{Ballot, Decree, Message, ReplicaId};
+use ep_rules::{Answers, Led};
 use std::alloc::{AllocError, Global};
 
 /// Begins the accept phase of the ballot: the leader accepts the decree, and asks all others to (EPaxos, figure 2; Sutra, 2019, for the two ballots).
-/// The instance has a place in both tables.
 pub fn begin_accept(
     alloc: Global,
-    space: &mut Space,
-    lead: &mut Lead,
-    me: ReplicaId,
-    id: InstanceId,
+    cell: &Cell<'_>,
     ballot: Ballot,
     decree: Decree,
-) -> Result<Outgoing, AllocError>
-    requires place { HasPlace space.old.places id }
-    requires led { HasPlace lead.old.places id }
-    ensures kept { Keeps space.old lead.old space.new lead.new }
-    ensures ok { IfOk result (λ out. Does (rules.accept_phase space.old.faults id me ballot decree) id space.old lead.old space.new lead.new out) }
-    ensures err { OnErr result ((space.new ≡ space.old) × (lead.new ≡ lead.old)) }
+) -> Result<Change, AllocError>
+    ensures { IfOk result (λ ch. change_of cell.now ch ≡ rules.accept_phase cell.now.faults cell.now.instance cell.now.me ballot decree) }
 {
-    let told = decree.copy(alloc)?;
-    let message = Message::Accept {
-        instance: id,
-        ballot,
-        decree: told,
+    let sent = decree.copy(alloc)?;
+    let out = Sending {
+        to: Receivers::Others,
+        message: Message::Accept {
+            instance: cell.id(),
+            ballot,
+            decree: sent,
+        },
     };
-    let out = to_others(alloc, space.size(), me, &message)?;
-    space.vote_accept(id, ballot, decree);
-    lead.lead(id, Led::Accepting(ballot, Answers::new(alloc)));
-    Ok(out)
+    let led = Led::Accepting(ballot, Answers::new(alloc));
+    Ok(Change::of(
+        Recorded::Accepts(ballot, decree),
+        Leading::Leads(led),
+        Some(out),
+    ))
 }
 
 /// Handles an Accept: below the promised ballot it is refused; where the instance is committed, or accepted at the ballot, nothing happens;
-/// else the decree is accepted. The instance has a place in both tables.
-pub fn on_accept(
-    alloc: Global,
-    space: &mut Space,
-    lead: &mut Lead,
-    from: ReplicaId,
-    id: InstanceId,
-    ballot: Ballot,
-    decree: Decree,
-) -> Result<Outgoing, AllocError>
-    requires place { HasPlace space.old.places id }
-    requires led { HasPlace lead.old.places id }
-    ensures kept { Keeps space.old lead.old space.new lead.new }
-    ensures ok { IfOk result (λ out. Does (rules.on_accept id from ballot decree (record_at space.old id)) id space.old lead.old space.new lead.new out) }
-    ensures err { OnErr result ((space.new ≡ space.old) × (lead.new ≡ lead.old)) }
+/// else the decree is accepted. It takes no memory.
+pub fn on_accept(cell: &Cell<'_>, from: ReplicaId, ballot: Ballot, decree: Decree) -> Change
+    ensures { change_of cell.now result ≡ rules.on_accept cell.now.instance from ballot decree (record_of cell.now) }
 {
-    let promised = space.promised(id);
+    let instance = cell.id();
+    let promised = cell.promised();
     if ballot < promised {
-        return Outgoing::one(
-            alloc,
+        return Change::answered(
             from,
             Message::Nack {
-                instance: id,
+                instance,
                 refused: ballot,
                 promised,
             },
         );
     }
-    if space.is_settled_at(id, ballot) {
-        return Ok(Outgoing::new(alloc));
+    if cell.is_settled_at(ballot) {
+        return Change::nothing();
     }
-    let out = Outgoing::one(
-        alloc,
-        from,
-        Message::AcceptOk {
-            instance: id,
-            ballot,
-        },
-    )?;
-    space.vote_accept(id, ballot, decree);
-    Ok(out)
+    let out = Sending {
+        to: Receivers::One(from),
+        message: Message::AcceptOk { instance, ballot },
+    };
+    Change::of(
+        Recorded::Accepts(ballot, decree),
+        Leading::Stays,
+        Some(out),
+    )
 }
 
 /// Handles an AcceptOK: it counts while this replica leads the ballot in the accept phase, has promised no other ballot and has not committed,
-/// once for each replica. With as many others as may fail, the leader commits. The instance has a place in both tables.
+/// once for each replica. With as many others as may fail, the leader commits.
 pub fn on_accept_ok(
     alloc: Global,
-    space: &mut Space,
-    lead: &mut Lead,
-    me: ReplicaId,
+    cell: &Cell<'_>,
     from: ReplicaId,
-    id: InstanceId,
     ballot: Ballot,
-) -> Result<Outgoing, AllocError>
-    requires place { HasPlace space.old.places id }
-    requires led { HasPlace lead.old.places id }
-    ensures kept { Keeps space.old lead.old space.new lead.new }
-    ensures ok { IfOk result (λ out. Does (rules.on_accept_ok space.old.faults id me from ballot (record_at space.old id) (get lead.old.leads id)) id space.old lead.old space.new lead.new out) }
-    ensures err { OnErr result ((space.new ≡ space.old) × (lead.new ≡ lead.old)) }
+) -> Result<Change, AllocError>
+    ensures { IfOk result (λ ch. change_of cell.now ch ≡ rules.on_accept_ok cell.now.faults cell.now.instance cell.now.me from ballot (record_of cell.now) cell.now.led) }
 {
-    let more = more_accepting(alloc, lead, id, from)?;
+    let more = more_accepting(alloc, cell, from)?;
     let Some((led, answers)) = more else {
-        return Ok(Outgoing::new(alloc));
+        return Ok(Change::nothing());
     };
-    if !is_usable(space, id, ballot, led) {
-        return Ok(Outgoing::new(alloc));
+    if !is_usable(cell, ballot, led) {
+        return Ok(Change::nothing());
     }
-    count_accept_ok(alloc, space, lead, me, id, ballot, answers)
+    count_accept_ok(alloc, cell, ballot, answers)
 }
 
 /// The ballot led in the accept phase, and its answers with this replica's, if it has not answered yet.
 fn more_accepting(
     alloc: Global,
-    lead: &Lead,
-    id: InstanceId,
+    cell: &Cell<'_>,
     from: ReplicaId,
 ) -> Result<Option<(Ballot, Answers<()>)>, AllocError>
-    ensures { IfOk result (λ o. o ≡ rules.more_accepting from (get lead.now.leads id)) }
+    ensures { IfOk result (λ o. o ≡ rules.more_accepting from cell.now.led) }
 {
-    match lead.get(id) {
+    match cell.led() {
         Some(Led::Accepting(ballot, answers)) => {
             if answers.get(from.index()).is_some() {
                 return Ok(None);
@@ -141,44 +117,26 @@ fn more_accepting(
 
 fn count_accept_ok(
     alloc: Global,
-    space: &mut Space,
-    lead: &mut Lead,
-    me: ReplicaId,
-    id: InstanceId,
+    cell: &Cell<'_>,
     ballot: Ballot,
     answers: Answers<()>,
-) -> Result<Outgoing, AllocError>
-    requires place { HasPlace space.old.places id }
-    requires led { HasPlace lead.old.places id }
-    ensures kept { Keeps space.old lead.old space.new lead.new }
-    ensures ok { IfOk result (λ out. Does (rules.count_accept_ok space.old.faults id me ballot answers (record_at space.old id)) id space.old lead.old space.new lead.new out) }
-    ensures err { OnErr result ((space.new ≡ space.old) × (lead.new ≡ lead.old)) }
+) -> Result<Change, AllocError>
+    ensures { IfOk result (λ ch. change_of cell.now ch ≡ rules.count_accept_ok cell.now.faults cell.now.instance cell.now.me ballot answers (record_of cell.now)) }
 {
-    let size = space.size();
-    if size.faults() <= others(size, me, &answers) {
-        return commit_own(alloc, space, lead, me, id);
+    let size = cell.size();
+    if size.faults() <= others(size, cell.me(), &answers) {
+        return commit_own(alloc, cell);
     }
-    lead.lead(id, Led::Accepting(ballot, answers));
-    Ok(Outgoing::new(alloc))
+    Ok(Change::kept(Led::Accepting(ballot, answers)))
 }
 
 /// Commits what the leader itself voted for.
-fn commit_own(
-    alloc: Global,
-    space: &mut Space,
-    lead: &mut Lead,
-    me: ReplicaId,
-    id: InstanceId,
-) -> Result<Outgoing, AllocError>
-    requires place { HasPlace space.old.places id }
-    requires led { HasPlace lead.old.places id }
-    ensures kept { Keeps space.old lead.old space.new lead.new }
-    ensures ok { IfOk result (λ out. Does (rules.commit_own space.old.faults id me (record_at space.old id) (record_at space.old id).vote) id space.old lead.old space.new lead.new out) }
-    ensures err { OnErr result ((space.new ≡ space.old) × (lead.new ≡ lead.old)) }
+fn commit_own(alloc: Global, cell: &Cell<'_>) -> Result<Change, AllocError>
+    ensures { IfOk result (λ ch. change_of cell.now ch ≡ rules.commit_own cell.now.faults cell.now.instance cell.now.me (record_of cell.now) (record_of cell.now).vote) }
 {
-    let Some(vote) = space.vote(id) else {
-        return Ok(Outgoing::new(alloc));
+    let Some(vote) = cell.vote() else {
+        return Ok(Change::nothing());
     };
     let decree = vote.decree.copy(alloc)?;
-    begin_commit(alloc, space, lead, me, id, decree)
+    begin_commit(alloc, cell, decree)
 }

@@ -1,63 +1,46 @@
 //! Commit.
 
-ghost use Rattle.std.specs.Prelude.{◌≡◌, true, Some, IfOk, OnErr};
-ghost use Rattle.std.specs.FinSet as set;
+ghost use Rattle.std.specs.Prelude.{◌≡◌, IfOk};
 ghost use Rattle.ep_rules.specs.Phases as rules;
-ghost use Rattle.ep_space.specs.Held.{HasPlace};
-ghost use Rattle.ep_space.specs.Records.{record_at};
-ghost use Rattle.ep_phase.specs.Does.{Does, Keeps};
+ghost use Rattle.ep_phase.specs.Changes.{change_of};
+ghost use Rattle.ep_phase.specs.Known.{record_of};
 
-use crate::lead::Lead;
-use crate::sending::to_others;
-use ep_base::{Decree, InstanceId, Message, ReplicaId};
-use ep_rules::Outgoing;
-use ep_space::Space;
+use crate::cell::Cell;
+use crate::change::Change;
+use crate::leading::Leading;
+use crate::recorded::Recorded;
+use crate::receivers::Receivers;
+use crate::sending::Sending;
+use ep_base::{Decree, Message};
 use std::alloc::{AllocError, Global};
 
 /// Commits the decree as the leader: both ballots stay, the instance is led no longer, and all others are told
-/// (EPaxos, figure 2, commit phase). The instance has a place in both tables.
-pub fn begin_commit(
-    alloc: Global,
-    space: &mut Space,
-    lead: &mut Lead,
-    me: ReplicaId,
-    id: InstanceId,
-    decree: Decree,
-) -> Result<Outgoing, AllocError>
-    requires place { HasPlace space.old.places id }
-    requires led { HasPlace lead.old.places id }
-    ensures kept { Keeps space.old lead.old space.new lead.new }
-    ensures ok { IfOk result (λ out. Does (rules.commit_phase space.old.faults id me decree (record_at space.old id)) id space.old lead.old space.new lead.new out) }
-    ensures err { OnErr result ((space.new ≡ space.old) × (lead.new ≡ lead.old)) }
+/// (EPaxos, figure 2, commit phase).
+pub fn begin_commit(alloc: Global, cell: &Cell<'_>, decree: Decree) -> Result<Change, AllocError>
+    ensures { IfOk result (λ ch. change_of cell.now ch ≡ rules.commit_phase cell.now.faults cell.now.instance cell.now.me decree (record_of cell.now)) }
 {
-    let told = decree.copy(alloc)?;
-    let message = Message::Commit {
-        instance: id,
-        decree: told,
+    let sent = decree.copy(alloc)?;
+    let out = Sending {
+        to: Receivers::Others,
+        message: Message::Commit {
+            instance: cell.id(),
+            decree: sent,
+        },
     };
-    let out = to_others(alloc, space.size(), me, &message)?;
-    space.commit(id, decree);
-    lead.end(id);
-    Ok(out)
+    Ok(Change::of(
+        Recorded::Commits(decree),
+        Leading::Ends,
+        Some(out),
+    ))
 }
 
 /// Handles a Commit: where the instance is not committed yet, the decree is, both ballots stay, and the instance is led no longer.
-/// It takes no memory. The instance has a place in both tables.
-pub fn on_commit(
-    alloc: Global,
-    space: &mut Space,
-    lead: &mut Lead,
-    id: InstanceId,
-    decree: Decree,
-) -> Outgoing
-    requires place { HasPlace space.old.places id }
-    requires led { HasPlace lead.old.places id }
-    ensures kept { Keeps space.old lead.old space.new lead.new }
-    ensures ok { Does (rules.on_commit id decree (record_at space.old id)) id space.old lead.old space.new lead.new result }
+/// It takes no memory.
+pub fn on_commit(cell: &Cell<'_>, decree: Decree) -> Change
+    ensures { change_of cell.now result ≡ rules.on_commit cell.now.instance decree (record_of cell.now) }
 {
-    if !space.is_committed(id) {
-        space.commit(id, decree);
-        lead.end(id);
+    if cell.is_committed() {
+        return Change::nothing();
     }
-    Outgoing::new(alloc)
+    Change::of(Recorded::Commits(decree), Leading::Ends, None)
 }

@@ -7,7 +7,7 @@ ghost use Rattle.ep_rules.specs.Answers.{answer};
 ghost use Rattle.ep_rules.specs.Counting.{is_other};
 ghost use Rattle.ep_rules.specs.Phases as rules;
 
-use crate::sending::is_fast;
+use crate::receivers::is_fast;
 use ep_base::{Attrs, Decree, ReplicaId, Size};
 use ep_rules::Answers;
 use std::alloc::{AllocError, Global};

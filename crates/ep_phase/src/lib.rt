@@ -1,30 +1,41 @@
 //! Phase 1, the accept phase and commit (EPaxos, figure 2), at the default ballot and at recovery ballots.
 //!
-//! Each call takes one event of one instance, which has a place in both tables. It changes the records and what is led,
-//! and gives the messages to send, with their receivers. Where it answers an error, nothing has changed.
+//! Each call takes one event of one instance and decides what it changes there: it looks at a `Cell`, which is what the replica
+//! knows of the instance, and answers a `Change`, or why the event is refused. Nothing has changed then. `Change::install`
+//! puts a change in place; it takes no memory and can't fail, so nothing ever has to be undone.
 //!
 //! `ep_journal` calls it for each event that isn't a recovery's or an execution, and `ep_prepare` for the phases that a
-//! recovery goes on to. Each call does what its rule in `ep_rules`, specs/Phases.antt, says, test by test.
+//! recovery goes on to. Each call decides what its rule in `ep_rules`, specs/Phases.antt, says, test by test.
 //!
-//! Start with `propose.rt` and specs/Does.antt, which says what "does what the rule says" means; then `accept.rt`,
-//! `commit.rt`. What may fail is built before anything is written: keep to that order, and nothing has to be undone.
+//! Start with `cell.rt` and `change.rt`, then specs/Changes.antt, which says what a `Change` stands for; then `propose.rt`,
+//! `accept.rt`, `commit.rt`.
 #![tactic(auto)]
 
 mod accept;
+mod cell;
+mod change;
 mod commit;
 mod counting;
 mod lead;
+mod leading;
 mod phase_fault;
 mod propose;
+mod receivers;
+mod recorded;
 mod sending;
 #[cfg(test)]
 mod tests;
 
 pub use accept::{begin_accept, on_accept, on_accept_ok};
+pub use cell::Cell;
+pub use change::Change;
 pub use commit::{begin_commit, on_commit};
 pub use lead::Lead;
+pub use leading::Leading;
 pub use phase_fault::PhaseFault;
 pub use propose::{
     give_up, is_usable, next_instance, on_pre_accept, on_pre_accept_ok, start, start_at,
 };
-pub use sending::to_others;
+pub use receivers::{Receivers, is_fast};
+pub use recorded::Recorded;
+pub use sending::Sending;

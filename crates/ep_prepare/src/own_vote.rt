@@ -1,21 +1,17 @@
 //! A replica's own answer to a Prepare.
 
 ghost use Rattle.std.specs.Prelude.{◌≡◌, IfOk};
-ghost use Rattle.ep_space.specs.Records.{record_at};
+ghost use Rattle.ep_phase.specs.Known.{record_of};
 
-use ep_base::{InstanceId, Vote};
-use ep_space::Space;
+use ep_base::Vote;
+use ep_phase::Cell;
 use std::alloc::{AllocError, Global};
 
 /// The replica's last vote in the instance again, if it voted.
-pub(crate) fn own_vote(
-    alloc: Global,
-    space: &Space,
-    id: InstanceId,
-) -> Result<Option<Vote>, AllocError>
-    ensures { IfOk result (λ v. v ≡ (record_at space.now id).vote) }
+pub(crate) fn own_vote(alloc: Global, cell: &Cell<'_>) -> Result<Option<Vote>, AllocError>
+    ensures { IfOk result (λ v. v ≡ (record_of cell.now).vote) }
 {
-    match space.vote(id) {
+    match cell.vote() {
         None => Ok(None),
         Some(vote) => Ok(Some(vote.copy(alloc)?)),
     }

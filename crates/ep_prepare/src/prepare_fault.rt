@@ -1,12 +1,14 @@
 //! Why a recovery was not taken.
 
 ghost use Rattle.std.specs.Prelude.{◌≡◌};
+ghost use Rattle.ep_prepare.specs.Refused.{of_limit};
 ghost use Rattle.ep_prepare.specs.declared.prepare_fault.PrepareFault.TheVariants.{Memory};
 
+use ep_space::InterferenceFault;
 use std::alloc::AllocError;
 use thiserror::Error;
 
-/// Why an event was not taken. Records, what is led and the counters told are then as they were.
+/// Why a recovery was not taken.
 #[derive(Clone, Copy, Debug, PartialEq, Eq, Error)]
 pub enum PrepareFault {
     #[error("out of memory")]
@@ -27,5 +29,16 @@ impl From<AllocError> for PrepareFault {
 
     fn from(_fault: AllocError) -> PrepareFault {
         PrepareFault::Memory
+    }
+}
+
+impl From<InterferenceFault> for PrepareFault {
+    ghost from_gives = { λ f e. e ≡ of_limit f };
+
+    fn from(fault: InterferenceFault) -> PrepareFault {
+        match fault {
+            InterferenceFault::Memory => PrepareFault::Memory,
+            InterferenceFault::SeqExhausted => PrepareFault::SeqExhausted,
+        }
     }
 }

@@ -1,78 +1,64 @@
 //! What a replica does with a Prepare and with a Nack.
 
-ghost use Rattle.std.specs.Prelude.{◌≡◌, IfOk, OnErr};
-ghost use Rattle.ep_rules.specs.Maps.{get};
+ghost use Rattle.std.specs.Prelude.{◌≡◌, Some, IfOk};
 ghost use Rattle.ep_rules.specs.Recovery as rules;
-ghost use Rattle.ep_rules.specs.States.{or_zero};
-ghost use Rattle.ep_space.specs.Held.{HasPlace};
-ghost use Rattle.ep_space.specs.Records.{record_at};
-ghost use Rattle.ep_phase.specs.Does.{Does};
+ghost use Rattle.ep_phase.specs.Changes.{change_of};
+ghost use Rattle.ep_phase.specs.Known.{record_of};
 
 use crate::own_vote::own_vote;
-use ep_base::{Ballot, InstanceId, Message, ReplicaId};
-use ep_phase::Lead;
-use ep_rules::Outgoing;
-use ep_space::Space;
+use ep_base::{Ballot, Message, ReplicaId};
+use ep_phase::{Cell, Change, Leading, Receivers, Recorded, Sending};
 use std::alloc::{AllocError, Global};
 
 /// Handles a Prepare: below the promised ballot it is refused; at that ballot nothing happens; else the replica joins the ballot,
-/// and answers its last vote. A replica that has committed answers, too. The instance has a place in both tables.
+/// and answers its last vote. A replica that has committed answers, too.
 pub fn on_prepare(
     alloc: Global,
-    space: &mut Space,
-    lead: &mut Lead,
+    cell: &Cell<'_>,
     from: ReplicaId,
-    id: InstanceId,
     ballot: Ballot,
-) -> Result<Outgoing, AllocError>
-    requires place { HasPlace space.old.places id }
-    requires led { HasPlace lead.old.places id }
-    ensures ok { IfOk result (λ out. Does (rules.on_prepare id from ballot (record_at space.old id)) id space.old lead.old space.new lead.new out) }
-    ensures err { OnErr result ((space.new ≡ space.old) × (lead.new ≡ lead.old)) }
+) -> Result<Change, AllocError>
+    ensures { IfOk result (λ ch. change_of cell.now ch ≡ rules.on_prepare cell.now.instance from ballot (record_of cell.now)) }
 {
-    let promised = space.promised(id);
+    let instance = cell.id();
+    let promised = cell.promised();
     if ballot < promised {
-        return Outgoing::one(
-            alloc,
+        return Ok(Change::answered(
             from,
             Message::Nack {
-                instance: id,
+                instance,
                 refused: ballot,
                 promised,
             },
-        );
+        ));
     }
     if ballot == promised {
-        return Ok(Outgoing::new(alloc));
+        return Ok(Change::nothing());
     }
-    let vote = own_vote(alloc, space, id)?;
-    let out = Outgoing::one(
-        alloc,
-        from,
-        Message::PrepareOk {
-            instance: id,
+    let vote = own_vote(alloc, cell)?;
+    let out = Sending {
+        to: Receivers::One(from),
+        message: Message::PrepareOk {
+            instance,
             ballot,
             vote,
         },
-    )?;
-    space.join_ballot(id, ballot);
-    Ok(out)
+    };
+    Ok(Change::of(
+        Recorded::Joins(ballot),
+        Leading::Stays,
+        Some(out),
+    ))
 }
 
 /// Handles a Nack: the greatest counter told of the instance is kept. It takes no memory.
-/// The instance has a place in both tables.
-pub fn on_nack(
-    alloc: Global,
-    space: &mut Space,
-    lead: &mut Lead,
-    id: InstanceId,
-    promised: Ballot,
-) -> Outgoing
-    requires place { HasPlace space.old.places id }
-    requires led { HasPlace lead.old.places id }
-    ensures { Does (rules.on_nack promised (or_zero (get lead.old.told id))) id space.old lead.old space.new lead.new result }
+pub fn on_nack(cell: &Cell<'_>, promised: Ballot) -> Change
+    ensures { change_of cell.now result ≡ rules.on_nack promised cell.now.told }
 {
-    let counter = lead.told(id).max(promised.counter());
-    lead.tell(id, counter);
-    Outgoing::new(alloc)
+    Change {
+        entry: Recorded::Stays,
+        led: Leading::Stays,
+        told: Some(cell.told().max(promised.counter())),
+        out: None,
+    }
 }

@@ -2,4 +2,4 @@ use Rattle.std.proofs.Common.{◌≡◌}
 use Rattle.ep_prepare.proofs.counting.choice_of.Goals as goal
 
 pub returns : goal.returns
-returns c = simp (c.as_slice.ensures, c.replica.ensures, c.size.ensures) at c.choose.ensures
+returns c = simp (c.as_slice.ensures, c.id.ensures, c.replica.ensures, c.size.ensures) at c.choose.ensures
