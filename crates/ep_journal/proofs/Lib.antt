@@ -2,9 +2,8 @@ pub mod Fresh
 pub mod DoneBy
 pub mod Spelling
 pub mod Refusals
-pub mod Back
 pub mod Writable
-pub mod Screened
+pub mod Asked
 pub mod Execution
 pub mod Whole
 pub mod InOrder

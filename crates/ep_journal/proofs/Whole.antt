@@ -2,18 +2,16 @@
 use Rattle.std.proofs.Common.{◌≡◌, inl, inr, ℕ, suc, List, [], ◌∷◌, Option, Some, None, Result, Ok, Err, IfOk, OnErr, refl, sym, ap, subst, ◌∙◌, append-nil}
 use Rattle.ep_base.specs.declared.message.Message.{Message}
 use Rattle.ep_base.specs.declared.message.Message.TheVariants.{PreAccept, PreAcceptOk, Accept, AcceptOk, Commit, Prepare, PrepareOk, Nack}
-use Rattle.ep_base.specs.declared.command.Command.{Command}
-use Rattle.ep_base.specs.Messages.{instance_of_message}
 use Rattle.ep_frame.specs.declared.origin.Origin.{Origin}
 use Rattle.ep_frame.specs.Spelling.{Spells}
 use Rattle.ep_frame.proofs.Meanings.{sender_spelled, origin_spelled, message_spelled}
 use Rattle.ep_phase.specs.Leads.{Leads}
 use Rattle.ep_rules.specs.Cells.{Change, Refusal}
 use Rattle.ep_rules.specs.Journals as rules
-use Rattle.ep_rules.specs.Journals.{messages_of, AreMarked, IsEntry}
+use Rattle.ep_rules.specs.Journals.{messages_of, AreMarked}
 use Rattle.ep_rules.specs.OneMap.{Contents}
-use Rattle.ep_rules.specs.States.{State, free_number}
-use Rattle.ep_rules.specs.Steps.{Sent, Frame, at, handled, proposed, acts, screened, sent_by, IsTaken, Executes, IsStep, changed_by}
+use Rattle.ep_rules.specs.States.{State}
+use Rattle.ep_rules.specs.Steps.{Sent, Frame, acts, screened, sent_by, IsTaken, Executes as Does, IsStep, changed_by}
 use Rattle.ep_space.specs.Records.{Records}
 use Rattle.ep_base.specs.Fitting.{BallotsFit, VoteFits}
 use Rattle.ep_base.specs.declared.reply.Answer.{Answer}
@@ -22,19 +20,24 @@ use Rattle.ep_frame.specs.Spelling.{IsMessage, IsVote}
 use Rattle.ep_rules.specs.Fitting.{EventFits}
 use Rattle.ep_rules.proofs.Closed.{leaves_closed}
 use Rattle.ep_rules.proofs.Fitting.{leaves_fit}
-use Rattle.ep_journal.specs.Executing.{IsExecuted, IsExecuteFault}
 use Rattle.ep_journal.specs.Entries.{entry_of, frames_at, AreFrames}
 use Rattle.ep_journal.specs.Events.{frame_at, event_of, IsReadable, AreSpelled}
+use Rattle.ep_journal.specs.Inputs.{asks, admitted, IsWritable}
 use Rattle.ep_journal.specs.Parts.{state_of, known}
+use Rattle.ep_journal.specs.Refused as parts
 use Rattle.ep_journal.specs.Refused.{named}
-use Rattle.ep_journal.specs.Standing.{Standing, stands, Advances, IsRefused, IsSound}
-use Rattle.ep_journal.specs.Stepping.{Acted, Stepped, MarkedBy, RefusedBy, ScreenedBy, IsFault, IsOfProtocol}
+use Rattle.ep_journal.specs.Standing.{Standing, Advances, IsRefused, IsSound}
+use Rattle.ep_journal.specs.Stepping.{standing_of, Acted, Moves, Executes, Took, IsUntaken, MarkedBy, IsLetThrough, ScreenedBy, IsScreened}
 use Rattle.ep_journal.specs.declared.entry.Entry.{Entry}
 use Rattle.ep_journal.specs.declared.event.Event.{Event as Happening}
 use Rattle.ep_journal.specs.declared.event.Event.TheVariants.{Propose, Handle, GiveUp, Recover, Execute}
 use Rattle.ep_journal.specs.declared.mark.Mark.{Mark}
+use Rattle.ep_journal.specs.declared.parts.Parts.{Parts}
 use Rattle.ep_journal.specs.declared.step_fault.StepFault.{StepFault}
-use Rattle.ep_journal.specs.declared.step_fault.StepFault.TheVariants.{Memory, BadFrame, OutOfRange, NotMine, StampFull, SpaceFull, SeqExhausted, NotLeading, TooFewAnswers, AlreadyCommitted, BallotsExhausted, NotCommitted}
+use Rattle.ep_journal.specs.declared.step_fault.StepFault.TheVariants.{Memory, OutOfRange, NotMine, StampFull, SpaceFull, SeqExhausted, NotLeading, TooFewAnswers, AlreadyCommitted, BallotsExhausted, NotCommitted}
+use Rattle.ep_journal.specs.declared.taken.Taken.{Taken}
+use Rattle.ep_journal.proofs.Asked.{acts_asked}
+use Rattle.ep_journal.proofs.Writable.{step_writable}
 
 -- Frames.
 
@@ -69,36 +72,6 @@ frames_spelled n stamp k [] (m ∷ ms) h = absurd h
 frames_spelled n stamp k (b ∷ bs) [] h = absurd h
 frames_spelled n stamp k (b ∷ bs) (m ∷ ms) h = ((m.from, _, m.message, h.0), frames_spelled n stamp (suc k) bs ms h.1)
 
--- The protocol looks at a part of the state.
-
-handled_known : (f me from : ℕ) (s : Records) (l : Leads) (done : List ℕ) (store : Contents) (m : Message) → handled f me from (known s l) m ≡ handled f me from (state_of s l done store) m
-handled_known f me from s l done store (PreAccept i b x) = refl
-handled_known f me from s l done store (PreAcceptOk i b a) = refl
-handled_known f me from s l done store (Accept i b x) = refl
-handled_known f me from s l done store (AcceptOk i b) = refl
-handled_known f me from s l done store (Commit i x) = refl
-handled_known f me from s l done store (Prepare i b) = refl
-handled_known f me from s l done store (PrepareOk i b v) = refl
-handled_known f me from s l done store (Nack i b p) = refl
-
-proposed_known : (f me : ℕ) (s : Records) (l : Leads) (done : List ℕ) (store : Contents) (c : Command) (o : Option ℕ) → proposed f me (known s l) c o ≡ proposed f me (state_of s l done store) c o
-proposed_known f me s l done store c None = refl
-proposed_known f me s l done store c (Some n) = refl
-
-acts_known : (f me : ℕ) (s : Records) (l : Leads) (done : List ℕ) (store : Contents) (e : Happening) → acts f me (known s l) (event_of e) ≡ acts f me (state_of s l done store) (event_of e)
-acts_known f me s l done store (Propose client request c seen) = proposed_known f me s l done store c (free_number s.records me)
-acts_known f me s l done store (Handle b) = let m = frame_at b in ap (λ o. at (instance_of_message m.sent.message) o) (handled_known f me m.sent.from s l done store m.sent.message)
-acts_known f me s l done store (GiveUp i) = refl
-acts_known f me s l done store (Recover i) = refl
-acts_known f me s l done store (Execute i) = refl
-
-executes_nothing : (s : State) (e : Happening) → IsOfProtocol e → Executes s (event_of e) []
-executes_nothing s (Propose client request c seen) h = refl
-executes_nothing s (Handle b) h = refl
-executes_nothing s (GiveUp i) h = refl
-executes_nothing s (Recover i) h = refl
-executes_nothing s (Execute i) h = absurd h
-
 -- A step of the protocol, of the whole state.
 
 pub record Moved (me : ℕ) (s s' : State) (mark : Mark) (out : List (List ℕ)) (r : Result (ℕ × Change) Refusal) : Type 0 where
@@ -113,119 +86,120 @@ moved me s s' l l' done store mark out (Ok p) h =
     let is = sym h.0 in
     record { taken = tt; sent = h.1; changed = λ t. record { records = (is t).records; leads = (is t).leads; told = (is t).told; executed = done; store = store } }
 
--- the entry of a step that executes nothing
-abbrev pub entry_by : Mark → Happening → List (List ℕ) → Entry
-entry_by mark event out = record { number = mark.number; stamp = mark.stamp; event = event; frames = out; done = [] }
+-- the replica's state, by its parts
+abbrev whole : Parts → State
+whole p = state_of p.space p.lead p.executed.list p.store
 
-pub advanced : (me : ℕ) (s s' : Records) (l l' : Leads) (done : List ℕ) (store : Contents) (event : Happening) (mark : Mark) (out : List (List ℕ)) →
-    IsOfProtocol event → Stepped me s l event mark s' l' out →
-    Advances (stands me s l done store) mark event (entry_by mark event out) (stands me s' l' done store)
-advanced me s s' l l' done store event mark out of h =
-    let whole = state_of s l done store in
-    let same = acts_known s.faults me s l done store event in
-    let m = subst (λ r. Moved me whole (state_of s' l' done store) mark out r) same (moved me s s' l l' done store mark out _ h.acted) in
+-- the entry of an event so marked, which sends and executes these
+abbrev pub entry_by : Mark → Happening → List (List ℕ) → List (ℕ × Answer) → Entry
+entry_by mark event out done = record { number = mark.number; stamp = mark.stamp; event = event; frames = out; done = done }
+
+advanced_moves : (p p' : Parts) (event : Happening) (mark : Mark) (k : Taken) (r : Result (ℕ × Change) Refusal) → acts p.space.faults p.me (whole p) (event_of event) ≡ r → Does (whole p) (event_of event) [] →
+    IsLetThrough p.space.faults p.me event → Moves r mark p k p' → Advances (standing_of p) mark event (entry_by mark event k.frames k.done) (standing_of p')
+advanced_moves p p' event mark k r same nothing h moves =
+    let out = k.frames in
+    let m = subst (λ x. Moved p.me (whole p) (state_of p'.space p'.lead p.executed.list p.store) mark out x) (sym same) (moved p.me p.space p'.space p.lead p'.lead p.executed.list p.store mark out r moves.acted) in
     let is = sym m.changed in
-    record {
+    subst (λ (d : List (ℕ × Answer)). Advances (standing_of p) mark event (entry_by mark event out d) (standing_of p')) (sym moves.done) (record {
       number = refl;
       stamp = refl;
       event = refl;
-      entry = record { step = record { unscreened = h.unscreened; taken = m.taken; executes = executes_nothing whole event of }; sent = messages_spelled mark.number mark.stamp 0 out _ m.sent };
-      marked = marked_spelled (entry_of (entry_by mark event out)) 0 out _ m.sent;
+      entry = record { step = record { unscreened = h.unscreened; taken = m.taken; executes = nothing }; sent = messages_spelled mark.number mark.stamp 0 out _ m.sent };
+      marked = marked_spelled (entry_of (entry_by mark event out [])) 0 out _ m.sent;
       readable = h.readable;
       frames = frames_spelled mark.number mark.stamp 0 out _ m.sent;
       leaves = λ t. record {
-        faults = h.faults t;
-        me = me;
-        state = record { records = (is t).records; leads = (is t).leads; told = (is t).told; executed = sym (append-nil done) t; store = store };
+        faults = moves.faults t;
+        me = moves.me t;
+        state = record { records = (is t).records; leads = (is t).leads; told = (is t).told; executed = (moves.executed ∙ sym (append-nil p.executed.list)) t; store = moves.store t };
       };
-    }
+    })
 
-pub advanced_by : (me : ℕ) (s s' : Records) (l l' : Leads) (executed : List ℕ) (store : Contents) (event : Happening) (mark : Option Mark) (out : List (List ℕ)) (done : List (ℕ × Answer)) →
-    IsOfProtocol event → done ≡ [] → MarkedBy (λ m. Stepped me s l event m s' l' out) mark →
-    MarkedBy (λ m. Advances (stands me s l executed store) m event (record { number = m.number; stamp = m.stamp; event = event; frames = out; done = done }) (stands me s' l' executed store)) mark
-advanced_by me s s' l l' executed store event None out done of is h = h
-advanced_by me s s' l l' executed store event (Some m) out done of is h =
-    subst (λ (d : List (ℕ × Answer)). Advances (stands me s l executed store) m event (record { number = m.number; stamp = m.stamp; event = event; frames = out; done = d }) (stands me s' l' executed store)) (sym is) (advanced me s s' l l' executed store event m out of h)
-
--- Why there is no step.
-
-unmarked : (mark : Option Mark) → MarkedBy (λ m. Unit {0}) mark → mark ≡ None → ⊥
-unmarked mark h is = subst (λ o. MarkedBy (λ m. Unit {0}) o) is h
-
-screened_out : (me : ℕ) (s : Records) (l : Leads) (done : List ℕ) (store : Contents) (event : Happening) (mark : Option Mark) (fault : StepFault) (why : Refusal) →
-    named fault ≡ Some why → ScreenedBy me s event why → IsRefused (stands me s l done store) event mark fault
-screened_out me s l done store event mark fault why name h =
-    inr (inr (inr (why, record { readable = h.readable; named = name; refuses = inl h.screened; marked = λ _. h.screened })))
-
-refused_by : (me : ℕ) (s : Records) (l : Leads) (done : List ℕ) (store : Contents) (event : Happening) (mark : Option Mark) (fault : StepFault) (why : Refusal) →
-    named fault ≡ Some why → RefusedBy me s l event mark why → IsRefused (stands me s l done store) event mark fault
-refused_by me s l done store event mark fault why name h =
-    inr (inr (inr (
-      why,
-      record {
-        readable = h.readable;
-        named = name;
-        refuses = inr (h.unscreened, inl (sym (acts_known s.faults me s l done store event) ∙ h.refused));
-        marked = λ is. absurd (unmarked mark h.marked is);
-      },
-    )))
-
-pub refused_whole : (me : ℕ) (s : Records) (l : Leads) (done : List ℕ) (store : Contents) (event : Happening) (mark : Option Mark) (fault : StepFault) →
-    IsFault me s l event mark fault → IsRefused (stands me s l done store) event mark fault
-refused_whole me s l done store event mark Memory h = inl refl
-refused_whole me s l done store event mark (BadFrame f) h = inr (inl (h.0, f, refl, h.1, h.2))
-refused_whole me s l done store event mark OutOfRange h = screened_out me s l done store event mark OutOfRange _ refl h
-refused_whole me s l done store event mark NotMine h = screened_out me s l done store event mark NotMine _ refl h
-refused_whole me s l done store event mark StampFull h = inr (inr (inl (refl, h.readable, h.unscreened, h.unmarked)))
-refused_whole me s l done store event mark SpaceFull h = refused_by me s l done store event mark SpaceFull _ refl h
-refused_whole me s l done store event mark SeqExhausted h = refused_by me s l done store event mark SeqExhausted _ refl h
-refused_whole me s l done store event mark NotLeading h = refused_by me s l done store event mark NotLeading _ refl h
-refused_whole me s l done store event mark TooFewAnswers h = refused_by me s l done store event mark TooFewAnswers _ refl h
-refused_whole me s l done store event mark AlreadyCommitted h = refused_by me s l done store event mark AlreadyCommitted _ refl h
-refused_whole me s l done store event mark BallotsExhausted h = refused_by me s l done store event mark BallotsExhausted _ refl h
-refused_whole me s l done store event mark (NotCommitted i) h = absurd h
-
--- An execution, of the whole state.
-
-abbrev pub execution_by : Mark → ℕ → List (ℕ × Answer) → Entry
-execution_by mark root done = record { number = mark.number; stamp = mark.stamp; event = Execute root; frames = []; done = done }
-
-pub executed_whole : (me : ℕ) (s : Records) (l : Leads) (before after : List ℕ) (store store' : Contents) (root : ℕ) (mark : Mark) (done : List (ℕ × Answer)) →
-    IsExecuted s root done before store after store' → Advances (stands me s l before store) mark (Execute root) (execution_by mark root done) (stands me s l after store')
-executed_whole me s l before after store store' root mark done h =
-    record {
+advanced_executes : (p p' : Parts) (root : ℕ) (mark : Mark) (k : Taken) → IsLetThrough p.space.faults p.me (Execute root) → Executes root p k p' →
+    Advances (standing_of p) mark (Execute root) (entry_by mark (Execute root) k.frames k.done) (standing_of p')
+advanced_executes p p' root mark k h done =
+    let x = done.executed in
+    subst (λ (bs : List (List ℕ)). Advances (standing_of p) mark (Execute root) (entry_by mark (Execute root) bs k.done) (standing_of p')) (sym done.frames) (record {
       number = refl;
       stamp = refl;
       event = refl;
-      entry = record { step = h.step me l; sent = refl };
+      entry = record { step = record { unscreened = h.unscreened; taken = tt; executes = (x.plan, x.answers) }; sent = refl };
       marked = tt;
       readable = tt;
       frames = tt;
-      leaves = λ t. record { faults = s.faults; me = me; state = record { records = s.records; leads = l.leads; told = l.told; executed = h.order t; store = h.map t } };
-    }
+      leaves = λ t. record {
+        faults = (done.space t).faults;
+        me = done.me t;
+        state = record { records = (done.space t).records; leads = (done.lead t).leads; told = (done.lead t).told; executed = x.order t; store = x.map t };
+      };
+    })
 
-pub executed_by : (me : ℕ) (s : Records) (l : Leads) (before after : List ℕ) (store store' : Contents) (root : ℕ) (mark : Option Mark) (out : List (List ℕ)) (done : List (ℕ × Answer)) →
-    out ≡ [] → MarkedBy (λ m. IsExecuted s root done before store after store') mark →
-    MarkedBy (λ m. Advances (stands me s l before store) m (Execute root) (record { number = m.number; stamp = m.stamp; event = Execute root; frames = out; done = done }) (stands me s l after store')) mark
-executed_by me s l before after store store' root None out done is h = h
-executed_by me s l before after store store' root (Some m) out done is h =
-    subst (λ (bs : List (List ℕ)). Advances (stands me s l before store) m (Execute root) (record { number = m.number; stamp = m.stamp; event = Execute root; frames = bs; done = done }) (stands me s l after store')) (sym is) (executed_whole me s l before after store store' root m done h)
+-- what is asked by an event and done is the event's step
+pub advanced : (p p' : Parts) (event : Happening) (mark : Mark) (k : Taken) → IsLetThrough p.space.faults p.me event → Took p (admitted event) mark k p' →
+    Advances (standing_of p) mark event (entry_by mark event k.frames k.done) (standing_of p')
+advanced p p' (Propose client request command seen) mark k h took = advanced_moves p p' (Propose client request command seen) mark k _ (acts_asked p.me p.space p.lead p.executed.list p.store (Propose client request command seen)) refl h took
+advanced p p' (Handle b) mark k h took = advanced_moves p p' (Handle b) mark k _ (acts_asked p.me p.space p.lead p.executed.list p.store (Handle b)) refl h took
+advanced p p' (GiveUp i) mark k h took = advanced_moves p p' (GiveUp i) mark k _ (acts_asked p.me p.space p.lead p.executed.list p.store (GiveUp i)) refl h took
+advanced p p' (Recover i) mark k h took = advanced_moves p p' (Recover i) mark k _ (acts_asked p.me p.space p.lead p.executed.list p.store (Recover i)) refl h took
+advanced p p' (Execute root) mark k h took = advanced_executes p p' root mark k h took
 
-pub unexecuted_whole : (me : ℕ) (s : Records) (l : Leads) (done : List ℕ) (store : Contents) (root : ℕ) (mark : Option Mark) (fault : StepFault) →
-    IsExecuteFault s root mark done fault → IsRefused (stands me s l done store) (Execute root) mark fault
-unexecuted_whole me s l done store root mark Memory h = inl refl
-unexecuted_whole me s l done store root mark (BadFrame f) h = absurd h
-unexecuted_whole me s l done store root mark OutOfRange h = screened_out me s l done store (Execute root) mark OutOfRange _ refl (h me)
-unexecuted_whole me s l done store root mark NotMine h = absurd h
-unexecuted_whole me s l done store root mark StampFull h = let u = h me in inr (inr (inl (refl, u.readable, u.unscreened, u.unmarked)))
-unexecuted_whole me s l done store root mark SpaceFull h = absurd h
-unexecuted_whole me s l done store root mark SeqExhausted h = absurd h
-unexecuted_whole me s l done store root mark NotLeading h = absurd h
-unexecuted_whole me s l done store root mark TooFewAnswers h = absurd h
-unexecuted_whole me s l done store root mark AlreadyCommitted h = absurd h
-unexecuted_whole me s l done store root mark BallotsExhausted h = absurd h
-unexecuted_whole me s l done store root mark (NotCommitted i) h =
-    inr (inr (inr (_, record { readable = tt; named = refl; refuses = inr (h.unscreened me, inr (i, refl, h.blocked)); marked = λ is. absurd (unmarked mark h.marked is) })))
+-- Why there is no step.
+
+screened_out : (p : Parts) (event : Happening) (mark : Option Mark) (fault : StepFault) (why : Refusal) → named fault ≡ Some why → ScreenedBy p.space.faults p.me event why → IsRefused (standing_of p) event mark fault
+screened_out p event mark fault why name h = inr (inr (why, record { readable = h.readable; named = name; refuses = inl h.screened; marked = λ _. h.screened }))
+
+pub refused_screen : (p : Parts) (event : Happening) (mark : Option Mark) (fault : StepFault) → IsScreened p.space.faults p.me event mark fault → IsRefused (standing_of p) event mark fault
+refused_screen p event mark Memory h = inl refl
+refused_screen p event mark OutOfRange h = screened_out p event mark OutOfRange _ refl h
+refused_screen p event mark NotMine h = screened_out p event mark NotMine _ refl h
+refused_screen p event mark StampFull h = inr (inl (refl, h.0.readable, h.0.unscreened, h.1))
+refused_screen p event mark SpaceFull h = absurd h
+refused_screen p event mark SeqExhausted h = absurd h
+refused_screen p event mark NotLeading h = absurd h
+refused_screen p event mark TooFewAnswers h = absurd h
+refused_screen p event mark AlreadyCommitted h = absurd h
+refused_screen p event mark BallotsExhausted h = absurd h
+refused_screen p event mark (NotCommitted i) h = absurd h
+
+ruled : (p : Parts) (event : Happening) (mark : Mark) (fault : StepFault) (why : Refusal) → named fault ≡ Some why → IsLetThrough p.space.faults p.me event → acts p.space.faults p.me (whole p) (event_of event) ≡ Err why →
+    IsRefused (standing_of p) event (Some mark) fault
+ruled p event mark fault why name h is = inr (inr (why, record { readable = h.readable; named = name; refuses = inr (h.unscreened, inl is); marked = λ none. absurd (cc) }))
+
+refused_rule : (p : Parts) (event : Happening) (mark : Mark) (fault : StepFault) (r : Result (ℕ × Change) Refusal) → acts p.space.faults p.me (whole p) (event_of event) ≡ r → IsLetThrough p.space.faults p.me event →
+    parts.IsRefused r fault → IsRefused (standing_of p) event (Some mark) fault
+refused_rule p event mark Memory r same h no = inl refl
+refused_rule p event mark OutOfRange r same h no = absurd no
+refused_rule p event mark NotMine r same h no = absurd no
+refused_rule p event mark StampFull r same h no = absurd no
+refused_rule p event mark SpaceFull r same h no = ruled p event mark SpaceFull _ refl h (same ∙ no)
+refused_rule p event mark SeqExhausted r same h no = ruled p event mark SeqExhausted _ refl h (same ∙ no)
+refused_rule p event mark NotLeading r same h no = ruled p event mark NotLeading _ refl h (same ∙ no)
+refused_rule p event mark TooFewAnswers r same h no = ruled p event mark TooFewAnswers _ refl h (same ∙ no)
+refused_rule p event mark AlreadyCommitted r same h no = ruled p event mark AlreadyCommitted _ refl h (same ∙ no)
+refused_rule p event mark BallotsExhausted r same h no = ruled p event mark BallotsExhausted _ refl h (same ∙ no)
+refused_rule p event mark (NotCommitted i) r same h no = absurd no
+
+refused_root : (p : Parts) (root : ℕ) (mark : Mark) (fault : StepFault) → IsLetThrough p.space.faults p.me (Execute root) → IsUntaken p (admitted (Execute root)) fault → IsRefused (standing_of p) (Execute root) (Some mark) fault
+refused_root p root mark Memory h no = inl refl
+refused_root p root mark OutOfRange h no = absurd no
+refused_root p root mark NotMine h no = absurd no
+refused_root p root mark StampFull h no = absurd no
+refused_root p root mark SpaceFull h no = absurd no
+refused_root p root mark SeqExhausted h no = absurd no
+refused_root p root mark NotLeading h no = absurd no
+refused_root p root mark TooFewAnswers h no = absurd no
+refused_root p root mark AlreadyCommitted h no = absurd no
+refused_root p root mark BallotsExhausted h no = absurd no
+refused_root p root mark (NotCommitted i) h no = inr (inr (_, record { readable = tt; named = refl; refuses = inr (h.unscreened, inr (i, refl, no)); marked = λ none. absurd (cc) }))
+
+-- what is asked by an event and not done refuses the event
+pub refused_take : (p : Parts) (event : Happening) (mark : Mark) (fault : StepFault) → IsLetThrough p.space.faults p.me event → IsUntaken p (admitted event) fault → IsRefused (standing_of p) event (Some mark) fault
+refused_take p (Propose client request command seen) mark fault h no =
+    refused_rule p (Propose client request command seen) mark fault _ (acts_asked p.me p.space p.lead p.executed.list p.store (Propose client request command seen)) h no
+refused_take p (Handle b) mark fault h no = refused_rule p (Handle b) mark fault _ (acts_asked p.me p.space p.lead p.executed.list p.store (Handle b)) h no
+refused_take p (GiveUp i) mark fault h no = refused_rule p (GiveUp i) mark fault _ (acts_asked p.me p.space p.lead p.executed.list p.store (GiveUp i)) h no
+refused_take p (Recover i) mark fault h no = refused_rule p (Recover i) mark fault _ (acts_asked p.me p.space p.lead p.executed.list p.store (Recover i)) h no
+refused_take p (Execute root) mark fault h no = refused_root p root mark fault h no
 
 -- What is handled fits.
 
@@ -271,3 +245,9 @@ pub stays : (s s' : Standing) (event : Happening) (mark : Option Mark) (r : Resu
 stays s s' event (Some m) (Ok e) h ok err = stays_sound s s' m event e h ok
 stays s s' event None (Ok e) h ok err = absurd ok
 stays s s' event mark (Err fault) h ok err = subst IsSound (sym err) h
+
+-- what is asked by an event that the screen lets through has a spelling
+pub asked_writable : (p : Parts) (event : Happening) → IsSound (standing_of p) → IsLetThrough p.space.faults p.me event → IsWritable p.me (asks p.me p.space p.lead (admitted event))
+asked_writable p event sound h =
+    subst (λ r. IsWritable p.me r) (acts_asked p.me p.space p.lead p.executed.list p.store event)
+    (step_writable p.space.faults p.me (whole p) (event_of event) sound.few sound.here sound.fits (event_fits event h.readable) h.unscreened)

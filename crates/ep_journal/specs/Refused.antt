@@ -1,23 +1,26 @@
 -- Why an event was not taken: the names that the parts give their refusals, as those of the rule book.
-use Rattle.std.specs.Prelude.{◌≡◌, Option, Some, None, Err}
+use Rattle.std.specs.Prelude.{◌≡◌, Option, Some, None, Result, Err}
 use Rattle.ep_exec.specs.declared.plan_fault.PlanFault.{PlanFault}
 use Rattle.ep_exec.specs.declared.plan_fault.PlanFault.TheVariants.{Memory as PlanMemory, NotCommitted as PlanNotCommitted}
 use Rattle.ep_phase.specs.declared.phase_fault.PhaseFault.{PhaseFault}
-use Rattle.ep_phase.specs.declared.phase_fault.PhaseFault.TheVariants.{Memory as PhaseMemory, SeqExhausted as PhaseSeq, NotLeading as PhaseLeading, TooFewAnswers as PhaseFew, SpaceFull as PhaseFull}
+use Rattle.ep_phase.specs.declared.phase_fault.PhaseFault.TheVariants.{Memory as PhaseMemory, NotLeading as PhaseLeading, TooFewAnswers as PhaseFew}
 use Rattle.ep_prepare.specs.declared.prepare_fault.PrepareFault.{PrepareFault}
 use Rattle.ep_prepare.specs.declared.prepare_fault.PrepareFault.TheVariants.{Memory as PrepareMemory, SeqExhausted as PrepareSeq, AlreadyCommitted as PrepareCommitted, BallotsExhausted as PrepareBallots}
 use Rattle.ep_rules.specs.Cells as rules
 use Rattle.ep_rules.specs.Cells.{Refusal}
-use Rattle.ep_rules.specs.Phases.{Outcome}
+use Rattle.ep_space.specs.declared.interference_fault.InterferenceFault.{InterferenceFault}
+use Rattle.ep_space.specs.declared.interference_fault.InterferenceFault.TheVariants.{Memory as Unfound, SeqExhausted as Limit}
 use Rattle.ep_journal.specs.declared.step_fault.StepFault.{StepFault}
-use Rattle.ep_journal.specs.declared.step_fault.StepFault.TheVariants.{Memory, BadFrame, OutOfRange, NotMine, StampFull, SpaceFull, SeqExhausted, NotLeading, TooFewAnswers, AlreadyCommitted, BallotsExhausted, NotCommitted}
+use Rattle.ep_journal.specs.declared.step_fault.StepFault.TheVariants.{Memory, OutOfRange, NotMine, StampFull, SpaceFull, SeqExhausted, NotLeading, TooFewAnswers, AlreadyCommitted, BallotsExhausted, NotCommitted}
+
+abbrev pub of_limit : InterferenceFault → StepFault
+of_limit Unfound = Memory
+of_limit Limit = SeqExhausted
 
 abbrev pub of_phase : PhaseFault → StepFault
 of_phase PhaseMemory = Memory
-of_phase PhaseSeq = SeqExhausted
 of_phase PhaseLeading = NotLeading
 of_phase PhaseFew = TooFewAnswers
-of_phase PhaseFull = SpaceFull
 
 abbrev pub of_prepare : PrepareFault → StepFault
 of_prepare PrepareMemory = Memory
@@ -29,10 +32,9 @@ abbrev pub of_plan : PlanFault → StepFault
 of_plan PlanMemory = Memory
 of_plan (PlanNotCommitted i) = NotCommitted i
 
--- the refusal of the rule book that the fault names; none for want of memory, a bad frame and a full stamp, which the rule book doesn't know
+-- the refusal of the rule book that the fault names; none for want of memory and a full stamp, which the rule book doesn't know
 abbrev pub named : StepFault → Option Refusal
 named Memory = None
-named (BadFrame f) = None
 named OutOfRange = Some rules.OutOfRange
 named NotMine = Some rules.NotMine
 named StampFull = None
@@ -44,10 +46,9 @@ named AlreadyCommitted = Some rules.AlreadyCommitted
 named BallotsExhausted = Some rules.BallotsExhausted
 named (NotCommitted i) = Some (rules.NotCommitted i)
 
--- the rule refuses for the reason that the fault names; or there is no memory
-abbrev pub IsRefused : Outcome → StepFault → Type 0
+-- a rule refuses for the reason that the fault names; or there is no memory
+abbrev pub IsRefused : {X : Type 0} → Result X Refusal → StepFault → Type 0
 IsRefused o Memory = Unit {0}
-IsRefused o (BadFrame f) = ⊥
 IsRefused o OutOfRange = ⊥
 IsRefused o NotMine = ⊥
 IsRefused o StampFull = ⊥

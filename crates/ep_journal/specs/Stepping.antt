@@ -1,73 +1,93 @@
 -- One step of the code's parts, and why there is none.
-use Rattle.std.specs.Prelude.{◌≡◌, ℕ, List, Option, Some, None, Result, Ok, Err}
-use Rattle.ep_frame.specs.Faults.{fault_of}
+use Rattle.std.specs.Prelude.{◌≡◌, ℕ, List, [], Option, Some, None, Result, Ok, Err}
 use Rattle.ep_phase.specs.Leads.{Leads}
 use Rattle.ep_rules.specs.Cells as rules
 use Rattle.ep_rules.specs.Cells.{Change, Refusal}
+use Rattle.ep_rules.specs.Phases.{Outcome}
 use Rattle.ep_rules.specs.States.{State, changed}
-use Rattle.ep_rules.specs.Steps.{screened, acts, sent_from}
+use Rattle.ep_rules.specs.Steps.{screened, sent_from, at}
 use Rattle.ep_space.specs.Records.{Records}
 use Rattle.ep_journal.specs.Events.{event_of, IsReadable, AreSpelled}
+use Rattle.ep_journal.specs.Executing.{IsExecuted, IsUnexecuted}
+use Rattle.ep_journal.specs.Inputs.{asks}
 use Rattle.ep_journal.specs.Parts.{known}
+use Rattle.ep_journal.specs.Refused.{IsRefused}
+use Rattle.ep_journal.specs.Standing.{Standing, stands}
+use Rattle.ep_journal.specs.declared.admitted.Admitted.{Admitted}
+use Rattle.ep_journal.specs.declared.admitted.Admitted.TheVariants.{Request, Asked, Execution}
 use Rattle.ep_journal.specs.declared.event.Event.{Event as Happening}
-use Rattle.ep_journal.specs.declared.event.Event.TheVariants.{Propose, Handle, GiveUp, Recover, Execute}
 use Rattle.ep_journal.specs.declared.mark.Mark.{Mark}
+use Rattle.ep_journal.specs.declared.parts.Parts.{Parts}
 use Rattle.ep_journal.specs.declared.step_fault.StepFault.{StepFault}
-use Rattle.ep_journal.specs.declared.step_fault.StepFault.TheVariants.{Memory, BadFrame, OutOfRange, NotMine, StampFull, SpaceFull, SeqExhausted, NotLeading, TooFewAnswers, AlreadyCommitted, BallotsExhausted, NotCommitted}
+use Rattle.ep_journal.specs.declared.step_fault.StepFault.TheVariants.{Memory, OutOfRange, NotMine, StampFull, SpaceFull, SeqExhausted, NotLeading, TooFewAnswers, AlreadyCommitted, BallotsExhausted, NotCommitted}
+use Rattle.ep_journal.specs.declared.taken.Taken.{Taken}
+
+-- the replica that the parts are
+abbrev pub standing_of : Parts → Standing
+standing_of p = stands p.me p.space p.lead p.executed.list p.store
+
+-- The screen.
+
+-- what the event handles is a frame, and the screen lets the event through
+pub record IsLetThrough (f me : ℕ) (e : Happening) : Type 0 where
+  pub readable : IsReadable e
+  pub unscreened : screened f me (event_of e) ≡ None
+
+-- the screen refuses the event for this reason
+pub record ScreenedBy (f me : ℕ) (e : Happening) (why : Refusal) : Type 0 where
+  pub readable : IsReadable e
+  pub screened : screened f me (event_of e) ≡ Some why
+
+-- why the screen lets the event not through: want of memory, or its reason, or there is no mark
+abbrev pub IsScreened : ℕ → ℕ → Happening → Option Mark → StepFault → Type 0
+IsScreened f me e mark Memory = Unit {0}
+IsScreened f me e mark OutOfRange = ScreenedBy f me e rules.OutOfRange
+IsScreened f me e mark NotMine = ScreenedBy f me e rules.NotMine
+IsScreened f me e mark StampFull = IsLetThrough f me e × (mark ≡ None)
+IsScreened f me e mark SpaceFull = ⊥
+IsScreened f me e mark SeqExhausted = ⊥
+IsScreened f me e mark NotLeading = ⊥
+IsScreened f me e mark TooFewAnswers = ⊥
+IsScreened f me e mark AlreadyCommitted = ⊥
+IsScreened f me e mark BallotsExhausted = ⊥
+IsScreened f me e mark (NotCommitted i) = ⊥
+
+abbrev pub MarkedBy : (Mark → Type 0) → Option Mark → Type 0
+MarkedBy P None = ⊥
+MarkedBy P (Some m) = P m
+
+-- What is asked.
 
 -- the change took place, and its messages are written as those of the entry so marked
 abbrev pub Acted : Result (ℕ × Change) Refusal → ℕ → Mark → State → State → List (List ℕ) → Type 0
 Acted (Ok p) me mark s s' out = (s' ≡ changed s p.0 p.1) × AreSpelled mark.number mark.stamp 0 out (sent_from me p.1.out)
 Acted (Err e) me mark s s' out = ⊥
 
--- the event is taken, as the rule book says
-pub record Stepped (me : ℕ) (s : Records) (l : Leads) (e : Happening) (mark : Mark) (s' : Records) (l' : Leads) (out : List (List ℕ)) : Type 0 where
-  pub readable : IsReadable e
-  pub unscreened : screened s.faults me (event_of e) ≡ None
-  pub faults : s'.faults ≡ s.faults
-  pub acted : Acted (acts s.faults me (known s l) (event_of e)) me mark (known s l) (known s' l') out
+-- a step of the protocol, which executes nothing
+pub record Moves (r : Result (ℕ × Change) Refusal) (mark : Mark) (p : Parts) (t : Taken) (p' : Parts) : Type 0 where
+  pub me : p'.me ≡ p.me
+  pub faults : p'.space.faults ≡ p.space.faults
+  pub acted : Acted r p.me mark (known p.space p.lead) (known p'.space p'.lead) t.frames
+  pub executed : p'.executed.list ≡ p.executed.list
+  pub store : p'.store ≡ p.store
+  pub done : t.done ≡ []
 
-abbrev pub MarkedBy : (Mark → Type 0) → Option Mark → Type 0
-MarkedBy P None = ⊥
-MarkedBy P (Some m) = P m
+-- an execution, which changes nothing that the protocol knows, and sends nothing
+pub record Executes (root : ℕ) (p : Parts) (t : Taken) (p' : Parts) : Type 0 where
+  pub me : p'.me ≡ p.me
+  pub space : p'.space ≡ p.space
+  pub lead : p'.lead ≡ p.lead
+  pub executed : IsExecuted p.space root t.done p.executed.list p.store p'.executed.list p'.store
+  pub frames : t.frames ≡ []
 
--- a marked event that the screen lets through, refused by the rule for this reason
-pub record RefusedBy (me : ℕ) (s : Records) (l : Leads) (e : Happening) (mark : Option Mark) (why : Refusal) : Type 0 where
-  pub readable : IsReadable e
-  pub unscreened : screened s.faults me (event_of e) ≡ None
-  pub marked : MarkedBy (λ m. Unit {0}) mark
-  pub refused : acts s.faults me (known s l) (event_of e) ≡ Err why
+-- what is asked is done, as the rule book says
+abbrev pub Took : Parts → Admitted → Mark → Taken → Parts → Type 0
+Took p (Request c) mark t p' = Moves (asks p.me p.space p.lead (Request c)) mark p t p'
+Took p (Asked i input) mark t p' = Moves (asks p.me p.space p.lead (Asked i input)) mark p t p'
+Took p (Execution root) mark t p' = Executes root p t p'
 
--- an event that the screen refuses for this reason
-pub record ScreenedBy (me : ℕ) (s : Records) (e : Happening) (why : Refusal) : Type 0 where
-  pub readable : IsReadable e
-  pub screened : screened s.faults me (event_of e) ≡ Some why
-
--- a readable event that the screen lets through has no mark
-pub record Unmarked (me : ℕ) (s : Records) (e : Happening) (mark : Option Mark) : Type 0 where
-  pub readable : IsReadable e
-  pub unscreened : screened s.faults me (event_of e) ≡ None
-  pub unmarked : mark ≡ None
-
--- why an event of the protocol was not taken: want of memory, or the first of these in order
-abbrev pub IsFault : ℕ → Records → Leads → Happening → Option Mark → StepFault → Type 0
-IsFault me s l e mark Memory = Unit {0}
-IsFault me s l e mark (BadFrame f) = (b : List ℕ) × (e ≡ Handle b) × (fault_of b ≡ Err f)
-IsFault me s l e mark OutOfRange = ScreenedBy me s e rules.OutOfRange
-IsFault me s l e mark NotMine = ScreenedBy me s e rules.NotMine
-IsFault me s l e mark StampFull = Unmarked me s e mark
-IsFault me s l e mark SpaceFull = RefusedBy me s l e mark rules.SpaceFull
-IsFault me s l e mark SeqExhausted = RefusedBy me s l e mark rules.SeqExhausted
-IsFault me s l e mark NotLeading = RefusedBy me s l e mark rules.NotLeading
-IsFault me s l e mark TooFewAnswers = RefusedBy me s l e mark rules.TooFewAnswers
-IsFault me s l e mark AlreadyCommitted = RefusedBy me s l e mark rules.AlreadyCommitted
-IsFault me s l e mark BallotsExhausted = RefusedBy me s l e mark rules.BallotsExhausted
-IsFault me s l e mark (NotCommitted i) = ⊥
-
--- the event executes nothing
-abbrev pub IsOfProtocol : Happening → Type 0
-IsOfProtocol (Propose client request command seen) = Unit {0}
-IsOfProtocol (Handle b) = Unit {0}
-IsOfProtocol (GiveUp i) = Unit {0}
-IsOfProtocol (Recover i) = Unit {0}
-IsOfProtocol (Execute i) = ⊥
+-- why it is not done: want of memory, or the rule book's reason
+abbrev pub IsUntaken : Parts → Admitted → StepFault → Type 0
+IsUntaken p (Request c) fault = IsRefused (asks p.me p.space p.lead (Request c)) fault
+IsUntaken p (Asked i input) fault = IsRefused (asks p.me p.space p.lead (Asked i input)) fault
+IsUntaken p (Execution root) fault = IsUnexecuted p.space root p.executed.list fault

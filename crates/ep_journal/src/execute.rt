@@ -5,11 +5,9 @@ ghost use Rattle.ep_exec.specs.Tries.{tried};
 ghost use Rattle.ep_rules.specs.OneMap.{answer, after_all};
 ghost use Rattle.ep_rules.specs.Order.{IsClosed};
 ghost use Rattle.ep_rules.specs.States.{command_in, graph_in};
-ghost use Rattle.ep_journal.specs.Executing.{done_by, AreFresh, IsExecuted, IsExecuteFault};
-ghost use Rattle.ep_journal.specs.Stepping.{MarkedBy};
+ghost use Rattle.ep_journal.specs.Executing.{done_by, AreFresh, IsExecuted, IsUnexecuted};
 
 use crate::executions::Executions;
-use crate::mark::Mark;
 use crate::step_fault::StepFault;
 use ep_base::{Answer, Command, InstanceId};
 use ep_exec::{Executed, Store, Trial, plan_left};
@@ -83,31 +81,21 @@ fn add_all(executed: &mut Executed, order: &[InstanceId])
     }
 }
 
-/// Executes the root and all that it waits for, or nothing.
-///
-/// In this order: `OutOfRange` where the root's leader is no replica of the cluster, `StampFull` where there is no mark for the entry, and
-/// `NotCommitted` where the root reaches an instance that is not committed, with the least of them. At any refusal, want of memory among them,
-/// what is executed and the map are as they were.
-#[tactic(auto, using(crate::proofs::Execution::out_of_range, crate::proofs::Execution::unmarked, crate::proofs::Execution::unplanned))]
-pub(crate) fn take_execute(
+/// Executes the root and all that it waits for, or nothing: `NotCommitted` where the root reaches an instance that is not committed,
+/// with the least of them. At any refusal, want of memory among them, what is executed and the map are as they were.
+#[tactic(auto, using(crate::proofs::Execution::unplanned))]
+pub(crate) fn execute(
     alloc: Global,
     space: &Space,
     executed: &mut Executed,
     store: &mut Store,
     root: InstanceId,
-    mark: Option<Mark>,
 ) -> Result<Executions, StepFault>
     requires closed { IsClosed (graph_in space.now.records) executed.old.list }
-    ensures ok { IfOk result (λ done. MarkedBy (λ m. IsExecuted space.now root done executed.old.list store.old executed.new.list store.new) mark) }
-    ensures refused { IfErr result (λ e. IsExecuteFault space.now root mark executed.old.list e) }
+    ensures ok { IfOk result (λ done. IsExecuted space.now root done executed.old.list store.old executed.new.list store.new) }
+    ensures refused { IfErr result (λ e. IsUnexecuted space.now root executed.old.list e) }
     ensures err { OnErr result ((executed.new.list ≡ executed.old.list) × (store.new ≡ store.old)) }
 {
-    if root.replica().index() >= space.size().count() {
-        return Err(StepFault::OutOfRange);
-    }
-    let Some(_) = mark else {
-        return Err(StepFault::StampFull);
-    };
     let order = plan_left(alloc, space, executed, root)?;
     executed.reserve(order.len())?;
     let done = do_all(alloc, space, store, &order)?;

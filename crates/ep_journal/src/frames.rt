@@ -1,21 +1,27 @@
 //! The frames that a step sends.
 
-ghost use Rattle.std.specs.Prelude.{◌≡◌, ◌≤◌, [], IfOk, length};
+ghost use Rattle.std.specs.Prelude.{◌≡◌, ◌≢◌, ◌≤◌, ◌<◌, [], ◌++◌, ◌∷◌, IfOk, OnOk, length, true};
+ghost use Rattle.ep_base.specs.Fitting.{BallotsFit};
+ghost use Rattle.ep_base.specs.Quorums.{size};
+ghost use Rattle.ep_frame.specs.Spelling.{Spells};
+ghost use Rattle.ep_phase.specs.Changes.{sends};
+ghost use Rattle.ep_rules.specs.Counting.{to_those};
 ghost use Rattle.ep_rules.specs.Fitting.{AllFit};
 ghost use Rattle.ep_rules.specs.Steps.{sent_from};
 ghost use Rattle.ep_journal.specs.Events.{AreSpelled};
+ghost use Rattle.ep_journal.specs.Inputs.{receives};
 
-use bytes::Bytes;
-use ep_base::{ReplicaId, Stamp};
-use ep_frame::{Origin, write};
-use ep_rules::Outgoing;
+use crate::mark::Mark;
+use ep_base::{Message, ReplicaId};
+use ep_frame::{Frame, Origin, write};
+use ep_phase::{Cell, Receivers, Sending, is_fast};
 use std::alloc::{AllocError, Global};
 use std::marker::Model;
 
 /// The frames that an entry sends, by rising receiver.
 #[derive(Drop)]
 pub struct Frames {
-    items: Vec<Bytes>,
+    items: Vec<Frame>,
 }
 
 impl Model for Frames {
@@ -37,45 +43,107 @@ impl Frames {
     }
 
     /// These frames.
-    pub fn new(items: Vec<Bytes>) -> Frames
+    pub fn new(items: Vec<Frame>) -> Frames
         ensures { result ≡ items.items }
     {
         Frames { items }
     }
 
     /// The frames, in order.
-    pub fn as_slice(&self) -> &[Bytes]
+    pub fn as_slice(&self) -> &[Frame]
         ensures { result.now ≡ self.now }
     {
         self.items.as_slice()
     }
 }
 
-/// The frames of these messages, as those of the entry of this number and stamp.
+/// The frames of what is sent, as those of the entry so marked.
 pub(crate) fn written(
     alloc: Global,
-    me: ReplicaId,
-    number: u32,
-    stamp: Stamp,
-    out: &Outgoing,
+    cell: &Cell<'_>,
+    mark: Mark,
+    out: &Option<Sending>,
 ) -> Result<Frames, AllocError>
-    requires number { 1 ≤ number }
-    requires few { length out.now ≤ 1000 }
-    requires fit { AllFit me out.now }
-    ensures { IfOk result (λ f. AreSpelled number stamp 0 f (sent_from me out.now)) }
+    requires number { 1 ≤ mark.number }
+    requires few { length (sends cell.now.faults cell.now.me cell.now.instance out.now) ≤ 1000 }
+    requires fit { AllFit cell.now.me (sends cell.now.faults cell.now.me cell.now.instance out.now) }
+    ensures { IfOk result (λ f. AreSpelled mark.number mark.stamp 0 f (sent_from cell.now.me (sends cell.now.faults cell.now.me cell.now.instance out.now))) }
+{
+    match out {
+        None => Ok(Frames::none(alloc)),
+        Some(sending) => match sending.to {
+            Receivers::One(to) => written_to(alloc, cell, mark, to, &sending.message),
+            Receivers::FastQuorum => {
+                written_to_each(alloc, cell, mark, Receivers::FastQuorum, &sending.message)
+            }
+            Receivers::Others => {
+                written_to_each(alloc, cell, mark, Receivers::Others, &sending.message)
+            }
+        },
+    }
+}
+
+/// The frame of the message to this replica alone.
+fn written_to(
+    alloc: Global,
+    cell: &Cell<'_>,
+    mark: Mark,
+    to: ReplicaId,
+    message: &Message,
+) -> Result<Frames, AllocError>
+    requires number { 1 ≤ mark.number }
+    requires apart { to ≢ cell.now.me }
+    requires fits { BallotsFit message.now }
+    ensures { IfOk result (λ f. AreSpelled mark.number mark.stamp 0 f (sent_from cell.now.me ((to, message.now) ∷ []))) }
 {
     let mut items = Vec::new(alloc);
-    let mut place = 0;
-    for (to, message) in out.as_slice() {
-        let origin = Origin {
-            to: *to,
-            out: place,
-            entry: number,
-            stamp,
-        };
-        let frame = write(alloc, me, message, origin)?;
-        items.push(frame)?;
-        place += 1;
+    let origin = Origin {
+        to,
+        out: 0,
+        entry: mark.number,
+        stamp: mark.stamp,
+    };
+    let frame = write(alloc, cell.me(), message, origin)?;
+    items.push(frame)?;
+    Ok(Frames { items })
+}
+
+/// The frames of the message to each of these, by rising receiver.
+fn written_to_each(
+    alloc: Global,
+    cell: &Cell<'_>,
+    mark: Mark,
+    to: Receivers,
+    message: &Message,
+) -> Result<Frames, AllocError>
+    requires number { 1 ≤ mark.number }
+    requires few { length (to_those (receives cell.now to) (size cell.now.faults) message.now) ≤ 1000 }
+    requires fit { AllFit cell.now.me (to_those (receives cell.now to) (size cell.now.faults) message.now) }
+    ensures { IfOk result (λ f. AreSpelled mark.number mark.stamp 0 f (sent_from cell.now.me (to_those (receives cell.now to) (size cell.now.faults) message.now))) }
+{
+    let mut items = Vec::new(alloc);
+    for r in 0..cell.size().count() {
+        if is_receiver(cell, to, r) {
+            let origin = Origin {
+                to: ReplicaId::new(r).unwrap(),
+                out: items.len() as u16,
+                entry: mark.number,
+                stamp: mark.stamp,
+            };
+            let frame = write(alloc, cell.me(), message, origin)?;
+            items.push(frame)?;
+        }
     }
     Ok(Frames { items })
+}
+
+/// Whether the replica is one of these receivers.
+fn is_receiver(cell: &Cell<'_>, to: Receivers, replica: u8) -> bool
+    ensures { result ≡ receives cell.now to replica }
+{
+    match to {
+        Receivers::One(one) => replica == one.index(),
+        Receivers::FastQuorum => is_fast(cell.size(), cell.id().replica(), replica),
+        Receivers::Others => replica != cell.me().index(),
+    }
 }

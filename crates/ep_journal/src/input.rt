@@ -2,13 +2,15 @@
 
 use ep_base::{Command, Message, ReplicaId};
 
-/// What an event of the protocol asks of its instance.
+/// What is asked of an instance.
 #[derive(Drop)]
 pub enum Input {
     /// Propose the command there.
     Start(Command),
     /// Handle the message from this replica.
     Message(ReplicaId, Message),
+    /// Wait no longer for the fast quorum.
     GiveUp,
+    /// Take the instance over.
     Recover,
 }

@@ -6,31 +6,30 @@
 //! Start with `event.rt`, `entry.rt` and `state.rt` (`State::step`), then specs/Standing.antt (`Advances`, `IsRefused`). A
 //! `Journal` is a local run by its type, so whoever holds one knows it.
 //!
-//! Where a step's frames can't be written, `saved.rt` puts back what there was of the instance; several executions are tried
-//! first, and kept or taken back together. Nothing else is ever undone: keep it so.
+//! A step screens the event once (`screen.rt`), decides (`deciding.rt`), writes the frames, and then puts the change in place
+//! (`parts.rt`): all that may fail comes first, so nothing has to be put back. Several executions are tried first, and kept
+//! or taken back together. Nothing else is ever undone: keep it so.
 #![tactic(auto)]
 
+mod admitted;
 mod blocked;
+mod deciding;
 mod entry;
 mod event;
 mod execute;
 mod executions;
 mod frames;
-mod handle;
-mod handling;
 mod input;
 mod journal;
 mod journals;
 mod mark;
 mod naming;
-mod proposal;
-mod protocol;
-mod saved;
+mod parts;
 mod screen;
 mod state;
 mod step_fault;
-mod take;
-mod taking;
+mod stepping;
+mod taken;
 
 pub use entry::Entry;
 pub use event::Event;

@@ -1,11 +1,127 @@
-//! Events that no state takes.
+//! The screen: events that no state takes.
 
-ghost use Rattle.std.specs.Prelude.{◌≡◌, ◌≤◌, ◌<◌, ltb};
-ghost use Rattle.ep_base.specs.Instances.{leader_of};
+ghost use Rattle.std.specs.Prelude.{◌≡◌, ℕ, ltb, Option, Some, IfOk, IfErr};
 ghost use Rattle.ep_base.specs.Ballots.{owner_of};
-ghost use Rattle.ep_rules.specs.Steps.{are_within, vote_within, message_within};
+ghost use Rattle.ep_base.specs.Instances.{leader_of};
+ghost use Rattle.ep_base.specs.Quorums.{size};
+ghost use Rattle.ep_frame.specs.Meaning.{message_at};
+ghost use Rattle.ep_rules.specs.Steps.{are_within, vote_within, message_within, is_within, is_for, Propose, Handle};
+ghost use Rattle.ep_journal.specs.Events.{frame_at};
+ghost use Rattle.ep_journal.specs.Inputs.{admitted};
+ghost use Rattle.ep_journal.specs.Stepping.{IsLetThrough, IsScreened};
+ghost use Rattle.ep_journal.specs.declared.event.Event.{Event};
+ghost use Rattle.ep_journal.specs.declared.mark.Mark.{Mark};
 
-use ep_base::{Attrs, Ballot, Deps, InstanceId, Message, Vote};
+use crate::admitted::Admitted;
+use crate::event::Event;
+use crate::input::Input;
+use crate::mark::Mark;
+use crate::step_fault::StepFault;
+use ep_base::{Ballot, Command, Deps, InstanceId, Message, ReplicaId, Size, Vote};
+use ep_frame::{Frame, FrameView};
+use std::alloc::Global;
+
+/// What the event asks, and its mark; or why it is refused, whatever the state: first a replica's number that is not below the cluster's size,
+/// a no-op, or a client or a request of 0, then a frame for another replica, then an event without a mark.
+pub(crate) fn screen(
+    alloc: Global,
+    cluster: Size,
+    me: ReplicaId,
+    event: &Event,
+    mark: Option<Mark>,
+) -> Result<(Admitted, Mark), StepFault>
+    ensures ok { IfOk result (λ p. (p.0 ≡ admitted event.now) × (mark ≡ Some p.1) × IsLetThrough cluster me event.now) }
+    ensures refused { IfErr result (λ e. IsScreened cluster me event.now mark e) }
+{
+    let admitted = admit(alloc, cluster, me, event)?;
+    match mark {
+        Some(mark) => Ok((admitted, mark)),
+        None => Err(StepFault::StampFull),
+    }
+}
+
+/// What the event asks, if it is within the cluster and for this replica.
+fn admit(
+    alloc: Global,
+    cluster: Size,
+    me: ReplicaId,
+    event: &Event,
+) -> Result<Admitted, StepFault>
+    ensures ok { IfOk result (λ a. (a ≡ admitted event.now) × IsLetThrough cluster me event.now) }
+    ensures refused { IfErr result (λ e. (mark : Option Mark) → IsScreened cluster me event.now mark e) }
+{
+    match event {
+        Event::Propose {
+            client,
+            request,
+            command,
+            seen: _,
+        } => {
+            if !may_propose(*client, *request, command) {
+                return Err(StepFault::OutOfRange);
+            }
+            Ok(Admitted::Request(command.copy(alloc)?))
+        }
+        Event::Handle(frame) => admit_frame(alloc, cluster, me, frame),
+        Event::GiveUp(id) => {
+            if !leader_within(cluster.count(), *id) {
+                return Err(StepFault::OutOfRange);
+            }
+            Ok(Admitted::Asked(*id, Input::GiveUp))
+        }
+        Event::Recover(id) => {
+            if !leader_within(cluster.count(), *id) {
+                return Err(StepFault::OutOfRange);
+            }
+            Ok(Admitted::Asked(*id, Input::Recover))
+        }
+        Event::Execute(root) => {
+            if !leader_within(cluster.count(), *root) {
+                return Err(StepFault::OutOfRange);
+            }
+            Ok(Admitted::Execution(*root))
+        }
+    }
+}
+
+/// What the frame's message asks, if all that it names is of the cluster, and it is for this replica.
+fn admit_frame(
+    alloc: Global,
+    cluster: Size,
+    me: ReplicaId,
+    frame: &Frame,
+) -> Result<Admitted, StepFault>
+    ensures ok { IfOk result (λ a. (a ≡ admitted (Event.Handle frame.now)) × IsLetThrough cluster me (Event.Handle frame.now)) }
+    ensures refused { IfErr result (λ e. (mark : Option Mark) → IsScreened cluster me (Event.Handle frame.now) mark e) }
+{
+    let view = frame.view();
+    let message = view.to_message(alloc)?;
+    if !frame_within(cluster.count(), &view, &message) {
+        return Err(StepFault::OutOfRange);
+    }
+    if view.origin().to != me {
+        return Err(StepFault::NotMine);
+    }
+    Ok(Admitted::Asked(
+        message.instance(),
+        Input::Message(view.from(), message),
+    ))
+}
+
+/// Whether a client may ask for this: the command is no no-op, and the client and the request are from 1.
+fn may_propose(client: u32, request: u32, command: &Command) -> bool
+    ensures { (n : ℕ) (seen : ℕ) → result ≡ is_within n (Propose client request command.now seen) }
+{
+    !matches!(command, Command::Noop) && 0 < client && 0 < request
+}
+
+/// Whether the frame's sender, its receiver and every replica that its message names are of the cluster's `count`.
+fn frame_within(count: u8, frame: &FrameView<'_>, message: &Message) -> bool
+    requires { message.now ≡ message_at frame.now }
+    ensures { result ≡ is_within count (Handle (frame_at frame.now)) }
+{
+    frame.from().index() < count && frame.origin().to.index() < count && is_within(count, message)
+}
 
 fn leader_within(count: u8, instance: InstanceId) -> bool
     ensures { result ≡ ltb (leader_of instance) count }
@@ -41,7 +157,7 @@ fn vote_is_within(count: u8, vote: &Option<Vote>) -> bool
 }
 
 /// Whether every replica that the message names is one of the cluster's `count`.
-pub fn is_within(count: u8, message: &Message) -> bool
+fn is_within(count: u8, message: &Message) -> bool
     ensures { result ≡ message_within count message.now }
 {
     match message {

@@ -1,14 +1,14 @@
 //! Why an event was not taken.
 
 ghost use Rattle.std.specs.Prelude.{◌≡◌};
-ghost use Rattle.ep_journal.specs.Refused.{of_phase, of_prepare, of_plan};
-ghost use Rattle.ep_journal.specs.declared.step_fault.StepFault.TheVariants.{Memory};
+ghost use Rattle.ep_journal.specs.Refused.{of_limit, of_phase, of_prepare, of_plan};
+ghost use Rattle.ep_journal.specs.declared.step_fault.StepFault.TheVariants.{Memory, SpaceFull as NoNumber};
 
 use ep_base::InstanceId;
 use ep_exec::PlanFault;
-use ep_frame::FrameFault;
 use ep_phase::PhaseFault;
 use ep_prepare::PrepareFault;
+use ep_space::{InterferenceFault, SpaceFull};
 use std::alloc::AllocError;
 use thiserror::Error;
 
@@ -17,9 +17,6 @@ use thiserror::Error;
 pub enum StepFault {
     #[error("E1 memory")]
     Memory,
-    /// The bytes handled are no frame.
-    #[error("E14 bad frame")]
-    BadFrame(FrameFault),
     /// A replica's number is not below the cluster's size, a no-op is proposed, or a client or a request is 0.
     #[error("E3 out of range")]
     OutOfRange,
@@ -60,16 +57,33 @@ impl From<AllocError> for StepFault {
     }
 }
 
+impl From<InterferenceFault> for StepFault {
+    ghost from_gives = { λ f e. e ≡ of_limit f };
+
+    fn from(fault: InterferenceFault) -> StepFault {
+        match fault {
+            InterferenceFault::Memory => StepFault::Memory,
+            InterferenceFault::SeqExhausted => StepFault::SeqExhausted,
+        }
+    }
+}
+
+impl From<SpaceFull> for StepFault {
+    ghost from_gives = { λ _ e. e ≡ NoNumber };
+
+    fn from(_fault: SpaceFull) -> StepFault {
+        StepFault::SpaceFull
+    }
+}
+
 impl From<PhaseFault> for StepFault {
     ghost from_gives = { λ f e. e ≡ of_phase f };
 
     fn from(fault: PhaseFault) -> StepFault {
         match fault {
             PhaseFault::Memory => StepFault::Memory,
-            PhaseFault::SeqExhausted => StepFault::SeqExhausted,
             PhaseFault::NotLeading => StepFault::NotLeading,
             PhaseFault::TooFewAnswers => StepFault::TooFewAnswers,
-            PhaseFault::SpaceFull => StepFault::SpaceFull,
         }
     }
 }

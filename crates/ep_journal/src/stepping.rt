@@ -1,0 +1,38 @@
+//! One step of a replica.
+
+ghost use Rattle.std.specs.Prelude.{◌≡◌, ◌≤◌, IfSome, IfOk, IfErr, OnErr};
+ghost use Rattle.ep_journal.specs.Standing.{Advances, IsRefused, IsSound};
+ghost use Rattle.ep_journal.specs.Stepping.{standing_of, MarkedBy};
+
+use crate::entry::Entry;
+use crate::event::Event;
+use crate::mark::Mark;
+use crate::parts::Parts;
+use crate::screen::screen;
+use crate::step_fault::StepFault;
+use crate::taken::Taken;
+use std::alloc::Global;
+
+/// The entry of an event that is taken, so marked; or why it is refused.
+pub(crate) fn step(
+    alloc: Global,
+    parts: &mut Parts,
+    event: Event,
+    mark: Option<Mark>,
+) -> Result<Entry, StepFault>
+    requires sound { IsSound (standing_of parts.old) }
+    requires numbered { IfSome mark (λ m. 1 ≤ m.number) }
+    ensures ok { IfOk result (λ e. MarkedBy (λ m. Advances (standing_of parts.old) m event e (standing_of parts.new)) mark) }
+    ensures refused { IfErr result (λ e. IsRefused (standing_of parts.old) event mark e) }
+    ensures err { OnErr result (standing_of parts.new ≡ standing_of parts.old) }
+{
+    let (admitted, mark) = screen(alloc, parts.space.size(), parts.me, &event, mark)?;
+    let Taken { frames, done } = parts.take(alloc, admitted, mark)?;
+    Ok(Entry {
+        number: mark.number,
+        stamp: mark.stamp,
+        event,
+        frames,
+        done,
+    })
+}
