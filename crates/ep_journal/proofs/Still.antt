@@ -31,7 +31,7 @@ is_execute (Execute i) r e = let same : i ≡ r = cc in ap Execute same
 -- Asked again.
 
 refused_again : (s : Standing) (b : Blocked) (m : Mark) → IsStill s (Some b) → IsRefused s (Execute b.root) (Some m) (NotCommitted b.missing)
-refused_again s b m h = inr (inr (inr (rules.NotCommitted b.missing, record { readable = tt; named = refl; refuses = h; marked = λ is. absurd (cc) })))
+refused_again s b m h = inr (inr (rules.NotCommitted b.missing, record { readable = tt; named = refl; refuses = h; marked = λ is. absurd (cc) }))
 
 pub known_refused : (s : Standing) (last : Option Blocked) (event : Happening) (mark : Option Mark) (i : ℕ) → IsStill s last → IsKnown last (root_of event) mark i → IsRefused s event mark (NotCommitted i)
 known_refused s last event mark i h k =
@@ -47,9 +47,8 @@ known_refused s last event mark i h k =
 
 refused_then : (s : Standing) (b : Blocked) (mark : Option Mark) → IsRefused s (Execute b.root) mark (NotCommitted b.missing) → IsStill s (Some b)
 refused_then s b mark (inl e) = absurd (cc)
-refused_then s b mark (inr (inl h)) = let e = h.2 in absurd (cc)
-refused_then s b mark (inr (inr (inl h))) = let e = h.0 in absurd (cc)
-refused_then s b mark (inr (inr (inr h))) = let why : Refusal = h.0 in let e : Some (rules.NotCommitted b.missing) ≡ Some why = h.1.named in let same : rules.NotCommitted b.missing ≡ why = cc in subst (Refuses s.faults s.me s.state (Executes b.root)) (sym same) h.1.refuses
+refused_then s b mark (inr (inl h)) = let e = h.0 in absurd (cc)
+refused_then s b mark (inr (inr h)) = let why : Refusal = h.0 in let e : Some (rules.NotCommitted b.missing) ≡ Some why = h.1.named in let same : rules.NotCommitted b.missing ≡ why = cc in subst (Refuses s.faults s.me s.state (Executes b.root)) (sym same) h.1.refuses
 
 -- what is closed under dependencies is closed under reach
 reached_done : (g : Graph) (done : List ℕ) → IsClosed g done → {i j : ℕ} → Has done i → Reaches g i j → Has done j

@@ -34,7 +34,7 @@ use Rattle.ep_journal.specs.declared.event.Event.{Event as Happening}
 use Rattle.ep_journal.specs.declared.event.Event.TheVariants.{Propose, Handle, GiveUp, Recover, Execute}
 use Rattle.ep_journal.specs.declared.mark.Mark.{Mark}
 use Rattle.ep_journal.specs.declared.step_fault.StepFault.{StepFault}
-use Rattle.ep_journal.specs.declared.step_fault.StepFault.TheVariants.{Memory, BadFrame, OutOfRange, NotMine, StampFull, SpaceFull, SeqExhausted, NotLeading, TooFewAnswers, AlreadyCommitted, BallotsExhausted, NotCommitted}
+use Rattle.ep_journal.specs.declared.step_fault.StepFault.TheVariants.{Memory, OutOfRange, NotMine, StampFull, SpaceFull, SeqExhausted, NotLeading, TooFewAnswers, AlreadyCommitted, BallotsExhausted, NotCommitted}
 
 -- Frames.
 
@@ -155,12 +155,12 @@ unmarked mark h is = subst (λ o. MarkedBy (λ m. Unit {0}) o) is h
 screened_out : (me : ℕ) (s : Records) (l : Leads) (done : List ℕ) (store : Contents) (event : Happening) (mark : Option Mark) (fault : StepFault) (why : Refusal) →
     named fault ≡ Some why → ScreenedBy me s event why → IsRefused (stands me s l done store) event mark fault
 screened_out me s l done store event mark fault why name h =
-    inr (inr (inr (why, record { readable = h.readable; named = name; refuses = inl h.screened; marked = λ _. h.screened })))
+    inr (inr (why, record { readable = h.readable; named = name; refuses = inl h.screened; marked = λ _. h.screened }))
 
 refused_by : (me : ℕ) (s : Records) (l : Leads) (done : List ℕ) (store : Contents) (event : Happening) (mark : Option Mark) (fault : StepFault) (why : Refusal) →
     named fault ≡ Some why → RefusedBy me s l event mark why → IsRefused (stands me s l done store) event mark fault
 refused_by me s l done store event mark fault why name h =
-    inr (inr (inr (
+    inr (inr (
       why,
       record {
         readable = h.readable;
@@ -168,15 +168,14 @@ refused_by me s l done store event mark fault why name h =
         refuses = inr (h.unscreened, inl (sym (acts_known s.faults me s l done store event) ∙ h.refused));
         marked = λ is. absurd (unmarked mark h.marked is);
       },
-    )))
+    ))
 
 pub refused_whole : (me : ℕ) (s : Records) (l : Leads) (done : List ℕ) (store : Contents) (event : Happening) (mark : Option Mark) (fault : StepFault) →
     IsFault me s l event mark fault → IsRefused (stands me s l done store) event mark fault
 refused_whole me s l done store event mark Memory h = inl refl
-refused_whole me s l done store event mark (BadFrame f) h = inr (inl (h.0, f, refl, h.1, h.2))
 refused_whole me s l done store event mark OutOfRange h = screened_out me s l done store event mark OutOfRange _ refl h
 refused_whole me s l done store event mark NotMine h = screened_out me s l done store event mark NotMine _ refl h
-refused_whole me s l done store event mark StampFull h = inr (inr (inl (refl, h.readable, h.unscreened, h.unmarked)))
+refused_whole me s l done store event mark StampFull h = inr (inl (refl, h.readable, h.unscreened, h.unmarked))
 refused_whole me s l done store event mark SpaceFull h = refused_by me s l done store event mark SpaceFull _ refl h
 refused_whole me s l done store event mark SeqExhausted h = refused_by me s l done store event mark SeqExhausted _ refl h
 refused_whole me s l done store event mark NotLeading h = refused_by me s l done store event mark NotLeading _ refl h
@@ -214,10 +213,9 @@ executed_by me s l before after store store' root (Some m) out done is h =
 pub unexecuted_whole : (me : ℕ) (s : Records) (l : Leads) (done : List ℕ) (store : Contents) (root : ℕ) (mark : Option Mark) (fault : StepFault) →
     IsExecuteFault s root mark done fault → IsRefused (stands me s l done store) (Execute root) mark fault
 unexecuted_whole me s l done store root mark Memory h = inl refl
-unexecuted_whole me s l done store root mark (BadFrame f) h = absurd h
 unexecuted_whole me s l done store root mark OutOfRange h = screened_out me s l done store (Execute root) mark OutOfRange _ refl (h me)
 unexecuted_whole me s l done store root mark NotMine h = absurd h
-unexecuted_whole me s l done store root mark StampFull h = let u = h me in inr (inr (inl (refl, u.readable, u.unscreened, u.unmarked)))
+unexecuted_whole me s l done store root mark StampFull h = let u = h me in inr (inl (refl, u.readable, u.unscreened, u.unmarked))
 unexecuted_whole me s l done store root mark SpaceFull h = absurd h
 unexecuted_whole me s l done store root mark SeqExhausted h = absurd h
 unexecuted_whole me s l done store root mark NotLeading h = absurd h
@@ -225,7 +223,7 @@ unexecuted_whole me s l done store root mark TooFewAnswers h = absurd h
 unexecuted_whole me s l done store root mark AlreadyCommitted h = absurd h
 unexecuted_whole me s l done store root mark BallotsExhausted h = absurd h
 unexecuted_whole me s l done store root mark (NotCommitted i) h =
-    inr (inr (inr (_, record { readable = tt; named = refl; refuses = inr (h.unscreened me, inr (i, refl, h.blocked)); marked = λ is. absurd (unmarked mark h.marked is) })))
+    inr (inr (_, record { readable = tt; named = refl; refuses = inr (h.unscreened me, inr (i, refl, h.blocked)); marked = λ is. absurd (unmarked mark h.marked is) }))
 
 -- What is handled fits.
 

@@ -15,7 +15,7 @@ use Rattle.ep_journal.specs.Stepping.{MarkedBy, ScreenedBy, Unmarked}
 use Rattle.ep_journal.specs.declared.event.Event.TheVariants.{Execute}
 use Rattle.ep_journal.specs.declared.mark.Mark.{Mark}
 use Rattle.ep_journal.specs.declared.step_fault.StepFault.{StepFault}
-use Rattle.ep_journal.specs.declared.step_fault.StepFault.TheVariants.{Memory, BadFrame, OutOfRange, NotMine, StampFull, SpaceFull, SeqExhausted, NotLeading, TooFewAnswers, AlreadyCommitted, BallotsExhausted, NotCommitted}
+use Rattle.ep_journal.specs.declared.step_fault.StepFault.TheVariants.{Memory, OutOfRange, NotMine, StampFull, SpaceFull, SeqExhausted, NotLeading, TooFewAnswers, AlreadyCommitted, BallotsExhausted, NotCommitted}
 
 -- the instances, each with its answer, where their commands are done in turn
 abbrev pub done_by : (ℕ → Command) → Contents → List ℕ → List (ℕ × Answer)
@@ -42,7 +42,6 @@ pub record BlockedBy (s : Records) (root : ℕ) (mark : Option Mark) (executed :
 -- why the root was not executed: want of memory, or the first of these in order
 abbrev pub IsExecuteFault : Records → ℕ → Option Mark → List ℕ → StepFault → Type 0
 IsExecuteFault s root mark executed Memory = Unit {0}
-IsExecuteFault s root mark executed (BadFrame f) = ⊥
 IsExecuteFault s root mark executed OutOfRange = (me : ℕ) → ScreenedBy me s (Execute root) rules.OutOfRange
 IsExecuteFault s root mark executed NotMine = ⊥
 IsExecuteFault s root mark executed StampFull = (me : ℕ) → Unmarked me s (Execute root) mark

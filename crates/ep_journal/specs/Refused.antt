@@ -10,7 +10,7 @@ use Rattle.ep_rules.specs.Cells as rules
 use Rattle.ep_rules.specs.Cells.{Refusal}
 use Rattle.ep_rules.specs.Phases.{Outcome}
 use Rattle.ep_journal.specs.declared.step_fault.StepFault.{StepFault}
-use Rattle.ep_journal.specs.declared.step_fault.StepFault.TheVariants.{Memory, BadFrame, OutOfRange, NotMine, StampFull, SpaceFull, SeqExhausted, NotLeading, TooFewAnswers, AlreadyCommitted, BallotsExhausted, NotCommitted}
+use Rattle.ep_journal.specs.declared.step_fault.StepFault.TheVariants.{Memory, OutOfRange, NotMine, StampFull, SpaceFull, SeqExhausted, NotLeading, TooFewAnswers, AlreadyCommitted, BallotsExhausted, NotCommitted}
 
 abbrev pub of_phase : PhaseFault → StepFault
 of_phase PhaseMemory = Memory
@@ -29,10 +29,9 @@ abbrev pub of_plan : PlanFault → StepFault
 of_plan PlanMemory = Memory
 of_plan (PlanNotCommitted i) = NotCommitted i
 
--- the refusal of the rule book that the fault names; none for want of memory, a bad frame and a full stamp, which the rule book doesn't know
+-- the refusal of the rule book that the fault names; none for want of memory and a full stamp, which the rule book doesn't know
 abbrev pub named : StepFault → Option Refusal
 named Memory = None
-named (BadFrame f) = None
 named OutOfRange = Some rules.OutOfRange
 named NotMine = Some rules.NotMine
 named StampFull = None
@@ -47,7 +46,6 @@ named (NotCommitted i) = Some (rules.NotCommitted i)
 -- the rule refuses for the reason that the fault names; or there is no memory
 abbrev pub IsRefused : Outcome → StepFault → Type 0
 IsRefused o Memory = Unit {0}
-IsRefused o (BadFrame f) = ⊥
 IsRefused o OutOfRange = ⊥
 IsRefused o NotMine = ⊥
 IsRefused o StampFull = ⊥

@@ -1,6 +1,5 @@
 -- One step of the code's parts, and why there is none.
 use Rattle.std.specs.Prelude.{◌≡◌, ℕ, List, Option, Some, None, Result, Ok, Err}
-use Rattle.ep_frame.specs.Faults.{fault_of}
 use Rattle.ep_phase.specs.Leads.{Leads}
 use Rattle.ep_rules.specs.Cells as rules
 use Rattle.ep_rules.specs.Cells.{Change, Refusal}
@@ -13,7 +12,7 @@ use Rattle.ep_journal.specs.declared.event.Event.{Event as Happening}
 use Rattle.ep_journal.specs.declared.event.Event.TheVariants.{Propose, Handle, GiveUp, Recover, Execute}
 use Rattle.ep_journal.specs.declared.mark.Mark.{Mark}
 use Rattle.ep_journal.specs.declared.step_fault.StepFault.{StepFault}
-use Rattle.ep_journal.specs.declared.step_fault.StepFault.TheVariants.{Memory, BadFrame, OutOfRange, NotMine, StampFull, SpaceFull, SeqExhausted, NotLeading, TooFewAnswers, AlreadyCommitted, BallotsExhausted, NotCommitted}
+use Rattle.ep_journal.specs.declared.step_fault.StepFault.TheVariants.{Memory, OutOfRange, NotMine, StampFull, SpaceFull, SeqExhausted, NotLeading, TooFewAnswers, AlreadyCommitted, BallotsExhausted, NotCommitted}
 
 -- the change took place, and its messages are written as those of the entry so marked
 abbrev pub Acted : Result (ℕ × Change) Refusal → ℕ → Mark → State → State → List (List ℕ) → Type 0
@@ -52,7 +51,6 @@ pub record Unmarked (me : ℕ) (s : Records) (e : Happening) (mark : Option Mark
 -- why an event of the protocol was not taken: want of memory, or the first of these in order
 abbrev pub IsFault : ℕ → Records → Leads → Happening → Option Mark → StepFault → Type 0
 IsFault me s l e mark Memory = Unit {0}
-IsFault me s l e mark (BadFrame f) = (b : List ℕ) × (e ≡ Handle b) × (fault_of b ≡ Err f)
 IsFault me s l e mark OutOfRange = ScreenedBy me s e rules.OutOfRange
 IsFault me s l e mark NotMine = ScreenedBy me s e rules.NotMine
 IsFault me s l e mark StampFull = Unmarked me s e mark

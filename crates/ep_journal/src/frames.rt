@@ -5,9 +5,8 @@ ghost use Rattle.ep_rules.specs.Fitting.{AllFit};
 ghost use Rattle.ep_rules.specs.Steps.{sent_from};
 ghost use Rattle.ep_journal.specs.Events.{AreSpelled};
 
-use bytes::Bytes;
 use ep_base::{ReplicaId, Stamp};
-use ep_frame::{Origin, write};
+use ep_frame::{Frame, Origin, write};
 use ep_rules::Outgoing;
 use std::alloc::{AllocError, Global};
 use std::marker::Model;
@@ -15,7 +14,7 @@ use std::marker::Model;
 /// The frames that an entry sends, by rising receiver.
 #[derive(Drop)]
 pub struct Frames {
-    items: Vec<Bytes>,
+    items: Vec<Frame>,
 }
 
 impl Model for Frames {
@@ -37,14 +36,14 @@ impl Frames {
     }
 
     /// These frames.
-    pub fn new(items: Vec<Bytes>) -> Frames
+    pub fn new(items: Vec<Frame>) -> Frames
         ensures { result ≡ items.items }
     {
         Frames { items }
     }
 
     /// The frames, in order.
-    pub fn as_slice(&self) -> &[Bytes]
+    pub fn as_slice(&self) -> &[Frame]
         ensures { result.now ≡ self.now }
     {
         self.items.as_slice()

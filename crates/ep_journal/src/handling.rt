@@ -18,7 +18,7 @@ use crate::screen::is_within;
 use crate::step_fault::StepFault;
 use crate::take::take;
 use ep_base::{Message, ReplicaId};
-use ep_frame::FrameView;
+use ep_frame::{Frame, FrameView};
 use ep_phase::Lead;
 use ep_space::Space;
 use std::alloc::Global;
@@ -74,7 +74,7 @@ fn take_message(
     )
 }
 
-/// Handles a frame that was read, or refuses it.
+/// Handles a borrowed frame, or refuses it.
 fn take_view(
     alloc: Global,
     space: &mut Space,
@@ -105,26 +105,23 @@ fn take_view(
     take_message(alloc, space, lead, me, frame, message, mark)
 }
 
-/// Handles a frame, or refuses it: first bytes that are none, then a frame that names a replica outside of the cluster, then one for another replica,
-/// then one without a mark, then what the rule refuses.
+/// Handles a frame, or refuses it: first one that names a replica outside of the cluster, then one for another replica, then one without a mark,
+/// then what the rule refuses.
 pub(crate) fn take_frame(
     alloc: Global,
     space: &mut Space,
     lead: &mut Lead,
     me: ReplicaId,
-    bytes: &[u8],
+    frame: &Frame,
     mark: Option<Mark>,
 ) -> Result<Frames, StepFault>
     requires few { size space.old.faults ≤ 256 }
     requires me { me < size space.old.faults }
     requires fits { StateFits (known space.old lead.old) }
     requires numbered { IfSome mark (λ m. 1 ≤ m.number) }
-    ensures ok { IfOk result (λ out. MarkedBy (λ m. Stepped me space.old lead.old (Event.Handle bytes.now) m space.new lead.new out) mark) }
-    ensures refused { IfErr result (λ e. IsFault me space.old lead.old (Event.Handle bytes.now) mark e) }
+    ensures ok { IfOk result (λ out. MarkedBy (λ m. Stepped me space.old lead.old (Event.Handle frame.now) m space.new lead.new out) mark) }
+    ensures refused { IfErr result (λ e. IsFault me space.old lead.old (Event.Handle frame.now) mark e) }
     ensures err { OnErr result ((space.new.faults ≡ space.old.faults) × (known space.new lead.new ≡ known space.old lead.old)) }
 {
-    match FrameView::read(bytes) {
-        Ok(frame) => take_view(alloc, space, lead, me, &frame, mark),
-        Err(fault) => Err(StepFault::BadFrame(fault)),
-    }
+    take_view(alloc, space, lead, me, &frame.view(), mark)
 }

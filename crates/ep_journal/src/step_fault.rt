@@ -6,7 +6,6 @@ ghost use Rattle.ep_journal.specs.declared.step_fault.StepFault.TheVariants.{Mem
 
 use ep_base::InstanceId;
 use ep_exec::PlanFault;
-use ep_frame::FrameFault;
 use ep_phase::PhaseFault;
 use ep_prepare::PrepareFault;
 use std::alloc::AllocError;
@@ -17,9 +16,6 @@ use thiserror::Error;
 pub enum StepFault {
     #[error("E1 memory")]
     Memory,
-    /// The bytes handled are no frame.
-    #[error("E14 bad frame")]
-    BadFrame(FrameFault),
     /// A replica's number is not below the cluster's size, a no-op is proposed, or a client or a request is 0.
     #[error("E3 out of range")]
     OutOfRange,

@@ -63,7 +63,7 @@ fn take_protocol(
                 alloc, space, lead, me, *client, *request, command, *seen, mark,
             )
         }
-        Event::Handle(bytes) => take_frame(alloc, space, lead, me, bytes, mark),
+        Event::Handle(frame) => take_frame(alloc, space, lead, me, frame, mark),
         Event::GiveUp(id) => take_give_up(alloc, space, lead, me, *id, mark),
         Event::Recover(id) => take_recover(alloc, space, lead, me, *id, mark),
         Event::Execute(_) => unreachable!(),

@@ -12,6 +12,7 @@ ghost use Rattle.std.specs.Prelude.{◌≤◌, IfSome};
 use crate::{Entry, Event, Mark, State, StepFault};
 use bytes::Bytes;
 use ep_base::{Command, InstanceId, ReplicaId, Size, Stamp};
+use ep_frame::Frame;
 use std::alloc::Global;
 use std::process::Abort;
 
@@ -66,7 +67,7 @@ fn handle(rt: &impl Abort, alloc: Global, frame: &[u8]) -> Event {
         Ok(bytes) => bytes,
         Err(_) => Bytes::copy_from_slice(alloc, frame).expect(rt, "memory for bytes"),
     };
-    Event::Handle(bytes)
+    Event::Handle(Frame::read(bytes).expect(rt, "a frame"))
 }
 
 /// The step of a copy of the event.

@@ -3,7 +3,6 @@
 use super::{PRE_ACCEPT, asked, first_of, handle, propose, state, stepped};
 use crate::{Event, StepFault};
 use ep_base::Command;
-use ep_frame::FrameFault;
 use std::alloc::Global;
 use std::process::Abort;
 
@@ -44,16 +43,6 @@ fn assert_first(rt: &impl Abort, alloc: Global, me: u8, event: Event, fault: Ste
 fn assert_full(rt: &impl Abort, alloc: Global, me: u8, event: Event) {
     assert_eq!(rt; unmarked(rt, alloc, me, &event), Some(StepFault::StampFull));
     drop(event);
-}
-
-#[test]
-fn bytes_that_are_no_frame(rt: HostRuntime) {
-    let alloc = rt.alloc();
-    for me in 0..3 {
-        let event = handle(&rt, alloc, &PRE_ACCEPT[..39]);
-        let fault = StepFault::BadFrame(FrameFault::Short);
-        assert_first(&rt, alloc, me, event, fault);
-    }
 }
 
 /// A frame about instance 5.1, at its receiver, at another replica and at its sender.
@@ -174,10 +163,8 @@ fn assert_text(rt: &impl Abort, alloc: Global, fault: StepFault, text: &str) {
 #[test]
 fn faults_have_their_texts(rt: HostRuntime) {
     let alloc = rt.alloc();
-    let frame = StepFault::BadFrame(FrameFault::Short);
     let id = StepFault::NotCommitted(first_of(&rt, 0));
     assert_text(&rt, alloc, StepFault::Memory, "E1 memory");
-    assert_text(&rt, alloc, frame, "E14 bad frame");
     assert_text(&rt, alloc, StepFault::OutOfRange, "E3 out of range");
     assert_text(&rt, alloc, StepFault::NotMine, "E13 not mine");
     assert_text(&rt, alloc, StepFault::StampFull, "E15 stamp full");

@@ -45,7 +45,7 @@ fn sends(entry: &Entry, count: usize, first: &[u8]) -> bool {
     let frames = entry.frames.as_slice();
     match frames.first() {
         None => false,
-        Some(frame) => frames.len() == count && is_frame(frame, first),
+        Some(frame) => frames.len() == count && is_frame(frame.as_slice(), first),
     }
 }
 
