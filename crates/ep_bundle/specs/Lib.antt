@@ -1,6 +1,7 @@
 pub mod Bytes
 pub mod Reading
 pub mod Filling
+pub mod Drafts
 pub mod Stages
 pub mod Journals
 pub mod Texts

@@ -14,6 +14,8 @@
 mod bundle;
 mod bundle_fault;
 mod draft;
+mod draft_event;
+mod draft_frames;
 mod entries;
 mod events;
 mod fields;

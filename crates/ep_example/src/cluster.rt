@@ -1,13 +1,12 @@
 //! Three replicas, and the frames on their way between them.
 
-ghost use Rattle.std.specs.Prelude.{◌≡◌, Some};
+ghost use Rattle.std.specs.Prelude.{◌≡◌, IfOk};
 ghost use Rattle.ep_frame.specs.Meaning.{origin_at};
-ghost use Rattle.ep_frame.specs.Spelling.{IsFrame};
 
 use crate::fault::Fault;
 use bytes::Bytes;
 use ep_base::{InstanceId, ReplicaId, Size};
-use ep_frame::FrameView;
+use ep_frame::Frame;
 use ep_journal::{Entry, Event, Journal, StepFault};
 use ep_replica::Replica;
 use ep_rules::Receipt;
@@ -18,12 +17,12 @@ use std::mem::replace;
 /// More frames than the example sends.
 const FRAMES: u32 = 100;
 
-/// Three replicas in one process, and the frames in flight, oldest first. This transport neither loses nor repeats nor
+/// Three replicas in one process, and the bytes in flight, each with its receiver, oldest first. This transport neither loses nor repeats nor
 /// reorders a frame, which is more than the protocol asks of one.
 #[derive(Drop)]
 pub(crate) struct Cluster {
     replicas: Vec<Replica>,
-    in_flight: VecDeque<Bytes>,
+    in_flight: VecDeque<(ReplicaId, Bytes)>,
     alloc: Global,
 }
 
@@ -66,22 +65,25 @@ impl Cluster {
     }
 
     /// The frames in flight reach their receivers, and those that these send, until none is left.
-    pub(crate) fn deliver(&mut self) -> Result<(), StepFault> {
+    pub(crate) fn deliver(&mut self) -> Result<(), Fault> {
         for _ in 0..FRAMES {
-            let Some(frame) = self.in_flight.pop_front() else {
+            let Some((to, bytes)) = self.in_flight.pop_front() else {
                 return Ok(());
             };
-            self.hand_over(frame)?;
+            self.hand_over(to, bytes)?;
         }
         Ok(())
     }
 
-    /// A frame reaches its receiver.
-    fn hand_over(&mut self, frame: Bytes) -> Result<(), StepFault> {
-        match receiver(&frame) {
-            Some(to) => self.take(to, Event::Handle(frame)),
-            None => Ok(()),
-        }
+    /// Bytes reach their receiver, which checks that they are a frame.
+    fn hand_over(&mut self, to: ReplicaId, bytes: Bytes) -> Result<(), Fault> {
+        let Some(replica) = self.replicas.get_mut(to.index() as usize) else {
+            return Err(Fault::Step(StepFault::OutOfRange));
+        };
+        let entry = replica.handle(bytes)?;
+        // As above: the disk comes before the frames.
+        send(entry, &mut self.in_flight)?;
+        Ok(())
     }
 
     /// The replica executes an instance that was proposed there, and gives the receipt.
@@ -127,28 +129,28 @@ fn add_three(alloc: Global, replicas: &mut Vec<Replica>) -> Result<(), AllocErro
     Ok(())
 }
 
-/// Puts the frames of an entry after those in flight.
-fn send(entry: &Entry, in_flight: &mut VecDeque<Bytes>) -> Result<(), AllocError> {
+/// Puts the frames of an entry after those in flight, each with its receiver.
+fn send(entry: &Entry, in_flight: &mut VecDeque<(ReplicaId, Bytes)>) -> Result<(), AllocError> {
     for frame in entry.frames.as_slice() {
-        in_flight.push_back(frame.clone()?)?;
+        in_flight.push_back(carried(frame)?)?;
     }
     Ok(())
+}
+
+/// What a transport carries: to whom the frame goes, and its bytes.
+fn carried(frame: &Frame) -> Result<(ReplicaId, Bytes), AllocError>
+    ensures to { IfOk result (λ c. c.0 ≡ (origin_at frame.now).to) }
+    ensures bytes { IfOk result (λ c. c.1 ≡ frame.now) }
+{
+    let bytes = frame.clone()?.into_bytes();
+    Ok((frame.origin().to, bytes))
 }
 
 /// The instance that the replica's last entry, a proposal, is about: each of its frames names it.
 fn last_proposed(replica: &Replica) -> Option<InstanceId> {
     let entry = replica.journal().entries().last()?;
     let frame = entry.frames.as_slice().first()?;
-    let view = FrameView::read(frame).ok()?;
-    Some(view.instance())
-}
-
-/// To whom a frame goes; none where the bytes are no frame.
-fn receiver(bytes: &[u8]) -> Option<ReplicaId>
-    ensures { IsFrame bytes.now → result ≡ Some (origin_at bytes.now).to }
-{
-    let view = FrameView::read(bytes).ok()?;
-    Some(view.origin().to)
+    Some(frame.instance())
 }
 
 /// What the replica tells the client of its command in the instance.

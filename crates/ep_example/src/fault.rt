@@ -2,6 +2,7 @@
 
 use ep_base::{CommandFault, OutOfRange};
 use ep_journal::StepFault;
+use ep_replica::ReplicaFault;
 use std::alloc::AllocError;
 
 /// Why the example stopped.
@@ -9,6 +10,8 @@ use std::alloc::AllocError;
 pub(crate) enum Fault {
     /// A replica refused an event.
     Step(StepFault),
+    /// A replica refused what came to it.
+    Handled(ReplicaFault),
     /// A number or a command is out of range, or memory was refused for it.
     Made,
     /// The replica has no receipt of the instance.
@@ -20,6 +23,12 @@ pub(crate) enum Fault {
 impl From<StepFault> for Fault {
     fn from(fault: StepFault) -> Fault {
         Fault::Step(fault)
+    }
+}
+
+impl From<ReplicaFault> for Fault {
+    fn from(fault: ReplicaFault) -> Fault {
+        Fault::Handled(fault)
     }
 }
 

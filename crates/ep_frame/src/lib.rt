@@ -12,6 +12,7 @@
 
 mod deps_view;
 mod fault;
+mod frame;
 mod frame_mut;
 mod header;
 mod laws;
@@ -24,6 +25,7 @@ mod writing;
 
 pub use deps_view::{DepsIter, DepsView};
 pub use fault::FrameFault;
+pub use frame::Frame;
 pub use frame_mut::{FrameMut, OriginMut};
 pub use header::Header;
 pub use laws::one_spelling;

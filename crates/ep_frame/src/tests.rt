@@ -4,6 +4,7 @@ ghost use Rattle.ep_base.specs.Instances.{instance_of};
 ghost use Rattle.ep_base.specs.Ballots.{ballot_of};
 
 use super::*;
+use bytes::Bytes;
 use ep_base::{
     Attrs, Ballot, Command, Decree, Deps, InstanceId, Message, ReplicaId, Seq, Stamp, Status, Vote,
 };
@@ -152,8 +153,8 @@ fn assert_written(
     requires entry { 1 ≤ origin.entry }
     requires ballots { BallotsFit message }
 {
-    let bytes = write(alloc, replica(rt, from), &message, origin).expect(rt, "memory for a frame");
-    assert_eq!(rt; bytes.as_slice(), expected);
+    let frame = write(alloc, replica(rt, from), &message, origin).expect(rt, "memory for a frame");
+    assert_eq!(rt; frame.as_slice(), expected);
 }
 
 #[test]
@@ -196,6 +197,29 @@ fn pre_accept_is_read(rt: HostRuntime) {
     let view = view(&rt, &PRE_ACCEPT);
     assert_eq!(rt; numbers_told(&view), (0, 1, 0, 1, 1, 1));
     assert_pair(&rt, view, b"x", b"1");
+}
+
+/// The bytes, shared.
+fn shared(rt: &impl Abort, alloc: Global, bytes: &[u8]) -> Bytes {
+    Bytes::copy_from_slice(alloc, bytes).expect(rt, "memory for bytes")
+}
+
+#[test]
+fn a_frame_keeps_its_bytes(rt: HostRuntime) {
+    let frame = Frame::read(shared(&rt, rt.alloc(), &PRE_ACCEPT)).expect(&rt, "a frame");
+    let again = frame.clone().expect(&rt, "a frame again");
+    assert_eq!(rt; numbers_told(&frame.view()), (0, 1, 0, 1, 1, 1));
+    assert_eq!(rt; frame.from().index(), 0);
+    assert_eq!(rt; frame.origin().to.index(), 1);
+    assert_eq!(rt; frame.instance().number(), 1);
+    assert_eq!(rt; again.as_slice(), &PRE_ACCEPT[..]);
+    assert_eq!(rt; again.into_bytes().as_slice(), &PRE_ACCEPT[..]);
+}
+
+#[test]
+fn a_frame_of_39_bytes_is_none(rt: HostRuntime) {
+    let bytes = shared(&rt, rt.alloc(), &PRE_ACCEPT[..39]);
+    assert_eq!(rt; Frame::read(bytes).err(), Some(FrameFault::Short));
 }
 
 #[test]
@@ -280,12 +304,12 @@ fn assert_read_whole(
 )
     requires { BallotsFit message }
 {
-    let bytes = write(alloc, replica(rt, 6), &message, origin(rt, 5, 1, 1)).expect(
+    let frame = write(alloc, replica(rt, 6), &message, origin(rt, 5, 1, 1)).expect(
         rt,
         "memory for a frame",
     );
-    assert_eq!(rt; bytes.len(), count);
-    assert_pair(rt, view(rt, bytes.as_slice()), key, value);
+    assert_eq!(rt; frame.as_slice().len(), count);
+    assert_pair(rt, frame.view(), key, value);
 }
 
 #[test]

@@ -236,6 +236,16 @@ impl<'a> FrameView<'a> {
         Ok(FrameView { bytes })
     }
 
+    /// The frame that the bytes are known to be.
+    pub(crate) fn known(bytes: &'a [u8]) -> FrameView<'a>
+        requires { HasNoFault bytes.now }
+        ensures value { result ≡ bytes.now }
+        ensures spelled { Spells bytes.now (sender_at bytes.now) (origin_at bytes.now) (message_at bytes.now) }
+        ensures frame { IsFrame bytes.now }
+    {
+        FrameView { bytes }
+    }
+
     /// The fields of the first 40 bytes.
     pub fn header(&self) -> Header
         ensures { result ≡ header_at self.now }

@@ -7,11 +7,12 @@ ghost use Rattle.ep_frame.specs.Spelling.{Spells, parts_bytes};
 ghost use Rattle.ep_base.specs.Fitting.{BallotsFit};
 ghost use Rattle.ep_frame.specs.Layouts.{parts_in};
 
+use crate::frame::Frame;
 use crate::header::Header;
 use crate::layout::Layout;
 use crate::numbers::{put_u8, put_u16, put_u32, put_u64};
 use crate::origin::Origin;
-use bytes::{Bytes, BytesMut};
+use bytes::BytesMut;
 use ep_base::{InstanceId, Message, ReplicaId};
 use std::alloc::{AllocError, Global};
 
@@ -104,14 +105,14 @@ pub fn write(
     from: ReplicaId,
     message: &Message,
     origin: Origin,
-) -> Result<Bytes, AllocError>
+) -> Result<Frame, AllocError>
     requires apart { origin.to ≢ from }
     requires entry { 1 ≤ origin.entry }
     requires ballots { BallotsFit message.now }
-    ensures { IfOk result (λ b. Spells b from origin message.now) }
+    ensures { IfOk result (λ f. Spells f from origin message.now) }
 {
     let parts = Layout::of(from, origin, message);
     let mut out = BytesMut::with_capacity(alloc, parts.header.len())?;
     put_parts(&mut out, &parts)?;
-    Ok(out.freeze()?)
+    Ok(Frame::written(out.freeze()?))
 }

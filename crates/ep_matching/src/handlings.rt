@@ -1,16 +1,13 @@
 //! Handled frames: each was sent, by an entry of a lower stamp.
 
 ghost use Rattle.std.specs.Prelude.{◌≡◌, ◌≤◌};
-ghost use Rattle.ep_frame.specs.Spelling.{IsFrame};
-ghost use Rattle.ep_journal.specs.Entries.{AreJournals, AreReadable, entries_at};
-ghost use Rattle.ep_journal.specs.Events.{IsReadable};
+ghost use Rattle.ep_journal.specs.Entries.{AreJournals, entries_at};
 ghost use Rattle.ep_matching.specs.Handlings.{frame_fault, entry_fault, first_in, first_below};
 ghost use Rattle.ep_matching.specs.Lookups.{sent_there};
 
-use crate::lookups::{entries_of, read, sent_there};
-use bytes::Bytes;
+use crate::lookups::{entries_of, sent_there};
 use ep_base::ReplicaId;
-use ep_frame::FrameView;
+use ep_frame::Frame;
 use ep_journal::{Entry, Event, Journals};
 use ep_report::AuditFault;
 
@@ -19,17 +16,15 @@ fn handled_fault(
     journals: &Journals,
     replica: ReplicaId,
     entry: &Entry,
-    bytes: &Bytes,
+    frame: &Frame,
 ) -> Option<AuditFault>
     requires journals { AreJournals journals.now }
-    requires frame { IsFrame bytes.now }
-    ensures { result ≡ frame_fault replica entry.now.number entry.now.stamp bytes.now (sent_there journals.now bytes.now) }
+    ensures { result ≡ frame_fault replica entry.now.number entry.now.stamp frame.now (sent_there journals.now frame.now) }
 {
-    let frame = read(bytes);
-    let Some(sent) = sent_there(journals, &frame) else {
+    let Some(sent) = sent_there(journals, frame) else {
         return Some(AuditFault::UnsentFrame(replica, entry.number));
     };
-    if sent != bytes {
+    if sent.as_slice() != frame.as_slice() {
         return Some(AuditFault::ChangedFrame(replica, entry.number));
     }
     if frame.origin().stamp < entry.stamp {
@@ -42,11 +37,10 @@ fn handled_fault(
 /// What is wrong with the frame that the replica's entry handles, if it handles one.
 fn entry_fault(journals: &Journals, replica: ReplicaId, entry: &Entry) -> Option<AuditFault>
     requires journals { AreJournals journals.now }
-    requires frame { IsReadable entry.now.event }
     ensures { result ≡ entry_fault journals.now replica entry.now }
 {
     match &entry.event {
-        Event::Handle(bytes) => handled_fault(journals, replica, entry, bytes),
+        Event::Handle(frame) => handled_fault(journals, replica, entry, frame),
         _ => None,
     }
 }
@@ -54,7 +48,6 @@ fn entry_fault(journals: &Journals, replica: ReplicaId, entry: &Entry) -> Option
 /// The first fault of these entries of the replica.
 fn first_in(journals: &Journals, replica: ReplicaId, entries: &[Entry]) -> Option<AuditFault>
     requires journals { AreJournals journals.now }
-    requires frames { AreReadable entries.now }
     ensures { result ≡ first_in journals.now replica entries.now }
 {
     for entry in entries {

@@ -1,15 +1,11 @@
 //! What is looked up in journals, by places.
 
 ghost use Rattle.std.specs.Prelude.{◌≡◌, option_copied, slice_get};
-ghost use Rattle.ep_base.specs.Messages.{instance_of_message};
-ghost use Rattle.ep_frame.specs.Meaning.{message_at};
-ghost use Rattle.ep_frame.specs.Spelling.{IsFrame};
-ghost use Rattle.ep_journal.specs.Entries.{AreJournals, AreFrames, entries_at};
+ghost use Rattle.ep_journal.specs.Entries.{AreJournals, entries_at};
 ghost use Rattle.ep_matching.specs.Lookups.{entry_at, sent_there, proposed, is_request, has_answer, has_done};
 
-use bytes::Bytes;
 use ep_base::{Answer, InstanceId, ReplicaId};
-use ep_frame::FrameView;
+use ep_frame::Frame;
 use ep_journal::{Entry, Event, Journals};
 
 /// The entries of this replica; none where it is no replica of the cluster.
@@ -40,19 +36,8 @@ pub(crate) fn entry_at(entries: &[Entry], number: u32) -> Option<&Entry>
     entries.get(number as usize - 1)
 }
 
-/// The frame that the bytes are.
-pub(crate) fn read(bytes: &Bytes) -> FrameView<'_>
-    requires { IsFrame bytes.now }
-    ensures { result ≡ bytes.now }
-{
-    match FrameView::read(bytes.as_slice()) {
-        Ok(frame) => frame,
-        Err(_) => unreachable!(),
-    }
-}
-
 /// The frame that stands where the sender, the entry and the place of this one say.
-pub(crate) fn sent_there<'a>(journals: &'a Journals, frame: &FrameView<'_>) -> Option<&'a Bytes>
+pub(crate) fn sent_there<'a>(journals: &'a Journals, frame: &Frame) -> Option<&'a Frame>
     requires { AreJournals journals.now }
     ensures { option_copied result ≡ sent_there journals.now frame.now }
 {
@@ -61,23 +46,14 @@ pub(crate) fn sent_there<'a>(journals: &'a Journals, frame: &FrameView<'_>) -> O
     entry.frames.as_slice().get(origin.out as usize)
 }
 
-/// The instance that the frame is about.
-fn about(bytes: &Bytes) -> InstanceId
-    requires { IsFrame bytes.now }
-    ensures { result ≡ instance_of_message (message_at bytes.now) }
-{
-    read(bytes).instance()
-}
-
 /// The instance as which the entry proposes a command: the one that its first frame is about.
 pub(crate) fn proposed(entry: &Entry) -> Option<InstanceId>
-    requires { AreFrames entry.now.frames }
     ensures { result ≡ proposed entry.now.event entry.now.frames }
 {
     match &entry.event {
         Event::Propose { .. } => {
             let first = entry.frames.as_slice().first()?;
-            Some(about(first))
+            Some(first.instance())
         }
         _ => None,
     }

@@ -3,7 +3,7 @@
 ghost use Rattle.std.specs.Prelude.{◌≡◌, ◌≤◌, ◌<◌, [], IfOk, length, option_copied, slice_get, slice_index_or as get_or};
 ghost use Rattle.ep_base.specs.Instances.{leader_of, number_of, highest_number};
 ghost use Rattle.ep_base.specs.Quorums.{size};
-ghost use Rattle.ep_journal.specs.Entries.{AreFrames, AreJournals, AreReadable, entries_at};
+ghost use Rattle.ep_journal.specs.Entries.{AreJournals, entries_at};
 ghost use Rattle.ep_matching.specs.Claims.{proposal_of};
 ghost use Rattle.ep_matching.specs.Lookups.{proposed};
 ghost use Rattle.ep_matching.specs.Proposing.{AreRows, IsRow, marked};
@@ -54,7 +54,6 @@ impl Model for Proposals {
 /// Notes the place of an entry, if it proposes an instance of the replica.
 fn mark(places: &mut Vec<usize>, replica: ReplicaId, entry: &Entry, place: usize)
     requires long { highest_number < length places.old.items }
-    requires frames { AreFrames entry.now.frames }
     ensures { places.new.items ≡ marked replica (proposed entry.now.event entry.now.frames) place places.old.items }
 {
     let Some(instance) = proposed(entry) else {
@@ -72,7 +71,6 @@ fn row_of(
     entries: &[Entry],
     slots: usize,
 ) -> Result<Row, AllocError>
-    requires frames { AreReadable entries.now }
     requires long { highest_number < slots }
     ensures { IfOk result (λ row. IsRow replica entries.now row) }
 {

@@ -15,7 +15,6 @@ fn step_cause(fault: StepFault) -> Cause
 {
     match fault {
         StepFault::Memory => Cause::Memory,
-        StepFault::BadFrame(_) => Cause::BadFrame,
         StepFault::OutOfRange => Cause::OutOfRange,
         StepFault::NotMine => Cause::NotMine,
         StepFault::StampFull => Cause::StampFull,

@@ -5,7 +5,7 @@ use Rattle.std.specs.Prelude.{IfSome, OnOk, OnErr}
 use Rattle.ep_rules.specs.Journals.{AreClocked, last_stamp, heard}
 use Rattle.ep_rules.proofs.JournalsGrow.{clocks_grow_lem}
 use Rattle.ep_journal.specs.Entries.{Log, entry_of, entries_of, IsJournal}
-use Rattle.ep_journal.specs.Events.{event_of, IsReadable}
+use Rattle.ep_journal.specs.Events.{event_of}
 use Rattle.ep_journal.specs.Leaving.{MarksNext, Continues}
 use Rattle.ep_journal.specs.Stepping.{MarkedBy}
 use Rattle.ep_journal.specs.declared.entry.Entry.{Entry}
@@ -50,12 +50,11 @@ clock_next es count last told (Some m) number stamp is =
     record { number = at.0 ∙ ap (λ n. n + 1) number; stamp = omega arith }
 
 -- the step with the clock's mark is the replica's
-pub applied : (j j' : Log) (es : List Entry) (event : Happening) (mark : Option Mark) → es ≡ j.entries → (IsReadable event → mark ≡ mark_after es event) → MarkedBy (λ m. Continues j m event j') mark
+pub applied : (j j' : Log) (es : List Entry) (event : Happening) (mark : Option Mark) → es ≡ j.entries → mark ≡ mark_after es event → MarkedBy (λ m. Continues j m event j') mark
     → (e : Entry) × Applied (kept_of j) event e (kept_of j')
 applied j j' es event None same clock a = absurd a
 applied j j' es event (Some m) same clock a =
-    let readable : IsReadable event = subst IsReadable a.step.event a.step.readable in
-    let is = mark_is (length j.entries + 1) (next_stamp j.entries event) m (clock readable ∙ ap (λ (xs : List Entry). mark_after xs event) same) in (
+    let is = mark_is (length j.entries + 1) (next_stamp j.entries event) m (clock ∙ ap (λ (xs : List Entry). mark_after xs event) same) in (
       a.entry,
       record {
         event = a.step.event;
@@ -101,12 +100,12 @@ pub some_entry : (k k' : Kept) (event : Happening) → (e : Entry) × Applied k 
 some_entry k k' event p = let n : length k'.entries ≡ length k.entries + 1 = ap length (ap (λ (z : Kept). z.entries) p.1.appended) ∙ length-append k.entries (p.0 ∷ []) in omega arith
 
 -- where the entries are read off the journal that the step left
-pub read_off : (j j' : Log) (es es' : List Entry) (event : Happening) (mark : Option Mark) (r : Entry) → es ≡ j.entries → (IsReadable event → mark ≡ mark_after es event) → MarkedBy (λ m. Continues j m event j') mark
+pub read_off : (j j' : Log) (es es' : List Entry) (event : Happening) (mark : Option Mark) (r : Entry) → es ≡ j.entries → mark ≡ mark_after es event → MarkedBy (λ m. Continues j m event j') mark
     → es' ≡ j'.entries → r ≡ get_or es' (length es' - 1) r → Applied (kept_of j) event r (kept_of j')
 read_off j j' es es' event mark r same clock a same' is =
     last_made (kept_of j) (kept_of j') event r (applied j j' es event mark same clock a) (subst (λ (xs : List Entry). r ≡ get_or xs (length xs - 1) r) same' is)
 
-pub some_read : (j j' : Log) (es es' : List Entry) (event : Happening) (mark : Option Mark) → es ≡ j.entries → (IsReadable event → mark ≡ mark_after es event) → MarkedBy (λ m. Continues j m event j') mark → es' ≡ j'.entries → 0 < length es'
+pub some_read : (j j' : Log) (es es' : List Entry) (event : Happening) (mark : Option Mark) → es ≡ j.entries → mark ≡ mark_after es event → MarkedBy (λ m. Continues j m event j') mark → es' ≡ j'.entries → 0 < length es'
 some_read j j' es es' event mark same clock a same' = subst (λ (xs : List Entry). 0 < length xs) (sym same') (some_entry (kept_of j) (kept_of j') event (applied j j' es event mark same clock a))
 
 -- what the entry proposes is noted

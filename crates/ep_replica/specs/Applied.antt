@@ -1,5 +1,6 @@
 -- One event of a replica: the entry that it makes, by the clock, and why there is none.
-use Rattle.std.specs.Prelude.{◌≡◌, ℕ, ◌+◌, ◌&&◌, ltb, max, length, cond, List, [], ◌∷◌, ◌++◌, Option, Some, None}
+use Rattle.std.specs.Prelude.{◌≡◌, MatchResult, ℕ, ◌+◌, ◌&&◌, ltb, max, length, cond, List, [], ◌∷◌, ◌++◌, Option, Some, None}
+use Rattle.ep_frame.specs.Faults.{fault_of}
 use Rattle.ep_rules.specs.Journals.{IsEntry, AreMarked, last_stamp, heard}
 use Rattle.ep_journal.specs.Entries.{entry_of, entries_of, AreFrames}
 use Rattle.ep_journal.specs.Events.{event_of, IsReadable}
@@ -7,11 +8,13 @@ use Rattle.ep_journal.specs.Leaving.{state_left}
 use Rattle.ep_journal.specs.Standing.{IsRefused}
 use Rattle.ep_journal.specs.declared.entry.Entry.{Entry}
 use Rattle.ep_journal.specs.declared.event.Event.{Event as Happening}
+use Rattle.ep_journal.specs.declared.event.Event.TheVariants.{Handle}
 use Rattle.ep_journal.specs.declared.mark.Mark.{Mark}
 use Rattle.ep_journal.specs.declared.step_fault.StepFault.{StepFault}
 use Rattle.ep_replica.specs.Faults.{in_numbers}
 use Rattle.ep_replica.specs.Kept.{Kept, standing}
 use Rattle.ep_replica.specs.declared.replica_fault.ReplicaFault.{ReplicaFault}
+use Rattle.ep_replica.specs.declared.replica_fault.ReplicaFault.TheVariants.{BadFrame}
 
 -- one more than the greatest stamp that is known: the last entry's, or what the event tells of
 abbrev pub next_stamp : List Entry → Happening → ℕ
@@ -43,3 +46,7 @@ IsDeclined k event fault = IsRefused (standing k) event (mark_after k.entries ev
 -- the same, an instance by its two numbers
 abbrev pub IsDeclinedFor : Kept → Happening → ReplicaFault → Type 0
 IsDeclinedFor k event fault = (why : StepFault) × IsDeclined k event why × (fault ≡ in_numbers why)
+
+-- why the bytes were not handled: they are no frame; or, where they are one, why the frame was not
+abbrev pub IsUnhandled : Kept → List ℕ → ReplicaFault → Type 0
+IsUnhandled k bytes fault = MatchResult (fault_of bytes) (λ _. IsDeclinedFor k (Handle bytes) fault) (λ f. fault ≡ BadFrame f)

@@ -2,17 +2,18 @@
 
 ghost use Rattle.std.specs.Prelude.{◌≡◌};
 ghost use Rattle.ep_replica.specs.Faults.{in_numbers};
+ghost use Rattle.ep_replica.specs.declared.replica_fault.ReplicaFault.TheVariants.{BadFrame};
 
 use ep_frame::FrameFault;
 use ep_journal::StepFault;
 use thiserror::Error;
 
-/// Why an event was not applied: a `StepFault` whose instance is told by its two numbers. The replica is then as it was.
+/// Why an event was not applied: the bytes are no frame; or a `StepFault`, whose instance is told by its two numbers. The replica is then as it was.
 #[derive(Clone, Copy, Debug, PartialEq, Eq, Error)]
 pub enum ReplicaFault {
     #[error("E1 memory")]
     Memory,
-    /// The bytes handled are no frame.
+    /// The bytes to be handled are no frame.
     #[error("E14 bad frame")]
     BadFrame(FrameFault),
     /// A replica's number is not below the cluster's size, a no-op is proposed, or a client or a request is 0.
@@ -53,7 +54,6 @@ impl From<StepFault> for ReplicaFault {
     fn from(fault: StepFault) -> ReplicaFault {
         match fault {
             StepFault::Memory => ReplicaFault::Memory,
-            StepFault::BadFrame(bad) => ReplicaFault::BadFrame(bad),
             StepFault::OutOfRange => ReplicaFault::OutOfRange,
             StepFault::NotMine => ReplicaFault::NotMine,
             StepFault::StampFull => ReplicaFault::StampFull,
@@ -68,5 +68,13 @@ impl From<StepFault> for ReplicaFault {
                 number: instance.number(),
             },
         }
+    }
+}
+
+impl From<FrameFault> for ReplicaFault {
+    ghost from_gives = { λ f e. e ≡ BadFrame f };
+
+    fn from(fault: FrameFault) -> ReplicaFault {
+        ReplicaFault::BadFrame(fault)
     }
 }

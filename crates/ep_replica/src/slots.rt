@@ -2,7 +2,7 @@
 
 ghost use Rattle.std.specs.Prelude.{◌≡◌, ◌<◌, ◌≤◌, ◌++◌, ◌∷◌, [], ℕ, List, Option, Some, length, OnOk};
 ghost use Rattle.ep_base.specs.Instances.{highest_number, number_of};
-ghost use Rattle.ep_journal.specs.Entries.{AreFrames, frames_at};
+ghost use Rattle.ep_journal.specs.Entries.{frames_at};
 ghost use Rattle.ep_journal.specs.Events.{event_of};
 ghost use Rattle.ep_journal.specs.declared.entry.Entry.{Entry};
 ghost use Rattle.ep_replica.specs.Receipts.{proposed_by};
@@ -10,14 +10,12 @@ ghost use Rattle.ep_replica.specs.Slots.{found, named, Tells};
 
 use crate::proposal::Proposal;
 use ep_base::{InstanceId, ReplicaId};
-use ep_frame::FrameView;
 use ep_journal::{Entry, Event};
 use std::alloc::{AllocError, Global};
 use std::marker::Model;
 
 /// What an entry proposes, and as which instance: the one that its first frame is about.
 fn proposal_in(entry: &Entry) -> Option<(InstanceId, Proposal)>
-    requires readable { AreFrames entry.now.frames }
     ensures { (i : ℕ) → proposed_by (event_of entry.now.event) (frames_at entry.now.frames) i ≡ named result i }
 {
     let Event::Propose {
@@ -32,15 +30,12 @@ fn proposal_in(entry: &Entry) -> Option<(InstanceId, Proposal)>
     let Some(frame) = entry.frames.as_slice().first() else {
         return None;
     };
-    let Ok(view) = FrameView::read(frame) else {
-        return None;
-    };
     let proposal = Proposal {
         client: *client,
         request: *request,
         seen: *seen,
     };
-    Some((view.instance(), proposal))
+    Some((frame.instance(), proposal))
 }
 
 /// A replica's proposals, each at the number of its instance. It has places for all of them or for none.
@@ -89,7 +84,6 @@ impl Slots {
     /// Keeps what the entry of this replica proposes. It takes no memory.
     pub(crate) fn note(&mut self, me: ReplicaId, entry: &Entry)
         requires room { highest_number < length self.old }
-        requires readable { AreFrames entry.now.frames }
         ensures { (es : List Entry) → Tells me es self.old → Tells me (es ++ entry.now ∷ []) self.new }
     {
         let Some((instance, proposal)) = proposal_in(entry) else {

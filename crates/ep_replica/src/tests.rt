@@ -12,6 +12,7 @@ mod stamping;
 use crate::{Replica, ReplicaFault};
 use bytes::Bytes;
 use ep_base::{Command, InstanceId, ReplicaId, Size};
+use ep_frame::Frame;
 use ep_journal::Event;
 use std::alloc::Global;
 use std::process::Abort;
@@ -53,12 +54,42 @@ fn propose(rt: &impl Abort, alloc: Global, client: u32, value: &[u8], seen: u64)
     }
 }
 
-fn handle(rt: &impl Abort, alloc: Global, frame: &[u8]) -> Event {
-    let bytes = match Bytes::copy_from_slice(alloc, frame) {
+/// The bytes, shared.
+fn shared(rt: &impl Abort, alloc: Global, bytes: &[u8]) -> Bytes {
+    match Bytes::copy_from_slice(alloc, bytes) {
         Ok(bytes) => bytes,
-        Err(_) => Bytes::copy_from_slice(alloc, frame).expect(rt, "memory for bytes"),
-    };
-    Event::Handle(bytes)
+        Err(_) => Bytes::copy_from_slice(alloc, bytes).expect(rt, "memory for bytes"),
+    }
+}
+
+fn handle(rt: &impl Abort, alloc: Global, frame: &[u8]) -> Event {
+    Event::Handle(Frame::read(shared(rt, alloc, frame)).expect(rt, "a frame"))
+}
+
+/// The stamp of the entry that handles the bytes.
+fn handled_once(
+    rt: &impl Abort,
+    alloc: Global,
+    replica: &mut Replica,
+    bytes: &[u8],
+) -> Result<u64, ReplicaFault>
+    ensures err { OnErr result (replica.new ≡ replica.old) }
+{
+    let entry = replica.handle(shared(rt, alloc, bytes))?;
+    Ok(entry.stamp.ticks())
+}
+
+/// The same; bytes that find no memory are handled again.
+fn handled(
+    rt: &impl Abort,
+    alloc: Global,
+    replica: &mut Replica,
+    bytes: &[u8],
+) -> Result<u64, ReplicaFault> {
+    match handled_once(rt, alloc, replica, bytes) {
+        Err(ReplicaFault::Memory) => handled_once(rt, alloc, replica, bytes),
+        told => told,
+    }
 }
 
 /// The stamp of the entry that a copy of the event makes.

@@ -3,15 +3,13 @@
 ghost use Rattle.std.specs.Prelude.{◌≡◌, ◌<◌, ◌≤◌, ℕ, [], slice_get, slice_index_or, option_copied, IfOk};
 ghost use Rattle.ep_base.specs.Quorums.{size};
 ghost use Rattle.ep_frame.specs.Meaning.{origin_at};
-ghost use Rattle.ep_frame.specs.Spelling.{IsFrame};
 ghost use Rattle.ep_journal.specs.Entries.{IsJournal};
 ghost use Rattle.ep_world.specs.Played.{numbered, frame_of};
 ghost use Rattle.ep_world.specs.Replicas.{all_kept, AreReplicas, AreTheirs};
 
 use crate::place::Place;
-use bytes::Bytes;
 use ep_base::{ReplicaId, Size};
-use ep_frame::FrameView;
+use ep_frame::Frame;
 use ep_journal::{Entry, Journal};
 use ep_replica::Replica;
 use std::alloc::{AllocError, Global};
@@ -71,7 +69,7 @@ pub(crate) fn numbered_place(messages: &[Place], message: u64) -> Option<Place>
 }
 
 /// The frame at this place among an entry's, from 0.
-fn nth_frame(frames: &[Bytes], out: u16) -> Option<&Bytes>
+fn nth_frame(frames: &[Frame], out: u16) -> Option<&Frame>
     ensures { option_copied result ≡ slice_get frames.now out }
 {
     frames.get(out as usize)
@@ -79,7 +77,7 @@ fn nth_frame(frames: &[Bytes], out: u16) -> Option<&Bytes>
 
 /// The frame at this place.
 #[tactic(auto, using(crate::proofs::Kept::entries_there, crate::proofs::Kept::no_frame))]
-pub(crate) fn frame_at<'a>(replicas: &'a [Replica], place: Place) -> Option<&'a Bytes>
+pub(crate) fn frame_at<'a>(replicas: &'a [Replica], place: Place) -> Option<&'a Frame>
     ensures { option_copied result ≡ frame_of (numbered (slice_index_or (all_kept replicas.now) place.replica []) place.entry) place.out }
 {
     let Some(replica) = find(replicas, place.replica) else {
@@ -92,14 +90,10 @@ pub(crate) fn frame_at<'a>(replicas: &'a [Replica], place: Place) -> Option<&'a 
 }
 
 /// The receiver of a frame.
-pub(crate) fn receiver(frame: &[u8]) -> ReplicaId
-    requires { IsFrame frame.now }
+pub(crate) fn receiver(frame: &Frame) -> ReplicaId
     ensures { result ≡ (origin_at frame.now).to }
 {
-    match FrameView::read(frame) {
-        Ok(view) => view.origin().to,
-        Err(_) => unreachable!(),
-    }
+    frame.origin().to
 }
 
 /// The journal of a replica.

@@ -8,8 +8,8 @@ use crate::place::Place;
 use crate::refused::Refused;
 use crate::replicas::{all_fresh, find, frame_at, into_journals, numbered_place, receiver};
 use crate::world_event::WorldEvent;
-use bytes::Bytes;
 use ep_base::{ReplicaId, Size};
+use ep_frame::Frame;
 use ep_journal::{Event, Journals};
 use ep_replica::Replica;
 use std::alloc::{AllocError, Global};
@@ -198,7 +198,7 @@ impl World {
     }
 
     /// The frame of a message, which are numbered from 1.
-    pub fn message(&self, message: u64) -> Option<&Bytes>
+    pub fn message(&self, message: u64) -> Option<&Frame>
         ensures value { option_copied result ≡ message_in self.now message }
         ensures none { result ≡ None → (message ≡ 0) ⊎ (length self.now.messages < message) }
         ensures frame { IfSome result (λ b. IsFrame b.now) }

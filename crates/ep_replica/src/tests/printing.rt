@@ -14,7 +14,11 @@ fn assert_text(rt: &impl Abort, alloc: Global, fault: StepFault, text: &str) {
         Err(_) => format!(in alloc; "{fault}").expect(rt, "memory for a text"),
     };
     assert_eq!(rt; told.as_str(), text);
-    let fault = ReplicaFault::from(fault);
+    assert_replica_text(rt, alloc, ReplicaFault::from(fault), text);
+}
+
+/// The replica's fault is printed so.
+fn assert_replica_text(rt: &impl Abort, alloc: Global, fault: ReplicaFault, text: &str) {
     let told = match format!(in alloc; "{fault}") {
         Ok(told) => told,
         Err(_) => format!(in alloc; "{fault}").expect(rt, "memory for a text"),
@@ -27,7 +31,6 @@ fn faults_have_the_texts_of_the_steps(rt: HostRuntime) {
     let alloc = rt.alloc();
     for (fault, text) in [
         (StepFault::Memory, "E1 memory"),
-        (StepFault::BadFrame(FrameFault::Short), "E14 bad frame"),
         (StepFault::OutOfRange, "E3 out of range"),
         (StepFault::NotMine, "E13 not mine"),
         (StepFault::StampFull, "E15 stamp full"),
@@ -44,4 +47,6 @@ fn faults_have_the_texts_of_the_steps(rt: HostRuntime) {
     ] {
         assert_text(&rt, alloc, fault, text);
     }
+    let fault = ReplicaFault::from(FrameFault::Short);
+    assert_replica_text(&rt, alloc, fault, "E14 bad frame");
 }

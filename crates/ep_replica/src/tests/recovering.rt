@@ -47,7 +47,7 @@ fn sent(rt: &impl Abort, from: &Replica, number: usize, out: usize) -> Event {
     let frames = entry_of(rt, from, number).frames.as_slice();
     let frame = frames.get(out).expect(rt, "a frame");
     match frame.clone() {
-        Ok(bytes) => Event::Handle(bytes),
+        Ok(frame) => Event::Handle(frame),
         Err(_) => Event::Handle(frame.clone().expect(rt, "memory for bytes")),
     }
 }
@@ -77,7 +77,7 @@ fn sends(replica: &Replica, count: usize, first: &[u8]) -> bool {
     let frames = entry.frames.as_slice();
     match frames.first() {
         None => false,
-        Some(frame) => frames.len() == count && is_frame(frame, first),
+        Some(frame) => frames.len() == count && is_frame(frame.as_slice(), first),
     }
 }
 

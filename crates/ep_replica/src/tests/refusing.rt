@@ -1,6 +1,6 @@
 //! What a new replica refuses.
 
-use super::{PRE_ACCEPT, handle, propose, replica, stamp};
+use super::{PRE_ACCEPT, handle, handled, propose, replica, stamp};
 use crate::{Replica, ReplicaFault};
 use ep_base::{Command, ReplicaId, Size};
 use ep_frame::FrameFault;
@@ -50,12 +50,19 @@ fn a_frame_of_a_larger_cluster(rt: HostRuntime) {
     }
 }
 
+/// A new replica refuses the bytes for this fault, and takes the first frame as if nothing had been asked.
+fn assert_no_frame(rt: &impl Abort, alloc: Global, bytes: &[u8], fault: FrameFault) {
+    let mut replica = replica(rt, alloc, 1);
+    let refused = handled(rt, alloc, &mut replica, bytes);
+    assert_eq!(rt; refused, Err(ReplicaFault::BadFrame(fault)));
+    assert_eq!(rt; handled(rt, alloc, &mut replica, &PRE_ACCEPT), Ok(2));
+    drop(replica);
+}
+
 #[test]
 fn bytes_that_are_no_frame(rt: HostRuntime) {
     let alloc = rt.alloc();
-    let event = handle(&rt, alloc, &PRE_ACCEPT[..39]);
-    let fault = ReplicaFault::BadFrame(FrameFault::Short);
-    assert_refused(&rt, alloc, 1, event, fault);
+    assert_no_frame(&rt, alloc, &PRE_ACCEPT[..39], FrameFault::Short);
 }
 
 /// The first frame, from its receiver.
@@ -64,9 +71,7 @@ fn a_frame_from_its_receiver(rt: HostRuntime) {
     let alloc = rt.alloc();
     let mut frame = PRE_ACCEPT;
     frame[4] = 1;
-    let event = handle(&rt, alloc, &frame);
-    let fault = ReplicaFault::BadFrame(FrameFault::Field(5));
-    assert_refused(&rt, alloc, 1, event, fault);
+    assert_no_frame(&rt, alloc, &frame, FrameFault::Field(5));
 }
 
 #[test]

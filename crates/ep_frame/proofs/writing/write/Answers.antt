@@ -3,9 +3,21 @@ use Rattle.ep_frame.specs.Layouts.{parts_in}
 use Rattle.ep_frame.specs.Spelling.{parts_bytes}
 use Rattle.ep_frame.proofs.writing.write.Goals as goal
 
+pub written-requires : goal.written-requires
+written-requires c = (
+  c.args.from,
+  c.args.origin,
+  c.args.message.now,
+  record {
+    origin = c.of-parts.ensures.origin;
+    message = c.of-parts.ensures.message;
+    is = c.in_ok-freeze.ensures.ok ∙ c.in_ok-put_parts.ensures ∙ ap (λ (xs : List ℕ). xs ++ parts_bytes (parts_in c.of-parts.result)) c.in_ok-out.ensures.items ∙ ap parts_bytes c.of-parts.ensures.parts;
+  },
+)
+
 pub returns : goal.returns
 returns c = record {
   origin = c.of-parts.ensures.origin;
   message = c.of-parts.ensures.message;
-  is = c.in_ok-freeze.ensures.ok ∙ c.in_ok-put_parts.ensures ∙ ap (λ (xs : List ℕ). xs ++ parts_bytes (parts_in c.of-parts.result)) c.in_ok-out.ensures.items ∙ ap parts_bytes c.of-parts.ensures.parts;
+  is = c.written.ensures ∙ c.in_ok-freeze.ensures.ok ∙ c.in_ok-put_parts.ensures ∙ ap (λ (xs : List ℕ). xs ++ parts_bytes (parts_in c.of-parts.result)) c.in_ok-out.ensures.items ∙ ap parts_bytes c.of-parts.ensures.parts;
 }

@@ -3,12 +3,7 @@ use Rattle.std.proofs.lemmas.Option.{slice_get_read}
 use Rattle.ep_journal.specs.declared.entry.Entry.{Entry}
 use Rattle.ep_matching.specs.Proposing.{IsRowFrom}
 use Rattle.ep_matching.proofs.Rows.{row_more}
-use Rattle.ep_matching.proofs.Shown.{readable_get}
 use Rattle.ep_matching.proofs.proposals.row_of.Goals as goal
-
-pub mark-requires-clause-frames : goal.mark-requires-clause-frames
-mark-requires-clause-frames c =
-    (readable_get c.args.entries.now (c.loop-place.place - 1) c.index-entries-place.result c.requires.frames (omega arith) c.index-entries-place.is).1
 
 pub loop-place-preserved : goal.loop-place-preserved
 loop-place-preserved c =

@@ -1,0 +1,111 @@
+//! Frames that are known to be frames.
+
+ghost use Rattle.std.specs.Prelude.{◌≡◌, Ok, Err, IfOk, IsOk, MatchResult};
+ghost use Rattle.ep_base.specs.Messages.{instance_of_message};
+ghost use Rattle.ep_frame.specs.Faults.{HasNoFault, fault_of};
+ghost use Rattle.ep_frame.specs.Meaning.{sender_at, origin_at, instance_at, message_at};
+ghost use Rattle.ep_frame.specs.Spelling.{IsFrame, Spells};
+
+use crate::fault::FrameFault;
+use crate::origin::Origin;
+use crate::view::FrameView;
+use bytes::Bytes;
+use ep_base::{InstanceId, ReplicaId};
+use std::alloc::AllocError;
+use std::marker::Model;
+
+/// A frame: shared bytes that spell one message, from one sender and with one origin. The bytes are checked once, when it
+/// is read.
+#[derive(Drop)]
+pub struct Frame {
+    bytes: Bytes,
+}
+
+impl Model for Frame {
+    ghost use Rattle.std.specs.Prelude.{List, ℕ};
+    ghost use Rattle.ep_frame.specs.Faults.{HasNoFault};
+
+    ghost Value = { List ℕ };
+
+    ghost view = { λ f. f.bytes };
+
+    ghost invariant = { λ f. HasNoFault f.bytes };
+}
+
+impl Frame {
+    /// The frame that the bytes are; otherwise the first fault from left to right.
+    pub fn read(bytes: Bytes) -> Result<Frame, FrameFault>
+        ensures exact { MatchResult result (λ f. fault_of bytes ≡ Ok tt) (λ f. fault_of bytes ≡ Err f) }
+        // What is read spells the message that its fields tell.
+        ensures found { IfOk result (λ _. Spells bytes (sender_at bytes) (origin_at bytes) (message_at bytes)) }
+        // What spells a message is read.
+        ensures only { IsFrame bytes → IsOk result }
+        ensures frame { IfOk result (λ f. f ≡ bytes) }
+    {
+        FrameView::read(bytes.as_slice())?;
+        Ok(Frame { bytes })
+    }
+
+    /// The frame that was written as these bytes.
+    pub(crate) fn written(bytes: Bytes) -> Frame
+        requires { IsFrame bytes }
+        ensures { result ≡ bytes }
+    {
+        Frame { bytes }
+    }
+
+    /// The frame, borrowed. Nothing is checked again.
+    pub fn view(&self) -> FrameView<'_>
+        ensures value { result ≡ self.now }
+        ensures spelled { Spells self.now (sender_at self.now) (origin_at self.now) (message_at self.now) }
+        ensures frame { IsFrame self.now }
+    {
+        FrameView::known(self.bytes.as_slice())
+    }
+
+    /// The bytes.
+    pub fn as_slice(&self) -> &[u8]
+        ensures { result.now ≡ self.now }
+    {
+        self.bytes.as_slice()
+    }
+
+    /// The bytes alone.
+    pub fn into_bytes(self) -> Bytes
+        ensures { result ≡ self }
+    {
+        self.bytes
+    }
+
+    /// The replica that sent the frame.
+    pub fn from(&self) -> ReplicaId
+        ensures { result ≡ sender_at self.now }
+    {
+        self.view().from()
+    }
+
+    /// Where the frame goes, and which one it is.
+    pub fn origin(&self) -> Origin
+        ensures { result ≡ origin_at self.now }
+    {
+        self.view().origin()
+    }
+
+    /// The instance that the message is about.
+    pub fn instance(&self) -> InstanceId
+        ensures value { result ≡ instance_at self.now }
+        ensures message { result ≡ instance_of_message (message_at self.now) }
+    {
+        self.view().instance()
+    }
+}
+
+/// The same bytes once more, which are shared and not copied.
+impl Clone for Frame {
+    ghost is_clone = { λ f copy. copy ≡ f };
+
+    fn clone(&self) -> Result<Frame, AllocError> {
+        let bytes = self.bytes.clone()?;
+        Ok(Frame { bytes })
+    }
+}
