@@ -1,5 +1,6 @@
 -- A part's refusal is the step's.
-use Rattle.std.proofs.Common.{◌≡◌, ℕ, Ok, Err, ap, refl}
+use Rattle.std.proofs.Common.{◌≡◌, ℕ, Result, Ok, Err, ap, sym, subst}
+use Rattle.std.specs.Prelude.{IfErr, IsErrAnd}
 use Rattle.ep_phase.specs.declared.phase_fault.PhaseFault.{PhaseFault}
 use Rattle.ep_phase.specs.declared.phase_fault.PhaseFault.TheVariants.{Memory as PhaseMemory, NotLeading as PhaseLeading, TooFewAnswers as PhaseFew}
 use Rattle.ep_phase.specs.Refused.{IsRefused as PhaseRefused, IsLimited}
@@ -42,3 +43,8 @@ refused_at i o TooFewAnswers h = ap (at i) h
 refused_at i o AlreadyCommitted h = ap (at i) h
 refused_at i o BallotsExhausted h = ap (at i) h
 refused_at i o (NotCommitted j) h = h
+
+-- a refusal that is passed on
+pub passed_on : {X : Type 0} (P : StepFault → Type 0) (f : StepFault) (r : Result X StepFault) → IsErrAnd r (λ e. e ≡ f) → P f → IfErr r P
+passed_on P f (Ok x) h k = tt
+passed_on P f (Err e) h k = subst P (sym h) k

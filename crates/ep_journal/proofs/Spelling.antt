@@ -1,12 +1,73 @@
--- The end of a list of messages has no frames left to write.
-use Rattle.std.proofs.Common.{ℕ, ◌≤◌, List, [], ◌++◌, drop, length, sym, subst}
-use Rattle.std.proofs.lemmas.List.{append-nil}
-use Rattle.std.proofs.Math.ListN.{drop_of_length-le}
+-- Frames that are written one after the other.
+use Rattle.std.proofs.Common.{◌≡◌, ◌≢◌, ℕ, zero, suc, ◌+◌, ◌-◌, ◌<◌, ◌≤◌, Bool, true, false, cond, List, [], ◌∷◌, ◌++◌, length, refl, sym, ap, subst, ◌∙◌, arith}
+use Rattle.std.proofs.lemmas.List.{append-nil, length-append}
+use Rattle.ep_base.specs.Fitting.{BallotsFit}
 use Rattle.ep_base.specs.declared.message.Message.{Message}
+use Rattle.ep_frame.specs.Spelling.{Spells}
+use Rattle.ep_rules.specs.Counting.{to_those}
+use Rattle.ep_rules.specs.Fitting.{AllFit}
 use Rattle.ep_rules.specs.Steps.{Sent, sent_from}
 use Rattle.ep_journal.specs.Events.{AreSpelled}
 
-pub all_spelled : (n stamp me k i : ℕ) (items : List (List ℕ)) (out : List (ℕ × Message)) (ms : List Sent) → length out ≤ i →
-    ((rest : List (List ℕ)) → AreSpelled n stamp k rest (sent_from me (drop i out)) → AreSpelled n stamp 0 (items ++ rest) ms) → AreSpelled n stamp 0 items ms
-all_spelled n stamp me k i items out ms h on =
-    subst (λ xs. AreSpelled n stamp 0 xs ms) (append-nil items) (on [] (subst (λ ys. AreSpelled n stamp k [] (sent_from me ys)) (sym (drop_of_length-le out h)) tt))
+-- as many frames as messages
+pub as_many : (n stamp k me : ℕ) (bs : List (List ℕ)) (ms : List (ℕ × Message)) → AreSpelled n stamp k bs (sent_from me ms) → length bs ≡ length ms
+as_many n stamp k me [] [] h = refl
+as_many n stamp k me [] (m ∷ ms) h = absurd h
+as_many n stamp k me (b ∷ bs) [] h = absurd h
+as_many n stamp k me (b ∷ bs) (m ∷ ms) h = ap suc (as_many n stamp (suc k) me bs ms h.1)
+
+-- one frame more, at the next place
+pub one_more : (n stamp k me : ℕ) (bs : List (List ℕ)) (ms : List (ℕ × Message)) (b : List ℕ) (to place : ℕ) (m : Message) → AreSpelled n stamp k bs (sent_from me ms) → place ≡ k + length bs →
+    Spells b me (record { to = to; out = place; entry = n; stamp = stamp }) m → AreSpelled n stamp k (bs ++ b ∷ []) (sent_from me (ms ++ (to, m) ∷ []))
+one_more n stamp k me [] [] b to place m h is s = let at : place ≡ k = omega (arith, is) in (subst (λ p. Spells b me (record { to = to; out = p; entry = n; stamp = stamp }) m) at s, tt)
+one_more n stamp k me [] (x ∷ xs) b to place m h is s = absurd h
+one_more n stamp k me (c ∷ bs) [] b to place m h is s = absurd h
+one_more n stamp k me (c ∷ bs) (x ∷ xs) b to place m h is s = let at : place ≡ suc k + length bs = omega (arith, is) in (h.0, one_more n stamp (suc k) me bs xs b to place m h.1 at s)
+
+-- what is sent to one that passes
+fit_last : (me r : ℕ) (ms : List (ℕ × Message)) (m : Message) → AllFit me (ms ++ (r, m) ∷ []) → (r ≢ me) × BallotsFit m
+fit_last me r [] m h = (h.0, h.1)
+fit_last me r (x ∷ xs) m h = fit_last me r xs m h.2
+
+fit_front : (me : ℕ) (ms more : List (ℕ × Message)) → AllFit me (ms ++ more) → AllFit me ms
+fit_front me [] more h = tt
+fit_front me (x ∷ xs) more h = (h.0, h.1, fit_front me xs more h.2)
+
+-- where all of them fit, so do those below r
+fit_below : (me : ℕ) (p : ℕ → Bool) (m : Message) (r k n : ℕ) → n ≡ k + r → AllFit me (to_those p n m) → AllFit me (to_those p r m)
+fit_below me p m r zero n e h = let is : n ≡ r = omega (arith, e) in subst (λ j. AllFit me (to_those p j m)) is h
+fit_below me p m r (suc k) n e h =
+    let is : n ≡ suc (k + r) = omega (arith, e) in
+    fit_below me p m r k (k + r) refl (fit_front me (to_those p (k + r) m) _ (subst (λ j. AllFit me (to_those p j m)) is h))
+
+pub fit_at : (me : ℕ) (p : ℕ → Bool) (m : Message) (r n : ℕ) → r < n → p r ≡ true → AllFit me (to_those p n m) → (r ≢ me) × BallotsFit m
+fit_at me p m r n less passes h =
+    let e : n ≡ (n - suc r) + suc r = omega (arith, less) in
+    let here : AllFit me (to_those p (suc r) m) = fit_below me p m (suc r) (n - suc r) n e h in
+    fit_last me r (to_those p r m) m (subst (λ c. AllFit me (to_those p r m ++ cond c ((r, m) ∷ []) [])) passes here)
+
+one_at_most : (b : Bool) (n : ℕ) (m : Message) → length (cond {A = List (ℕ × Message)} b ((n, m) ∷ []) []) ≤ 1
+one_at_most true n m = omega arith
+one_at_most false n m = omega arith
+
+pub those_few : (p : ℕ → Bool) (n : ℕ) (m : Message) → length (to_those p n m) ≤ n
+those_few p zero m = omega arith
+those_few p (suc n) m =
+    let last : List (ℕ × Message) = cond (p n) ((n, m) ∷ []) [] in
+    let rest : length (to_those p n m) ≤ n = those_few p n m in
+    let one : length last ≤ 1 = one_at_most (p n) n m in
+    omega (arith, length-append (to_those p n m) last)
+
+-- r passes, and its frame was written next
+pub next_spelled : (n stamp me : ℕ) (p : ℕ → Bool) (r : ℕ) (m : Message) (items items' : List (List ℕ)) (b : List ℕ) → p r ≡ true → AreSpelled n stamp 0 items (sent_from me (to_those p r m)) → items' ≡ items ++ b ∷ [] →
+    Spells b me (record { to = r; out = length items; entry = n; stamp = stamp }) m → AreSpelled n stamp 0 items' (sent_from me (to_those p (suc r) m))
+next_spelled n stamp me p r m items items' b passes h is s =
+    let place : length items ≡ 0 + length items = omega arith in
+    let more : AreSpelled n stamp 0 (items ++ b ∷ []) (sent_from me (to_those p r m ++ (r, m) ∷ [])) = one_more n stamp 0 me items (to_those p r m) b r (length items) m h place s in
+    subst (λ bs. AreSpelled n stamp 0 bs (sent_from me (to_those p (suc r) m))) (sym is) (subst (λ c. AreSpelled n stamp 0 (items ++ b ∷ []) (sent_from me (to_those p r m ++ cond c ((r, m) ∷ []) []))) (sym passes) more)
+
+-- r doesn't
+pub skip_spelled : (n stamp me : ℕ) (p : ℕ → Bool) (r : ℕ) (m : Message) (items : List (List ℕ)) → p r ≡ false → AreSpelled n stamp 0 items (sent_from me (to_those p r m)) → AreSpelled n stamp 0 items (sent_from me (to_those p (suc r) m))
+skip_spelled n stamp me p r m items fails h =
+    let same : AreSpelled n stamp 0 items (sent_from me (to_those p r m ++ [])) = subst (λ ms. AreSpelled n stamp 0 items (sent_from me ms)) (sym (append-nil (to_those p r m))) h in
+    subst (λ c. AreSpelled n stamp 0 items (sent_from me (to_those p r m ++ cond c ((r, m) ∷ []) []))) (sym fails) same

@@ -148,11 +148,11 @@ advanced p p' (Execute root) mark k h took = advanced_executes p p' root mark k 
 screened_out : (p : Parts) (event : Happening) (mark : Option Mark) (fault : StepFault) (why : Refusal) → named fault ≡ Some why → ScreenedBy p.space.faults p.me event why → IsRefused (standing_of p) event mark fault
 screened_out p event mark fault why name h = inr (inr (why, record { readable = h.readable; named = name; refuses = inl h.screened; marked = λ _. h.screened }))
 
-pub refused_screen : (p : Parts) (event : Happening) (mark : Option Mark) (fault : StepFault) → IsScreened p.space.faults p.me event mark fault → IsRefused (standing_of p) event mark fault
+pub refused_screen : (p : Parts) (event : Happening) (mark : Option Mark) (fault : StepFault) → IsScreened p.space.faults p.me event fault → IsRefused (standing_of p) event mark fault
 refused_screen p event mark Memory h = inl refl
 refused_screen p event mark OutOfRange h = screened_out p event mark OutOfRange _ refl h
 refused_screen p event mark NotMine h = screened_out p event mark NotMine _ refl h
-refused_screen p event mark StampFull h = inr (inl (refl, h.0.readable, h.0.unscreened, h.1))
+refused_screen p event mark StampFull h = absurd h
 refused_screen p event mark SpaceFull h = absurd h
 refused_screen p event mark SeqExhausted h = absurd h
 refused_screen p event mark NotLeading h = absurd h
@@ -161,45 +161,48 @@ refused_screen p event mark AlreadyCommitted h = absurd h
 refused_screen p event mark BallotsExhausted h = absurd h
 refused_screen p event mark (NotCommitted i) h = absurd h
 
+pub refused_unmarked : (p : Parts) (event : Happening) (mark : Option Mark) → IsLetThrough p.space.faults p.me event → mark ≡ None → IsRefused (standing_of p) event mark StampFull
+refused_unmarked p event mark h none = inr (inl (refl, h.readable, h.unscreened, none))
+
 ruled : (p : Parts) (event : Happening) (mark : Mark) (fault : StepFault) (why : Refusal) → named fault ≡ Some why → IsLetThrough p.space.faults p.me event → acts p.space.faults p.me (whole p) (event_of event) ≡ Err why →
     IsRefused (standing_of p) event (Some mark) fault
 ruled p event mark fault why name h is = inr (inr (why, record { readable = h.readable; named = name; refuses = inr (h.unscreened, inl is); marked = λ none. absurd (cc) }))
 
 refused_rule : (p : Parts) (event : Happening) (mark : Mark) (fault : StepFault) (r : Result (ℕ × Change) Refusal) → acts p.space.faults p.me (whole p) (event_of event) ≡ r → IsLetThrough p.space.faults p.me event →
     parts.IsRefused r fault → IsRefused (standing_of p) event (Some mark) fault
-refused_rule p event mark Memory r same h no = inl refl
-refused_rule p event mark OutOfRange r same h no = absurd no
-refused_rule p event mark NotMine r same h no = absurd no
-refused_rule p event mark StampFull r same h no = absurd no
-refused_rule p event mark SpaceFull r same h no = ruled p event mark SpaceFull _ refl h (same ∙ no)
-refused_rule p event mark SeqExhausted r same h no = ruled p event mark SeqExhausted _ refl h (same ∙ no)
-refused_rule p event mark NotLeading r same h no = ruled p event mark NotLeading _ refl h (same ∙ no)
-refused_rule p event mark TooFewAnswers r same h no = ruled p event mark TooFewAnswers _ refl h (same ∙ no)
-refused_rule p event mark AlreadyCommitted r same h no = ruled p event mark AlreadyCommitted _ refl h (same ∙ no)
-refused_rule p event mark BallotsExhausted r same h no = ruled p event mark BallotsExhausted _ refl h (same ∙ no)
-refused_rule p event mark (NotCommitted i) r same h no = absurd no
+refused_rule p event mark Memory r same h why = inl refl
+refused_rule p event mark OutOfRange r same h why = absurd why
+refused_rule p event mark NotMine r same h why = absurd why
+refused_rule p event mark StampFull r same h why = absurd why
+refused_rule p event mark SpaceFull r same h why = ruled p event mark SpaceFull _ refl h (same ∙ why)
+refused_rule p event mark SeqExhausted r same h why = ruled p event mark SeqExhausted _ refl h (same ∙ why)
+refused_rule p event mark NotLeading r same h why = ruled p event mark NotLeading _ refl h (same ∙ why)
+refused_rule p event mark TooFewAnswers r same h why = ruled p event mark TooFewAnswers _ refl h (same ∙ why)
+refused_rule p event mark AlreadyCommitted r same h why = ruled p event mark AlreadyCommitted _ refl h (same ∙ why)
+refused_rule p event mark BallotsExhausted r same h why = ruled p event mark BallotsExhausted _ refl h (same ∙ why)
+refused_rule p event mark (NotCommitted i) r same h why = absurd why
 
 refused_root : (p : Parts) (root : ℕ) (mark : Mark) (fault : StepFault) → IsLetThrough p.space.faults p.me (Execute root) → IsUntaken p (admitted (Execute root)) fault → IsRefused (standing_of p) (Execute root) (Some mark) fault
-refused_root p root mark Memory h no = inl refl
-refused_root p root mark OutOfRange h no = absurd no
-refused_root p root mark NotMine h no = absurd no
-refused_root p root mark StampFull h no = absurd no
-refused_root p root mark SpaceFull h no = absurd no
-refused_root p root mark SeqExhausted h no = absurd no
-refused_root p root mark NotLeading h no = absurd no
-refused_root p root mark TooFewAnswers h no = absurd no
-refused_root p root mark AlreadyCommitted h no = absurd no
-refused_root p root mark BallotsExhausted h no = absurd no
-refused_root p root mark (NotCommitted i) h no = inr (inr (_, record { readable = tt; named = refl; refuses = inr (h.unscreened, inr (i, refl, no)); marked = λ none. absurd (cc) }))
+refused_root p root mark Memory h why = inl refl
+refused_root p root mark OutOfRange h why = absurd why
+refused_root p root mark NotMine h why = absurd why
+refused_root p root mark StampFull h why = absurd why
+refused_root p root mark SpaceFull h why = absurd why
+refused_root p root mark SeqExhausted h why = absurd why
+refused_root p root mark NotLeading h why = absurd why
+refused_root p root mark TooFewAnswers h why = absurd why
+refused_root p root mark AlreadyCommitted h why = absurd why
+refused_root p root mark BallotsExhausted h why = absurd why
+refused_root p root mark (NotCommitted i) h why = inr (inr (_, record { readable = tt; named = refl; refuses = inr (h.unscreened, inr (i, refl, why)); marked = λ none. absurd (cc) }))
 
 -- what is asked by an event and not done refuses the event
 pub refused_take : (p : Parts) (event : Happening) (mark : Mark) (fault : StepFault) → IsLetThrough p.space.faults p.me event → IsUntaken p (admitted event) fault → IsRefused (standing_of p) event (Some mark) fault
-refused_take p (Propose client request command seen) mark fault h no =
-    refused_rule p (Propose client request command seen) mark fault _ (acts_asked p.me p.space p.lead p.executed.list p.store (Propose client request command seen)) h no
-refused_take p (Handle b) mark fault h no = refused_rule p (Handle b) mark fault _ (acts_asked p.me p.space p.lead p.executed.list p.store (Handle b)) h no
-refused_take p (GiveUp i) mark fault h no = refused_rule p (GiveUp i) mark fault _ (acts_asked p.me p.space p.lead p.executed.list p.store (GiveUp i)) h no
-refused_take p (Recover i) mark fault h no = refused_rule p (Recover i) mark fault _ (acts_asked p.me p.space p.lead p.executed.list p.store (Recover i)) h no
-refused_take p (Execute root) mark fault h no = refused_root p root mark fault h no
+refused_take p (Propose client request command seen) mark fault h why =
+    refused_rule p (Propose client request command seen) mark fault _ (acts_asked p.me p.space p.lead p.executed.list p.store (Propose client request command seen)) h why
+refused_take p (Handle b) mark fault h why = refused_rule p (Handle b) mark fault _ (acts_asked p.me p.space p.lead p.executed.list p.store (Handle b)) h why
+refused_take p (GiveUp i) mark fault h why = refused_rule p (GiveUp i) mark fault _ (acts_asked p.me p.space p.lead p.executed.list p.store (GiveUp i)) h why
+refused_take p (Recover i) mark fault h why = refused_rule p (Recover i) mark fault _ (acts_asked p.me p.space p.lead p.executed.list p.store (Recover i)) h why
+refused_take p (Execute root) mark fault h why = refused_root p root mark fault h why
 
 -- What is handled fits.
 

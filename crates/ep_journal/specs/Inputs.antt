@@ -69,9 +69,6 @@ receives k FastQuorum r = is_fast k.faults (leader_of k.instance) r
 receives k Others r = is_other k.me r
 
 -- what is sent has a spelling
-abbrev pub IsSendable : ℕ → List (ℕ × Message) → Type 0
-IsSendable me out = (length out ≤ 1000) × AllFit me out
-
 abbrev pub IsWritable : ℕ → Result (ℕ × Change) Refusal → Type 0
-IsWritable me (Ok p) = IsSendable me p.1.out
+IsWritable me (Ok p) = AllFit me p.1.out
 IsWritable me (Err e) = Unit {0}

@@ -38,19 +38,19 @@ pub record ScreenedBy (f me : ℕ) (e : Happening) (why : Refusal) : Type 0 wher
   pub readable : IsReadable e
   pub screened : screened f me (event_of e) ≡ Some why
 
--- why the screen lets the event not through: want of memory, or its reason, or there is no mark
-abbrev pub IsScreened : ℕ → ℕ → Happening → Option Mark → StepFault → Type 0
-IsScreened f me e mark Memory = Unit {0}
-IsScreened f me e mark OutOfRange = ScreenedBy f me e rules.OutOfRange
-IsScreened f me e mark NotMine = ScreenedBy f me e rules.NotMine
-IsScreened f me e mark StampFull = IsLetThrough f me e × (mark ≡ None)
-IsScreened f me e mark SpaceFull = ⊥
-IsScreened f me e mark SeqExhausted = ⊥
-IsScreened f me e mark NotLeading = ⊥
-IsScreened f me e mark TooFewAnswers = ⊥
-IsScreened f me e mark AlreadyCommitted = ⊥
-IsScreened f me e mark BallotsExhausted = ⊥
-IsScreened f me e mark (NotCommitted i) = ⊥
+-- why the screen doesn't let the event through: want of memory, or its reason
+abbrev pub IsScreened : ℕ → ℕ → Happening → StepFault → Type 0
+IsScreened f me e Memory = Unit {0}
+IsScreened f me e OutOfRange = ScreenedBy f me e rules.OutOfRange
+IsScreened f me e NotMine = ScreenedBy f me e rules.NotMine
+IsScreened f me e StampFull = ⊥
+IsScreened f me e SpaceFull = ⊥
+IsScreened f me e SeqExhausted = ⊥
+IsScreened f me e NotLeading = ⊥
+IsScreened f me e TooFewAnswers = ⊥
+IsScreened f me e AlreadyCommitted = ⊥
+IsScreened f me e BallotsExhausted = ⊥
+IsScreened f me e (NotCommitted i) = ⊥
 
 abbrev pub MarkedBy : (Mark → Type 0) → Option Mark → Type 0
 MarkedBy P None = ⊥

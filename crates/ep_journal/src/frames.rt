@@ -1,9 +1,8 @@
 //! The frames that a step sends.
 
-ghost use Rattle.std.specs.Prelude.{◌≡◌, ◌≢◌, ◌≤◌, ◌<◌, [], ◌++◌, ◌∷◌, IfOk, OnOk, length, true};
+ghost use Rattle.std.specs.Prelude.{◌≡◌, ◌≢◌, ◌≤◌, ◌<◌, ◌+◌, [], ◌∷◌, IfOk, OnOk};
 ghost use Rattle.ep_base.specs.Fitting.{BallotsFit};
 ghost use Rattle.ep_base.specs.Quorums.{size};
-ghost use Rattle.ep_frame.specs.Spelling.{Spells};
 ghost use Rattle.ep_phase.specs.Changes.{sends};
 ghost use Rattle.ep_rules.specs.Counting.{to_those};
 ghost use Rattle.ep_rules.specs.Fitting.{AllFit};
@@ -65,7 +64,6 @@ pub(crate) fn written(
     out: &Option<Sending>,
 ) -> Result<Frames, AllocError>
     requires number { 1 ≤ mark.number }
-    requires few { length (sends cell.now.faults cell.now.me cell.now.instance out.now) ≤ 1000 }
     requires fit { AllFit cell.now.me (sends cell.now.faults cell.now.me cell.now.instance out.now) }
     ensures { IfOk result (λ f. AreSpelled mark.number mark.stamp 0 f (sent_from cell.now.me (sends cell.now.faults cell.now.me cell.now.instance out.now))) }
 {
@@ -117,22 +115,13 @@ fn written_to_each(
     message: &Message,
 ) -> Result<Frames, AllocError>
     requires number { 1 ≤ mark.number }
-    requires few { length (to_those (receives cell.now to) (size cell.now.faults) message.now) ≤ 1000 }
     requires fit { AllFit cell.now.me (to_those (receives cell.now to) (size cell.now.faults) message.now) }
     ensures { IfOk result (λ f. AreSpelled mark.number mark.stamp 0 f (sent_from cell.now.me (to_those (receives cell.now to) (size cell.now.faults) message.now))) }
 {
     let mut items = Vec::new(alloc);
+    let sent = Sent { mark, to, message };
     for r in 0..cell.size().count() {
-        if is_receiver(cell, to, r) {
-            let origin = Origin {
-                to: ReplicaId::new(r).unwrap(),
-                out: items.len() as u16,
-                entry: mark.number,
-                stamp: mark.stamp,
-            };
-            let frame = write(alloc, cell.me(), message, origin)?;
-            items.push(frame)?;
-        }
+        add_if(alloc, &mut items, cell, &sent, r)?;
     }
     Ok(Frames { items })
 }
@@ -146,4 +135,49 @@ fn is_receiver(cell: &Cell<'_>, to: Receivers, replica: u8) -> bool
         Receivers::FastQuorum => is_fast(cell.size(), cell.id().replica(), replica),
         Receivers::Others => replica != cell.me().index(),
     }
+}
+
+/// Adds the frame to the replica of this number, if it is one of the receivers.
+fn add_if(
+    alloc: Global,
+    items: &mut Vec<Frame>,
+    cell: &Cell<'_>,
+    sent: &Sent<'_>,
+    r: u8,
+) -> Result<(), AllocError>
+    requires number { 1 ≤ sent.now.mark.number }
+    requires replica { r ≤ 6 }
+    requires cluster { r < size cell.now.faults }
+    requires fit { AllFit cell.now.me (to_those (receives cell.now sent.now.to) (size cell.now.faults) sent.now.message.now) }
+    requires before { AreSpelled sent.now.mark.number sent.now.mark.stamp 0 items.old.items (sent_from cell.now.me (to_those (receives cell.now sent.now.to) r sent.now.message.now)) }
+    ensures { OnOk result (AreSpelled sent.now.mark.number sent.now.mark.stamp 0 items.new.items (sent_from cell.now.me (to_those (receives cell.now sent.now.to) (r + 1) sent.now.message.now))) }
+{
+    if !is_receiver(cell, sent.to, r) {
+        return Ok(());
+    }
+    let origin = Origin {
+        to: replica(r),
+        out: items.len() as u16,
+        entry: sent.mark.number,
+        stamp: sent.mark.stamp,
+    };
+    let frame = write(alloc, cell.me(), sent.message, origin)?;
+    items.push(frame)?;
+    Ok(())
+}
+
+/// A message of an entry so marked to several replicas.
+#[derive(Drop)]
+struct Sent<'a> {
+    mark: Mark,
+    to: Receivers,
+    message: &'a Message,
+}
+
+/// The replica of this number.
+fn replica(index: u8) -> ReplicaId
+    requires { index ≤ 6 }
+    ensures { result ≡ index }
+{
+    ReplicaId::new(index).unwrap()
 }

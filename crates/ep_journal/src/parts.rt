@@ -5,9 +5,10 @@ ghost use Rattle.ep_phase.specs.Known.{known_of};
 ghost use Rattle.ep_rules.specs.Order.{IsClosed};
 ghost use Rattle.ep_rules.specs.States.{graph_in};
 ghost use Rattle.ep_rules.specs.Steps.{at};
+ghost use Rattle.ep_journal.specs.Executing.{IsUnexecuted};
 ghost use Rattle.ep_journal.specs.Inputs.{asks, outcome_at, IsWritable};
 ghost use Rattle.ep_journal.specs.Refused.{IsRefused};
-ghost use Rattle.ep_journal.specs.Stepping.{standing_of, Moves, Took, IsUntaken};
+ghost use Rattle.ep_journal.specs.Stepping.{standing_of, Moves, Executes, Took, IsUntaken};
 
 use crate::admitted::Admitted;
 use crate::deciding::decide;
@@ -103,8 +104,8 @@ impl Parts {
     /// Executes the root, and all that it waits for, or nothing.
     fn execute(&mut self, alloc: Global, root: InstanceId) -> Result<Taken, StepFault>
         requires closed { IsClosed (graph_in self.old.space.records) self.old.executed.list }
-        ensures ok { IfOk result (λ t. (mark : Mark) → Took self.old (Admitted.Execution root) mark t self.new) }
-        ensures refused { IfErr result (λ e. IsUntaken self.old (Admitted.Execution root) e) }
+        ensures ok { IfOk result (λ t. Executes root self.old t self.new) }
+        ensures refused { IfErr result (λ e. IsUnexecuted self.old.space root self.old.executed.list e) }
         ensures err { OnErr result (standing_of self.new ≡ standing_of self.old) }
     {
         let done = execute(

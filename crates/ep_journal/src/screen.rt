@@ -1,6 +1,6 @@
 //! The screen: events that no state takes.
 
-ghost use Rattle.std.specs.Prelude.{◌≡◌, ℕ, ltb, Option, Some, IfOk, IfErr};
+ghost use Rattle.std.specs.Prelude.{◌≡◌, ℕ, ltb, IfOk, IfErr};
 ghost use Rattle.ep_base.specs.Ballots.{owner_of};
 ghost use Rattle.ep_base.specs.Instances.{leader_of};
 ghost use Rattle.ep_base.specs.Quorums.{size};
@@ -9,46 +9,27 @@ ghost use Rattle.ep_rules.specs.Steps.{are_within, vote_within, message_within, 
 ghost use Rattle.ep_journal.specs.Events.{frame_at};
 ghost use Rattle.ep_journal.specs.Inputs.{admitted};
 ghost use Rattle.ep_journal.specs.Stepping.{IsLetThrough, IsScreened};
+ghost use Rattle.ep_journal.specs.declared.admitted.Admitted.{Admitted};
 ghost use Rattle.ep_journal.specs.declared.event.Event.{Event};
-ghost use Rattle.ep_journal.specs.declared.mark.Mark.{Mark};
 
 use crate::admitted::Admitted;
 use crate::event::Event;
 use crate::input::Input;
-use crate::mark::Mark;
 use crate::step_fault::StepFault;
 use ep_base::{Ballot, Command, Deps, InstanceId, Message, ReplicaId, Size, Vote};
 use ep_frame::{Frame, FrameView};
 use std::alloc::Global;
 
-/// What the event asks, and its mark; or why it is refused, whatever the state: first a replica's number that is not below the cluster's size,
-/// a no-op, or a client or a request of 0, then a frame for another replica, then an event without a mark.
+/// What the event asks; or why no state takes it: first a replica's number that is not below the cluster's size, a no-op, or a client or a
+/// request of 0, then a frame for another replica.
 pub(crate) fn screen(
-    alloc: Global,
-    cluster: Size,
-    me: ReplicaId,
-    event: &Event,
-    mark: Option<Mark>,
-) -> Result<(Admitted, Mark), StepFault>
-    ensures ok { IfOk result (λ p. (p.0 ≡ admitted event.now) × (mark ≡ Some p.1) × IsLetThrough cluster me event.now) }
-    ensures refused { IfErr result (λ e. IsScreened cluster me event.now mark e) }
-{
-    let admitted = admit(alloc, cluster, me, event)?;
-    match mark {
-        Some(mark) => Ok((admitted, mark)),
-        None => Err(StepFault::StampFull),
-    }
-}
-
-/// What the event asks, if it is within the cluster and for this replica.
-fn admit(
     alloc: Global,
     cluster: Size,
     me: ReplicaId,
     event: &Event,
 ) -> Result<Admitted, StepFault>
     ensures ok { IfOk result (λ a. (a ≡ admitted event.now) × IsLetThrough cluster me event.now) }
-    ensures refused { IfErr result (λ e. (mark : Option Mark) → IsScreened cluster me event.now mark e) }
+    ensures refused { IfErr result (λ e. IsScreened cluster me event.now e) }
 {
     match event {
         Event::Propose {
@@ -56,12 +37,7 @@ fn admit(
             request,
             command,
             seen: _,
-        } => {
-            if !may_propose(*client, *request, command) {
-                return Err(StepFault::OutOfRange);
-            }
-            Ok(Admitted::Request(command.copy(alloc)?))
-        }
+        } => admit_request(alloc, *client, *request, command),
         Event::Handle(frame) => admit_frame(alloc, cluster, me, frame),
         Event::GiveUp(id) => {
             if !leader_within(cluster.count(), *id) {
@@ -84,6 +60,22 @@ fn admit(
     }
 }
 
+/// That the command is proposed, if a client may ask for it.
+fn admit_request(
+    alloc: Global,
+    client: u32,
+    request: u32,
+    command: &Command,
+) -> Result<Admitted, StepFault>
+    ensures ok { IfOk result (λ a. (a ≡ Admitted.Request command.now) × ((f : ℕ) (me : ℕ) (seen : ℕ) → IsLetThrough f me (Event.Propose client request command.now seen))) }
+    ensures refused { IfErr result (λ e. (f : ℕ) (me : ℕ) (seen : ℕ) → IsScreened f me (Event.Propose client request command.now seen) e) }
+{
+    if !may_propose(client, request, command) {
+        return Err(StepFault::OutOfRange);
+    }
+    Ok(Admitted::Request(command.copy(alloc)?))
+}
+
 /// What the frame's message asks, if all that it names is of the cluster, and it is for this replica.
 fn admit_frame(
     alloc: Global,
@@ -92,7 +84,7 @@ fn admit_frame(
     frame: &Frame,
 ) -> Result<Admitted, StepFault>
     ensures ok { IfOk result (λ a. (a ≡ admitted (Event.Handle frame.now)) × IsLetThrough cluster me (Event.Handle frame.now)) }
-    ensures refused { IfErr result (λ e. (mark : Option Mark) → IsScreened cluster me (Event.Handle frame.now) mark e) }
+    ensures refused { IfErr result (λ e. IsScreened cluster me (Event.Handle frame.now) e) }
 {
     let view = frame.view();
     let message = view.to_message(alloc)?;

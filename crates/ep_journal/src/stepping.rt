@@ -26,11 +26,14 @@ pub(crate) fn step(
     ensures refused { IfErr result (λ e. IsRefused (standing_of parts.old) event mark e) }
     ensures err { OnErr result (standing_of parts.new ≡ standing_of parts.old) }
 {
-    let (admitted, mark) = screen(alloc, parts.space.size(), parts.me, &event, mark)?;
-    let Taken { frames, done } = parts.take(alloc, admitted, mark)?;
+    let admitted = screen(alloc, parts.space.size(), parts.me, &event)?;
+    let Some(Mark { number, stamp }) = mark else {
+        return Err(StepFault::StampFull);
+    };
+    let Taken { frames, done } = parts.take(alloc, admitted, Mark { number, stamp })?;
     Ok(Entry {
-        number: mark.number,
-        stamp: mark.stamp,
+        number,
+        stamp,
         event,
         frames,
         done,
