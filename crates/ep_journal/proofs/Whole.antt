@@ -28,6 +28,7 @@ use Rattle.ep_journal.specs.Refused as parts
 use Rattle.ep_journal.specs.Refused.{named}
 use Rattle.ep_journal.specs.Standing.{Standing, Advances, IsRefused, IsSound}
 use Rattle.ep_journal.specs.Stepping.{standing_of, Acted, Moves, Executes, Took, IsUntaken, MarkedBy, IsLetThrough, ScreenedBy, IsScreened}
+use Rattle.ep_journal.specs.declared.admitted.Admitted.{Admitted}
 use Rattle.ep_journal.specs.declared.entry.Entry.{Entry}
 use Rattle.ep_journal.specs.declared.event.Event.{Event as Happening}
 use Rattle.ep_journal.specs.declared.event.Event.TheVariants.{Propose, Handle, GiveUp, Recover, Execute}
@@ -142,6 +143,13 @@ advanced p p' (Handle b) mark k h took = advanced_moves p p' (Handle b) mark k _
 advanced p p' (GiveUp i) mark k h took = advanced_moves p p' (GiveUp i) mark k _ (acts_asked p.me p.space p.lead p.executed.list p.store (GiveUp i)) refl h took
 advanced p p' (Recover i) mark k h took = advanced_moves p p' (Recover i) mark k _ (acts_asked p.me p.space p.lead p.executed.list p.store (Recover i)) refl h took
 advanced p p' (Execute root) mark k h took = advanced_executes p p' root mark k h took
+
+pub advanced_marked : (p p' : Parts) (event : Happening) (mark : Option Mark) (a : Admitted) (m n : Mark) (k : Taken) (e : Entry) → mark ≡ Some m → n ≡ m → IsLetThrough p.space.faults p.me event → a ≡ admitted event → Took p a n k p' →
+    e ≡ entry_by n event k.frames k.done → MarkedBy (λ x. Advances (standing_of p) x event e (standing_of p')) mark
+advanced_marked p p' event mark a m n k e given same h asked took is =
+    let done : Advances (standing_of p) n event (entry_by n event k.frames k.done) (standing_of p') = advanced p p' event n k h (subst (λ b. Took p b n k p') asked took) in
+    let here : Advances (standing_of p) n event e (standing_of p') = subst (λ x. Advances (standing_of p) n event x (standing_of p')) (sym is) done in
+    subst (MarkedBy (λ x. Advances (standing_of p) x event e (standing_of p'))) (sym given) (subst (λ x. Advances (standing_of p) x event e (standing_of p')) same here)
 
 -- Why there is no step.
 

@@ -1,6 +1,7 @@
 use Rattle.std.proofs.Common.{◌≡◌, ◌≢◌, ◌≤◌, ◌+◌, ℕ, suc, Bool, true, length, arith, sym, subst, ◌∙◌}
 use Rattle.ep_base.specs.Fitting.{BallotsFit}
 use Rattle.ep_base.specs.Quorums.{size}
+use Rattle.ep_frame.specs.Spelling.{Spells}
 use Rattle.ep_rules.specs.Counting.{to_those}
 use Rattle.ep_rules.specs.Steps.{sent_from}
 use Rattle.ep_journal.specs.Events.{AreSpelled}
@@ -34,4 +35,4 @@ returns c =
     let next : suc c.args.r ≡ c.args.r + 1 = omega arith in
     subst (λ j. AreSpelled s.mark.number s.mark.stamp 0 c.push.new.self.items (sent_from k.me (to_those p j s.message.now))) next
     (next_spelled s.mark.number s.mark.stamp k.me p c.args.r s.message.now c.args.items.now.items c.push.new.self.items c.in_ok-frame.frame (sym c.is_receiver.ensures ∙ c.if-not-is_receiver.false) c.requires.before c.in_ok-push.ensures.items
-    (simp (c.me.ensures, c.replica.ensures, c.len.ensures) at c.in_ok-frame.ensures))
+    (subst (λ n. Spells c.in_ok-frame.frame k.me (record { to = c.args.r; out = n; entry = s.mark.number; stamp = s.mark.stamp }) s.message.now) c.args.items.now.ok.0 (simp (c.me.ensures, c.replica.ensures, c.len.ensures) at c.in_ok-frame.ensures)))
