@@ -1,7 +1,6 @@
 -- Entries and frames of the code, and those that the rule book sees, at the same places.
 use Rattle.std.proofs.Common.{◌≡◌, ℕ, zero, suc, ◌+◌, ◌<◌, ◌≤◌, ◌⊎◌, inl, inr, Option, Some, None, List, [], ◌∷◌, ◌++◌, length, get_or, slice_get, refl, sym, ap, subst, ◌∙◌, arith}
 use Rattle.std.proofs.lemmas.Bool.{cases_lt}
-use Rattle.std.proofs.lemmas.Option.{slice_get_read}
 use Rattle.ep_base.specs.Quorums.{size}
 use Rattle.ep_frame.specs.Spelling.{IsFrame}
 use Rattle.ep_journal.specs.Entries.{Collected, entry_of, entries_of, entries_at, journals_of, frames_at, AreFrames, AreReadable, AreJournals}
@@ -68,9 +67,6 @@ pub readable_at : (es : List Entry) (k : ℕ) (e : Entry) → AreReadable es →
 readable_at [] k e h is = absurd (cc)
 readable_at (x ∷ es) zero e h is = let s : Some x ≡ Some e = is in let q : x ≡ e = cc in subst (λ y. IsReadable y.event × AreFrames y.frames) q (h.0, h.1)
 readable_at (x ∷ es) (suc k) e h is = readable_at es k e h.2 is
-
-pub readable_get : (es : List Entry) (k : ℕ) (e : Entry) → AreReadable es → k < length es → e ≡ get_or es k e → IsReadable e.event × AreFrames e.frames
-readable_get es k e h lt is = readable_at es k e h (slice_get_read es (length es) k e refl lt is)
 
 pub readable_in : (es : List Entry) (e : Entry) → AreReadable es → In e es → IsReadable e.event × AreFrames e.frames
 readable_in [] e h there = absurd there
