@@ -11,8 +11,8 @@ use crate::commit::begin_commit;
 use crate::counting::others;
 use crate::leading::Leading;
 use crate::propose::is_usable;
-use crate::recorded::Recorded;
 use crate::receivers::Receivers;
+use crate::recorded::Recorded;
 use crate::sending::Sending;
 use ep_base::{Ballot, Decree, Message, ReplicaId};
 use ep_rules::{Answers, Led};
@@ -68,11 +68,7 @@ pub fn on_accept(cell: &Cell<'_>, from: ReplicaId, ballot: Ballot, decree: Decre
         to: Receivers::One(from),
         message: Message::AcceptOk { instance, ballot },
     };
-    Change::of(
-        Recorded::Accepts(ballot, decree),
-        Leading::Stays,
-        Some(out),
-    )
+    Change::of(Recorded::Accepts(ballot, decree), Leading::Stays, Some(out))
 }
 
 /// Handles an AcceptOK: it counts while this replica leads the ballot in the accept phase, has promised no other ballot and has not committed,

@@ -11,8 +11,8 @@ ghost use Rattle.ep_phase.specs.Known.{Known};
 
 use crate::lead::Lead;
 use crate::leading::Leading;
-use crate::recorded::Recorded;
 use crate::receivers::Receivers;
+use crate::recorded::Recorded;
 use crate::sending::Sending;
 use ep_base::{InstanceId, Message, ReplicaId};
 use ep_rules::Led;

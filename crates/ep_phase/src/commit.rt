@@ -8,8 +8,8 @@ ghost use Rattle.ep_phase.specs.Known.{record_of};
 use crate::cell::Cell;
 use crate::change::Change;
 use crate::leading::Leading;
-use crate::recorded::Recorded;
 use crate::receivers::Receivers;
+use crate::recorded::Recorded;
 use crate::sending::Sending;
 use ep_base::{Decree, Message};
 use std::alloc::{AllocError, Global};
@@ -27,11 +27,7 @@ pub fn begin_commit(alloc: Global, cell: &Cell<'_>, decree: Decree) -> Result<Ch
             decree: sent,
         },
     };
-    Ok(Change::of(
-        Recorded::Commits(decree),
-        Leading::Ends,
-        Some(out),
-    ))
+    Ok(Change::of(Recorded::Commits(decree), Leading::Ends, Some(out)))
 }
 
 /// Handles a Commit: where the instance is not committed yet, the decree is, both ballots stay, and the instance is led no longer.

@@ -22,8 +22,8 @@ use crate::commit::begin_commit;
 use crate::counting::{all_equal, fast_answered, joined, others};
 use crate::leading::Leading;
 use crate::phase_fault::PhaseFault;
-use crate::recorded::Recorded;
 use crate::receivers::Receivers;
+use crate::recorded::Recorded;
 use crate::sending::Sending;
 use ep_base::{Attrs, Ballot, Command, Decree, InstanceId, Message, ReplicaId};
 use ep_rules::{Answers, Led};
@@ -50,13 +50,7 @@ pub fn start(alloc: Global, cell: &Cell<'_>, command: Command) -> Result<Change,
     let attrs = own_attrs(alloc, cell, &command)?;
     let ballot = Ballot::default_of(cell.id().replica());
     let decree = Decree { command, attrs };
-    Ok(first_phase(
-        alloc,
-        cell,
-        Receivers::FastQuorum,
-        ballot,
-        decree,
-    )?)
+    Ok(first_phase(alloc, cell, Receivers::FastQuorum, ballot, decree)?)
 }
 
 /// Begins phase 1 of a recovery ballot (EPaxos, figure 3): this replica pre-accepts the command with its interference set's attributes, and asks all others.
@@ -199,11 +193,7 @@ pub fn is_usable(cell: &Cell<'_>, ballot: Ballot, led: Ballot) -> bool
 }
 
 /// The attributes that the command's interference set gives it; a refusal is that of every rule that they limit.
-fn own_attrs(
-    alloc: Global,
-    cell: &Cell<'_>,
-    command: &Command,
-) -> Result<Attrs, InterferenceFault>
+fn own_attrs(alloc: Global, cell: &Cell<'_>, command: &Command) -> Result<Attrs, InterferenceFault>
     ensures ok { IfOk result (λ a. (a ≡ interference cell.now.records cell.now.instance command.now) × ((ch : cells.Change) → rules.limited a ch ≡ Ok ch)) }
     ensures refused { IfErr result (λ e. (ch : cells.Change) → IsLimited (rules.limited (interference cell.now.records cell.now.instance command.now) ch) e) }
 {

@@ -44,11 +44,7 @@ pub fn on_prepare(
             vote,
         },
     };
-    Ok(Change::of(
-        Recorded::Joins(ballot),
-        Leading::Stays,
-        Some(out),
-    ))
+    Ok(Change::of(Recorded::Joins(ballot), Leading::Stays, Some(out)))
 }
 
 /// Handles a Nack: the greatest counter told of the instance is kept. It takes no memory.

@@ -1,29 +1,32 @@
 //! What a replica does with the answers to its Prepare.
 
 use crate::tests::samples::{ballot, decree, instance, replica, vote};
-use crate::tests::trial::{Kind, Trial, assert_decree, assert_nothing, assert_sent};
+use crate::tests::sent::{Kind, assert_decree, assert_sends, assert_sends_nothing};
+use crate::tests::trial::Trial;
 use ep_base::{Ballot, Command, Decree, Status, Vote};
-use ep_rules::{Led, Outgoing};
+use ep_phase::Change;
+use ep_rules::Led;
 use std::alloc::Global;
 use std::process::Abort;
 
-/// What the replica does with this answer at its ballot.
-fn answered(
-    rt: &impl Abort,
-    alloc: Global,
-    it: &mut Trial,
-    from: u8,
-    vote: &Option<Vote>,
-) -> Outgoing {
+/// What the replica decides on this answer at its ballot.
+fn answered(rt: &impl Abort, alloc: Global, it: &Trial, from: u8, vote: &Option<Vote>) -> Change {
     it.answered(rt, alloc, replica(rt, from), ballot(rt, 1, 2), vote)
 }
 
 /// A replica that has begun to recover 0.1, at ballot (1, 2).
 fn recovering(rt: &impl Abort, alloc: Global, size: u8) -> Trial {
     let mut it = Trial::new(rt, alloc, size, 2, instance(rt, 0));
-    let out = it.recovers(alloc).expect(rt, "a recovery");
-    assert_sent(rt, &out, others(size), Kind::Prepare, ballot(rt, 1, 2));
-    drop(out);
+    let change = it.recovers(alloc).expect(rt, "a recovery");
+    assert_sends(
+        rt,
+        &it.cell(),
+        &change,
+        others(size),
+        Kind::Prepare,
+        ballot(rt, 1, 2),
+    );
+    it.take(change);
     it
 }
 
@@ -36,22 +39,31 @@ fn others(size: u8) -> &'static [u8] {
     }
 }
 
-/// The replica uses no answer of this one, which voted for nothing.
-fn uses_none(rt: &impl Abort, alloc: Global, it: &mut Trial, from: u8) {
-    assert_nothing(rt, answered(rt, alloc, it, from, &None));
+/// The replica sends nothing after an answer of this one, which voted for nothing.
+fn sends_nothing(rt: &impl Abort, alloc: Global, it: &mut Trial, from: u8) {
+    let change = answered(rt, alloc, it, from, &None);
+    assert_sends_nothing(rt, &change);
+    it.take(change);
 }
 
 /// These answer in turn; the last one of them is the one that the replica waited for, and a no-op is proposed.
 fn counts(rt: &impl Abort, alloc: Global, size: u8, early: &[u8], last: u8, late: u8) {
     let mut it = recovering(rt, alloc, size);
     for from in early {
-        uses_none(rt, alloc, &mut it, *from);
-        uses_none(rt, alloc, &mut it, *from);
+        sends_nothing(rt, alloc, &mut it, *from);
+        sends_nothing(rt, alloc, &mut it, *from);
     }
-    let out = answered(rt, alloc, &mut it, last, &None);
-    assert_sent(rt, &out, others(size), Kind::PreAccept, ballot(rt, 1, 2));
-    drop(out);
-    uses_none(rt, alloc, &mut it, late);
+    let change = answered(rt, alloc, &it, last, &None);
+    assert_sends(
+        rt,
+        &it.cell(),
+        &change,
+        others(size),
+        Kind::PreAccept,
+        ballot(rt, 1, 2),
+    );
+    it.take(change);
+    sends_nothing(rt, alloc, &mut it, late);
     drop(it);
 }
 
@@ -67,8 +79,9 @@ fn counts_the_first_answers(rt: HostRuntime) {
 #[test]
 fn uses_no_answer_elsewhere(rt: HostRuntime) {
     let mut it = recovering(&rt, rt.alloc(), 3);
-    let out = it.answered(&rt, rt.alloc(), replica(&rt, 0), ballot(&rt, 2, 2), &None);
-    assert_nothing(&rt, out);
+    let change = it.answered(&rt, rt.alloc(), replica(&rt, 0), ballot(&rt, 2, 2), &None);
+    assert_sends_nothing(&rt, &change);
+    it.take(change);
     assert_led(&rt, &it, Some((Kind::Prepare, ballot(&rt, 1, 2))));
     drop(it);
 }
@@ -77,16 +90,23 @@ fn uses_no_answer_elsewhere(rt: HostRuntime) {
 #[test]
 fn uses_no_answer_after_a_promise(rt: HostRuntime) {
     let mut it = recovering(&rt, rt.alloc(), 3);
-    let out = it.asked(&rt, rt.alloc(), replica(&rt, 1), ballot(&rt, 2, 1));
-    assert_sent(&rt, &out, &[1], Kind::PrepareOk, ballot(&rt, 2, 1));
-    drop(out);
-    uses_none(&rt, rt.alloc(), &mut it, 0);
+    let change = it.asked(&rt, rt.alloc(), replica(&rt, 1), ballot(&rt, 2, 1));
+    assert_sends(
+        &rt,
+        &it.cell(),
+        &change,
+        &[1],
+        Kind::PrepareOk,
+        ballot(&rt, 2, 1),
+    );
+    it.take(change);
+    sends_nothing(&rt, rt.alloc(), &mut it, 0);
     drop(it);
 }
 
 /// The phase that is led, and its ballot.
 fn led_at(it: &Trial) -> Option<(Kind, Ballot)> {
-    match it.lead.get(it.id) {
+    match it.cell().led() {
         None => None,
         Some(Led::Proposing(ballot, _)) => Some((Kind::PreAccept, *ballot)),
         Some(Led::Accepting(ballot, _)) => Some((Kind::Accept, *ballot)),
@@ -103,13 +123,20 @@ fn assert_led(rt: &impl Abort, it: &Trial, expected: Option<(Kind, Ballot)>) {
 fn commits_what_was_committed(rt: HostRuntime) {
     let mut it = recovering(&rt, rt.alloc(), 3);
     let vote = vote(&rt, rt.alloc(), Status::Committed, ballot(&rt, 0, 0), true);
-    let out = answered(&rt, rt.alloc(), &mut it, 1, &vote);
-    assert_sent(&rt, &out, &[0, 1], Kind::Commit, ballot(&rt, 0, 0));
-    assert_decree(&rt, &out, decree(&rt, rt.alloc(), true));
-    assert!(rt; it.space.is_committed(it.id));
-    assert_led(&rt, &it, None);
+    let change = answered(&rt, rt.alloc(), &it, 1, &vote);
     drop(vote);
-    drop(out);
+    assert_sends(
+        &rt,
+        &it.cell(),
+        &change,
+        &[0, 1],
+        Kind::Commit,
+        ballot(&rt, 0, 0),
+    );
+    assert_decree(&rt, &change, decree(&rt, rt.alloc(), true));
+    it.take(change);
+    assert!(rt; it.cell().is_committed());
+    assert_led(&rt, &it, None);
     drop(it);
 }
 
@@ -117,12 +144,19 @@ fn commits_what_was_committed(rt: HostRuntime) {
 fn accepts(rt: &impl Abort, alloc: Global, status: Status) {
     let mut it = recovering(rt, alloc, 3);
     let vote = vote(rt, alloc, status, ballot(rt, 0, 0), true);
-    let out = answered(rt, alloc, &mut it, 1, &vote);
-    assert_sent(rt, &out, &[0, 1], Kind::Accept, ballot(rt, 1, 2));
-    assert_decree(rt, &out, decree(rt, alloc, true));
-    assert_led(rt, &it, Some((Kind::Accept, ballot(rt, 1, 2))));
+    let change = answered(rt, alloc, &it, 1, &vote);
     drop(vote);
-    drop(out);
+    assert_sends(
+        rt,
+        &it.cell(),
+        &change,
+        &[0, 1],
+        Kind::Accept,
+        ballot(rt, 1, 2),
+    );
+    assert_decree(rt, &change, decree(rt, alloc, true));
+    it.take(change);
+    assert_led(rt, &it, Some((Kind::Accept, ballot(rt, 1, 2))));
     drop(it);
 }
 
@@ -136,12 +170,19 @@ fn accepts_what_may_be_committed(rt: HostRuntime) {
 /// After this answer of the leader's the command is proposed anew, with this replica's attributes.
 fn proposes(rt: &impl Abort, alloc: Global, vote: Option<Vote>, command: Command) {
     let mut it = recovering(rt, alloc, 3);
-    let out = answered(rt, alloc, &mut it, 0, &vote);
+    let change = answered(rt, alloc, &it, 0, &vote);
     drop(vote);
-    assert_sent(rt, &out, &[0, 1], Kind::PreAccept, ballot(rt, 1, 2));
-    assert_decree(rt, &out, with_command(rt, alloc, command));
+    assert_sends(
+        rt,
+        &it.cell(),
+        &change,
+        &[0, 1],
+        Kind::PreAccept,
+        ballot(rt, 1, 2),
+    );
+    assert_decree(rt, &change, with_command(rt, alloc, command));
+    it.take(change);
     assert_led(rt, &it, Some((Kind::PreAccept, ballot(rt, 1, 2))));
-    drop(out);
     drop(it);
 }
 

@@ -1,8 +1,9 @@
 //! Recoveries, and what other replicas do with a Prepare.
 
-use crate::PrepareFault;
 use crate::tests::samples::{ballot, decree, instance, replica};
-use crate::tests::trial::{Kind, Trial, assert_decree, assert_nothing, assert_sent};
+use crate::tests::sent::{Kind, assert_decree, assert_sends, assert_sends_nothing};
+use crate::tests::trial::Trial;
+use crate::{PrepareFault, on_nack};
 use ep_base::Ballot;
 use ep_rules::Led;
 use std::alloc::Global;
@@ -11,18 +12,25 @@ use std::process::Abort;
 /// All others are asked, and the replica's own record is its answer.
 fn asks(rt: &impl Abort, alloc: Global, size: u8, others: &[u8]) {
     let mut it = Trial::new(rt, alloc, size, 2, instance(rt, 0));
-    let out = it.recovers(alloc).expect(rt, "a recovery");
-    assert_sent(rt, &out, others, Kind::Prepare, ballot(rt, 1, 2));
+    let change = it.recovers(alloc).expect(rt, "a recovery");
+    assert_sends(
+        rt,
+        &it.cell(),
+        &change,
+        others,
+        Kind::Prepare,
+        ballot(rt, 1, 2),
+    );
+    it.take(change);
     it.assert_promised(rt, ballot(rt, 1, 2));
-    assert!(rt; it.space.vote(it.id).is_none());
+    assert!(rt; it.cell().vote().is_none());
     assert_eq!(rt; answered(&it), Some((ballot(rt, 1, 2), 1)));
-    drop(out);
     drop(it);
 }
 
 /// The ballot led in explicit prepare, with the number of answers.
 fn answered(it: &Trial) -> Option<(Ballot, usize)> {
-    match it.lead.get(it.id) {
+    match it.cell().led() {
         Some(Led::Preparing(led, answers)) => Some((*led, answers.as_slice().len())),
         _ => None,
     }
@@ -35,19 +43,26 @@ fn asks_all_others(rt: HostRuntime) {
     asks(&rt, rt.alloc(), 7, &[0, 1, 3, 4, 5, 6]);
 }
 
+/// It is told of this ballot's counter.
+fn hears(rt: &impl Abort, it: &mut Trial, promised: Ballot) {
+    let change = on_nack(&it.cell(), promised);
+    assert_sends_nothing(rt, &change);
+    it.take(change);
+}
+
 /// The replica is refused at this counter, and then at a lower one.
-fn is_told(rt: &impl Abort, alloc: Global, it: &mut Trial, told: u16) {
-    assert_nothing(rt, it.refused(rt, alloc, ballot(rt, told, 1)));
-    assert_nothing(rt, it.refused(rt, alloc, ballot(rt, told / 2, 3)));
-    assert_eq!(rt; it.lead.told(it.id), told);
+fn is_told(rt: &impl Abort, it: &mut Trial, told: u16) {
+    hears(rt, it, ballot(rt, told, 1));
+    hears(rt, it, ballot(rt, told / 2, 3));
+    assert_eq!(rt; it.cell().told(), told);
 }
 
 /// A replica that has promised this counter, and was told this one.
 fn knowing(rt: &impl Abort, alloc: Global, promised: u16, told: Option<u16>) -> Trial {
     let mut it = Trial::new(rt, alloc, 5, 2, instance(rt, 0));
-    it.joins(rt, ballot(rt, promised, 4));
+    it.joins(ballot(rt, promised, 4));
     if let Some(told) = told {
-        is_told(rt, alloc, &mut it, told);
+        is_told(rt, &mut it, told);
     }
     it
 }
@@ -55,31 +70,30 @@ fn knowing(rt: &impl Abort, alloc: Global, promised: u16, told: Option<u16>) -> 
 /// The ballot's counter is one above both.
 fn joins(rt: &impl Abort, alloc: Global, promised: u16, told: Option<u16>, joined: u16) {
     let mut it = knowing(rt, alloc, promised, told);
-    let out = it.recovers(alloc).expect(rt, "a recovery");
-    assert_eq!(rt; out.as_slice().len(), 4);
-    drop(out);
-    it.assert_promised(rt, ballot(rt, joined, 2));
+    let joined = ballot(rt, joined, 2);
+    let change = it.recovers(alloc).expect(rt, "a recovery");
+    assert_sends(
+        rt,
+        &it.cell(),
+        &change,
+        &[0, 1, 3, 4],
+        Kind::Prepare,
+        joined,
+    );
+    it.take(change);
+    it.assert_promised(rt, joined);
     drop(it);
 }
 
-/// The recovery is refused for this fault, and nothing changes.
-fn assert_refused(
-    rt: &impl Abort,
-    alloc: Global,
-    it: &mut Trial,
-    fault: PrepareFault,
-    promised: Ballot,
-) {
+/// The recovery is refused for this fault.
+fn assert_refused(rt: &impl Abort, alloc: Global, it: &Trial, fault: PrepareFault) {
     assert_eq!(rt; it.recovers(alloc).err(), Some(fault));
-    it.assert_promised(rt, promised);
-    assert!(rt; it.lead.get(it.id).is_none());
 }
 
 /// There is no such ballot.
 fn joins_none(rt: &impl Abort, alloc: Global, promised: u16, told: Option<u16>) {
-    let mut it = knowing(rt, alloc, promised, told);
-    let ballot = ballot(rt, promised, 4);
-    assert_refused(rt, alloc, &mut it, PrepareFault::BallotsExhausted, ballot);
+    let it = knowing(rt, alloc, promised, told);
+    assert_refused(rt, alloc, &it, PrepareFault::BallotsExhausted);
     drop(it);
 }
 
@@ -96,10 +110,9 @@ fn joins_a_higher_ballot(rt: HostRuntime) {
 /// What is committed is not recovered, even where no higher ballot is left.
 fn recovers_not(rt: &impl Abort, alloc: Global, promised: u16) {
     let mut it = Trial::new(rt, alloc, 3, 2, instance(rt, 0));
-    it.joins(rt, ballot(rt, promised, 2));
-    it.commits(rt, decree(rt, alloc, false));
-    let ballot = ballot(rt, promised, 2);
-    assert_refused(rt, alloc, &mut it, PrepareFault::AlreadyCommitted, ballot);
+    it.joins(ballot(rt, promised, 2));
+    it.commits(decree(rt, alloc, false));
+    assert_refused(rt, alloc, &it, PrepareFault::AlreadyCommitted);
     drop(it);
 }
 
@@ -109,20 +122,25 @@ fn does_not_recover_what_is_committed(rt: HostRuntime) {
     recovers_not(&rt, rt.alloc(), 60_000);
 }
 
+/// A Prepare of this ballot's replica is answered by such a message.
+fn answers(rt: &impl Abort, alloc: Global, it: &mut Trial, asked: Ballot, kind: Kind) {
+    let from = asked.replica();
+    let change = it.asked(rt, alloc, from, asked);
+    assert_sends(rt, &it.cell(), &change, &[from.index()], kind, asked);
+    it.take(change);
+}
+
 /// A Prepare above the promised ballot is answered, once; one below it is refused.
 #[test]
 fn answers_a_prepare(rt: HostRuntime) {
     let mut it = Trial::new(&rt, rt.alloc(), 5, 1, instance(&rt, 0));
-    let out = it.asked(&rt, rt.alloc(), replica(&rt, 2), ballot(&rt, 1, 2));
-    assert_sent(&rt, &out, &[2], Kind::PrepareOk, ballot(&rt, 1, 2));
+    answers(&rt, rt.alloc(), &mut it, ballot(&rt, 1, 2), Kind::PrepareOk);
     it.assert_promised(&rt, ballot(&rt, 1, 2));
-    drop(out);
-    let out = it.asked(&rt, rt.alloc(), replica(&rt, 2), ballot(&rt, 1, 2));
-    assert_nothing(&rt, out);
-    let out = it.asked(&rt, rt.alloc(), replica(&rt, 0), ballot(&rt, 1, 0));
-    assert_sent(&rt, &out, &[0], Kind::Nack, ballot(&rt, 1, 0));
+    let again = it.asked(&rt, rt.alloc(), replica(&rt, 2), ballot(&rt, 1, 2));
+    assert_sends_nothing(&rt, &again);
+    drop(again);
+    answers(&rt, rt.alloc(), &mut it, ballot(&rt, 1, 0), Kind::Nack);
     it.assert_promised(&rt, ballot(&rt, 1, 2));
-    drop(out);
     drop(it);
 }
 
@@ -130,11 +148,12 @@ fn answers_a_prepare(rt: HostRuntime) {
 #[test]
 fn answers_what_it_committed(rt: HostRuntime) {
     let mut it = Trial::new(&rt, rt.alloc(), 5, 1, instance(&rt, 0));
-    it.commits(&rt, decree(&rt, rt.alloc(), true));
-    let out = it.asked(&rt, rt.alloc(), replica(&rt, 2), ballot(&rt, 1, 2));
-    assert_sent(&rt, &out, &[2], Kind::PrepareOk, ballot(&rt, 1, 2));
-    assert_decree(&rt, &out, decree(&rt, rt.alloc(), true));
-    it.assert_promised(&rt, ballot(&rt, 1, 2));
-    drop(out);
+    it.commits(decree(&rt, rt.alloc(), true));
+    let asked = ballot(&rt, 1, 2);
+    let change = it.asked(&rt, rt.alloc(), replica(&rt, 2), asked);
+    assert_sends(&rt, &it.cell(), &change, &[2], Kind::PrepareOk, asked);
+    assert_decree(&rt, &change, decree(&rt, rt.alloc(), true));
+    it.take(change);
+    it.assert_promised(&rt, asked);
     drop(it);
 }
