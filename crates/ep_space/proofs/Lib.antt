@@ -1,5 +1,6 @@
 pub mod Order
 pub mod Lookup
+pub mod Spots
 pub mod Before
 pub mod Ordered
 pub mod Kept

@@ -1,6 +1,5 @@
 -- What the entries have at an instance is what the table holds there.
-use Rattle.std.proofs.Common.{◌≡◌, ℕ, Bool, true, false, cond, Option, Some, None, List, [], ◌∷◌, ◌++◌, refl, sym, ap, ◌∙◌, true≢false, subst, length, suc, ◌+◌, arith}
-use Rattle.indexmap.specs.IndexMap.{insert_entry}
+use Rattle.std.proofs.Common.{◌≡◌, ℕ, Bool, true, false, cond, Option, Some, None, List, [], ◌∷◌, ◌++◌, refl, sym, ap, ◌∙◌, subst, length, suc, ◌+◌, arith}
 use Rattle.std.specs.Prelude.{is_some, ◌||◌}
 use Rattle.std.specs.Cmp.{nat_cmp_total}
 use Rattle.std.specs.FinMap as map
@@ -98,18 +97,6 @@ module _ {X : Type 0} where
       ∙ (λ t. sym (same-is q i) t || sym (contains-held q es) t)
       ∙ sym (set.contains-insert nat_cmp_total (held es).places i q)) in
       λ t. record { held = map.from_entries (held_in-placed es i (is_some (lookup (same i) es)) t); places = places t }
-
-  -- a new key goes last
-  new_last : (es : List (ℕ × Option X)) (i : ℕ) → is_some (lookup (same i) es) ≡ false → insert_entry same es i None ≡ es ++ (i, None) ∷ []
-  new_last [] i h = refl
-  new_last (e ∷ es) i h =
-      elim (same i e.0) as (λ b. is_some (cond b (Some e.1) (lookup (same i) es)) ≡ false → cond b ((e.0, None) ∷ es) (e ∷ insert_entry same es i None) ≡ e ∷ (es ++ (i, None) ∷ [])) [
-        | true ↦ λ t. absurd (true≢false t)
-        | false ↦ λ t. ap (λ (xs : List (ℕ × Option X)). e ∷ xs) (new_last es i t)
-      ] h
-
-  pub insert_entry-with_place : (es : List (ℕ × Option X)) (i : ℕ) → is_some (lookup (same i) es) ≡ false → insert_entry same es i None ≡ with_place es i
-  insert_entry-with_place es i h = new_last es i h ∙ ap (λ b. cond b es (es ++ (i, None) ∷ [])) (sym h)
 
   tested : (o : Option X) (m : Map X) (i q : ℕ) (b : Bool) → same i q ≡ b → map.get (with_held m i o) q ≡ flat (cond b (Some o) (Some (map.get m q)))
   tested None m i q true e = map.get-remove nat_cmp_total m i q ∙ ap (λ b. cond b None (map.get m q)) (same-is q i ∙ same_equiv.symm q i ∙ e)

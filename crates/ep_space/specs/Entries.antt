@@ -1,15 +1,34 @@
 -- The entries of a table: places, some of them with a value.
-use Rattle.std.specs.Prelude.{ℕ, List, [], ◌∷◌, Option, Some, None, Bool, ◌&&◌, ◌==◌, ◌++◌, is_some, if◌then◌else◌}
+use Rattle.std.specs.Prelude.{◌≡◌, ℕ, zero, suc, ◌+◌, ◌*◌, List, [], ◌∷◌, Option, Some, None, Bool, ◌&&◌, ◌==◌, ◌++◌, is_some, if◌then◌else◌, cond, slice_get, slice_index_or}
+use Rattle.std.specs.Option.{option_map}
 use Rattle.std.specs.FinMap as map
 use Rattle.std.specs.FinSet as set
 use Rattle.std.specs.Map.{keys_of, lookup}
 use Rattle.std.specs.List.{IsDistinct}
-use Rattle.ep_base.specs.Instances.{leader_of, number_of}
+use Rattle.ep_base.specs.Instances.{leader_of, number_of, IsInstance}
 use Rattle.ep_space.specs.Held.{Held}
 
 -- the equality of instances as code tests it
 abbrev pub same : ℕ → ℕ → Bool
 same i j = (leader_of i == leader_of j) && (number_of i == number_of j)
+
+-- where the list of spots tells of i
+abbrev pub slot : ℕ → ℕ
+slot i = number_of i * 8 + leader_of i
+
+abbrev pub spot_after : ℕ → ℕ
+spot_after zero = zero
+spot_after (suc n) = suc (suc n)
+
+-- where i stands in a list, counted from 1; 0 where it doesn't
+abbrev pub spot : ℕ → List ℕ → ℕ
+spot i [] = 0
+spot i (k ∷ ks) = cond (same i k) 1 (spot_after (spot i ks))
+
+-- no instance stands twice, and the spots say of each where it stands
+pub record AreSpots (ns ks : List ℕ) : Type 0 where
+  pub distinct : IsDistinct same ks
+  pub told : (i : ℕ) → IsInstance i → slice_index_or ns (slot i) 0 ≡ spot i ks
 
 module _ {X : Type 0} where
   abbrev pub held_as : ℕ → Option X → List (ℕ × X) → List (ℕ × X)
@@ -31,6 +50,11 @@ module _ {X : Type 0} where
   abbrev pub flat : Option (Option X) → Option X
   flat None = None
   flat (Some o) = o
+
+  -- the value of the entry at a spot
+  abbrev pub value_at : List (ℕ × X) → ℕ → Option X
+  value_at es zero = None
+  value_at es (suc n) = option_map (λ e. e.1) (slice_get es n)
 
   -- the entries, with a place for i
   abbrev pub with_place : List (ℕ × Option X) → ℕ → List (ℕ × Option X)

@@ -1,36 +1,43 @@
 //! A table with places for values of instances.
 
-ghost use Rattle.std.specs.Prelude.{◌≡◌, ◌<◌, ◌^◌, true, Some, OnOk, OnErr, is_some};
+ghost use Rattle.std.specs.Prelude.{◌≡◌, ◌≢◌, ◌≤◌, ◌<◌, ◌^◌, ℕ, true, Some, OnOk, OnErr, is_some, length, slice_index_or, slice_set};
 ghost use Rattle.std.specs.Option.{option_copied};
 ghost use Rattle.std.specs.FinSet as set;
-ghost use Rattle.std.specs.Map.{lookup, set_value};
+ghost use Rattle.std.specs.Map.{keys_of, lookup, set_value};
+ghost use Rattle.ep_base.specs.Instances.{IsInstance};
 ghost use Rattle.ep_rules.specs.Maps.{none, get};
 ghost use Rattle.ep_rules.specs.States.{with_held};
 ghost use Rattle.ep_space.specs.Held.{HasPlace};
-ghost use Rattle.ep_space.specs.Entries.{flat, same, with_place, IsTable, held};
+ghost use Rattle.ep_space.specs.Entries.{flat, same, with_place, held, slot, spot, value_at, AreSpots};
 
 use ep_base::InstanceId;
-use indexmap::IndexMap;
 use std::alloc::{AllocError, Global};
 use std::marker::Model;
 use std::mem;
 
 /// Values of instances. An instance first gets a place, which takes memory; a value is then written there without.
+///
+/// An instance's number and leader say where `spots` tells of it: where its entry stands, counted from 1, or 0 where it has none. So a
+/// look-up compares nothing.
 #[derive(Drop)]
 pub struct Table<V> {
-    items: IndexMap<InstanceId, Option<V>>,
+    entries: Vec<(InstanceId, Option<V>)>,
+    spots: Vec<usize>,
 }
 
 impl<V> Model for Table<V> {
+    ghost use Rattle.std.specs.Map.{keys_of};
     ghost use Rattle.ep_space.specs.Held.{Held, held_code};
 
     ghost Value = { Held V };
 
     ghost coded = { held_code V.code };
 
-    ghost use Rattle.ep_space.specs.Entries.{held};
+    ghost use Rattle.ep_space.specs.Entries.{held, AreSpots};
 
-    ghost view = { λ t. held t.items.entries };
+    ghost view = { λ t. held t.entries.items };
+
+    ghost invariant = { λ t. AreSpots t.spots.items (keys_of t.entries.items) };
 }
 
 impl<V: Drop> Table<V> {
@@ -39,7 +46,8 @@ impl<V: Drop> Table<V> {
         ensures { result ≡ record { held = none; places = set.empty } }
     {
         Table {
-            items: IndexMap::new(alloc),
+            entries: Vec::new(alloc),
+            spots: Vec::new(alloc),
         }
     }
 
@@ -47,7 +55,7 @@ impl<V: Drop> Table<V> {
     pub fn get(&self, id: InstanceId) -> Option<&V>
         ensures { option_copied result ≡ get self.now.held id }
     {
-        value_at(&self.items, id)
+        value_at(&self.entries, spot_of(&self.spots, id))
     }
 
     /// Makes a place for the instance, if it has none. Nothing else takes memory in the table.
@@ -56,7 +64,7 @@ impl<V: Drop> Table<V> {
         ensures place { OnOk result (HasPlace self.new.places id) }
         ensures err { OnErr result (self.new ≡ self.old) }
     {
-        add_place(&mut self.items, id)
+        add_place(&mut self.entries, &mut self.spots, id)
     }
 
     /// Writes this value, or none, at the instance's place, and gives what was there. It takes no memory.
@@ -65,7 +73,8 @@ impl<V: Drop> Table<V> {
         ensures old { result ≡ get self.old.held id }
         ensures new { self.new ≡ record { held = with_held self.old.held id value; places = self.old.places } }
     {
-        replace(&mut self.items, id, value)
+        let spot = spot_of(&self.spots, id);
+        replace(&mut self.entries, spot, id, value)
     }
 
     /// Writes this value, or none, at the instance's place. It takes no memory.
@@ -80,7 +89,7 @@ impl<V: Drop> Table<V> {
     pub(crate) fn has_place(&self, id: InstanceId) -> bool
         ensures { result ≡ set.contains self.now.places id }
     {
-        self.items.contains_key(&id)
+        spot_of(&self.spots, id) != 0
     }
 
     /// How many places there are.
@@ -88,44 +97,79 @@ impl<V: Drop> Table<V> {
         ensures value { result ≡ set.len self.now.places }
         ensures small { result < 2 ^ 63 }
     {
-        self.items.len()
+        self.entries.len()
     }
 }
 
-fn value_at<V>(items: &IndexMap<InstanceId, Option<V>>, id: InstanceId) -> Option<&V>
-    ensures value { option_copied result ≡ flat (lookup (same id) items.now.entries) }
-    ensures table { IsTable items.now.entries }
+/// Where the list of spots tells of the instance.
+fn slot_of(id: InstanceId) -> usize
+    ensures value { result ≡ slot id }
+    ensures small { result < 8008 }
+    ensures in_range { IsInstance id }
 {
-    let _ = items.len();
-    items.get(&id)?.as_ref()
+    usize::from(id.number()) * 8 + usize::from(id.replica().index())
+}
+
+/// Where the instance's entry stands, counted from 1; 0 where it has none.
+fn spot_of(spots: &[usize], id: InstanceId) -> usize
+    ensures value { result ≡ slice_index_or spots.now (slot id) 0 }
+    ensures in_range { IsInstance id }
+{
+    let slot = slot_of(id);
+    if slot < spots.len() { spots[slot] } else { 0 }
+}
+
+fn value_at<V>(entries: &[(InstanceId, Option<V>)], at: usize) -> Option<&V>
+    requires { at ≤ length entries.now }
+    ensures { option_copied result ≡ flat (value_at entries.now at) }
+{
+    if at == 0 {
+        return None;
+    }
+    entries[at - 1].1.as_ref()
 }
 
 fn add_place<V: Drop>(
-    items: &mut IndexMap<InstanceId, Option<V>>,
+    entries: &mut Vec<(InstanceId, Option<V>)>,
+    spots: &mut Vec<usize>,
     id: InstanceId,
 ) -> Result<(), AllocError>
-    ensures ok { OnOk result (items.new.entries ≡ with_place items.old.entries id) }
-    ensures err { OnErr result (items.new.entries ≡ items.old.entries) }
+    requires { AreSpots spots.old.items (keys_of entries.old.items) }
+    ensures ok { OnOk result (entries.new.items ≡ with_place entries.old.items id) }
+    ensures err { OnErr result (entries.new.items ≡ entries.old.items) }
+    ensures spots { AreSpots spots.new.items (keys_of entries.new.items) }
 {
-    if items.contains_key(&id) {
+    if spot_of(spots, id) != 0 {
         return Ok(());
     }
-    items.insert(id, None)?;
+    widen(spots, slot_of(id))?;
+    entries.push((id, None))?;
+    spots[slot_of(id)] = entries.len();
     Ok(())
 }
 
+/// Makes the list long enough to have this slot, by zeros.
+fn widen(spots: &mut Vec<usize>, slot: usize) -> Result<(), AllocError>
+    requires { slot < 8008 }
+    ensures slot { OnOk result (slot < length spots.new.items) }
+    ensures same { (k : ℕ) → slice_index_or spots.new.items k 0 ≡ slice_index_or spots.old.items k 0 }
+{
+    if slot < spots.len() {
+        return Ok(());
+    }
+    spots.resize(slot + 1, 0)
+}
+
 fn replace<V: Drop>(
-    items: &mut IndexMap<InstanceId, Option<V>>,
+    entries: &mut Vec<(InstanceId, Option<V>)>,
+    at: usize,
     id: InstanceId,
     value: Option<V>,
 ) -> Option<V>
-    requires { is_some (lookup (same id) items.old.entries) ≡ true }
-    ensures old { Some result ≡ lookup (same id) items.old.entries }
-    ensures new { items.new.entries ≡ set_value (same id) items.old.entries value }
-    ensures table { IsTable items.old.entries }
+    requires spot { at ≡ spot id (keys_of entries.old.items) }
+    requires there { 0 < at }
+    ensures old { Some result ≡ lookup (same id) entries.old.items }
+    ensures new { entries.new.items ≡ set_value (same id) entries.old.items value }
 {
-    match items.get_mut(&id) {
-        Some(place) => mem::replace(place, value),
-        None => unreachable!(),
-    }
+    mem::replace(&mut entries[at - 1].1, value)
 }

@@ -1,7 +1,13 @@
 use Rattle.std.proofs.Common.{◌∙◌, sym, ap}
 use Rattle.std.specs.FinSet as set
+use Rattle.std.specs.Map.{keys_of}
 use Rattle.ep_space.proofs.Lookup.{contains-held}
+use Rattle.ep_space.proofs.Spots.{spot-told, has-spot}
 use Rattle.ep_space.proofs.table.Table.has_place.Goals as goal
 
 pub returns : goal.returns
-returns g c = c.contains_key.ensures ∙ sym (contains-held c.args.id c.self.inside.items.entries) ∙ ap (λ h. set.contains h.places c.args.id) c.self.view_is
+returns g c =
+    let es = c.self.inside.entries.items in
+    has-spot es c.args.id c.spot_of.result
+    (spot-told c.self.inside.spots.items c.deref.result.now (keys_of es) c.args.id c.spot_of.result c.self.invariant c.deref.ensures.value c.spot_of.ensures.in_range c.spot_of.ensures.value)
+    ∙ sym (contains-held c.args.id es) ∙ ap (λ h. set.contains h.places c.args.id) c.self.view_is
