@@ -58,12 +58,7 @@ impl Parts {
     }
 
     /// Proposes the command in this replica's next instance, if there is one.
-    fn propose(
-        &mut self,
-        alloc: Global,
-        command: Command,
-        mark: Mark,
-    ) -> Result<Taken, StepFault>
+    fn propose(&mut self, alloc: Global, command: Command, mark: Mark) -> Result<Taken, StepFault>
         requires numbered { 1 ≤ mark.number }
         requires writable { IsWritable self.old.me (asks self.old.me self.old.space self.old.lead (Admitted.Request command)) }
         ensures ok { IfOk result (λ t. Took self.old (Admitted.Request command) mark t self.new) }

@@ -94,10 +94,7 @@ fn admit_frame(
     if view.origin().to != me {
         return Err(StepFault::NotMine);
     }
-    Ok(Admitted::Asked(
-        message.instance(),
-        Input::Message(view.from(), message),
-    ))
+    Ok(Admitted::Asked(message.instance(), Input::Message(view.from(), message)))
 }
 
 /// Whether a client may ask for this: the command is no no-op, and the client and the request are from 1.
