@@ -11,3 +11,4 @@ pub mod Seen
 pub mod Clear
 pub mod Cut
 pub mod Alone
+pub mod Marking

@@ -1,6 +1,7 @@
 pub mod Table
 pub mod Tries
 pub mod Kept
+pub mod Marks
 pub mod Found
 pub mod Walk
 pub mod Ready

@@ -1,29 +1,36 @@
 //! The instances that a replica has executed.
 
-ghost use Rattle.std.specs.Prelude.{◌≡◌, ◌<◌, ◌≤◌, ◌+◌, ◌↔◌, [], ◌∷◌, ◌++◌, IsTrue, OnOk};
+ghost use Rattle.std.specs.Prelude.{◌≡◌, ◌<◌, ◌≤◌, ◌+◌, ◌↔◌, [], ◌∷◌, ◌++◌, IsTrue, OnOk, length};
+ghost use Rattle.std.specs.Vec.{vec_len, vec_capacity};
 ghost use Rattle.ep_base.specs.Places.{Has};
+ghost use Rattle.ep_exec.specs.Marks.{AreMarks};
 ghost use Rattle.ep_exec.specs.Ready.{are_in};
 
+use crate::marks::{is_marked, slot_of, widen};
 use ep_base::InstanceId;
-use indexmap::IndexSet;
 use std::alloc::{AllocError, Global};
 use std::marker::Model;
 
-/// A set of instances, in the order in which they were added.
+/// A set of instances, in the order in which they were added, with a mark for each.
 #[derive(Drop)]
 pub struct Executed {
-    set: IndexSet<InstanceId>,
+    list: Vec<InstanceId>,
+    marks: Vec<bool>,
 }
 
 impl Model for Executed {
-    ghost use Rattle.indexmap.specs.IndexSet.{spare};
+    ghost use Rattle.std.specs.Prelude.{length};
+    ghost use Rattle.std.specs.Vec.{vec_len, vec_capacity};
     ghost use Rattle.ep_exec.specs.Kept.{Kept, kept_code};
+    ghost use Rattle.ep_exec.specs.Marks.{AreMarks, room_of};
 
     ghost Value = { Kept };
 
     ghost coded = { kept_code };
 
-    ghost view = { λ e. record { list = e.set.keys; room = spare e.set } };
+    ghost view = { λ e. record { list = e.list.items; room = room_of (length e.marks.items) (vec_capacity e.list) (vec_len e.list) } };
+
+    ghost invariant = { λ e. AreMarks e.list.items e.marks.items };
 }
 
 impl Executed {
@@ -32,7 +39,8 @@ impl Executed {
         ensures { result.list ≡ [] }
     {
         Executed {
-            set: IndexSet::new(alloc),
+            list: Vec::new(alloc),
+            marks: Vec::new(alloc),
         }
     }
 
@@ -40,7 +48,7 @@ impl Executed {
     pub fn contains(&self, instance: InstanceId) -> bool
         ensures { IsTrue result ↔ Has self.now.list instance }
     {
-        self.set.contains(&instance)
+        is_marked(&self.marks, instance)
     }
 
     /// Whether each of the list is in the set.
@@ -59,7 +67,7 @@ impl Executed {
     pub fn as_slice(&self) -> &[InstanceId]
         ensures { result.now ≡ self.now.list }
     {
-        self.set.as_slice()
+        self.list.as_slice()
     }
 
     /// Makes room for `more` instances.
@@ -68,7 +76,8 @@ impl Executed {
         ensures room { OnOk result (more ≤ self.new.room) }
         ensures kept { self.old.room ≤ self.new.room }
     {
-        self.set.reserve(more)
+        widen(&mut self.marks, 8007)?;
+        self.list.reserve(more)
     }
 
     /// Adds an instance, where there is room; one that is in the set stays where it is.
@@ -78,9 +87,25 @@ impl Executed {
         ensures old { Has self.old.list instance → self.new.list ≡ self.old.list }
         ensures room { self.old.room ≤ self.new.room + 1 }
     {
-        match self.set.insert(instance) {
-            Ok(_) => (),
-            Err(_) => unreachable!(),
-        }
+        add(&mut self.list, &mut self.marks, instance);
     }
+}
+
+/// Adds an instance to both, unless it is there.
+fn add(list: &mut Vec<InstanceId>, marks: &mut Vec<bool>, instance: InstanceId)
+    requires all { 8008 ≤ length marks.old.items }
+    requires room { vec_len list.old < vec_capacity list.old }
+    requires marks { AreMarks list.old.items marks.old.items }
+    ensures new { (¬ Has list.old.items instance) → list.new.items ≡ list.old.items ++ instance ∷ [] }
+    ensures old { Has list.old.items instance → list.new.items ≡ list.old.items }
+    ensures all { length marks.new.items ≡ length marks.old.items }
+    ensures capacity { vec_capacity list.new ≡ vec_capacity list.old }
+    ensures len { vec_len list.new ≤ vec_len list.old + 1 }
+    ensures marks { AreMarks list.new.items marks.new.items }
+{
+    if is_marked(marks, instance) {
+        return;
+    }
+    list.push_reserved(instance);
+    marks[slot_of(instance)] = true;
 }

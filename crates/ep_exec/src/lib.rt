@@ -14,6 +14,8 @@ mod executed;
 mod graph;
 mod level;
 mod listed;
+mod marked;
+mod marks;
 mod part;
 mod plan_fault;
 mod planning;

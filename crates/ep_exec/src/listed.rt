@@ -8,7 +8,7 @@ use indexmap::IndexSet;
 use std::alloc::{AllocError, Global};
 use std::marker::Model;
 
-/// A list of instances that tells at once whether it has one.
+/// A list of instances that tells at once whether it has one. `Marked` is for long ones.
 #[derive(Drop)]
 pub struct Listed {
     list: Vec<InstanceId>,

@@ -9,6 +9,7 @@ use crate::executed::Executed;
 use crate::graph::deps_at;
 use crate::level::append;
 use crate::listed::Listed;
+use crate::marked::Marked;
 use ep_base::InstanceId;
 use ep_space::Space;
 use std::alloc::{AllocError, Global};
@@ -61,14 +62,14 @@ impl Part {
     }
 
     /// Whether all that it waits for is settled.
-    pub fn is_clear(&self, settled: &Listed) -> bool
+    pub fn is_clear(&self, settled: &Marked) -> bool
         ensures { result ≡ is_clear settled.now self.now }
     {
         pass_from(settled, &self.waits, self.passed) >= self.waits.len()
     }
 
     /// Passes what is settled by now, up to the first that it still waits for.
-    pub fn pass(&mut self, settled: &Listed)
+    pub fn pass(&mut self, settled: &Marked)
         ensures { self.new ≡ with_passed settled.now self.old }
     {
         self.passed = pass_from(settled, &self.waits, self.passed);
@@ -76,7 +77,7 @@ impl Part {
 }
 
 /// The place of the first from this place on that isn't settled, or the list's length.
-fn pass_from(settled: &Listed, waits: &[InstanceId], from: usize) -> usize
+fn pass_from(settled: &Marked, waits: &[InstanceId], from: usize) -> usize
     ensures { drop result waits.now ≡ passed settled.now (drop from waits.now) }
 {
     let mut place = from;

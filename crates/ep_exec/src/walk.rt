@@ -13,6 +13,7 @@ use crate::executed::Executed;
 use crate::graph::append_left;
 use crate::level::{Level, merge};
 use crate::listed::Listed;
+use crate::marked::Marked;
 use ep_base::InstanceId;
 use ep_space::Space;
 use std::alloc::{AllocError, Global};
@@ -40,8 +41,8 @@ fn follow(
     alloc: Global,
     space: &Space,
     skipped: &Executed,
-    closed: &Listed,
-    seen: &mut Listed,
+    closed: &Marked,
+    seen: &mut Marked,
     path: &mut Vec<Level>,
     top: Level,
     instance: InstanceId,
@@ -66,7 +67,7 @@ fn follow(
 
 /// Closes a component.
 fn close(
-    closed: &mut Listed,
+    closed: &mut Marked,
     found: &mut Vec<Vec<InstanceId>>,
     members: Listed,
 ) -> Result<(), AllocError>
@@ -87,8 +88,8 @@ pub fn components(
 ) -> Result<Vec<Vec<InstanceId>>, AllocError>
     ensures { IfOk result (λ v. AreComponents (left_in space.now.records skipped.now.list) root (lists v.items)) }
 {
-    let mut closed = Listed::new(alloc);
-    let mut seen = Listed::new(alloc);
+    let mut closed = Marked::new(alloc);
+    let mut seen = Marked::new(alloc);
     let mut found = Vec::new(alloc);
     let mut path = Vec::new(alloc);
     enter(alloc, space, skipped, &mut path, root)?;
