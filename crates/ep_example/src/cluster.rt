@@ -8,7 +8,7 @@ use bytes::Bytes;
 use ep_base::{InstanceId, ReplicaId, Size};
 use ep_frame::Frame;
 use ep_journal::{Entry, Event, Journal, StepFault};
-use ep_replica::Replica;
+use ep_replica::{Replica, ReplicaFault};
 use ep_rules::Receipt;
 use std::alloc::{AllocError, Global};
 use std::collections::VecDeque;
@@ -65,7 +65,7 @@ impl Cluster {
     }
 
     /// The frames in flight reach their receivers, and those that these send, until none is left.
-    pub(crate) fn deliver(&mut self) -> Result<(), Fault> {
+    pub(crate) fn deliver(&mut self) -> Result<(), ReplicaFault> {
         for _ in 0..FRAMES {
             let Some((to, bytes)) = self.in_flight.pop_front() else {
                 return Ok(());
@@ -76,14 +76,16 @@ impl Cluster {
     }
 
     /// Bytes reach their receiver, which checks that they are a frame.
-    fn hand_over(&mut self, to: ReplicaId, bytes: Bytes) -> Result<(), Fault> {
+    fn hand_over(&mut self, to: ReplicaId, bytes: Bytes) -> Result<(), ReplicaFault> {
         let Some(replica) = self.replicas.get_mut(to.index() as usize) else {
-            return Err(Fault::Step(StepFault::OutOfRange));
+            return Err(ReplicaFault::OutOfRange);
         };
         let entry = replica.handle(bytes)?;
         // As above: the disk comes before the frames.
-        send(entry, &mut self.in_flight)?;
-        Ok(())
+        match send(entry, &mut self.in_flight) {
+            Ok(()) => Ok(()),
+            Err(_) => Err(ReplicaFault::Memory),
+        }
     }
 
     /// The replica executes an instance that was proposed there, and gives the receipt.
