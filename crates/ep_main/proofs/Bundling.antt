@@ -9,10 +9,9 @@ use Rattle.ep_main.specs.Bundled.{IsPlayed, IsBundled}
 use Rattle.ep_main.specs.Outputs.{Output, Wrote}
 
 pub bundled :
-    (played : Replayed) (slice : List Receipt) (zs : List ℕ) (out : Output) → slice ≡ played.receipts.items → IsPlayed zs played →
-    IsAccepted played.journals.faults (journals_of played.journals) played.receipts.items → Wrote out (bundle_bytes played.journals slice) → IsBundled zs out
-bundled played slice zs out same replay accepted wrote =
-    record { played = played; replay = replay; accepted = accepted; wrote = subst (λ l. Wrote out (bundle_bytes played.journals l)) same wrote }
+    (played : Replayed) (bytes : List ℕ) (zs : List ℕ) (out : Output) → bytes ≡ bundle_bytes played.journals played.receipts.items → IsPlayed zs played →
+    IsAccepted played.journals.faults (journals_of played.journals) played.receipts.items → Wrote out bytes → IsBundled zs out
+bundled played bytes zs out same replay accepted wrote = record { played = played; replay = replay; accepted = accepted; wrote = subst (Wrote out) same wrote }
 
 -- the count of its receipts fits its field
 pub countable : (slice receipts : List Receipt) → slice ≡ receipts → length receipts ≤ 7000 → length slice < 2 ^ 32

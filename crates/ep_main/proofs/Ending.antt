@@ -2,18 +2,20 @@
 use Rattle.std.proofs.Common.{◌≡◌, inl, inr, ℕ, List, Option, Result, Ok, Err, sym, ◌∙◌, subst, string_bytes}
 use Rattle.std.specs.Prelude.{IfOk, IsErrAnd}
 use Rattle.ep_base.specs.Devices.{FailsAsTold}
-use Rattle.ep_main.specs.Faults.{DeclinesBy, of_bundle, is_read, is_write}
+use Rattle.ep_main.specs.Faults.{of_bundle, is_read, is_write}
 use Rattle.ep_main.specs.Outputs.{Input, Output, WroteNothing}
 use Rattle.ep_bundle.specs.Journals.{ReadsBundle, Finds}
 use Rattle.ep_bundle.specs.declared.bundle_fault.BundleFault.{BundleFault}
 use Rattle.ep_bundle.specs.declared.bundle_fault.BundleFault.TheVariants as bundle
-use Rattle.ep_main.specs.Runs.{Plays, Leaves, Finishes, Prints, Does, Concludes, Ends, IsVerdict, Replays, Emits, Audits, Helps, IsHelped, Performs}
-use Rattle.ep_main.specs.Words.{IsHelp}
+use Rattle.ep_main.specs.Runs.{Plays, Leaves, Finishes, Prints, Does, Concludes, Declines, Ends, IsVerdict, Replays, Emits, Audits, Versions, Helps, IsHelped, IsOutOfMemory, Performs, TellsWhy, version_line}
+use Rattle.ep_main.specs.Words.{AskFor, IsHelp}
 use Rattle.ep_main.specs.declared.asked.Asked.{Asked}
-use Rattle.ep_main.specs.declared.asked.Asked.TheVariants.{Replay, Audit, Help}
+use Rattle.ep_main.specs.declared.asked.Asked.TheVariants.{Replay, Audit, Version, Help}
+use Rattle.ep_main.specs.declared.declined.Declined.{Declined}
+use Rattle.ep_main.specs.declared.declined.Declined.TheVariants as declined
 use Rattle.ep_main.specs.declared.asked.Emit.TheVariants.{Report, Bundle}
 use Rattle.ep_main.specs.declared.fault.Fault.{Fault}
-use Rattle.ep_main.specs.declared.fault.Fault.TheVariants.{CommandLine, Script, BadBundle, NotARun, Memory, Read, Write}
+use Rattle.ep_main.specs.declared.fault.Fault.TheVariants.{Script, BadBundle, NotARun, Memory, Read, Write}
 use Rattle.ep_main.specs.declared.status.Status.{Status}
 use Rattle.ep_main.specs.declared.status.Status.TheVariants.{Accepted, AuditRefused, Refused, OutOfMemory, Failed}
 
@@ -24,7 +26,6 @@ pub record IsTold (outcome : Result Status Fault) (reader : Input) (out : Output
 
 replays : (outcome : Result Status Fault) (status : Status) (zs : List ℕ) (reader : Input) (out fault : Output) → Plays outcome zs out → IsTold outcome reader out → Concludes outcome status fault → Replays status zs reader out fault
 replays (Ok said) status zs reader out fault p t c = subst (λ s. Replays s zs reader out fault) (sym (c.0 ∙ p.0)) (p.1, c.1)
-replays (Err CommandLine) status zs reader out fault p t c = absurd p
 replays (Err (Script line)) status zs reader out fault p t c =
     subst (λ s. Replays s zs reader out fault) (sym c.0) (record { line = line; script = p.0; silent = p.1; told = c.1 })
 replays (Err (BadBundle offset)) status zs reader out fault p t c = absurd p
@@ -35,7 +36,6 @@ replays (Err Write) status zs reader out fault p t c = subst (λ s. Replays s zs
 
 emits : (outcome : Result Status Fault) (status : Status) (zs : List ℕ) (reader : Input) (out fault : Output) → Leaves outcome zs out → IsTold outcome reader out → Concludes outcome status fault → Emits status zs reader out fault
 emits (Ok said) status zs reader out fault p t c = subst (λ s. Emits s zs reader out fault) (sym (c.0 ∙ p.0)) (p.1, c.1)
-emits (Err CommandLine) status zs reader out fault p t c = absurd p
 emits (Err (Script line)) status zs reader out fault p t c =
     subst (λ s. Emits s zs reader out fault) (sym c.0) (record { line = line; script = p.0; silent = p.1; told = c.1 })
 emits (Err (BadBundle offset)) status zs reader out fault p t c = absurd p
@@ -50,7 +50,6 @@ audits (Ok AuditRefused) status zs reader out fault p t c = subst (λ s. Audits 
 audits (Ok Refused) status zs reader out fault p t c = absurd p.says
 audits (Ok OutOfMemory) status zs reader out fault p t c = absurd p.says
 audits (Ok Failed) status zs reader out fault p t c = absurd p.says
-audits (Err CommandLine) status zs reader out fault p t c = absurd p
 audits (Err (Script line)) status zs reader out fault p t c = absurd p
 audits (Err (BadBundle offset)) status zs reader out fault p t c =
     subst (λ s. Audits s zs reader out fault) (sym c.0) (inl (record { offset = offset; read = p.0; silent = p.1; told = c.1 }))
@@ -62,7 +61,6 @@ audits (Err Write) status zs reader out fault p t c = subst (λ s. Audits s zs r
 
 helps : (outcome : Result Status Fault) (status : Status) (text : List ℕ) (out fault : Output) → Prints outcome text out → FailsAsTold is_write outcome out.had_failed out.failed → Concludes outcome status fault → Helps status text out fault
 helps (Ok said) status text out fault p t c = subst (λ s. Helps s text out fault) (sym (c.0 ∙ p.0)) (p.1, c.1)
-helps (Err CommandLine) status text out fault p t c = absurd p
 helps (Err (Script line)) status text out fault p t c = absurd p
 helps (Err (BadBundle offset)) status text out fault p t c = absurd p
 helps (Err (NotARun replica entry)) status text out fault p t c = absurd p
@@ -70,17 +68,28 @@ helps (Err Memory) status text out fault p t c = absurd p
 helps (Err Read) status text out fault p t c = absurd p
 helps (Err Write) status text out fault p t c = subst (λ s. Helps s text out fault) (sym c.0) (t, c.1)
 
+versions : (outcome : Result Status Fault) (status : Status) (out fault : Output) → Prints outcome version_line out → FailsAsTold is_write outcome out.had_failed out.failed → Concludes outcome status fault → Versions status out fault
+versions (Ok said) status out fault p t c = subst (λ s. Versions s out fault) (sym (c.0 ∙ p.0)) (p.1, c.1)
+versions (Err (Script line)) status out fault p t c = absurd p
+versions (Err (BadBundle offset)) status out fault p t c = absurd p
+versions (Err (NotARun replica entry)) status out fault p t c = absurd p
+versions (Err Memory) status out fault p t c = absurd p
+versions (Err Read) status out fault p t c = absurd p
+versions (Err Write) status out fault p t c = subst (λ s. Versions s out fault) (sym c.0) (t, c.1)
+
 pub performs :
     (asked : Asked) (outcome : Result Status Fault) (status : Status) (zs : List ℕ) (reader : Input) (out fault : Output) → Does asked outcome zs out →
     IsTold outcome reader out → Concludes outcome status fault → Performs asked status zs reader out fault
 performs (Replay Report) outcome status zs reader out fault d t c = replays outcome status zs reader out fault d t c
 performs (Replay Bundle) outcome status zs reader out fault d t c = emits outcome status zs reader out fault d t c
 performs Audit outcome status zs reader out fault d t c = audits outcome status zs reader out fault d t c
+performs Version outcome status zs reader out fault d t c = versions outcome status out fault d t.written c
 performs (Help text) outcome status zs reader out fault d t c = helps outcome status (string_bytes text) out fault d t.written c
 
 pub is_helped : (asked : Asked) (status : Status) (zs : List ℕ) (reader : Input) (out fault : Output) → IsHelp asked → Performs asked status zs reader out fault → IsHelped status out fault
 is_helped (Replay emit) status zs reader out fault help p = absurd help
 is_helped Audit status zs reader out fault help p = absurd help
+is_helped Version status zs reader out fault help p = absurd help
 is_helped (Help text) Accepted zs reader out fault help p = ((string_bytes text, p.0), p.1)
 is_helped (Help text) AuditRefused zs reader out fault help p = absurd p
 is_helped (Help text) Refused zs reader out fault help p = absurd p
@@ -115,7 +124,6 @@ ends (Ok AuditRefused) status reader out fault d t c = subst (λ s. Ends s reade
 ends (Ok Refused) status reader out fault d t c = absurd d
 ends (Ok OutOfMemory) status reader out fault d t c = absurd d
 ends (Ok Failed) status reader out fault d t c = absurd d
-ends (Err CommandLine) status reader out fault d t c = subst (λ s. Ends s reader out fault) (sym c.0) (t.read, t.written)
 ends (Err (Script line)) status reader out fault d t c = subst (λ s. Ends s reader out fault) (sym c.0) (t.read, t.written)
 ends (Err (BadBundle offset)) status reader out fault d t c = subst (λ s. Ends s reader out fault) (sym c.0) (t.read, t.written)
 ends (Err (NotARun replica entry)) status reader out fault d t c = subst (λ s. Ends s reader out fault) (sym c.0) (t.read, t.written)
@@ -123,12 +131,34 @@ ends (Err Memory) status reader out fault d t c = subst (λ s. Ends s reader out
 ends (Err Read) status reader out fault d t c = subst (λ s. Ends s reader out fault) (sym c.0) (inl ((t.read, t.written), c.1))
 ends (Err Write) status reader out fault d t c = subst (λ s. Ends s reader out fault) (sym c.0) (inr ((t.read, t.written), c.1))
 
--- nothing was done, and so no device failed
-pub declined : (e : Fault) (status : Status) (reader : Input) (out fault : Output) → DeclinesBy e → reader.failed ≡ reader.had_failed → out.failed ≡ out.had_failed → Concludes (Err e) status fault → Ends status reader out fault
-declined CommandLine status reader out fault d r o c = subst (λ s. Ends s reader out fault) (sym c.0) (r, o)
-declined (Script line) status reader out fault d r o c = absurd d
-declined (BadBundle offset) status reader out fault d r o c = absurd d
-declined (NotARun replica entry) status reader out fault d r o c = absurd d
-declined Memory status reader out fault d r o c = subst (λ s. Ends s reader out fault) (sym c.0) (r, o)
-declined Read status reader out fault d r o c = absurd d
-declined Write status reader out fault d r o c = absurd d
+-- Nothing is done, and so neither the reader nor the output failed.
+
+pub declines : (why : Declined) (status : Status) (out fault : Output) → TellsWhy why status fault → WroteNothing out → Declines status out fault
+declines (declined.Words text) status out fault told silent = subst (λ s. Declines s out fault) (sym told.0) (silent, (string_bytes text, told.1))
+declines declined.Memory status out fault told silent = subst (λ s. Declines s out fault) (sym told.0) (record { silent = silent; told = told.1 })
+
+-- nothing is done of what is asked for, since memory was refused
+out_of_memory : (want : Asked) (zs : List ℕ) (reader : Input) (out fault : Output) (words : List (List ℕ)) → AskFor want words → IsOutOfMemory out fault → Performs want OutOfMemory zs reader out fault
+out_of_memory (Replay Report) zs reader out fault words ask memory = memory
+out_of_memory (Replay Bundle) zs reader out fault words ask memory = memory
+out_of_memory Audit zs reader out fault words ask memory = memory
+out_of_memory Version zs reader out fault words ask memory = memory
+out_of_memory (Help text) zs reader out fault words ask memory = absurd ask
+
+pub performs_none :
+    (want : Asked) (why : Declined) (status : Status) (zs : List ℕ) (reader : Input) (out fault : Output) (words : List (List ℕ)) → AskFor want words → why ≡ declined.Memory →
+    TellsWhy why status fault → WroteNothing out → Performs want status zs reader out fault
+performs_none want why status zs reader out fault words ask is told silent =
+    let why_told : TellsWhy declined.Memory status fault = subst (λ d. TellsWhy d status fault) is told in
+    subst (λ s. Performs want s zs reader out fault) (sym why_told.0) (out_of_memory want zs reader out fault words ask (record { silent = silent; told = why_told.1 }))
+
+pub helps_none : (why : Declined) (status : Status) (out fault : Output) → why ≡ declined.Memory → TellsWhy why status fault → WroteNothing out → IsHelped status out fault
+helps_none why status out fault is told silent =
+    let why_told : TellsWhy declined.Memory status fault = subst (λ d. TellsWhy d status fault) is told in
+    subst (λ s. IsHelped s out fault) (sym why_told.0) (record { silent = silent; told = why_told.1 })
+
+pub ends_declined :
+    (why : Declined) (status : Status) (reader : Input) (out fault : Output) → TellsWhy why status fault → reader.failed ≡ reader.had_failed → out.failed ≡ out.had_failed →
+    Ends status reader out fault
+ends_declined (declined.Words text) status reader out fault told r o = subst (λ s. Ends s reader out fault) (sym told.0) (r, o)
+ends_declined declined.Memory status reader out fault told r o = subst (λ s. Ends s reader out fault) (sym told.0) (r, o)

@@ -1,4 +1,4 @@
--- What `clap` makes of the words that ask for a report.
+-- What `clap` makes of the words that ask for something.
 use Rattle.std.proofs.Common.{◌≡◌, ◌⊎◌, inl, inr, List, [], ◌∷◌, Option, Some, None, Result, Ok, Err, MatchResult, IfOk, true, codes, refl, sym, ap, ap₂, subst, ◌∙◌, option_map}
 use Rattle.clap.specs.Matches.{found_of, subcommand_name_of}
 use Rattle.clap.specs.Walk.{Row, Text, first_of, rows_of}
@@ -9,18 +9,18 @@ use Rattle.std.specs.Prelude.{Box}
 use Rattle.std.specs.Box.{box_value}
 use Rattle.clap.specs.Simple.{App, is_simple, subcommand_of, subcommand_rows, subcommand_rows_of}
 use Rattle.clap.specs.declared.error.kind.ErrorKind.{ErrorKind}
-use Rattle.clap.specs.declared.error.kind.ErrorKind.TheVariants.{DisplayHelp, OutOfMemory}
+use Rattle.clap.specs.declared.error.kind.ErrorKind.TheVariants.{DisplayHelp, DisplayVersion, OutOfMemory}
 use Rattle.clap.specs.Faults.{fault_of, is_simple_and_free}
 use Rattle.clap.specs.Kinds.{IsAmong}
 use Rattle.clap.specs.Takes.{takes}
 use Rattle.clap.proofs.OnLiterals.{clap_on_literals}
-use Rattle.ep_main.specs.Words.{AskFor, AskForHelp, IsAsked, IsHelp, IsMet, MetReplay, MetAudit, Names, epaxos, met}
+use Rattle.ep_main.specs.Words.{AskFor, AskForHelp, IsAsked, IsHelp, IsMet, IsShown, MetReplay, MetAudit, Names, epaxos, met}
 use Rattle.ep_main.specs.declared.asked.Asked.{Asked}
-use Rattle.ep_main.specs.declared.asked.Asked.TheVariants.{Replay, Audit, Help}
+use Rattle.ep_main.specs.declared.asked.Asked.TheVariants.{Replay, Audit, Version, Help}
 use Rattle.ep_main.specs.declared.asked.Emit.TheVariants.{Report, Bundle}
 use Rattle.ep_main.specs.declared.asked.Emit.{Emit}
-use Rattle.ep_main.specs.declared.fault.Fault.{Fault}
-use Rattle.ep_main.specs.declared.fault.Fault.TheVariants.{Memory}
+use Rattle.ep_main.specs.declared.declined.Declined.{Declined}
+use Rattle.ep_main.specs.declared.declined.Declined.TheVariants.{Memory}
 
 pub simple : is_simple epaxos ≡ true
 unfolding clap_on_literals
@@ -74,37 +74,46 @@ met_audit : (name : Text) → option_map (λ p. p.0) (subcommand_of epaxos (name
 unfolding clap_on_literals
 met_audit name = refl
 
-pub taken : (want : Asked) (words : List Text) → AskFor want words → takes epaxos words ≡ true
-taken (Replay Report) words (name, inl is) = subst (λ (ws : List Text). takes epaxos ws ≡ true) (sym is) (takes_replay name)
-taken (Replay Report) words (name, inr (inl is)) = subst (λ (ws : List Text). takes epaxos ws ≡ true) (sym is) (takes_emit name)
-taken (Replay Report) words (name, inr (inr is)) = subst (λ (ws : List Text). takes epaxos ws ≡ true) (sym is) (takes_equals name)
-taken (Replay Bundle) words (name, inl is) = subst (λ (ws : List Text). takes epaxos ws ≡ true) (sym is) (takes_bundle name)
-taken (Replay Bundle) words (name, inr is) = subst (λ (ws : List Text). takes epaxos ws ≡ true) (sym is) (takes_bundle_equals name)
-taken Audit words (name, is) = subst (λ (ws : List Text). takes epaxos ws ≡ true) (sym is) (takes_audit name)
-taken (Help text) words ask = absurd ask
+-- what is asked for by words that `clap` matches
+abbrev pub IsMatched : Asked → Type 0
+IsMatched (Replay emit) = Unit {0}
+IsMatched Audit = Unit {0}
+IsMatched Version = ⊥
+IsMatched (Help text) = ⊥
 
-pub is_met : (want : Asked) (words : List Text) → AskFor want words → IsMet want (subcommand_of epaxos words)
-is_met (Replay Report) words (name, inl is) = subst (λ (ws : List Text). MetReplay Report (subcommand_of epaxos ws)) (sym is) (None, met_replay name, inl refl)
-is_met (Replay Report) words (name, inr (inl is)) = subst (λ (ws : List Text). MetReplay Report (subcommand_of epaxos ws)) (sym is) (Some (codes "report"), met_emit name, inr refl)
-is_met (Replay Report) words (name, inr (inr is)) = subst (λ (ws : List Text). MetReplay Report (subcommand_of epaxos ws)) (sym is) (Some (codes "report"), met_equals name, inr refl)
-is_met (Replay Bundle) words (name, inl is) = subst (λ (ws : List Text). MetReplay Bundle (subcommand_of epaxos ws)) (sym is) (Some (codes "bundle"), met_bundle name, refl)
-is_met (Replay Bundle) words (name, inr is) = subst (λ (ws : List Text). MetReplay Bundle (subcommand_of epaxos ws)) (sym is) (Some (codes "bundle"), met_bundle_equals name, refl)
-is_met Audit words (name, is) = subst (λ (ws : List Text). MetAudit (subcommand_of epaxos ws)) (sym is) (met_audit name)
-is_met (Help text) words ask = absurd ask
+taken : (want : Asked) (words : List Text) → IsMatched want → AskFor want words → takes epaxos words ≡ true
+taken (Replay Report) words matched (name, inl is) = subst (λ (ws : List Text). takes epaxos ws ≡ true) (sym is) (takes_replay name)
+taken (Replay Report) words matched (name, inr (inl is)) = subst (λ (ws : List Text). takes epaxos ws ≡ true) (sym is) (takes_emit name)
+taken (Replay Report) words matched (name, inr (inr is)) = subst (λ (ws : List Text). takes epaxos ws ≡ true) (sym is) (takes_equals name)
+taken (Replay Bundle) words matched (name, inl is) = subst (λ (ws : List Text). takes epaxos ws ≡ true) (sym is) (takes_bundle name)
+taken (Replay Bundle) words matched (name, inr is) = subst (λ (ws : List Text). takes epaxos ws ≡ true) (sym is) (takes_bundle_equals name)
+taken Audit words matched (name, is) = subst (λ (ws : List Text). takes epaxos ws ≡ true) (sym is) (takes_audit name)
+taken Version words matched ask = absurd matched
+taken (Help text) words matched ask = absurd matched
 
-pub found_met :
-    {X : Type 0} (want : Asked) (app : App) (words : List Text) (found : Option (Text × List Row)) → app ≡ epaxos →
+is_met : (want : Asked) (words : List Text) → IsMatched want → AskFor want words → IsMet want (subcommand_of epaxos words)
+is_met (Replay Report) words matched (name, inl is) = subst (λ (ws : List Text). MetReplay Report (subcommand_of epaxos ws)) (sym is) (None, met_replay name, inl refl)
+is_met (Replay Report) words matched (name, inr (inl is)) = subst (λ (ws : List Text). MetReplay Report (subcommand_of epaxos ws)) (sym is) (Some (codes "report"), met_emit name, inr refl)
+is_met (Replay Report) words matched (name, inr (inr is)) = subst (λ (ws : List Text). MetReplay Report (subcommand_of epaxos ws)) (sym is) (Some (codes "report"), met_equals name, inr refl)
+is_met (Replay Bundle) words matched (name, inl is) = subst (λ (ws : List Text). MetReplay Bundle (subcommand_of epaxos ws)) (sym is) (Some (codes "bundle"), met_bundle name, refl)
+is_met (Replay Bundle) words matched (name, inr is) = subst (λ (ws : List Text). MetReplay Bundle (subcommand_of epaxos ws)) (sym is) (Some (codes "bundle"), met_bundle_equals name, refl)
+is_met Audit words matched (name, is) = subst (λ (ws : List Text). MetAudit (subcommand_of epaxos ws)) (sym is) (met_audit name)
+is_met Version words matched ask = absurd matched
+is_met (Help text) words matched ask = absurd matched
+
+found_met :
+    {X : Type 0} (want : Asked) (app : App) (words : List Text) (found : Option (Text × List Row)) → IsMatched want → app ≡ epaxos →
     (is_simple app ≡ true → X × (found ≡ subcommand_of app words)) → AskFor want words → IsMet want found
-found_met {X} want app words found is has ask =
+found_met {X} want app words found matched is has ask =
     let same : found ≡ subcommand_of epaxos words = (subst (λ a. is_simple a ≡ true → X × (found ≡ subcommand_of a words)) is has simple).1 in
-    subst (IsMet want) (sym same) (is_met want words ask)
+    subst (IsMet want) (sym same) (is_met want words matched ask)
 
 free : is_simple_and_free epaxos ≡ true
 unfolding clap_on_literals
 free = refl
 
 pub asked_of_met :
-    {X : Type 0} (app : App) (words : List Text) (found : Option (Text × List Row)) (r : Result Asked Fault) → app ≡ epaxos →
+    {X : Type 0} (app : App) (words : List Text) (found : Option (Text × List Row)) (r : Result Asked Declined) → app ≡ epaxos →
     (is_simple app ≡ true → X × (found ≡ subcommand_of app words)) → IfOk r (λ a. IsMet a found) → IfOk r (λ a. IsAsked a words)
 asked_of_met {X} app words found (Ok (Replay emit)) is has met =
     let same : found ≡ subcommand_of epaxos words = (subst (λ a. is_simple a ≡ true → X × (found ≡ subcommand_of a words)) is has simple).1 in
@@ -112,21 +121,34 @@ asked_of_met {X} app words found (Ok (Replay emit)) is has met =
 asked_of_met {X} app words found (Ok Audit) is has met =
     let same : found ≡ subcommand_of epaxos words = (subst (λ a. is_simple a ≡ true → X × (found ≡ subcommand_of a words)) is has simple).1 in
     subst MetAudit same met
+asked_of_met {X} app words found (Ok Version) is has met = absurd met
 asked_of_met {X} app words found (Ok (Help text)) is has met = absurd met
 asked_of_met {X} app words found (Err e) is has met = tt
 
-among : (words : List Text) (kind : ErrorKind) → kind ≡ DisplayHelp → (kind ≡ OutOfMemory) ⊎ IsAmong kind (fault_of epaxos words) → IsAmong DisplayHelp (fault_of epaxos words)
-among words kind is (inl memory) = let bad : DisplayHelp ≡ OutOfMemory = sym is ∙ memory in cc
-among words kind is (inr known) = subst (λ k. IsAmong k (fault_of epaxos words)) is known
+help_is_no_memory : DisplayHelp ≡ OutOfMemory → ⊥
+help_is_no_memory bad = cc
 
-pub asked_of_help :
-    (app : App) (words : List Text) (kind : ErrorKind) (r : Result Asked Fault) → app ≡ epaxos →
-    (is_simple_and_free app ≡ true → (kind ≡ OutOfMemory) ⊎ IsAmong kind (fault_of app words)) → IfOk r (λ a. IsHelp a × (kind ≡ DisplayHelp)) → IfOk r (λ a. IsAsked a words)
-asked_of_help app words kind (Ok (Replay emit)) is has help = absurd help.0
-asked_of_help app words kind (Ok Audit) is has help = absurd help.0
-asked_of_help app words kind (Ok (Help text)) is has help =
-    among words kind help.1 (subst (λ a. is_simple_and_free a ≡ true → (kind ≡ OutOfMemory) ⊎ IsAmong kind (fault_of a words)) is has free)
-asked_of_help app words kind (Err e) is has help = tt
+version_is_no_memory : DisplayVersion ≡ OutOfMemory → ⊥
+version_is_no_memory bad = cc
+
+among :
+    (words : List Text) (kind wanted : ErrorKind) → (wanted ≡ OutOfMemory → ⊥) → kind ≡ wanted → (kind ≡ OutOfMemory) ⊎ IsAmong kind (fault_of epaxos words) →
+    IsAmong wanted (fault_of epaxos words)
+among words kind wanted other is (inl memory) = absurd (other (sym is ∙ memory))
+among words kind wanted other is (inr known) = subst (λ k. IsAmong k (fault_of epaxos words)) is known
+
+pub asked_of_shown :
+    (app : App) (words : List Text) (kind : ErrorKind) (r : Result Asked Declined) → app ≡ epaxos →
+    (is_simple_and_free app ≡ true → (kind ≡ OutOfMemory) ⊎ IsAmong kind (fault_of app words)) → IfOk r (λ a. IsShown a kind) → IfOk r (λ a. IsAsked a words)
+asked_of_shown app words kind (Ok (Replay emit)) is has shown = absurd shown
+asked_of_shown app words kind (Ok Audit) is has shown = absurd shown
+asked_of_shown app words kind (Ok Version) is has shown =
+    among words kind DisplayVersion version_is_no_memory shown
+    (subst (λ a. is_simple_and_free a ≡ true → (kind ≡ OutOfMemory) ⊎ IsAmong kind (fault_of a words)) is has free)
+asked_of_shown app words kind (Ok (Help text)) is has shown =
+    among words kind DisplayHelp help_is_no_memory shown
+    (subst (λ a. is_simple_and_free a ≡ true → (kind ≡ OutOfMemory) ⊎ IsAmong kind (fault_of a words)) is has free)
+asked_of_shown app words kind (Err e) is has shown = tt
 
 help_alone : (name : Text) → fault_of epaxos (name ∷ codes "--help" ∷ []) ≡ DisplayHelp ∷ []
 unfolding clap_on_literals
@@ -144,11 +166,33 @@ help_of_audit : (name : Text) → fault_of epaxos (name ∷ codes "audit" ∷ co
 unfolding clap_on_literals
 help_of_audit name = refl
 
+short_help_of_replay : (name : Text) → fault_of epaxos (name ∷ codes "replay" ∷ codes "-h" ∷ []) ≡ DisplayHelp ∷ []
+unfolding clap_on_literals
+short_help_of_replay name = refl
+
+short_help_of_audit : (name : Text) → fault_of epaxos (name ∷ codes "audit" ∷ codes "-h" ∷ []) ≡ DisplayHelp ∷ []
+unfolding clap_on_literals
+short_help_of_audit name = refl
+
 help_known : (words : List Text) → AskForHelp words → fault_of epaxos words ≡ DisplayHelp ∷ []
 help_known words (name, inl is) = subst (λ (ws : List Text). fault_of epaxos ws ≡ DisplayHelp ∷ []) (sym is) (help_alone name)
 help_known words (name, inr (inl is)) = subst (λ (ws : List Text). fault_of epaxos ws ≡ DisplayHelp ∷ []) (sym is) (short_help name)
 help_known words (name, inr (inr (inl is))) = subst (λ (ws : List Text). fault_of epaxos ws ≡ DisplayHelp ∷ []) (sym is) (help_of_replay name)
-help_known words (name, inr (inr (inr is))) = subst (λ (ws : List Text). fault_of epaxos ws ≡ DisplayHelp ∷ []) (sym is) (help_of_audit name)
+help_known words (name, inr (inr (inr (inl is)))) = subst (λ (ws : List Text). fault_of epaxos ws ≡ DisplayHelp ∷ []) (sym is) (short_help_of_replay name)
+help_known words (name, inr (inr (inr (inr (inl is))))) = subst (λ (ws : List Text). fault_of epaxos ws ≡ DisplayHelp ∷ []) (sym is) (help_of_audit name)
+help_known words (name, inr (inr (inr (inr (inr is))))) = subst (λ (ws : List Text). fault_of epaxos ws ≡ DisplayHelp ∷ []) (sym is) (short_help_of_audit name)
+
+version_alone : (name : Text) → fault_of epaxos (name ∷ codes "--version" ∷ []) ≡ DisplayVersion ∷ []
+unfolding clap_on_literals
+version_alone name = refl
+
+short_version : (name : Text) → fault_of epaxos (name ∷ codes "-V" ∷ []) ≡ DisplayVersion ∷ []
+unfolding clap_on_literals
+short_version name = refl
+
+version_known : (words : List Text) → AskFor Version words → fault_of epaxos words ≡ DisplayVersion ∷ []
+version_known words (name, inl is) = subst (λ (ws : List Text). fault_of epaxos ws ≡ DisplayVersion ∷ []) (sym is) (version_alone name)
+version_known words (name, inr is) = subst (λ (ws : List Text). fault_of epaxos ws ≡ DisplayVersion ∷ []) (sym is) (short_version name)
 
 -- where help is asked for, nothing is met
 pub help_is_no_match : {X : Type 0} (app : App) (words : List Text) → app ≡ epaxos → (is_simple_and_free app ≡ true → fault_of app words ≡ []) → AskForHelp words → X
@@ -158,44 +202,80 @@ help_is_no_match {X} app words is none ask =
     cc
 
 helps_by :
-    (kind : ErrorKind) (kinds : List ErrorKind) (r : Result Asked Fault) → kinds ≡ DisplayHelp ∷ [] → (kind ≡ OutOfMemory) ⊎ IsAmong kind kinds → (kind ≡ OutOfMemory → r ≡ Err Memory) →
-    (kind ≡ DisplayHelp → MatchResult r IsHelp (λ e. e ≡ Memory)) → MatchResult r IsHelp (λ e. e ≡ Memory)
-helps_by kind kinds r is (inl none) memory help = subst (λ r. MatchResult r IsHelp (λ e. e ≡ Memory)) (sym (memory none)) refl
+    (kind : ErrorKind) (kinds : List ErrorKind) (r : Result Asked Declined) → kinds ≡ DisplayHelp ∷ [] → (kind ≡ OutOfMemory) ⊎ IsAmong kind kinds → (kind ≡ OutOfMemory → r ≡ Err Memory) →
+    (kind ≡ DisplayHelp → MatchResult r IsHelp (λ d. d ≡ Memory)) → MatchResult r IsHelp (λ d. d ≡ Memory)
+helps_by kind kinds r is (inl none) memory help = subst (λ r. MatchResult r IsHelp (λ d. d ≡ Memory)) (sym (memory none)) refl
 helps_by kind kinds r is (inr known) memory help =
     let among : (kind ≡ DisplayHelp) ⊎ ⊥ = subst (λ ks. IsAmong kind ks) is known in
     help (elim among [ inl h ↦ h | inr h ↦ absurd h ])
 
 pub help_is_met :
-    (app : App) (words : List Text) (kind : ErrorKind) (r : Result Asked Fault) → app ≡ epaxos →
+    (app : App) (words : List Text) (kind : ErrorKind) (r : Result Asked Declined) → app ≡ epaxos →
     (is_simple_and_free app ≡ true → (kind ≡ OutOfMemory) ⊎ IsAmong kind (fault_of app words)) → (kind ≡ OutOfMemory → r ≡ Err Memory) →
-    (kind ≡ DisplayHelp → MatchResult r IsHelp (λ e. e ≡ Memory)) → AskForHelp words → MatchResult r IsHelp (λ e. e ≡ Memory)
+    (kind ≡ DisplayHelp → MatchResult r IsHelp (λ d. d ≡ Memory)) → AskForHelp words → MatchResult r IsHelp (λ d. d ≡ Memory)
 help_is_met app words kind r is has memory help ask =
     helps_by kind (fault_of epaxos words) r (help_known words ask)
     (subst (λ a. is_simple_and_free a ≡ true → (kind ≡ OutOfMemory) ⊎ IsAmong kind (fault_of a words)) is has free) memory help
 
-pub no_kind :
-    (want : Asked) (app : App) (words : List Text) (kind : ErrorKind) → app ≡ epaxos → (takes app words ≡ true → kind ≡ OutOfMemory) → AskFor want words → kind ≡ OutOfMemory
-no_kind want app words kind is passes ask = passes (subst (λ a. takes a words ≡ true) (sym is) (taken want words ask))
+asks : (want : Asked) (r : Result Asked Declined) → r ≡ Ok want → MatchResult r (λ a. a ≡ want) (λ d. d ≡ Memory)
+asks want r is = subst (λ r. MatchResult r (λ a. a ≡ want) (λ d. d ≡ Memory)) (sym is) refl
 
-asks : (want : Asked) (r : Result Asked Fault) → r ≡ Ok want → MatchResult r (λ a. a ≡ want) (λ e. e ≡ Memory)
-asks want r is = subst (λ r. MatchResult r (λ a. a ≡ want) (λ e. e ≡ Memory)) (sym is) refl
+has_no_memory : (want : Asked) (r : Result Asked Declined) → r ≡ Err Memory → MatchResult r (λ a. a ≡ want) (λ d. d ≡ Memory)
+has_no_memory want r is = subst (λ r. MatchResult r (λ a. a ≡ want) (λ d. d ≡ Memory)) (sym is) refl
 
-pub has_no_memory : (want : Asked) (r : Result Asked Fault) → r ≡ Err Memory → MatchResult r (λ a. a ≡ want) (λ e. e ≡ Memory)
-has_no_memory want r is = subst (λ r. MatchResult r (λ a. a ≡ want) (λ e. e ≡ Memory)) (sym is) refl
-
-pub answers :
-    (want : Asked) (r : Result Asked Fault) (found : Option (Text × List Row)) → ((emit : Emit) → MetReplay emit found → r ≡ Ok (Replay emit)) →
-    (MetAudit found → r ≡ Ok Audit) → IsMet want found → MatchResult r (λ a. a ≡ want) (λ e. e ≡ Memory)
+answers :
+    (want : Asked) (r : Result Asked Declined) (found : Option (Text × List Row)) → ((emit : Emit) → MetReplay emit found → r ≡ Ok (Replay emit)) →
+    (MetAudit found → r ≡ Ok Audit) → IsMet want found → MatchResult r (λ a. a ≡ want) (λ d. d ≡ Memory)
 answers (Replay emit) r found replay audit is = asks (Replay emit) r (replay emit is)
 answers Audit r found replay audit is = asks Audit r (audit is)
+answers Version r found replay audit is = absurd is
 answers (Help text) r found replay audit is = absurd is
+
+-- the answer where `clap` finds a match
+pub asked_in_match :
+    {X : Type 0} (want : Asked) (app : App) (words : List Text) (found : Option (Text × List Row)) (r : Result Asked Declined) → app ≡ epaxos →
+    (is_simple app ≡ true → X × (found ≡ subcommand_of app words)) → (is_simple_and_free app ≡ true → fault_of app words ≡ []) →
+    ((emit : Emit) → MetReplay emit found → r ≡ Ok (Replay emit)) → (MetAudit found → r ≡ Ok Audit) → AskFor want words → MatchResult r (λ a. a ≡ want) (λ d. d ≡ Memory)
+asked_in_match (Replay emit) app words found r is has none replay audit ask = answers (Replay emit) r found replay audit (found_met (Replay emit) app words found tt is has ask)
+asked_in_match Audit app words found r is has none replay audit ask = answers Audit r found replay audit (found_met Audit app words found tt is has ask)
+asked_in_match Version app words found r is has none replay audit ask =
+    let empty : fault_of epaxos words ≡ [] = subst (λ a. is_simple_and_free a ≡ true → fault_of a words ≡ []) is none free in
+    let bad : DisplayVersion ∷ [] ≡ [] = sym (version_known words ask) ∙ empty in
+    cc
+asked_in_match (Help text) app words found r is has none replay audit ask = absurd ask
+
+no_match :
+    (want : Asked) (app : App) (words : List Text) (kind : ErrorKind) (r : Result Asked Declined) → IsMatched want → app ≡ epaxos → (takes app words ≡ true → kind ≡ OutOfMemory) →
+    (kind ≡ OutOfMemory → r ≡ Err Memory) → AskFor want words → MatchResult r (λ a. a ≡ want) (λ d. d ≡ Memory)
+no_match want app words kind r matched is passes memory ask =
+    has_no_memory want r (memory (passes (subst (λ a. takes a words ≡ true) (sym is) (taken want words matched ask))))
+
+versions_by :
+    (kind : ErrorKind) (kinds : List ErrorKind) (r : Result Asked Declined) → kinds ≡ DisplayVersion ∷ [] → (kind ≡ OutOfMemory) ⊎ IsAmong kind kinds → (kind ≡ OutOfMemory → r ≡ Err Memory) →
+    (kind ≡ DisplayVersion → r ≡ Ok Version) → MatchResult r (λ a. a ≡ Version) (λ d. d ≡ Memory)
+versions_by kind kinds r is (inl none) memory version = has_no_memory Version r (memory none)
+versions_by kind kinds r is (inr known) memory version =
+    let among : (kind ≡ DisplayVersion) ⊎ ⊥ = subst (λ ks. IsAmong kind ks) is known in
+    asks Version r (version (elim among [ inl h ↦ h | inr h ↦ absurd h ]))
+
+-- the answer where it finds none
+pub asked_in_place :
+    (want : Asked) (app : App) (words : List Text) (kind : ErrorKind) (r : Result Asked Declined) → app ≡ epaxos → (takes app words ≡ true → kind ≡ OutOfMemory) →
+    (is_simple_and_free app ≡ true → (kind ≡ OutOfMemory) ⊎ IsAmong kind (fault_of app words)) → (kind ≡ OutOfMemory → r ≡ Err Memory) →
+    (kind ≡ DisplayVersion → r ≡ Ok Version) → AskFor want words → MatchResult r (λ a. a ≡ want) (λ d. d ≡ Memory)
+asked_in_place (Replay emit) app words kind r is passes has memory version ask = no_match (Replay emit) app words kind r tt is passes memory ask
+asked_in_place Audit app words kind r is passes has memory version ask = no_match Audit app words kind r tt is passes memory ask
+asked_in_place Version app words kind r is passes has memory version ask =
+    versions_by kind (fault_of epaxos words) r (version_known words ask)
+    (subst (λ a. is_simple_and_free a ≡ true → (kind ≡ OutOfMemory) ⊎ IsAmong kind (fault_of a words)) is has free) memory version
+asked_in_place (Help text) app words kind r is passes has memory version ask = absurd ask
 
 pub is_report : (what : Text) (o : Option Text) → Some what ≡ o → Names o Report → what ≡ codes "report"
 is_report what o is (inl none) = let e : Some what ≡ None = is ∙ none in cc
 is_report what o is (inr some) = let e : Some what ≡ Some (codes "report") = is ∙ some in cc
 
 pub named_as :
-    (emit : Emit) (what : Text) (o : Option Text) (r : Result Emit Fault) → Some what ≡ o → (what ≡ codes "report" → r ≡ Ok Report) → (what ≡ codes "bundle" → r ≡ Ok Bundle) →
+    (emit : Emit) (what : Text) (o : Option Text) (r : Result Emit Declined) → Some what ≡ o → (what ≡ codes "report" → r ≡ Ok Report) → (what ≡ codes "bundle" → r ≡ Ok Bundle) →
     Names o emit → r ≡ Ok emit
 named_as Report what o r is report bundle names = report (is_report what o is names)
 named_as Bundle what o r is report bundle names = bundle (let e : Some what ≡ Some (codes "bundle") = is ∙ names in cc)
@@ -204,7 +284,7 @@ none_named : (emit : Emit) (o : Option Text) → None ≡ o → Names o emit →
 none_named Report o is names = refl
 none_named Bundle o is names = let bad : None ≡ Some (codes "bundle") = is ∙ names in cc
 
-pub not_named : (emit : Emit) (o : Option Text) (r : Result Emit Fault) → r ≡ Ok Report → None ≡ o → Names o emit → r ≡ Ok emit
+pub not_named : (emit : Emit) (o : Option Text) (r : Result Emit Declined) → r ≡ Ok Report → None ≡ o → Names o emit → r ≡ Ok emit
 not_named emit o r reports is names = subst (λ e. r ≡ Ok e) (none_named emit o is names) reports
 
 module _ {Z : Type 0} where
@@ -252,11 +332,11 @@ audit_named m found = sym (name_by m) ∙ found
 pub replay_no_audit : (m : ArgMatches) → subcommand_name_of m ≡ Some (codes "replay") → MetAudit (subcommand_rows_of m) → ⊥
 replay_no_audit m named found = let bad : Some (codes "replay") ≡ Some (codes "audit") = sym named ∙ audit_named m found in cc
 
-pub as_replay : (e emit : Emit) (r : Result Emit Fault) (x : Result Asked Fault) → r ≡ Ok e → x ≡ Ok (Replay e) → r ≡ Ok emit → x ≡ Ok (Replay emit)
+pub as_replay : (e emit : Emit) (r : Result Emit Declined) (x : Result Asked Declined) → r ≡ Ok e → x ≡ Ok (Replay e) → r ≡ Ok emit → x ≡ Ok (Replay emit)
 as_replay e emit r x is gives wants =
     let same : Ok e ≡ Ok emit = sym is ∙ wants in
     let equal : e ≡ emit = cc in
     gives ∙ ap (λ (y : Emit). Ok (Replay y)) equal
 
-pub err_not_ok : (e : Fault) (x : Emit) (r : Result Emit Fault) → r ≡ Err e → r ≡ Ok x → ⊥
+pub err_not_ok : (e : Declined) (x : Emit) (r : Result Emit Declined) → r ≡ Err e → r ≡ Ok x → ⊥
 err_not_ok e x r is other = let bad : Err e ≡ Ok x = sym is ∙ other in cc

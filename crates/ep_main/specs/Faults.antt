@@ -5,7 +5,7 @@ use Rattle.ep_bundle.specs.declared.bundle_fault.BundleFault.TheVariants as bund
 use Rattle.ep_script.specs.declared.script_fault.ScriptFault.{ScriptFault}
 use Rattle.ep_script.specs.declared.script_fault.ScriptFault.TheVariants as script
 use Rattle.ep_main.specs.declared.fault.Fault.{Fault}
-use Rattle.ep_main.specs.declared.fault.Fault.TheVariants.{CommandLine, Script, BadBundle, NotARun, Memory, Read, Write}
+use Rattle.ep_main.specs.declared.fault.Fault.TheVariants.{Script, BadBundle, NotARun, Memory, Read, Write}
 use Rattle.ep_main.specs.declared.status.Status.{Status}
 use Rattle.ep_main.specs.declared.status.Status.TheVariants.{Accepted, AuditRefused, Refused, OutOfMemory, Failed}
 
@@ -17,6 +17,7 @@ code_of Refused = 2
 code_of OutOfMemory = 3
 code_of Failed = 4
 
+-- the first line; what is wrong with the words follows
 abbrev pub command_line_refused : List ℕ
 command_line_refused = codes "command line refused\n"
 
@@ -41,7 +42,6 @@ abbrev pub writing_failed : List ℕ
 writing_failed = codes "writing failed\n"
 
 abbrev pub line_of : Fault → List ℕ
-line_of CommandLine = command_line_refused
 line_of (Script line) = script_refused line
 line_of (BadBundle offset) = bad_bundle offset
 line_of (NotARun replica entry) = not_a_run replica entry
@@ -50,7 +50,6 @@ line_of Read = reading_failed
 line_of Write = writing_failed
 
 abbrev pub status_of : Fault → Status
-status_of CommandLine = Refused
 status_of (Script line) = Refused
 status_of (BadBundle offset) = Refused
 status_of (NotARun replica entry) = Refused
@@ -60,7 +59,6 @@ status_of Write = Failed
 
 -- the reader's own fault
 abbrev pub is_read : Fault → Bool
-is_read CommandLine = false
 is_read (Script line) = false
 is_read (BadBundle offset) = false
 is_read (NotARun replica entry) = false
@@ -70,7 +68,6 @@ is_read Write = false
 
 -- the writer's own fault
 abbrev pub is_write : Fault → Bool
-is_write CommandLine = false
 is_write (Script line) = false
 is_write (BadBundle offset) = false
 is_write (NotARun replica entry) = false
@@ -90,13 +87,3 @@ of_bundle bundle.Memory = Memory
 of_bundle bundle.ReadFailed = Read
 of_bundle (bundle.BadBundle offset) = BadBundle offset
 of_bundle (bundle.NotARun replica entry) = NotARun replica entry
-
--- the words are refused, or memory was
-abbrev pub DeclinesBy : Fault → Type 0
-DeclinesBy CommandLine = Unit {0}
-DeclinesBy (Script line) = ⊥
-DeclinesBy (BadBundle offset) = ⊥
-DeclinesBy (NotARun replica entry) = ⊥
-DeclinesBy Memory = Unit {0}
-DeclinesBy Read = ⊥
-DeclinesBy Write = ⊥

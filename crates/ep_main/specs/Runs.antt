@@ -1,5 +1,5 @@
 -- What the program does, by the status that it answers: of the bytes zs that it reads, its reader, its output and its fault output.
-use Rattle.std.specs.Prelude.{◌≡◌, ◌⊎◌, ℕ, true, List, Result, Ok, Err, string_bytes}
+use Rattle.std.specs.Prelude.{◌≡◌, ◌⊎◌, ◌++◌, ℕ, true, List, Result, Ok, Err, codes, string_bytes}
 use Rattle.ep_bundle.specs.Journals.{ReadsBundle}
 use Rattle.ep_bundle.specs.declared.bundle_fault.BundleFault.TheVariants as bundle
 use Rattle.ep_script.specs.Plan.{Plan, script_of}
@@ -9,10 +9,12 @@ use Rattle.ep_main.specs.Faults.{command_line_refused, script_refused, bad_bundl
 use Rattle.ep_main.specs.Outputs.{Input, Output, Wrote, WroteNothing, Told, NoneFailed, InputFailed, OutputFailed}
 use Rattle.ep_main.specs.Reported.{IsReport}
 use Rattle.ep_main.specs.declared.asked.Asked.{Asked}
-use Rattle.ep_main.specs.declared.asked.Asked.TheVariants.{Replay, Audit, Help}
+use Rattle.ep_main.specs.declared.asked.Asked.TheVariants.{Replay, Audit, Version, Help}
+use Rattle.ep_main.specs.declared.declined.Declined.{Declined}
+use Rattle.ep_main.specs.declared.declined.Declined.TheVariants as declined
 use Rattle.ep_main.specs.declared.asked.Emit.TheVariants.{Report, Bundle}
 use Rattle.ep_main.specs.declared.fault.Fault.{Fault}
-use Rattle.ep_main.specs.declared.fault.Fault.TheVariants.{CommandLine, Script, BadBundle, NotARun, Memory, Read, Write}
+use Rattle.ep_main.specs.declared.fault.Fault.TheVariants.{Script, BadBundle, NotARun, Memory, Read, Write}
 use Rattle.ep_main.specs.declared.status.Status.{Status}
 use Rattle.ep_main.specs.declared.status.Status.TheVariants.{Accepted, AuditRefused, Refused, OutOfMemory, Failed}
 
@@ -79,6 +81,18 @@ Audits Refused zs reader out fault = IsBadBundle zs out fault ⊎ IsNotARun zs o
 Audits OutOfMemory zs reader out fault = IsOutOfMemory out fault
 Audits Failed zs reader out fault = HasFailed reader out fault
 
+-- the program's name and its version
+abbrev pub version_line : List ℕ
+version_line = codes "epaxos 0.1.0\n"
+
+-- the version
+abbrev pub Versions : Status → Output → Output → Type 0
+Versions Accepted out fault = Wrote out version_line × WroteNothing fault
+Versions AuditRefused out fault = ⊥
+Versions Refused out fault = ⊥
+Versions OutOfMemory out fault = IsOutOfMemory out fault
+Versions Failed out fault = (out.failed ≡ true) × Told fault writing_failed
+
 -- help, with this text
 abbrev pub Helps : Status → List ℕ → Output → Output → Type 0
 Helps Accepted text out fault = Wrote out text × WroteNothing fault
@@ -99,11 +113,12 @@ abbrev pub Performs : Asked → Status → List ℕ → Input → Output → Out
 Performs (Replay Report) status zs reader out fault = Replays status zs reader out fault
 Performs (Replay Bundle) status zs reader out fault = Emits status zs reader out fault
 Performs Audit status zs reader out fault = Audits status zs reader out fault
+Performs Version status zs reader out fault = Versions status out fault
 Performs (Help text) status zs reader out fault = Helps status (string_bytes text) out fault
 
--- the words ask for nothing that there is, or memory was refused before they were read
+-- the words ask for nothing that there is, which is told with what is wrong with them, or memory was refused before they were read
 abbrev pub Declines : Status → Output → Output → Type 0
-Declines Refused out fault = WroteNothing out × Told fault command_line_refused
+Declines Refused out fault = WroteNothing out × ((why : List ℕ) × Told fault (command_line_refused ++ why))
 Declines OutOfMemory out fault = IsOutOfMemory out fault
 Declines Accepted out fault = ⊥
 Declines AuditRefused out fault = ⊥
@@ -130,7 +145,6 @@ IsVerdict Failed = ⊥
 
 abbrev pub Plays : Result Status Fault → List ℕ → Output → Type 0
 Plays (Ok status) zs out = (status ≡ Accepted) × IsReplayed zs out
-Plays (Err CommandLine) zs out = ⊥
 Plays (Err (Script line)) zs out = (script_of zs ≡ Err line) × WroteNothing out
 Plays (Err (BadBundle offset)) zs out = ⊥
 Plays (Err (NotARun replica entry)) zs out = ⊥
@@ -140,7 +154,6 @@ Plays (Err Write) zs out = Unit {0}
 
 abbrev pub Leaves : Result Status Fault → List ℕ → Output → Type 0
 Leaves (Ok status) zs out = (status ≡ Accepted) × IsBundled zs out
-Leaves (Err CommandLine) zs out = ⊥
 Leaves (Err (Script line)) zs out = (script_of zs ≡ Err line) × WroteNothing out
 Leaves (Err (BadBundle offset)) zs out = ⊥
 Leaves (Err (NotARun replica entry)) zs out = ⊥
@@ -150,7 +163,6 @@ Leaves (Err Write) zs out = Unit {0}
 
 abbrev pub Finishes : Result Status Fault → List ℕ → Output → Type 0
 Finishes (Ok status) zs out = IsAudit status zs out
-Finishes (Err CommandLine) zs out = ⊥
 Finishes (Err (Script line)) zs out = ⊥
 Finishes (Err (BadBundle offset)) zs out = ReadsBundle (record { at = 0; bytes = zs }) (Err (bundle.BadBundle offset)) × WroteNothing out
 Finishes (Err (NotARun replica entry)) zs out = ReadsBundle (record { at = 0; bytes = zs }) (Err (bundle.NotARun replica entry)) × WroteNothing out
@@ -160,7 +172,6 @@ Finishes (Err Write) zs out = Unit {0}
 
 abbrev pub Prints : Result Status Fault → List ℕ → Output → Type 0
 Prints (Ok status) text out = (status ≡ Accepted) × Wrote out text
-Prints (Err CommandLine) text out = ⊥
 Prints (Err (Script line)) text out = ⊥
 Prints (Err (BadBundle offset)) text out = ⊥
 Prints (Err (NotARun replica entry)) text out = ⊥
@@ -172,7 +183,13 @@ abbrev pub Does : Asked → Result Status Fault → List ℕ → Output → Type
 Does (Replay Report) outcome zs out = Plays outcome zs out
 Does (Replay Bundle) outcome zs out = Leaves outcome zs out
 Does Audit outcome zs out = Finishes outcome zs out
+Does Version outcome zs out = Prints outcome version_line out
 Does (Help text) outcome zs out = Prints outcome (string_bytes text) out
+
+-- why nothing is done is told, and decides on the status
+abbrev pub TellsWhy : Declined → Status → Output → Type 0
+TellsWhy (declined.Words why) status fault = (status ≡ Refused) × Told fault (command_line_refused ++ string_bytes why)
+TellsWhy declined.Memory status fault = (status ≡ OutOfMemory) × Told fault out_of_memory
 
 -- a fault is told, and decides on the status
 abbrev pub Concludes : Result Status Fault → Status → Output → Type 0

@@ -7,6 +7,8 @@ pub enum Asked {
     Replay(Emit),
     /// To audit a bundle.
     Audit,
+    /// The program's name and its version.
+    Version,
     /// Help: this text.
     Help(String),
 }

@@ -13,8 +13,6 @@ use std::alloc::AllocError;
 /// Why the program ends before its work is done.
 #[derive(Clone, Copy, Debug, PartialEq, Eq)]
 pub enum Fault {
-    /// The words of the command line are none that the program knows.
-    CommandLine,
     /// The script is refused; this is the first line at fault, counted from 1.
     Script(u32),
     /// The bundle is refused; this is the offset of its first field at fault, counted from 0.
@@ -35,8 +33,7 @@ impl Fault {
         ensures { result ≡ status_of self.now }
     {
         match self {
-            Fault::CommandLine | Fault::Script(_) | Fault::BadBundle(_) | Fault::NotARun(_, _) =>
-                Status::Refused,
+            Fault::Script(_) | Fault::BadBundle(_) | Fault::NotARun(_, _) => Status::Refused,
             Fault::Memory => Status::OutOfMemory,
             Fault::Read | Fault::Write => Status::Failed,
         }

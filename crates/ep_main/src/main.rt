@@ -6,12 +6,14 @@
 //! Start with `program.rt`, `command_line.rt` (the words, by `clap`) and specs/Runs.antt (what is done, by status).
 //!
 //! It does no more than call `ep_replay`, `ep_audit` and `ep_bundle`. A fault has one line on the fault output and one status
-//! (`fault.rt`, `telling.rt`, `status.rt`), as docs/FORMATS.md, section 6, lists them.
+//! (`fault.rt`, `declined.rt`, `telling.rt`, `status.rt`), as docs/FORMATS.md, section 6, lists them.
 #![tactic(auto)]
 
+mod ahead;
 mod asked;
 mod auditing;
 mod command_line;
+mod declined;
 mod fault;
 mod judged;
 mod program;
@@ -21,35 +23,46 @@ mod telling;
 #[cfg(test)]
 mod tests;
 
-use crate::fault::Fault;
-use crate::program::{concluded, engine};
-use ep_base::Noted;
-use std::io::ErrorKind;
+use crate::ahead::read_ahead;
+use crate::declined::Declined;
+use crate::program::{decline, engine};
+use crate::status::Status;
+use ep_base::{Noted, Sink};
+use std::io::{ErrorKind, Read};
 use std::process::ExitCode;
 use std::rt::Env;
 
 fn main(rt: HostRuntime) -> ExitCode {
-    let mut reader = Noted::new(rt.stdin());
     let mut writer = Noted::new(rt.stdout());
     let mut fault_writer = Noted::new(rt.stderr());
-    let status = match words(&rt) {
-        Ok(words) => engine(
-            rt.alloc(),
-            words.as_slice(),
-            &mut reader,
-            &mut writer,
-            &mut fault_writer,
-        ),
-        Err(fault) => concluded(Err(fault), &mut fault_writer),
+    let status = match run(&rt, rt.stdin(), &mut writer, &mut fault_writer) {
+        Ok(status) => status,
+        Err(why) => decline(why, &mut fault_writer),
     };
     ExitCode::from(status.code())
 }
 
+/// Runs the program, unless its words, or memory to read ahead, can't be had.
+fn run<R: Env + AllocGlobal, I: Read + Drop, W: Sink, F: Sink>(
+    rt: &R,
+    input: I,
+    writer: &mut W,
+    fault_writer: &mut F,
+) -> Result<Status, Declined> {
+    let alloc = rt.alloc();
+    let words = words(rt)?;
+    let mut reader = read_ahead(alloc, input)?;
+    Ok(engine(alloc, words.as_slice(), &mut reader, writer, fault_writer))
+}
+
 /// The words of the command line, of which the first is the program's own name.
-fn words<R: Env + AllocGlobal>(rt: &R) -> Result<Vec<String>, Fault> {
+fn words<R: Env + AllocGlobal>(rt: &R) -> Result<Vec<String>, Declined> {
     match std::env::args(rt) {
         Ok(words) => Ok(words.collect(rt.alloc())?),
-        Err(error) if error.kind() == ErrorKind::OutOfMemory => Err(Fault::Memory),
-        Err(_) => Err(Fault::CommandLine),
+        Err(error) if error.kind() == ErrorKind::OutOfMemory => Err(Declined::Memory),
+        Err(_) => Err(Declined::Words(String::from_str(
+            rt.alloc(),
+            "error: a word is not text in UTF-8\n\nFor more information, try '--help'.\n",
+        )?)),
     }
 }

@@ -4,17 +4,18 @@ ghost use Rattle.std.specs.Prelude.{◌≡◌, ◌⊎◌, ℕ, List, Some, IfOk,
 ghost use Rattle.ep_base.specs.Devices.{FailsAsTold};
 ghost use Rattle.ep_main.specs.Faults.{is_read, is_write};
 ghost use Rattle.ep_main.specs.Outputs.{input, output};
-ghost use Rattle.ep_main.specs.Runs.{Performs, IsHelped, Declines, Ends, Does, Concludes, IsVerdict};
+ghost use Rattle.ep_main.specs.Runs.{Performs, IsHelped, Declines, Ends, Does, Concludes, IsVerdict, TellsWhy};
 ghost use Rattle.ep_main.specs.Words.{AskFor, AskForHelp, IsAsked};
 ghost use Rattle.ep_main.specs.declared.asked.Asked.{Asked};
 
 use crate::asked::{Asked, Emit};
 use crate::auditing::print_audit;
 use crate::command_line::read_words;
+use crate::declined::Declined;
 use crate::fault::Fault;
 use crate::replaying::{emit_bundle, print_replay};
 use crate::status::Status;
-use crate::telling::tell;
+use crate::telling::{tell, tell_words};
 use ep_base::{Sink, Source};
 use std::alloc::Global;
 use std::convert::AsStr;
@@ -23,8 +24,8 @@ use std::convert::AsStr;
 ///
 /// `replay` reads a script to its end, plays it, audits what it leaves, and writes the report in one go, or, with `--emit
 /// bundle`, the bundle of that. `audit` reads a bundle to its end, audits it, and writes what the audit says in one go.
-/// What stops it (a refused command line, script or bundle, want of memory, a reader or a writer that fails) is told by
-/// one line on the fault output; where that one fails, the status stays.
+/// What stops it (a refused script or bundle, want of memory, a reader or a writer that fails) is told by one line on the
+/// fault output; a refused command line by one, and what is wrong with it after that. Where telling fails, the status stays.
 pub fn engine<T: AsStr, S: Source, W: Sink, F: Sink>(
     alloc: Global,
     words: &[T],
@@ -32,7 +33,7 @@ pub fn engine<T: AsStr, S: Source, W: Sink, F: Sink>(
     writer: &mut W,
     fault_writer: &mut F,
 ) -> Status
-    // where the words ask for a replay's report, for its bundle, or for an audit, that is done
+    // where the words ask for a replay's report, for its bundle, for an audit, or for the version, that is done
     ensures asked { (asked : Asked) → AskFor asked (map T.text words.now) → (zs : List ℕ) → S.left reader.old ≡ Some zs → Performs asked result zs (input (S.has_failed reader.old) (S.has_failed reader.new))
         (output (W.held writer.old) (W.held writer.new) (W.has_failed writer.old) (W.has_failed writer.new))
         (output (F.held fault_writer.old) (F.held fault_writer.new) (F.has_failed fault_writer.old) (F.has_failed fault_writer.new)) }
@@ -57,7 +58,20 @@ pub fn engine<T: AsStr, S: Source, W: Sink, F: Sink>(
 {
     match read_words(alloc, words) {
         Ok(asked) => perform(alloc, asked, reader, writer, fault_writer),
-        Err(fault) => concluded(Err(fault), fault_writer),
+        Err(why) => decline(why, fault_writer),
+    }
+}
+
+/// How the program ends where it does nothing. Why is told on the fault output; where that fails, the status stays.
+pub(crate) fn decline<F: Sink>(why: Declined, fault_writer: &mut F) -> Status
+    ensures { TellsWhy why result (output (F.held fault_writer.old) (F.held fault_writer.new) (F.has_failed fault_writer.old) (F.has_failed fault_writer.new)) }
+{
+    match why {
+        Declined::Words(text) => {
+            let _ = tell_words(text.as_str(), fault_writer);
+            Status::Refused
+        }
+        Declined::Memory => concluded(Err(Fault::Memory), fault_writer),
     }
 }
 
@@ -97,6 +111,10 @@ fn attempt<S: Source, W: Sink>(
         Asked::Replay(Emit::Report) => print_replay(alloc, reader, writer),
         Asked::Replay(Emit::Bundle) => emit_bundle(alloc, reader, writer),
         Asked::Audit => print_audit(alloc, reader, writer),
+        Asked::Version => {
+            writer.put(b"epaxos 0.1.0\n")?;
+            Ok(Status::Accepted)
+        }
         Asked::Help(text) => {
             writer.put(text.as_bytes())?;
             Ok(Status::Accepted)
@@ -105,7 +123,7 @@ fn attempt<S: Source, W: Sink>(
 }
 
 /// How the program ends. A fault is told on the fault output; where that fails, the status stays.
-pub(crate) fn concluded<F: Sink>(outcome: Result<Status, Fault>, fault_writer: &mut F) -> Status
+fn concluded<F: Sink>(outcome: Result<Status, Fault>, fault_writer: &mut F) -> Status
     ensures { Concludes outcome result (output (F.held fault_writer.old) (F.held fault_writer.new) (F.has_failed fault_writer.old) (F.has_failed fault_writer.new)) }
 {
     match outcome {

@@ -1,7 +1,8 @@
 //! Replays.
 
-ghost use Rattle.std.specs.Prelude.{◌≡◌, ℕ, List, Some, IfOk, IfErr};
+ghost use Rattle.std.specs.Prelude.{◌≡◌, ◌<◌, ◌^◌, ℕ, List, Some, length, IfOk, IfErr};
 ghost use Rattle.ep_base.specs.Devices.{FailsAsTold};
+ghost use Rattle.ep_bundle.specs.Bytes.{bundle_bytes};
 ghost use Rattle.ep_main.specs.Faults.{is_read, is_write};
 ghost use Rattle.ep_main.specs.Outputs.{output};
 ghost use Rattle.ep_main.specs.Reported.{IsReportOf};
@@ -13,7 +14,7 @@ ghost use Rattle.ep_main.specs.declared.fault.Fault.TheVariants.{Memory};
 use crate::fault::Fault;
 use crate::status::Status;
 use ep_audit::{Refusal, audit};
-use ep_base::{Sink, Source};
+use ep_base::{Noted, Sink, Source};
 use ep_bundle::write_bundle;
 use ep_replay::{Replayed, replay};
 use ep_report::report;
@@ -53,8 +54,22 @@ pub(crate) fn emit_bundle<S: Source, W: Sink>(
 {
     let script = read_script(alloc, reader)?;
     let played = replay(alloc, &script)?;
-    write_bundle(&played.journals, played.receipts.as_slice(), writer)?;
+    let bundle = bundle_of(alloc, &played)?;
+    writer.put(bundle.as_slice())?;
     Ok(Status::Accepted)
+}
+
+/// The bytes of the bundle of what a script's run left. They are gathered first and then put in one go, as a report's are.
+fn bundle_of(alloc: Global, played: &Replayed) -> Result<Vec<u8>, Fault>
+    requires { length played.now.receipts.items < 2 ^ 32 }
+    ensures value { IfOk result (λ bytes. bytes.items ≡ bundle_bytes played.now.journals played.now.receipts.items) }
+    ensures memory { IfErr result (λ e. e ≡ Memory) }
+{
+    let mut gathered = Noted::new(Vec::new(alloc));
+    match write_bundle(&played.journals, played.receipts.as_slice(), &mut gathered) {
+        Ok(()) => Ok(gathered.into_inner()),
+        Err(_) => Err(Fault::Memory),
+    }
 }
 
 /// The report of what a script's run left, which the audit accepts.

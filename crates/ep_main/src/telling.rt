@@ -2,7 +2,7 @@
 
 ghost use Rattle.std.specs.Prelude.{◌++◌, decimal};
 ghost use Rattle.ep_base.specs.Devices.{Puts};
-ghost use Rattle.ep_main.specs.Faults.{line_of, script_refused, bad_bundle, not_a_run};
+ghost use Rattle.ep_main.specs.Faults.{command_line_refused, line_of, script_refused, bad_bundle, not_a_run};
 
 use crate::fault::Fault;
 use ep_base::{ReplicaId, Sink, WriteFailed};
@@ -13,7 +13,6 @@ pub(crate) fn tell<F: Sink>(fault: Fault, sink: &mut F) -> Result<(), WriteFaile
     ensures { Puts (F.held sink.old) (F.held sink.new) (F.has_failed sink.old) (F.has_failed sink.new) result (line_of fault) }
 {
     match fault {
-        Fault::CommandLine => sink.put(b"command line refused\n"),
         Fault::Script(line) => tell_refused(line, sink),
         Fault::BadBundle(offset) => tell_bad_bundle(offset, sink),
         Fault::NotARun(replica, entry) => tell_not_a_run(replica, entry, sink),
@@ -21,6 +20,14 @@ pub(crate) fn tell<F: Sink>(fault: Fault, sink: &mut F) -> Result<(), WriteFaile
         Fault::Read => sink.put(b"reading failed\n"),
         Fault::Write => sink.put(b"writing failed\n"),
     }
+}
+
+/// Writes that the words of the command line are refused, and why. It takes no memory.
+pub(crate) fn tell_words<F: Sink>(why: &str, sink: &mut F) -> Result<(), WriteFailed>
+    ensures { Puts (F.held sink.old) (F.held sink.new) (F.has_failed sink.old) (F.has_failed sink.new) result (command_line_refused ++ why.now) }
+{
+    sink.put(b"command line refused\n")?;
+    sink.put(why.as_bytes())
 }
 
 fn tell_refused<F: Sink>(line: u32, sink: &mut F) -> Result<(), WriteFailed>

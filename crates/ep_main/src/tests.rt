@@ -1,13 +1,11 @@
 //! The program over memory: what it writes, and how it ends.
 
 mod audits;
+mod calls;
 mod failing;
 mod grammar;
 mod limits;
-mod one_put;
-mod recovering;
-mod several;
-mod slow_path;
+mod refused_events;
 mod word_lists;
 
 use crate::program::engine;

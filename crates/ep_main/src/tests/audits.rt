@@ -182,7 +182,7 @@ fn readers_and_writers_that_fail(rt: HostRuntime) {
 
     let words = ["epaxos", "replay", "--emit", "bundle"];
     let mut reader = Noted::new(b"replicas 3\n".as_slice());
-    let mut writer = FailAt::new(Noted::new(Vec::new(alloc)), 2);
+    let mut writer = FailAt::new(Noted::new(Vec::new(alloc)), 1);
     let mut fault_writer = Noted::new(Vec::new(alloc));
     let status = engine(alloc, &words, &mut reader, &mut writer, &mut fault_writer);
     assert!(rt; status == Status::Failed);

@@ -25,16 +25,20 @@ fn replays(alloc: Global, words: &[&str]) -> bool {
     )
 }
 
-/// Whether these words are refused.
-fn refuses(alloc: Global, words: &[&str]) -> bool {
-    ends(
-        alloc,
-        words,
-        b"replicas 3\n",
-        Status::Refused,
-        b"",
-        b"command line refused\n",
-    )
+/// Whether these words are refused, which is told in lines that begin so and end with a pointer to help.
+fn refuses(alloc: Global, words: &[&str], begins: &[u8]) -> bool {
+    let mut reader = Noted::new(b"replicas 3\n".as_slice());
+    let mut writer = Noted::new(Vec::new(alloc));
+    let mut fault_writer = Noted::new(Vec::new(alloc));
+    let status = engine(alloc, words, &mut reader, &mut writer, &mut fault_writer);
+    let told = fault_writer.inner().as_slice();
+    let Some(why) = told.strip_prefix(b"command line refused\nerror: ".as_slice()) else {
+        return false;
+    };
+    status == Status::Refused
+        && writer.inner().is_empty()
+        && why.starts_with(begins)
+        && why.ends_with(b"\n\nFor more information, try '--help'.\n")
 }
 
 /// Whether these words have a text printed that begins so.
@@ -57,25 +61,50 @@ fn words_of_a_replay(rt: HostRuntime) {
 
 #[test]
 fn words_that_are_refused(rt: HostRuntime) {
-    assert!(rt; refuses(rt.alloc(), &[]));
-    assert!(rt; refuses(rt.alloc(), &["epaxos"]));
-    assert!(rt; refuses(rt.alloc(), &["epaxos", ""]));
-    assert!(rt; refuses(rt.alloc(), &["epaxos", "replays"]));
-    assert!(rt; refuses(rt.alloc(), &["epaxos", "replay", "report"]));
-    assert!(rt; refuses(rt.alloc(), &["epaxos", "replay", "--emit"]));
-    assert!(rt; refuses(rt.alloc(), &["epaxos", "replay", "--emit", "Report"]));
-    assert!(rt; refuses(rt.alloc(), &["epaxos", "replay", "--emit", ""]));
-    assert!(rt; refuses(rt.alloc(), &["epaxos", "replay", "--turns", "1"]));
+    let alloc = rt.alloc();
+    let begins = b"'epaxos' requires a subcommand";
+    assert!(rt; refuses(alloc, &[], begins));
+    assert!(rt; refuses(alloc, &["epaxos"], begins));
+    let begins = b"unrecognized subcommand 'replays'";
+    assert!(rt; refuses(alloc, &["epaxos", "replays"], begins));
+    let begins = b"unexpected argument 'report' found";
+    assert!(rt; refuses(alloc, &["epaxos", "replay", "report"], begins));
+    let begins = b"unexpected argument '--emti' found";
+    assert!(rt; refuses(alloc, &["epaxos", "replay", "--emti", "report"], begins));
+    let begins = b"a value is required for '--emit <WHAT>'";
+    assert!(rt; refuses(alloc, &["epaxos", "replay", "--emit"], begins));
+    let begins = b"invalid value \"Report\" for '--emit <WHAT>'";
+    assert!(rt; refuses(alloc, &["epaxos", "replay", "--emit", "Report"], begins));
+    let begins = b"the argument '--emit <WHAT>' cannot be used multiple times";
     assert!(rt;
         refuses(
-            rt.alloc(),
-            &["epaxos", "replay", "--emit", "report", "--emit", "report"]
+            alloc,
+            &["epaxos", "replay", "--emit", "report", "--emit", "report"],
+            begins
         )
     );
-    assert!(rt; refuses(rt.alloc(), &["epaxos", "--emit", "report", "replay"]));
-    assert!(rt; refuses(rt.alloc(), &["epaxos", "--version"]));
-    assert!(rt; refuses(rt.alloc(), &["epaxos", "audit", "--emit", "report"]));
-    assert!(rt; refuses(rt.alloc(), &["epaxos", "audit", "bundle"]));
+    let begins = b"unexpected argument '--emit' found";
+    assert!(rt; refuses(alloc, &["epaxos", "--emit", "report", "replay"], begins));
+    assert!(rt; refuses(alloc, &["epaxos", "audit", "--emit", "report"], begins));
+    let begins = b"unexpected argument 'bundle' found";
+    assert!(rt; refuses(alloc, &["epaxos", "audit", "bundle"], begins));
+}
+
+#[test]
+fn words_that_ask_for_the_version(rt: HostRuntime) {
+    let line = b"epaxos 0.1.0\n";
+    for word in ["--version", "-V"] {
+        assert!(rt;
+            ends(
+                rt.alloc(),
+                &["epaxos", word],
+                b"",
+                Status::Accepted,
+                line,
+                b""
+            )
+        );
+    }
 }
 
 #[test]
@@ -86,7 +115,9 @@ fn words_that_ask_for_help(rt: HostRuntime) {
     assert!(rt; helps(rt.alloc(), &["epaxos", "help"], about));
     let about = b"Reads a script";
     assert!(rt; helps(rt.alloc(), &["epaxos", "replay", "--help"], about));
+    assert!(rt; helps(rt.alloc(), &["epaxos", "replay", "-h"], about));
     assert!(rt; helps(rt.alloc(), &["epaxos", "help", "replay"], about));
     let about = b"Reads a bundle";
     assert!(rt; helps(rt.alloc(), &["epaxos", "audit", "--help"], about));
+    assert!(rt; helps(rt.alloc(), &["epaxos", "audit", "-h"], about));
 }
