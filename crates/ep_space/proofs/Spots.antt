@@ -95,7 +95,7 @@ absent i (k ∷ ks) e = go (same i k) e (absent i ks)
 
 -- Slots.
 
-slot-is : (i j : ℕ) → IsInstance i → IsInstance j → slot i ≡ slot j → i ≡ j
+pub slot-is : (i j : ℕ) → IsInstance i → IsInstance j → slot i ≡ slot j → i ≡ j
 slot-is i j h k e = let a = h.0 in let b = k.0 in omega (arith, a, b, e)
 
 pub spots-same : (ns more ks : List ℕ) → AreSpots ns ks → ((k : ℕ) → slice_index_or more k 0 ≡ slice_index_or ns k 0) → AreSpots more ks
