@@ -1,10 +1,10 @@
-//! Frames: messages as bytes, borrowed views of them, and writing them.
+//! Frames: messages as bytes that are checked once, borrowed views of them, and writing them.
 //!
-//! `ep_journal` writes and reads every frame by this crate; a program that carries frames asks `FrameView` for the receiver.
+//! `ep_journal` writes and reads every frame by this crate; a program that carries frames asks `Frame` for the receiver.
 //! It keeps to docs/FORMATS.md, section 1: bytes that spell a message spell one, and other bytes have a first fault.
 //!
-//! Start with `view.rt` (reading) and `writing.rt`. specs/Spelling.antt says which bytes spell which message,
-//! specs/Faults.antt the faults in their order.
+//! Start with `frame.rt` (what is known to be a frame), `view.rt` (reading) and `writing.rt`. specs/Spelling.antt says which
+//! bytes spell which message, specs/Faults.antt the faults in their order.
 //!
 //! A field's place is in specs/Fields.antt and `layout.rt`. Another kind of message or a wider field is another version of
 //! the format, and `one_spelling` has to hold of it too.

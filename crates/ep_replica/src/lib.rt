@@ -1,6 +1,7 @@
 //! A replica: what it knows is what its journal leaves. It takes events, one entry each, by its clock, and gives receipts.
 //!
-//! This is the crate to build on: a program hands events to `Replica::take`, keeps the new entry, and sends its frames.
+//! This is the crate to build on: a program hands events to `Replica::take`, and what comes from outside to `Replica::handle`,
+//! keeps the new entry, and sends its frames.
 //! docs/EMBEDDING.md tells how, and `ep_example` does it. `ep_world` holds replicas too.
 //!
 //! Start with `replica.rt`, then specs/Applied.antt (one event), specs/Receipts.antt (what callers are told) and `clock.rt`.

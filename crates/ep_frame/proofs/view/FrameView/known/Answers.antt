@@ -1,6 +1,5 @@
 use Rattle.std.proofs.Common.{arith}
 use Rattle.ep_frame.specs.Meaning.{sender_at, origin_at, message_at}
-use Rattle.ep_frame.specs.Spelling.{Spells}
 use Rattle.ep_frame.proofs.Frames.{frame_found}
 use Rattle.ep_frame.proofs.view.FrameView.known.Goals as goal
 
