@@ -5,5 +5,6 @@ pub mod Window
 pub mod RawLines
 pub mod SoFar
 pub mod Plan
+pub mod Sections
 pub mod Outcome
 pub mod Faults

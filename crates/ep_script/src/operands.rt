@@ -3,9 +3,9 @@
 ghost use Rattle.std.specs.Prelude.{◌≡◌, ◌≤◌, IfOk, IfSome, map};
 ghost use Rattle.ep_base.specs.Quorums.{size as size_with};
 ghost use Rattle.ep_base.specs.Instances.{instance_of};
-ghost use Rattle.ep_script.specs.Grammar.{number_in, count_of, replica_of, instance_parts, parts_of, key_word, value_word, key_only, get_of, put_of, del_of, command_of, place_of};
+ghost use Rattle.ep_script.specs.Grammar.{number_in as number_between, count_of, replica_of, instance_parts, parts_of, key_word, value_word, key_only, get_of, put_of, del_of, command_of, place_of};
 
-use crate::numbers::number;
+use crate::numbers::{number, number_in};
 use crate::word::read_word;
 use crate::words::{is_word, parts};
 use ep_base::{Command, CommandFault, InstanceId, Key, ReplicaId, Size, Value};
@@ -15,12 +15,8 @@ use std::alloc::{AllocError, Global};
 pub(crate) fn count(word: &[u8]) -> Option<u32>
     ensures { result ≡ count_of word.now }
 {
-    let count = number(word)?;
-    if count >= 1 && count <= 4_294_967_295 {
-        Some(count as u32)
-    } else {
-        None
-    }
+    let count = number_in(word, 1, 4_294_967_295)?;
+    Some(count as u32)
 }
 
 /// A replica of a cluster of this size.
@@ -47,15 +43,11 @@ fn made_replica(index: u8) -> ReplicaId
 }
 
 fn instance_number(word: &[u8]) -> Option<u16>
-    ensures value { result ≡ number_in 1 1000 word.now }
+    ensures value { result ≡ number_between 1 1000 word.now }
     ensures in_range { IfSome result (λ i. (1 ≤ i) × (i ≤ 1000)) }
 {
-    let number = number(word)?;
-    if number >= 1 && number <= 1000 {
-        Some(number as u16)
-    } else {
-        None
-    }
+    let number = number_in(word, 1, 1000)?;
+    Some(number as u16)
 }
 
 fn made_instance(leader: ReplicaId, number: u16) -> InstanceId
