@@ -2,4 +2,3 @@ pub mod Spelling
 pub mod Windows
 pub mod LineLemmas
 pub mod Steps
-pub mod Cuts

@@ -39,12 +39,12 @@ line_step says n p line =
 
 -- the script is over before line n
 abbrev pub ended : {L : Type 0} → ℕ → Part L → Result (Listed L) ℕ
-ended {L} n p = option_map_or (λ (f : ℕ). Ok {A = Listed L} (record { faults = f; lines = p.lines })) p.size (Err n)
+ended n p = option_map_or (λ (f : ℕ). Ok (record { faults = f; lines = p.lines })) p.size (Err n)
 
 -- the lines from number n on: all that was listed, or the number of the first line at fault
 abbrev pub reads : {L : Type 0} → (ℕ → List (List ℕ) → Option L) → ℕ → Part L → List (List ℕ) → Result (Listed L) ℕ
 reads says n p [] = ended n p
-reads {L} says n p (l ∷ ls) = if nat_le n 100000 then option_map_or (λ (q : Part L). reads says (n + 1) q ls) (line_step says n p l) (Err n) else Err n
+reads says n p (l ∷ ls) = if nat_le n 100000 then option_map_or (λ q. reads says (n + 1) q ls) (line_step says n p l) (Err n) else Err n
 
 -- what the bytes of a script say
 abbrev pub listed_of : {L : Type 0} → (ℕ → List (List ℕ) → Option L) → List ℕ → Result (Listed L) ℕ

@@ -13,46 +13,46 @@ use std::alloc::{AllocError, Global};
 #[derive(Drop)]
 struct Sections {
     ended: Vec<Section>,
-    open: Section,
+    current: Section,
 }
 
 impl Sections {
     fn new(alloc: Global) -> Sections
         ensures ended { result.ended.items ≡ [] }
-        ensures open { result.open ≡ [] }
+        ensures current { result.current ≡ [] }
     {
         Sections {
             ended: Vec::new(alloc),
-            open: Section::new(alloc),
+            current: Section::new(alloc),
         }
     }
 
     fn take(&mut self, alloc: Global, number: u32, line: RunLine) -> Result<(), AllocError>
-        ensures { (later : List (List (ℕ × AgendaLine))) → OnOk result (all_sections self.new.ended.items self.new.open later
-            ≡ all_sections self.old.ended.items self.old.open (before_sections number line later)) }
+        ensures { (later : List (List (ℕ × AgendaLine))) → OnOk result (all_sections self.new.ended.items self.new.current later
+            ≡ all_sections self.old.ended.items self.old.current (before_sections number line later)) }
     {
         match line {
-            RunLine::Agenda(line) => self.open.push(number, line),
+            RunLine::Agenda(line) => self.current.push(number, line),
             RunLine::Section => self.end_section(alloc),
         }
     }
 
     fn end_section(&mut self, alloc: Global) -> Result<(), AllocError>
-        ensures ended { OnOk result (self.new.ended.items ≡ self.old.ended.items ++ self.old.open ∷ []) }
-        ensures open { OnOk result (self.new.open ≡ []) }
+        ensures ended { OnOk result (self.new.ended.items ≡ self.old.ended.items ++ self.old.current ∷ []) }
+        ensures current { OnOk result (self.new.current ≡ []) }
     {
-        let open = std::mem::replace(&mut self.open, Section::new(alloc));
-        self.ended.push(open)?;
+        let current = std::mem::replace(&mut self.current, Section::new(alloc));
+        self.ended.push(current)?;
         Ok(())
     }
 
     // The sections, where no line follows.
     fn end(self) -> Result<Vec<Section>, AllocError>
-        ensures { IfOk result (λ v. v.items ≡ all_sections self.ended.items self.open []) }
+        ensures { IfOk result (λ v. v.items ≡ all_sections self.ended.items self.current []) }
     {
-        let Sections { mut ended, open } = self;
-        if !open.lines().is_empty() {
-            ended.push(open)?;
+        let Sections { mut ended, current } = self;
+        if !current.lines().is_empty() {
+            ended.push(current)?;
         }
         Ok(ended)
     }
