@@ -109,7 +109,7 @@ pub fn run_report(
     receipts: &[Receipt],
     losses: Losses<'_>,
 ) -> Result<Vec<u8>, AllocError>
-    ensures { IfOk result (λ t. t.items ≡ text_of (run_lines committed.now history.now receipts.now losses.refused.now losses.lost)) }
+    ensures { IfOk result (λ t. t.items ≡ text_of (run_lines committed.now history.now receipts.now losses.entry.refused.now losses.entry.lost)) }
 {
     let mut text = report(alloc, committed, history, receipts, losses.refused)?;
     push_lost_line(&mut text, losses.lost)?;
