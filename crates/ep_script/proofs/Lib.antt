@@ -2,3 +2,4 @@ pub mod Spelling
 pub mod Windows
 pub mod LineLemmas
 pub mod Steps
+pub mod LinesFit

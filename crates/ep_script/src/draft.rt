@@ -20,17 +20,20 @@ const BYTES: usize = 8192;
 
 /// What the first lines of a script say.
 #[derive(Drop)]
-pub(crate) struct Draft<L> {
+pub(crate) struct Draft<L: ScriptLine> {
     size: Option<Size>,
     lines: Vec<(u32, L)>,
 }
 
-impl<L> Model for Draft<L> {
+impl<L: ScriptLine> Model for Draft<L> {
+    ghost use Rattle.ep_script.specs.Fits.{WereSaid};
     ghost use Rattle.ep_script.specs.Plan.{Part};
 
     ghost Value = { Part L };
 
     ghost view = { λ d. record { size = d.size; lines = d.lines.items } };
+
+    ghost invariant = { λ d. WereSaid L.says d.size d.lines.items };
 }
 
 impl<L: ScriptLine> Draft<L> {

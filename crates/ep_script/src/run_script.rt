@@ -1,12 +1,15 @@
 //! Scripts for a run.
 
 ghost use Rattle.std.specs.Prelude.{◌≡◌};
+ghost use Rattle.ep_base.specs.Quorums.{size as size_with};
+ghost use Rattle.ep_script.specs.Fits.{AllFit};
 
 use crate::section::Section;
 use ep_base::Size;
 use std::marker::Model;
 
-/// A script for a run: the size of its cluster, and its sections.
+/// A script for a run: the size of its cluster, and its sections. Each of their lines is for a replica of the cluster, names instances of its
+/// replicas alone, and has a client of number 1 or more.
 #[derive(Debug, Drop)]
 pub struct RunScript {
     size: Size,
@@ -14,15 +17,20 @@ pub struct RunScript {
 }
 
 impl Model for RunScript {
+    ghost use Rattle.ep_base.specs.Quorums.{size as size_with};
+    ghost use Rattle.ep_script.specs.Fits.{AllFit};
     ghost use Rattle.ep_script.specs.Plan.{RunPlan};
 
     ghost Value = { RunPlan };
 
     ghost view = { λ s. record { faults = s.size; sections = s.sections.items } };
+
+    ghost invariant = { λ s. AllFit (size_with s.size) s.sections.items };
 }
 
 impl RunScript {
     pub(crate) fn new(size: Size, sections: Vec<Section>) -> RunScript
+        requires { AllFit (size_with size) sections.items }
         ensures { result ≡ record { faults = size; sections = sections.items } }
     {
         RunScript { size, sections }
@@ -37,7 +45,8 @@ impl RunScript {
 
     /// The sections, in order. What follows the last line `section` is one if it has a line.
     pub fn sections(&self) -> &[Section]
-        ensures { result.now ≡ self.now.sections }
+        ensures value { result.now ≡ self.now.sections }
+        ensures fit { AllFit (size_with self.now.faults) self.now.sections }
     {
         self.sections.as_slice()
     }
