@@ -53,11 +53,18 @@ instance_parts n (r ∷ i ∷ w ∷ more) = None
 abbrev pub parts_of : List ℕ → List (List ℕ)
 parts_of w = slice_split (λ b. b == 46) w
 
+-- bytes that can be a key, and a value
+abbrev pub key_of : List ℕ → Option (List ℕ)
+key_of k = if nat_le 1 (length k) && nat_le (length k) 255 then Some k else None
+
+abbrev pub value_of : List ℕ → Option (List ℕ)
+value_of v = if nat_le (length v) 1024 then Some v else None
+
 abbrev pub key_word : List ℕ → Option (List ℕ)
-key_word w = option_and_then (λ k. if nat_le 1 (length k) && nat_le (length k) 255 then Some k else None) (bytes_of w)
+key_word w = option_and_then key_of (bytes_of w)
 
 abbrev pub value_word : List ℕ → Option (List ℕ)
-value_word w = option_and_then (λ v. if nat_le (length v) 1024 then Some v else None) (bytes_of w)
+value_word w = option_and_then value_of (bytes_of w)
 
 abbrev pub key_only : List (List ℕ) → Option (List ℕ)
 key_only [] = None

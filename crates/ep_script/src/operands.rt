@@ -3,10 +3,10 @@
 ghost use Rattle.std.specs.Prelude.{◌≡◌, ◌≤◌, IfOk, IfSome, map};
 ghost use Rattle.ep_base.specs.Quorums.{size as size_with};
 ghost use Rattle.ep_base.specs.Instances.{instance_of};
-ghost use Rattle.ep_script.specs.Grammar.{number_in as number_between, count_of, replica_of, instance_parts, parts_of, key_word, value_word, key_only, get_of, put_of, del_of, command_of, place_of};
+ghost use Rattle.ep_script.specs.Grammar.{number_in as number_between, count_of, replica_of, instance_parts, parts_of, key_of, value_of, key_word, value_word, key_only, get_of, put_of, del_of, command_of, place_of};
 
 use crate::numbers::{number, number_in};
-use crate::word::read_word;
+use crate::word::{read_word, spells_itself};
 use crate::words::{is_word, parts};
 use ep_base::{Command, CommandFault, InstanceId, Key, ReplicaId, Size, Value};
 use std::alloc::{AllocError, Global};
@@ -102,10 +102,19 @@ pub(crate) fn place(
 fn read_key(alloc: Global, word: &[u8]) -> Result<Option<Key>, AllocError>
     ensures { IfOk result (λ k. k ≡ key_word word.now) }
 {
+    if spells_itself(word) {
+        return key(alloc, word);
+    }
     let Some(bytes) = read_word(alloc, word)? else {
         return Ok(None);
     };
-    match Key::new(alloc, bytes.as_slice()) {
+    key(alloc, bytes.as_slice())
+}
+
+fn key(alloc: Global, bytes: &[u8]) -> Result<Option<Key>, AllocError>
+    ensures { IfOk result (λ k. k ≡ key_of bytes.now) }
+{
+    match Key::new(alloc, bytes) {
         Ok(key) => Ok(Some(key)),
         Err(CommandFault::OutOfRange) => Ok(None),
         Err(CommandFault::Memory) => Err(AllocError),
@@ -115,10 +124,19 @@ fn read_key(alloc: Global, word: &[u8]) -> Result<Option<Key>, AllocError>
 fn read_value(alloc: Global, word: &[u8]) -> Result<Option<Value>, AllocError>
     ensures { IfOk result (λ v. v ≡ value_word word.now) }
 {
+    if spells_itself(word) {
+        return value(alloc, word);
+    }
     let Some(bytes) = read_word(alloc, word)? else {
         return Ok(None);
     };
-    match Value::new(alloc, bytes.as_slice()) {
+    value(alloc, bytes.as_slice())
+}
+
+fn value(alloc: Global, bytes: &[u8]) -> Result<Option<Value>, AllocError>
+    ensures { IfOk result (λ v. v ≡ value_of bytes.now) }
+{
+    match Value::new(alloc, bytes) {
         Ok(value) => Ok(Some(value)),
         Err(CommandFault::OutOfRange) => Ok(None),
         Err(CommandFault::Memory) => Err(AllocError),
