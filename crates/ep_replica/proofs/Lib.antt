@@ -5,3 +5,5 @@ pub mod Own
 pub mod Outcomes
 pub mod Settled
 pub mod Given
+pub mod Trying
+pub mod Taking
