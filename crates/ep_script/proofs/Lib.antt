@@ -3,3 +3,4 @@ pub mod Windows
 pub mod LineLemmas
 pub mod Steps
 pub mod LinesFit
+pub mod Splitting
