@@ -1,5 +1,4 @@
 pub mod Spelling
-pub mod Windows
 pub mod LineLemmas
 pub mod Steps
 pub mod LinesFit

@@ -14,7 +14,7 @@ abbrev rest_parts : (ℕ → Bool) → List ℕ → List (List ℕ)
 rest_parts p [] = []
 rest_parts p (y ∷ ys) = slice_split p ys
 
-abbrev begins : (ℕ → Bool) → List ℕ → Type 0
+abbrev pub begins : (ℕ → Bool) → List ℕ → Type 0
 begins p [] = Unit {0}
 begins p (y ∷ ys) = p y ≡ true
 
@@ -36,7 +36,7 @@ parts_at p (x ∷ xs) =
       | false ↦ rw (take_more (position_or_len p xs) x xs, drop_more (position_or_len p xs) x xs) (ap (onto_first x) (parts_at p xs))
     ]
 
-rest_begins : (p : ℕ → Bool) (xs : List ℕ) → begins p (drop (position_or_len p xs) xs)
+pub rest_begins : (p : ℕ → Bool) (xs : List ℕ) → begins p (drop (position_or_len p xs) xs)
 rest_begins p [] = tt
 rest_begins p (x ∷ xs) = go (p x) refl (rest_begins p xs)
   where
