@@ -1,5 +1,6 @@
 pub mod Word
 pub mod Parts
+pub mod Places
 pub mod Grammar
 pub mod Window
 pub mod RawLines

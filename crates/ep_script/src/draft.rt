@@ -1,7 +1,8 @@
 //! The first lines of a script.
 
-ghost use Rattle.std.specs.Prelude.{◌≡◌, ℕ, [], Some, None, IfOk, IfErr, MatchBool, map};
+ghost use Rattle.std.specs.Prelude.{◌≡◌, ℕ, [], Some, None, IfOk, IfErr, MatchBool};
 ghost use Rattle.std.specs.Str.Lines.{strip_carriage_return};
+ghost use Rattle.ep_script.specs.Parts.{words_of};
 ghost use Rattle.ep_script.specs.Plan.{said, words_step, line_step, ended as ended_at};
 ghost use Rattle.ep_script.specs.Outcome.{IsScript};
 ghost use Rattle.ep_script.specs.declared.script_fault.ScriptFault.TheVariants.{Refused};
@@ -10,7 +11,7 @@ use crate::listing::Listing;
 use crate::reading::read_size;
 use crate::script_fault::ScriptFault;
 use crate::script_line::ScriptLine;
-use crate::words::{is_comment, words};
+use crate::words::{is_comment, next_word};
 use ep_base::Size;
 use std::alloc::{AllocError, Global};
 use std::marker::Model;
@@ -60,19 +61,13 @@ impl<L: ScriptLine> Draft<L> {
         if line.len() > BYTES {
             return Ok(false);
         }
-        let words = words(alloc, line)?;
-        self.take_words(alloc, number, words.as_slice())
+        self.take_words(alloc, number, line)
     }
 
-    fn take_words(
-        &mut self,
-        alloc: Global,
-        number: u32,
-        words: &[&[u8]],
-    ) -> Result<bool, AllocError>
-        ensures { IfOk result (λ b. MatchBool b (words_step L.says number self.old (map (λ w. w.now) words.now) ≡ Some self.new) (words_step L.says number self.old (map (λ w. w.now) words.now) ≡ None)) }
+    fn take_words(&mut self, alloc: Global, number: u32, words: &[u8]) -> Result<bool, AllocError>
+        ensures { IfOk result (λ b. MatchBool b (words_step L.says number self.old (words_of words.now) ≡ Some self.new) (words_step L.says number self.old (words_of words.now) ≡ None)) }
     {
-        let Some((first, _)) = words.split_first() else {
+        let Some((first, _)) = next_word(words) else {
             return Ok(true);
         };
         if is_comment(first) {
@@ -81,8 +76,8 @@ impl<L: ScriptLine> Draft<L> {
         self.take_said(alloc, number, words)
     }
 
-    fn take_said(&mut self, alloc: Global, number: u32, words: &[&[u8]]) -> Result<bool, AllocError>
-        ensures { IfOk result (λ b. MatchBool b (said L.says number self.old.size self.old.lines (map (λ w. w.now) words.now) ≡ Some self.new) (said L.says number self.old.size self.old.lines (map (λ w. w.now) words.now) ≡ None)) }
+    fn take_said(&mut self, alloc: Global, number: u32, words: &[u8]) -> Result<bool, AllocError>
+        ensures { IfOk result (λ b. MatchBool b (said L.says number self.old.size self.old.lines (words_of words.now) ≡ Some self.new) (said L.says number self.old.size self.old.lines (words_of words.now) ≡ None)) }
     {
         match self.size {
             None => Ok(self.take_size(words)),
@@ -90,9 +85,9 @@ impl<L: ScriptLine> Draft<L> {
         }
     }
 
-    fn take_size(&mut self, words: &[&[u8]]) -> bool
+    fn take_size(&mut self, words: &[u8]) -> bool
         requires { self.old.size ≡ None }
-        ensures { (n : ℕ) → MatchBool result (said L.says n None self.old.lines (map (λ w. w.now) words.now) ≡ Some self.new) (said L.says n None self.old.lines (map (λ w. w.now) words.now) ≡ None) }
+        ensures { (n : ℕ) → MatchBool result (said L.says n None self.old.lines (words_of words.now) ≡ Some self.new) (said L.says n None self.old.lines (words_of words.now) ≡ None) }
     {
         match read_size(words) {
             None => false,
@@ -108,10 +103,10 @@ impl<L: ScriptLine> Draft<L> {
         alloc: Global,
         size: Size,
         number: u32,
-        words: &[&[u8]],
+        words: &[u8],
     ) -> Result<bool, AllocError>
         requires { self.old.size ≡ Some size }
-        ensures { IfOk result (λ b. MatchBool b (said L.says number (Some size) self.old.lines (map (λ w. w.now) words.now) ≡ Some self.new) (said L.says number (Some size) self.old.lines (map (λ w. w.now) words.now) ≡ None)) }
+        ensures { IfOk result (λ b. MatchBool b (said L.says number (Some size) self.old.lines (words_of words.now) ≡ Some self.new) (said L.says number (Some size) self.old.lines (words_of words.now) ≡ None)) }
     {
         match L::read(alloc, size, words)? {
             None => Ok(false),

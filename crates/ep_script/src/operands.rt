@@ -3,11 +3,12 @@
 ghost use Rattle.std.specs.Prelude.{◌≡◌, ◌≤◌, IfOk, IfSome, map};
 ghost use Rattle.ep_base.specs.Quorums.{size as size_with};
 ghost use Rattle.ep_base.specs.Instances.{instance_of};
+ghost use Rattle.ep_script.specs.Parts.{words_of};
 ghost use Rattle.ep_script.specs.Grammar.{number_in as number_between, count_of, replica_of, instance_parts, parts_of, key_of, value_of, key_word, value_word, key_only, get_of, put_of, del_of, command_of, place_of};
 
 use crate::numbers::{number, number_in};
 use crate::word::{read_word, spells_itself};
-use crate::words::{is_word, parts};
+use crate::words::{has_dot, is_word, next_word, split_dot};
 use ep_base::{Command, CommandFault, InstanceId, Key, ReplicaId, Size, Value};
 use std::alloc::{AllocError, Global};
 
@@ -61,42 +62,30 @@ fn made_instance(leader: ReplicaId, number: u16) -> InstanceId
     }
 }
 
-fn instance_of_parts(size: Size, parts: &[&[u8]]) -> Option<InstanceId>
-    ensures { result ≡ instance_parts (size_with size) (map (λ w. w.now) parts.now) }
+fn instance(size: Size, word: &[u8]) -> Option<InstanceId>
+    ensures { result ≡ instance_parts (size_with size) (parts_of word.now) }
 {
-    let [leader, number] = parts else {
+    let (leader, number) = split_dot(word)?;
+    if has_dot(number) {
         return None;
-    };
+    }
     let leader = replica(size, leader)?;
     let number = instance_number(number)?;
     Some(made_instance(leader, number))
 }
 
-fn instance(alloc: Global, size: Size, word: &[u8]) -> Result<Option<InstanceId>, AllocError>
-    ensures { IfOk result (λ i. i ≡ instance_parts (size_with size) (parts_of word.now)) }
-{
-    let parts = parts(alloc, word)?;
-    Ok(instance_of_parts(size, parts.as_slice()))
-}
-
 /// A replica of a cluster of this size, and an instance of one of its replicas.
-pub(crate) fn place(
-    alloc: Global,
-    size: Size,
-    words: &[&[u8]],
-) -> Result<Option<(ReplicaId, InstanceId)>, AllocError>
-    ensures { IfOk result (λ p. p ≡ place_of (size_with size) (map (λ w. w.now) words.now)) }
+pub(crate) fn place(size: Size, words: &[u8]) -> Option<(ReplicaId, InstanceId)>
+    ensures { result ≡ place_of (size_with size) (words_of words.now) }
 {
-    let [first, second] = words else {
-        return Ok(None);
-    };
-    let Some(replica) = replica(size, first) else {
-        return Ok(None);
-    };
-    let Some(instance) = instance(alloc, size, second)? else {
-        return Ok(None);
-    };
-    Ok(Some((replica, instance)))
+    let (first, after) = next_word(words)?;
+    let (second, rest) = next_word(after)?;
+    if next_word(rest).is_some() {
+        return None;
+    }
+    let replica = replica(size, first)?;
+    let instance = instance(size, second)?;
+    Some((replica, instance))
 }
 
 fn read_key(alloc: Global, word: &[u8]) -> Result<Option<Key>, AllocError>
@@ -143,20 +132,20 @@ fn value(alloc: Global, bytes: &[u8]) -> Result<Option<Value>, AllocError>
     }
 }
 
-fn one_key(alloc: Global, words: &[&[u8]]) -> Result<Option<Key>, AllocError>
-    ensures { IfOk result (λ k. k ≡ key_only (map (λ w. w.now) words.now)) }
+fn one_key(alloc: Global, words: &[u8]) -> Result<Option<Key>, AllocError>
+    ensures { IfOk result (λ k. k ≡ key_only (words_of words.now)) }
 {
-    let Some((first, rest)) = words.split_first() else {
+    let Some((first, rest)) = next_word(words) else {
         return Ok(None);
     };
-    if rest.split_first().is_some() {
+    if next_word(rest).is_some() {
         return Ok(None);
     }
     read_key(alloc, first)
 }
 
-fn get(alloc: Global, words: &[&[u8]]) -> Result<Option<Command>, AllocError>
-    ensures { IfOk result (λ c. c ≡ get_of (map (λ w. w.now) words.now)) }
+fn get(alloc: Global, words: &[u8]) -> Result<Option<Command>, AllocError>
+    ensures { IfOk result (λ c. c ≡ get_of (words_of words.now)) }
 {
     let Some(key) = one_key(alloc, words)? else {
         return Ok(None);
@@ -164,8 +153,8 @@ fn get(alloc: Global, words: &[&[u8]]) -> Result<Option<Command>, AllocError>
     Ok(Some(Command::Get(key)))
 }
 
-fn del(alloc: Global, words: &[&[u8]]) -> Result<Option<Command>, AllocError>
-    ensures { IfOk result (λ c. c ≡ del_of (map (λ w. w.now) words.now)) }
+fn del(alloc: Global, words: &[u8]) -> Result<Option<Command>, AllocError>
+    ensures { IfOk result (λ c. c ≡ del_of (words_of words.now)) }
 {
     let Some(key) = one_key(alloc, words)? else {
         return Ok(None);
@@ -173,16 +162,16 @@ fn del(alloc: Global, words: &[&[u8]]) -> Result<Option<Command>, AllocError>
     Ok(Some(Command::Del(key)))
 }
 
-fn put(alloc: Global, words: &[&[u8]]) -> Result<Option<Command>, AllocError>
-    ensures { IfOk result (λ c. c ≡ put_of (map (λ w. w.now) words.now)) }
+fn put(alloc: Global, words: &[u8]) -> Result<Option<Command>, AllocError>
+    ensures { IfOk result (λ c. c ≡ put_of (words_of words.now)) }
 {
-    let Some((first, after)) = words.split_first() else {
+    let Some((first, after)) = next_word(words) else {
         return Ok(None);
     };
-    let Some((second, rest)) = after.split_first() else {
+    let Some((second, rest)) = next_word(after) else {
         return Ok(None);
     };
-    if rest.split_first().is_some() {
+    if next_word(rest).is_some() {
         return Ok(None);
     }
     let Some(key) = read_key(alloc, first)? else {
@@ -195,10 +184,10 @@ fn put(alloc: Global, words: &[&[u8]]) -> Result<Option<Command>, AllocError>
 }
 
 /// A get, a put or a del.
-pub(crate) fn read_command(alloc: Global, words: &[&[u8]]) -> Result<Option<Command>, AllocError>
-    ensures { IfOk result (λ c. c ≡ command_of (map (λ w. w.now) words.now)) }
+pub(crate) fn read_command(alloc: Global, words: &[u8]) -> Result<Option<Command>, AllocError>
+    ensures { IfOk result (λ c. c ≡ command_of (words_of words.now)) }
 {
-    let Some((first, rest)) = words.split_first() else {
+    let Some((first, rest)) = next_word(words) else {
         return Ok(None);
     };
     if is_word(first, b"get") {

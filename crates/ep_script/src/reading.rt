@@ -3,12 +3,13 @@
 ghost use Rattle.std.specs.Prelude.{◌≡◌, IfOk, map, option_map};
 ghost use Rattle.ep_base.specs.Quorums.{size as size_with};
 ghost use Rattle.ep_script.specs.declared.agenda_line.AgendaLine.TheVariants.{GiveUp, Recover};
+ghost use Rattle.ep_script.specs.Parts.{words_of};
 ghost use Rattle.ep_script.specs.Grammar.{faults_of, size_word, size_of, propose_of, place_of, agenda_line};
 
 use crate::agenda_line::AgendaLine;
 use crate::numbers::number;
 use crate::operands::{count, place, read_command, replica};
-use crate::words::is_word;
+use crate::words::{is_word, next_word};
 use ep_base::Size;
 use std::alloc::{AllocError, Global};
 
@@ -23,20 +24,21 @@ fn size_with_count(count: u64) -> Option<Size>
     }
 }
 
-fn size_operand(words: &[&[u8]]) -> Option<Size>
-    ensures { result ≡ size_word (map (λ w. w.now) words.now) }
+fn size_operand(words: &[u8]) -> Option<Size>
+    ensures { result ≡ size_word (words_of words.now) }
 {
-    let [word] = words else {
+    let (word, rest) = next_word(words)?;
+    if next_word(rest).is_some() {
         return None;
-    };
+    }
     size_with_count(number(word)?)
 }
 
 /// The size that a line `replicas N` says; none for any other line.
-pub(crate) fn read_size(words: &[&[u8]]) -> Option<Size>
-    ensures { result ≡ size_of (map (λ w. w.now) words.now) }
+pub(crate) fn read_size(words: &[u8]) -> Option<Size>
+    ensures { result ≡ size_of (words_of words.now) }
 {
-    let Some((first, rest)) = words.split_first() else {
+    let Some((first, rest)) = next_word(words) else {
         return None;
     };
     if is_word(first, b"replicas") {
@@ -46,13 +48,13 @@ pub(crate) fn read_size(words: &[&[u8]]) -> Option<Size>
     }
 }
 
-fn propose(alloc: Global, size: Size, words: &[&[u8]]) -> Result<Option<AgendaLine>, AllocError>
-    ensures { IfOk result (λ l. l ≡ propose_of (size_with size) (map (λ w. w.now) words.now)) }
+fn propose(alloc: Global, size: Size, words: &[u8]) -> Result<Option<AgendaLine>, AllocError>
+    ensures { IfOk result (λ l. l ≡ propose_of (size_with size) (words_of words.now)) }
 {
-    let Some((first, after)) = words.split_first() else {
+    let Some((first, after)) = next_word(words) else {
         return Ok(None);
     };
-    let Some((second, rest)) = after.split_first() else {
+    let Some((second, rest)) = next_word(after) else {
         return Ok(None);
     };
     let Some(replica) = replica(size, first) else {
@@ -71,43 +73,39 @@ fn propose(alloc: Global, size: Size, words: &[&[u8]]) -> Result<Option<AgendaLi
     }))
 }
 
-fn give_up(alloc: Global, size: Size, words: &[&[u8]]) -> Result<Option<AgendaLine>, AllocError>
-    ensures { IfOk result (λ l. l ≡ option_map (λ p. GiveUp p.0 p.1) (place_of (size_with size) (map (λ w. w.now) words.now))) }
+fn give_up(size: Size, words: &[u8]) -> Option<AgendaLine>
+    ensures { result ≡ option_map (λ p. GiveUp p.0 p.1) (place_of (size_with size) (words_of words.now)) }
 {
-    let Some((replica, instance)) = place(alloc, size, words)? else {
-        return Ok(None);
-    };
-    Ok(Some(AgendaLine::GiveUp(replica, instance)))
+    let (replica, instance) = place(size, words)?;
+    Some(AgendaLine::GiveUp(replica, instance))
 }
 
-fn recover(alloc: Global, size: Size, words: &[&[u8]]) -> Result<Option<AgendaLine>, AllocError>
-    ensures { IfOk result (λ l. l ≡ option_map (λ p. Recover p.0 p.1) (place_of (size_with size) (map (λ w. w.now) words.now))) }
+fn recover(size: Size, words: &[u8]) -> Option<AgendaLine>
+    ensures { result ≡ option_map (λ p. Recover p.0 p.1) (place_of (size_with size) (words_of words.now)) }
 {
-    let Some((replica, instance)) = place(alloc, size, words)? else {
-        return Ok(None);
-    };
-    Ok(Some(AgendaLine::Recover(replica, instance)))
+    let (replica, instance) = place(size, words)?;
+    Some(AgendaLine::Recover(replica, instance))
 }
 
 /// What the words ask a replica to do; none for any other line, and where they are refused.
 pub(crate) fn read_agenda_line(
     alloc: Global,
     size: Size,
-    words: &[&[u8]],
+    words: &[u8],
 ) -> Result<Option<AgendaLine>, AllocError>
-    ensures { IfOk result (λ l. l ≡ agenda_line (size_with size) (map (λ w. w.now) words.now)) }
+    ensures { IfOk result (λ l. l ≡ agenda_line (size_with size) (words_of words.now)) }
 {
-    let Some((first, rest)) = words.split_first() else {
+    let Some((first, rest)) = next_word(words) else {
         return Ok(None);
     };
     if is_word(first, b"propose") {
         return propose(alloc, size, rest);
     }
     if is_word(first, b"giveup") {
-        return give_up(alloc, size, rest);
+        return Ok(give_up(size, rest));
     }
     if is_word(first, b"recover") {
-        return recover(alloc, size, rest);
+        return Ok(recover(size, rest));
     }
     Ok(None)
 }

@@ -3,20 +3,21 @@
 ghost use Rattle.std.specs.Prelude.{◌≡◌, IfOk, map, option_map};
 ghost use Rattle.ep_base.specs.Quorums.{size as size_with};
 ghost use Rattle.ep_script.specs.declared.run_line.RunLine.TheVariants.{Agenda};
+ghost use Rattle.ep_script.specs.Parts.{words_of};
 ghost use Rattle.ep_script.specs.Grammar.{section_of, agenda_line, run_line};
 
 use crate::reading::read_agenda_line;
 use crate::run_line::RunLine;
 use crate::script_line::ScriptLine;
-use crate::words::is_word;
+use crate::words::{is_word, next_word};
 use ep_base::Size;
 use std::alloc::{AllocError, Global};
 
 impl ScriptLine for RunLine {
     ghost says = { run_line };
 
-    fn read(alloc: Global, size: Size, words: &[&[u8]]) -> Result<Option<RunLine>, AllocError> {
-        let Some((first, rest)) = words.split_first() else {
+    fn read(alloc: Global, size: Size, words: &[u8]) -> Result<Option<RunLine>, AllocError> {
+        let Some((first, rest)) = next_word(words) else {
             return Ok(None);
         };
         if is_word(first, b"section") {
@@ -26,8 +27,8 @@ impl ScriptLine for RunLine {
     }
 }
 
-fn agenda(alloc: Global, size: Size, words: &[&[u8]]) -> Result<Option<RunLine>, AllocError>
-    ensures { IfOk result (λ l. l ≡ option_map (λ x. Agenda x) (agenda_line (size_with size) (map (λ w. w.now) words.now))) }
+fn agenda(alloc: Global, size: Size, words: &[u8]) -> Result<Option<RunLine>, AllocError>
+    ensures { IfOk result (λ l. l ≡ option_map (λ x. Agenda x) (agenda_line (size_with size) (words_of words.now))) }
 {
     let Some(asked) = read_agenda_line(alloc, size, words)? else {
         return Ok(None);
@@ -35,10 +36,10 @@ fn agenda(alloc: Global, size: Size, words: &[&[u8]]) -> Result<Option<RunLine>,
     Ok(Some(RunLine::Agenda(asked)))
 }
 
-fn section(words: &[&[u8]]) -> Option<RunLine>
-    ensures { result ≡ section_of (map (λ w. w.now) words.now) }
+fn section(words: &[u8]) -> Option<RunLine>
+    ensures { result ≡ section_of (words_of words.now) }
 {
-    match words.split_first() {
+    match next_word(words) {
         None => Some(RunLine::Section),
         Some(_) => None,
     }

@@ -1,6 +1,7 @@
 //! Lines of one kind of script.
 
 ghost use Rattle.std.specs.Prelude.{◌≡◌, ℕ, List, Option, IfOk, map};
+ghost use Rattle.ep_script.specs.Parts.{words_of};
 ghost use Rattle.ep_base.specs.Quorums.{size as size_with};
 
 use ep_base::Size;
@@ -12,6 +13,6 @@ pub(crate) trait ScriptLine: Drop {
     ghost says: { ℕ → List (List ℕ) → Option Self };
 
     /// The line that these words say; none where they are refused.
-    fn read(alloc: Global, size: Size, words: &[&[u8]]) -> Result<Option<Self>, AllocError>
-        ensures { IfOk result (λ l. l ≡ says (size_with size) (map (λ w. w.now) words.now)) };
+    fn read(alloc: Global, size: Size, words: &[u8]) -> Result<Option<Self>, AllocError>
+        ensures { IfOk result (λ l. l ≡ says (size_with size) (words_of words.now)) };
 }

@@ -1,4 +1,4 @@
-use Rattle.std.proofs.Common.{rules, arith, ◌<◌, length, sym, ◌∙◌}
+use Rattle.std.proofs.Common.{rules, ◌<◌, length, sym, ◌∙◌}
 use Rattle.ep_script.proofs.Spelling.{plain_spells_itself, plain_word}
 use Rattle.ep_script.proofs.word.spells_itself.Goals as goal
 
