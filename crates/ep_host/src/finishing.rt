@@ -10,11 +10,7 @@ use ep_rules::Receipt;
 use std::alloc::{AllocError, Global};
 
 /// The audit of these journals with the receipts.
-fn audited(
-    alloc: Global,
-    journals: Journals,
-    receipts: &[Receipt],
-) -> Result<Finished, AllocError>
+fn audited(alloc: Global, journals: Journals, receipts: &[Receipt]) -> Result<Finished, AllocError>
     ensures { IfOk result (IsFinished receipts.now) }
 {
     match audit(alloc, &journals, receipts) {

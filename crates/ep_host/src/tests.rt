@@ -31,7 +31,7 @@ fn submit_all<R: Wait + Abort>(rt: &R, alloc: Global, host: &LockHost, index: u8
 
 fn pump_often<R: Wait + Abort>(rt: &R, host: &LockHost, index: u8) {
     let replica = replica_at(rt, index);
-    for _ in 0..1000 {
+    for _ in 0..200 {
         assert!(rt; host.pump(rt, replica).is_ok());
     }
 }
@@ -73,12 +73,7 @@ fn settle<R: Wait + Abort>(rt: &R, host: &LockHost) {
     assert!(rt; false);
 }
 
-fn add_receipts<R: Wait + Abort>(
-    rt: &R,
-    host: &LockHost,
-    index: u8,
-    receipts: &mut Vec<Receipt>,
-) {
+fn add_receipts<R: Wait + Abort>(rt: &R, host: &LockHost, index: u8, receipts: &mut Vec<Receipt>) {
     let told = host.receipts_after(rt, replica_at(rt, index), 0);
     let mut more = told.expect(rt, "receipts");
     receipts.append(&mut more).expect(rt, "memory");
@@ -88,7 +83,9 @@ fn add_receipts<R: Wait + Abort>(
 fn is_told<R: Wait + Abort>(rt: &R, host: &LockHost, receipts: &[Receipt]) -> bool {
     let first = InstanceId::new(replica_at(rt, 0), 1).expect(rt, "an instance");
     let outcome = host.outcome(rt, first).expect(rt, "memory");
-    let wanted = receipts.iter().position(|receipt| receipt.instance == first);
+    let wanted = receipts
+        .iter()
+        .position(|receipt| receipt.instance == first);
     match (outcome, wanted) {
         (Some(outcome), Some(place)) => {
             outcome.stamp == receipts[place].stamp && outcome.entry == receipts[place].entry

@@ -1,5 +1,5 @@
 -- The instance that a proposal takes.
-use Rattle.std.proofs.Common.{◌≡◌, ℕ, ◌+◌, ◌<◌, Option, Some, None, List, [], ◌∷◌, ◌++◌, slice_get, refl, sym, ap, subst, ◌∙◌}
+use Rattle.std.proofs.Common.{◌≡◌, ℕ, ◌+◌, ◌<◌, Option, Some, List, [], ◌∷◌, ◌++◌, slice_get, refl, ap, ◌∙◌}
 use Rattle.ep_base.specs.Instances.{instance_of}
 use Rattle.ep_base.specs.Messages.{instance_of_message}
 use Rattle.ep_base.specs.declared.command.Command.{Command}

@@ -1,27 +1,12 @@
 -- What a try to execute an own instance comes to.
-use Rattle.std.proofs.Common.{◌≡◌, ℕ, ◌+◌, ◌<◌, ◌≤◌, ◌⊎◌, inl, inr, Bool, true, false, cond, ltb, Option, Some, None, Ok, Err, List, refl, sym, ap, subst, ◌∙◌, arith}
-use Rattle.std.proofs.lemmas.Bool.{lt-ltb, cases_lt, false≢true}
-use Rattle.ep_base.specs.Instances.{instance_of, leader_of, number_of, IsInstance}
-use Rattle.ep_base.specs.Quorums.{size}
-use Rattle.ep_base.specs.declared.decree.Decree.{Decree}
-use Rattle.ep_rules.specs.Cells as rules
-use Rattle.ep_rules.specs.Cells.{Refusal, committed_decree, record_or_fresh}
-use Rattle.ep_rules.specs.Maps.{get}
-use Rattle.ep_rules.specs.Order.{IsComplete}
-use Rattle.ep_rules.specs.States.{committed_in, graph_in}
-use Rattle.ep_rules.specs.Steps.{screened, is_for, acts, Waits, Execute as Executes}
-use Rattle.ep_rules.specs.declared.record.Record.{Record}
-use Rattle.ep_journal.specs.Leaving.{AreNamed}
-use Rattle.ep_journal.specs.Refused.{named}
-use Rattle.ep_journal.specs.Standing.{Standing, IsRuled}
+use Rattle.std.proofs.Common.{◌≡◌, ℕ, ◌+◌, ◌<◌, ◌≤◌, inl, inr, true, false, Option, Some, None, sym, ap, subst, ◌∙◌, arith}
+use Rattle.std.proofs.lemmas.Bool.{cases_lt}
+use Rattle.ep_base.specs.Instances.{instance_of, leader_of, number_of}
 use Rattle.ep_journal.specs.declared.entry.Entry.{Entry}
 use Rattle.ep_journal.specs.declared.event.Event.TheVariants.{Execute}
-use Rattle.ep_journal.specs.declared.mark.Mark.{Mark}
-use Rattle.ep_journal.specs.declared.step_fault.StepFault.{StepFault}
-use Rattle.ep_journal.specs.declared.step_fault.StepFault.TheVariants.{Memory, OutOfRange, NotMine, StampFull, SpaceFull, SeqExhausted, NotLeading, TooFewAnswers, AlreadyCommitted, BallotsExhausted, NotCommitted}
-use Rattle.ep_replica.specs.Applied.{Applied, IsDeclined, mark_after}
-use Rattle.ep_replica.specs.Kept.{Kept, standing}
-use Rattle.ep_replica.specs.Pending.{state_of, IsPending, IsWaiting, IsShort, IsAbove, IsNext, ExecutesNext}
+use Rattle.ep_replica.specs.Applied.{Applied}
+use Rattle.ep_replica.specs.Kept.{Kept}
+use Rattle.ep_replica.specs.Pending.{IsPending, IsWaiting, IsShort, LesserWait, IsAbove, IsNext, ExecutesNext}
 
 -- Instances by their numbers.
 
@@ -61,38 +46,6 @@ next_some k after n i is few h pending over = (
       h (number_of j) p.named.1 (omega arith) (subst (λ z. IsAbove after z) (sym own) above) (pending_again k j p)),
 )
 
--- Why an execution was not taken.
-
--- what is committed is of a replica of the cluster
-pub led_within : (k : Kept) (i : ℕ) → AreNamed (standing k) → IsPending k i → leader_of i < size k.faults
-led_within k i all p = go (get (state_of k).records i) refl
-  where
-    shown : Option Record → Option Decree
-    shown o = committed_decree (record_or_fresh i o).vote
-
-    go : (o : Option Record) → get (state_of k).records i ≡ o → leader_of i < size k.faults
-    go None e = absurd (let none : committed_in (state_of k).records i ≡ None = ap shown e in let some : Some p.decree ≡ None = sym p.committed ∙ none in cc)
-    go (Some r) e = (all i r e).0
-
-unscreened : (f me i : ℕ) → leader_of i < size f → screened f me (Executes i) ≡ None
-unscreened f me i low = ap (λ b. cond b (cond (is_for me (Executes i)) None (Some rules.NotMine)) (Some rules.OutOfRange)) (lt-ltb (leader_of i) (size f) low)
-
--- where all that it reaches is committed, only memory and stamps are left to be wanted
-pub short : (k : Kept) (i : ℕ) (fault : StepFault) → AreNamed (standing k) → IsPending k i → IsComplete (graph_in (state_of k).records) i → IsDeclined k (Execute i) fault → (fault ≡ Memory) ⊎ (fault ≡ StampFull)
-short k i fault all p whole d = elim d [
-  | inl e ↦ inl e
-  | inr d ↦ elim d [
-    | inl e ↦ inr e.0
-    | inr r ↦ elim r.1.refuses [
-      | inl screens ↦ absurd (let both : None ≡ Some r.0 = sym (unscreened k.faults k.me i (led_within k i all p)) ∙ screens in cc)
-      | inr rest ↦ elim rest.1 [
-        | inl acts ↦ absurd (cc)
-        | inr w ↦ absurd (let b = w.2 in let there = whole w.0 b.reached in let both : Some there.0 ≡ None = sym there.1 ∙ b.missing in cc)
-      ]
-    ]
-  ]
-]
-
 -- The least one that doesn't wait.
 
 -- each pending instance below this number waits
@@ -113,7 +66,7 @@ wait_more k n i is waits h m some low p = elim (cases_lt m n) [
 pub all_wait : (k : Kept) (n : ℕ) → 1000 < n → AllWait k n → (j : ℕ) → IsPending k j → IsWaiting k j
 all_wait k n past h j p = subst (λ z. IsWaiting k z) (own_again k.me j p.own) (h (number_of j) p.named.1 (let le = p.named.2 in omega arith) (pending_again k j p))
 
-pub lesser_wait : (k : Kept) (n i : ℕ) → i ≡ instance_of k.me n → n ≤ 1000 → AllWait k n → (j : ℕ) → IsPending k j → j < i → IsWaiting k j
+pub lesser_wait : (k : Kept) (n i : ℕ) → i ≡ instance_of k.me n → n ≤ 1000 → AllWait k n → LesserWait k i
 lesser_wait k n i is few h j p low =
     let own = own_again k.me j p.own in
     let le = p.named.2 in
@@ -129,3 +82,8 @@ executed_next k s k' n i same is few h t =
 pub passed_next : (k s : Kept) (n i : ℕ) → s ≡ k → i ≡ instance_of s.me n → AllWait k n → (IsPending s i → IsWaiting s i) → AllWait k (n + 1)
 passed_next k s n i same is h t =
     wait_more k n i (is ∙ ap (λ (z : Kept). instance_of z.me n) same) (subst (λ (z : Kept). IsPending z i → IsWaiting z i) same t) h
+
+pub refused_next : (k s k' : Kept) (n i : ℕ) → s ≡ k → i ≡ instance_of s.me n → n ≤ 1000 → AllWait k n → IsPending s i × IsShort s i × (k' ≡ s) → ExecutesNext k false k'
+refused_next k s k' n i same is few h t =
+    let here : i ≡ instance_of k.me n = is ∙ ap (λ (z : Kept). instance_of z.me n) same in
+    (inr (i, subst (λ (z : Kept). IsPending z i) same t.0, subst (λ (z : Kept). IsShort z i) same t.1, lesser_wait k n i here few h), t.2 ∙ same)

@@ -53,10 +53,14 @@ Tries k i Executed k' = IsPending k i × ((e : Entry) × Applied k (Execute i) e
 Tries k i Passed k' = (IsPending k i → IsWaiting k i) × (k' ≡ k)
 Tries k i Refused k' = IsPending k i × IsShort k i × (k' ≡ k)
 
--- the least pending instance that doesn't wait was executed; or each of them waits, or one was refused for want of memory or a full stamp
+-- each lesser pending instance waits
+abbrev pub LesserWait : Kept → ℕ → Type 0
+LesserWait k i = (j : ℕ) → IsPending k j → j < i → IsWaiting k j
+
+-- the least pending instance that doesn't wait was executed; or nothing was: each of them waits, or one was refused for want of memory or a full stamp
 abbrev pub ExecutesNext : Kept → Bool → Kept → Type 0
-ExecutesNext k true k' = (i : ℕ) × IsPending k i × ((e : Entry) × Applied k (Execute i) e k') × ((j : ℕ) → IsPending k j → j < i → IsWaiting k j)
-ExecutesNext k false k' = (((j : ℕ) → IsPending k j → IsWaiting k j) ⊎ ((i : ℕ) × IsPending k i × IsShort k i)) × (k' ≡ k)
+ExecutesNext k true k' = (i : ℕ) × IsPending k i × ((e : Entry) × Applied k (Execute i) e k') × LesserWait k i
+ExecutesNext k false k' = (((j : ℕ) → IsPending k j → IsWaiting k j) ⊎ ((i : ℕ) × IsPending k i × IsShort k i × LesserWait k i)) × (k' ≡ k)
 
 -- the instance that the first of these frames is about
 abbrev pub first_named : List (List ℕ) → Option ℕ

@@ -40,8 +40,6 @@ fn is_above(after: &Option<InstanceId>, instance: InstanceId) -> bool
 impl Replica {
     ghost use Rattle.std.specs.Prelude.{◌↔◌, ◌≡◌, ◌≤◌, IsTrue};
     ghost use Rattle.ep_base.specs.Places.{Has};
-    ghost use Rattle.ep_rules.specs.Order.{IsComplete};
-    ghost use Rattle.ep_rules.specs.States.{graph_in};
     ghost use Rattle.ep_replica.specs.Pending.{state_of, IsPending, IsNext, Tries, ExecutesNext};
 
     /// Whether the instance was executed here.
@@ -73,13 +71,11 @@ impl Replica {
         None
     }
 
-    /// Executes an instance that is pending and waits for none, or leaves the replica as it was.
+    /// Executes an instance that is pending, or leaves the replica as it was.
     fn execute(&mut self, instance: InstanceId) -> Tried
-        requires pending { IsPending self.old instance }
-        requires whole { IsComplete (graph_in (state_of self.old).records) instance }
+        requires { IsPending self.old instance }
         ensures { Tries self.old instance result self.new }
     {
-        self.journal().is_named();
         match self.take(Event::Execute(instance)) {
             Ok(()) => Tried::Executed,
             Err(_) => Tried::Refused,

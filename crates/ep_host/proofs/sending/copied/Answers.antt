@@ -1,4 +1,4 @@
-use Rattle.std.proofs.Common.{rules, arith, ◌≡◌, ◌<◌, ℕ, List, ◌∷◌, ◌++◌, take, ap, sym, ◌∙◌, add-one, refl}
+use Rattle.std.proofs.Common.{ℕ, List, take, add-one, refl}
 use Rattle.std.proofs.Math.Seq.{take-suc}
 use Rattle.ep_host.proofs.Copying.{copied_none, copied_kept, copied_lost}
 use Rattle.ep_host.proofs.sending.copied.Goals as goal

@@ -1,4 +1,4 @@
-use Rattle.std.proofs.Common.{◌≡◌, ◌≤◌, ◌+◌, take}
+use Rattle.std.proofs.Common.{take}
 use Rattle.ep_host.specs.Sent.{IsCopied}
 use Rattle.ep_host.proofs.sending.copied.Given as goal
 

@@ -1,4 +1,4 @@
-use Rattle.std.proofs.Common.{◌<◌, arith}
+use Rattle.std.proofs.Common.{arith}
 use Rattle.ep_replica.proofs.Trying.{next_none}
 use Rattle.ep_replica.proofs.replica.Replica.next_ready.Goals as goal
 
