@@ -7,13 +7,17 @@ use Rattle.ep_main.specs.Outputs.{Input, Output, WroteNothing}
 use Rattle.ep_bundle.specs.Journals.{ReadsBundle, Finds}
 use Rattle.ep_bundle.specs.declared.bundle_fault.BundleFault.{BundleFault}
 use Rattle.ep_bundle.specs.declared.bundle_fault.BundleFault.TheVariants as bundle
-use Rattle.ep_main.specs.Runs.{Plays, Leaves, Finishes, Prints, Does, Concludes, Declines, Ends, IsVerdict, Replays, Emits, Audits, Versions, Helps, IsHelped, IsOutOfMemory, Performs, TellsWhy, version_line}
+use Rattle.ep_main.specs.Runs.{Plays, Leaves, Runs, RunsInThreads, Finishes, Prints, Does, Concludes, Declines, Ends, IsVerdict, Replays, Emits, Audits, Versions, Helps, IsHelped, IsOutOfMemory, Performs, TellsWhy, version_line}
 use Rattle.ep_main.specs.Words.{AskFor, IsHelp}
 use Rattle.ep_main.specs.declared.asked.Asked.{Asked}
-use Rattle.ep_main.specs.declared.asked.Asked.TheVariants.{Replay, Audit, Version, Help}
+use Rattle.ep_main.specs.declared.asked.Asked.TheVariants.{Replay, Run, Audit, Version, Help}
 use Rattle.ep_main.specs.declared.declined.Declined.{Declined}
 use Rattle.ep_main.specs.declared.declined.Declined.TheVariants as declined
+use Rattle.ep_main.specs.declared.asked.Emit.{Emit}
 use Rattle.ep_main.specs.declared.asked.Emit.TheVariants.{Report, Bundle}
+use Rattle.ep_main.specs.Audits.{SaysOfRun}
+use Rattle.ep_run.specs.declared.ran.Ran.{Ran}
+use Rattle.ep_main.proofs.Flags.{run_verdict}
 use Rattle.ep_main.specs.declared.fault.Fault.{Fault}
 use Rattle.ep_main.specs.declared.fault.Fault.TheVariants.{Script, BadBundle, NotARun, Memory, Read, Write}
 use Rattle.ep_main.specs.declared.status.Status.{Status}
@@ -43,6 +47,22 @@ emits (Err (NotARun replica entry)) status zs reader out fault p t c = absurd p
 emits (Err Memory) status zs reader out fault p t c = subst (λ s. Emits s zs reader out fault) (sym c.0) (record { silent = p; told = c.1 })
 emits (Err Read) status zs reader out fault p t c = subst (λ s. Emits s zs reader out fault) (sym c.0) (inl ((t.read, t.written), p, c.1))
 emits (Err Write) status zs reader out fault p t c = subst (λ s. Emits s zs reader out fault) (sym c.0) (inr ((t.read, t.written), c.1))
+
+runs :
+    (emit : Emit) (outcome : Result Status Fault) (status : Status) (zs : List ℕ) (reader : Input) (out fault : Output) → Runs emit outcome zs out → IsTold outcome reader out →
+    Concludes outcome status fault → RunsInThreads emit status zs reader out fault
+runs emit (Ok Accepted) status zs reader out fault p t c = subst (λ s. RunsInThreads emit s zs reader out fault) (sym c.0) (p, c.1)
+runs emit (Ok AuditRefused) status zs reader out fault p t c = subst (λ s. RunsInThreads emit s zs reader out fault) (sym c.0) (p, c.1)
+runs emit (Ok Refused) status zs reader out fault p t c = absurd (run_verdict emit p.ran Refused p.text p.says)
+runs emit (Ok OutOfMemory) status zs reader out fault p t c = absurd (run_verdict emit p.ran OutOfMemory p.text p.says)
+runs emit (Ok Failed) status zs reader out fault p t c = absurd (run_verdict emit p.ran Failed p.text p.says)
+runs emit (Err (Script line)) status zs reader out fault p t c =
+    subst (λ s. RunsInThreads emit s zs reader out fault) (sym c.0) (record { line = line; script = p.0; silent = p.1; told = c.1 })
+runs emit (Err (BadBundle offset)) status zs reader out fault p t c = absurd p
+runs emit (Err (NotARun replica entry)) status zs reader out fault p t c = absurd p
+runs emit (Err Memory) status zs reader out fault p t c = subst (λ s. RunsInThreads emit s zs reader out fault) (sym c.0) (record { silent = p; told = c.1 })
+runs emit (Err Read) status zs reader out fault p t c = subst (λ s. RunsInThreads emit s zs reader out fault) (sym c.0) (inl ((t.read, t.written), p, c.1))
+runs emit (Err Write) status zs reader out fault p t c = subst (λ s. RunsInThreads emit s zs reader out fault) (sym c.0) (inr ((t.read, t.written), c.1))
 
 audits : (outcome : Result Status Fault) (status : Status) (zs : List ℕ) (reader : Input) (out fault : Output) → Finishes outcome zs out → IsTold outcome reader out → Concludes outcome status fault → Audits status zs reader out fault
 audits (Ok Accepted) status zs reader out fault p t c = subst (λ s. Audits s zs reader out fault) (sym c.0) (p, c.1)
@@ -82,12 +102,14 @@ pub performs :
     IsTold outcome reader out → Concludes outcome status fault → Performs asked status zs reader out fault
 performs (Replay Report) outcome status zs reader out fault d t c = replays outcome status zs reader out fault d t c
 performs (Replay Bundle) outcome status zs reader out fault d t c = emits outcome status zs reader out fault d t c
+performs (Run options) outcome status zs reader out fault d t c = runs options.emit outcome status zs reader out fault d t c
 performs Audit outcome status zs reader out fault d t c = audits outcome status zs reader out fault d t c
 performs Version outcome status zs reader out fault d t c = versions outcome status out fault d t.written c
 performs (Help text) outcome status zs reader out fault d t c = helps outcome status (string_bytes text) out fault d t.written c
 
 pub is_helped : (asked : Asked) (status : Status) (zs : List ℕ) (reader : Input) (out fault : Output) → IsHelp asked → Performs asked status zs reader out fault → IsHelped status out fault
 is_helped (Replay emit) status zs reader out fault help p = absurd help
+is_helped (Run options) status zs reader out fault help p = absurd help
 is_helped Audit status zs reader out fault help p = absurd help
 is_helped Version status zs reader out fault help p = absurd help
 is_helped (Help text) Accepted zs reader out fault help p = ((string_bytes text, p.0), p.1)
@@ -141,6 +163,7 @@ declines declined.Memory status out fault told silent = subst (λ s. Declines s 
 out_of_memory : (want : Asked) (zs : List ℕ) (reader : Input) (out fault : Output) (words : List (List ℕ)) → AskFor want words → IsOutOfMemory out fault → Performs want OutOfMemory zs reader out fault
 out_of_memory (Replay Report) zs reader out fault words ask memory = memory
 out_of_memory (Replay Bundle) zs reader out fault words ask memory = memory
+out_of_memory (Run options) zs reader out fault words ask memory = memory
 out_of_memory Audit zs reader out fault words ask memory = memory
 out_of_memory Version zs reader out fault words ask memory = memory
 out_of_memory (Help text) zs reader out fault words ask memory = absurd ask

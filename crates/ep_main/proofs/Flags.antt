@@ -10,9 +10,12 @@ use Rattle.ep_script.specs.declared.script_fault.ScriptFault.{ScriptFault}
 use Rattle.ep_script.specs.declared.script_fault.ScriptFault.TheVariants as script
 use Rattle.ep_journal.specs.Entries.{Collected}
 use Rattle.ep_rules.specs.declared.receipt.Receipt.{Receipt}
-use Rattle.ep_main.specs.Audits.{Says}
+use Rattle.ep_main.specs.Audits.{Says, SaysOfRun}
 use Rattle.ep_main.specs.Faults.{of_bundle, of_script, is_read, is_write}
 use Rattle.ep_main.specs.Runs.{IsVerdict}
+use Rattle.ep_run.specs.declared.ran.Ran.{Ran}
+use Rattle.ep_main.specs.declared.asked.Emit.{Emit}
+use Rattle.ep_main.specs.declared.asked.Emit.TheVariants.{Report, Bundle}
 use Rattle.ep_main.specs.declared.fault.Fault.{Fault}
 use Rattle.ep_main.specs.declared.status.Status.{Status}
 use Rattle.ep_main.specs.declared.status.Status.TheVariants.{Accepted, AuditRefused, Refused, OutOfMemory, Failed}
@@ -63,3 +66,15 @@ says_verdict journals receipts AuditRefused text says = tt
 says_verdict journals receipts Refused text says = absurd says
 says_verdict journals receipts OutOfMemory text says = absurd says
 says_verdict journals receipts Failed text says = absurd says
+
+pub run_verdict : (emit : Emit) (ran : Ran) (status : Status) (text : List ℕ) → SaysOfRun emit ran status text → IsVerdict status
+run_verdict Report ran Accepted text says = tt
+run_verdict Report ran AuditRefused text says = tt
+run_verdict Report ran Refused text says = absurd says
+run_verdict Report ran OutOfMemory text says = absurd says
+run_verdict Report ran Failed text says = absurd says
+run_verdict Bundle ran Accepted text says = tt
+run_verdict Bundle ran AuditRefused text says = tt
+run_verdict Bundle ran Refused text says = absurd says
+run_verdict Bundle ran OutOfMemory text says = absurd says
+run_verdict Bundle ran Failed text says = absurd says

@@ -1,4 +1,5 @@
 mod Bundling
+mod Choosing
 pub mod Ending
 mod Flags
 mod Judging

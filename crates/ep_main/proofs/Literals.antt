@@ -14,9 +14,10 @@ use Rattle.clap.specs.Faults.{fault_of, is_simple_and_free}
 use Rattle.clap.specs.Kinds.{IsAmong}
 use Rattle.clap.specs.Takes.{takes}
 use Rattle.clap.proofs.OnLiterals.{clap_on_literals}
-use Rattle.ep_main.specs.Words.{AskFor, AskForHelp, IsAsked, IsHelp, IsMet, IsShown, MetReplay, MetAudit, Names, epaxos, met}
+use Rattle.ep_main.specs.Options.{Options, plain}
+use Rattle.ep_main.specs.Words.{AskFor, AskForHelp, Chooses, IsAsked, IsHelp, IsMet, IsShown, MetReplay, MetRun, MetAudit, Names, RunWords, epaxos, met, met_with, run_words}
 use Rattle.ep_main.specs.declared.asked.Asked.{Asked}
-use Rattle.ep_main.specs.declared.asked.Asked.TheVariants.{Replay, Audit, Version, Help}
+use Rattle.ep_main.specs.declared.asked.Asked.TheVariants.{Replay, Run, Audit, Version, Help}
 use Rattle.ep_main.specs.declared.asked.Emit.TheVariants.{Report, Bundle}
 use Rattle.ep_main.specs.declared.asked.Emit.{Emit}
 use Rattle.ep_main.specs.declared.declined.Declined.{Declined}
@@ -74,9 +75,50 @@ met_audit : (name : Text) → option_map (λ p. p.0) (subcommand_of epaxos (name
 unfolding clap_on_literals
 met_audit name = refl
 
+takes_run : (name : Text) → takes epaxos (name ∷ codes "run" ∷ []) ≡ true
+unfolding clap_on_literals
+takes_run name = refl
+
+takes_lock : (name : Text) → takes epaxos (name ∷ codes "run" ∷ codes "--host" ∷ codes "lock" ∷ []) ≡ true
+unfolding clap_on_literals
+takes_lock name = refl
+
+takes_run_report : (name : Text) → takes epaxos (name ∷ codes "run" ∷ codes "--emit" ∷ codes "report" ∷ []) ≡ true
+unfolding clap_on_literals
+takes_run_report name = refl
+
+takes_run_bundle : (name : Text) → takes epaxos (name ∷ codes "run" ∷ codes "--emit" ∷ codes "bundle" ∷ []) ≡ true
+unfolding clap_on_literals
+takes_run_bundle name = refl
+
+-- the words after `--host` and `--emit`, and none after the others
+abbrev words_with : Option Text → Option Text → RunWords
+words_with host emit = record { host = host; capacity = None; turns = None; emit = emit }
+
+met_run : (name : Text) → met_with (subcommand_of epaxos (name ∷ codes "run" ∷ [])) ≡ Some (codes "run", words_with None None)
+unfolding clap_on_literals
+met_run name = refl
+
+met_lock : (name : Text) → met_with (subcommand_of epaxos (name ∷ codes "run" ∷ codes "--host" ∷ codes "lock" ∷ [])) ≡ Some (codes "run", words_with (Some (codes "lock")) None)
+unfolding clap_on_literals
+met_lock name = refl
+
+met_run_report : (name : Text) → met_with (subcommand_of epaxos (name ∷ codes "run" ∷ codes "--emit" ∷ codes "report" ∷ [])) ≡ Some (codes "run", words_with None (Some (codes "report")))
+unfolding clap_on_literals
+met_run_report name = refl
+
+met_run_bundle : (name : Text) → met_with (subcommand_of epaxos (name ∷ codes "run" ∷ codes "--emit" ∷ codes "bundle" ∷ [])) ≡ Some (codes "run", words_with None (Some (codes "bundle")))
+unfolding clap_on_literals
+met_run_bundle name = refl
+
+run_met : (options : Options) (what : Emit) (words line : List Text) → options ≡ plain what → words ≡ line → MetRun (plain what) (subcommand_of epaxos line) → MetRun options (subcommand_of epaxos words)
+run_met options what words line same is found =
+    subst (λ o. MetRun o (subcommand_of epaxos words)) (sym same) (subst (λ (ws : List Text). MetRun (plain what) (subcommand_of epaxos ws)) (sym is) found)
+
 -- what is asked for by words that `clap` matches
 abbrev pub IsMatched : Asked → Type 0
 IsMatched (Replay emit) = Unit {0}
+IsMatched (Run options) = Unit {0}
 IsMatched Audit = Unit {0}
 IsMatched Version = ⊥
 IsMatched (Help text) = ⊥
@@ -87,6 +129,10 @@ taken (Replay Report) words matched (name, inr (inl is)) = subst (λ (ws : List 
 taken (Replay Report) words matched (name, inr (inr is)) = subst (λ (ws : List Text). takes epaxos ws ≡ true) (sym is) (takes_equals name)
 taken (Replay Bundle) words matched (name, inl is) = subst (λ (ws : List Text). takes epaxos ws ≡ true) (sym is) (takes_bundle name)
 taken (Replay Bundle) words matched (name, inr is) = subst (λ (ws : List Text). takes epaxos ws ≡ true) (sym is) (takes_bundle_equals name)
+taken (Run options) words matched (name, inl (same, is)) = subst (λ (ws : List Text). takes epaxos ws ≡ true) (sym is) (takes_run name)
+taken (Run options) words matched (name, inr (inl (same, is))) = subst (λ (ws : List Text). takes epaxos ws ≡ true) (sym is) (takes_lock name)
+taken (Run options) words matched (name, inr (inr (inl (same, is)))) = subst (λ (ws : List Text). takes epaxos ws ≡ true) (sym is) (takes_run_report name)
+taken (Run options) words matched (name, inr (inr (inr (same, is)))) = subst (λ (ws : List Text). takes epaxos ws ≡ true) (sym is) (takes_run_bundle name)
 taken Audit words matched (name, is) = subst (λ (ws : List Text). takes epaxos ws ≡ true) (sym is) (takes_audit name)
 taken Version words matched ask = absurd matched
 taken (Help text) words matched ask = absurd matched
@@ -97,6 +143,18 @@ is_met (Replay Report) words matched (name, inr (inl is)) = subst (λ (ws : List
 is_met (Replay Report) words matched (name, inr (inr is)) = subst (λ (ws : List Text). MetReplay Report (subcommand_of epaxos ws)) (sym is) (Some (codes "report"), met_equals name, inr refl)
 is_met (Replay Bundle) words matched (name, inl is) = subst (λ (ws : List Text). MetReplay Bundle (subcommand_of epaxos ws)) (sym is) (Some (codes "bundle"), met_bundle name, refl)
 is_met (Replay Bundle) words matched (name, inr is) = subst (λ (ws : List Text). MetReplay Bundle (subcommand_of epaxos ws)) (sym is) (Some (codes "bundle"), met_bundle_equals name, refl)
+is_met (Run options) words matched (name, inl (same, is)) =
+    run_met options Report words (name ∷ codes "run" ∷ []) same is
+    (words_with None None, met_run name, record { host = inl refl; capacity = refl; turns = refl; emit = inl refl })
+is_met (Run options) words matched (name, inr (inl (same, is))) =
+    run_met options Report words (name ∷ codes "run" ∷ codes "--host" ∷ codes "lock" ∷ []) same is
+    (words_with (Some (codes "lock")) None, met_lock name, record { host = inr refl; capacity = refl; turns = refl; emit = inl refl })
+is_met (Run options) words matched (name, inr (inr (inl (same, is)))) =
+    run_met options Report words (name ∷ codes "run" ∷ codes "--emit" ∷ codes "report" ∷ []) same is
+    (words_with None (Some (codes "report")), met_run_report name, record { host = inl refl; capacity = refl; turns = refl; emit = inr refl })
+is_met (Run options) words matched (name, inr (inr (inr (same, is)))) =
+    run_met options Bundle words (name ∷ codes "run" ∷ codes "--emit" ∷ codes "bundle" ∷ []) same is
+    (words_with None (Some (codes "bundle")), met_run_bundle name, record { host = inl refl; capacity = refl; turns = refl; emit = refl })
 is_met Audit words matched (name, is) = subst (λ (ws : List Text). MetAudit (subcommand_of epaxos ws)) (sym is) (met_audit name)
 is_met Version words matched ask = absurd matched
 is_met (Help text) words matched ask = absurd matched
@@ -118,6 +176,9 @@ pub asked_of_met :
 asked_of_met {X} app words found (Ok (Replay emit)) is has met =
     let same : found ≡ subcommand_of epaxos words = (subst (λ a. is_simple a ≡ true → X × (found ≡ subcommand_of a words)) is has simple).1 in
     subst (MetReplay emit) same met
+asked_of_met {X} app words found (Ok (Run options)) is has met =
+    let same : found ≡ subcommand_of epaxos words = (subst (λ a. is_simple a ≡ true → X × (found ≡ subcommand_of a words)) is has simple).1 in
+    subst (MetRun options) same met
 asked_of_met {X} app words found (Ok Audit) is has met =
     let same : found ≡ subcommand_of epaxos words = (subst (λ a. is_simple a ≡ true → X × (found ≡ subcommand_of a words)) is has simple).1 in
     subst MetAudit same met
@@ -141,6 +202,7 @@ pub asked_of_shown :
     (app : App) (words : List Text) (kind : ErrorKind) (r : Result Asked Declined) → app ≡ epaxos →
     (is_simple_and_free app ≡ true → (kind ≡ OutOfMemory) ⊎ IsAmong kind (fault_of app words)) → IfOk r (λ a. IsShown a kind) → IfOk r (λ a. IsAsked a words)
 asked_of_shown app words kind (Ok (Replay emit)) is has shown = absurd shown
+asked_of_shown app words kind (Ok (Run options)) is has shown = absurd shown
 asked_of_shown app words kind (Ok Audit) is has shown = absurd shown
 asked_of_shown app words kind (Ok Version) is has shown =
     among words kind DisplayVersion version_is_no_memory shown
@@ -174,13 +236,23 @@ short_help_of_audit : (name : Text) → fault_of epaxos (name ∷ codes "audit" 
 unfolding clap_on_literals
 short_help_of_audit name = refl
 
+help_of_run : (name : Text) → fault_of epaxos (name ∷ codes "run" ∷ codes "--help" ∷ []) ≡ DisplayHelp ∷ []
+unfolding clap_on_literals
+help_of_run name = refl
+
+short_help_of_run : (name : Text) → fault_of epaxos (name ∷ codes "run" ∷ codes "-h" ∷ []) ≡ DisplayHelp ∷ []
+unfolding clap_on_literals
+short_help_of_run name = refl
+
 help_known : (words : List Text) → AskForHelp words → fault_of epaxos words ≡ DisplayHelp ∷ []
 help_known words (name, inl is) = subst (λ (ws : List Text). fault_of epaxos ws ≡ DisplayHelp ∷ []) (sym is) (help_alone name)
 help_known words (name, inr (inl is)) = subst (λ (ws : List Text). fault_of epaxos ws ≡ DisplayHelp ∷ []) (sym is) (short_help name)
 help_known words (name, inr (inr (inl is))) = subst (λ (ws : List Text). fault_of epaxos ws ≡ DisplayHelp ∷ []) (sym is) (help_of_replay name)
 help_known words (name, inr (inr (inr (inl is)))) = subst (λ (ws : List Text). fault_of epaxos ws ≡ DisplayHelp ∷ []) (sym is) (short_help_of_replay name)
 help_known words (name, inr (inr (inr (inr (inl is))))) = subst (λ (ws : List Text). fault_of epaxos ws ≡ DisplayHelp ∷ []) (sym is) (help_of_audit name)
-help_known words (name, inr (inr (inr (inr (inr is))))) = subst (λ (ws : List Text). fault_of epaxos ws ≡ DisplayHelp ∷ []) (sym is) (short_help_of_audit name)
+help_known words (name, inr (inr (inr (inr (inr (inl is)))))) = subst (λ (ws : List Text). fault_of epaxos ws ≡ DisplayHelp ∷ []) (sym is) (short_help_of_audit name)
+help_known words (name, inr (inr (inr (inr (inr (inr (inl is))))))) = subst (λ (ws : List Text). fault_of epaxos ws ≡ DisplayHelp ∷ []) (sym is) (help_of_run name)
+help_known words (name, inr (inr (inr (inr (inr (inr (inr is))))))) = subst (λ (ws : List Text). fault_of epaxos ws ≡ DisplayHelp ∷ []) (sym is) (short_help_of_run name)
 
 version_alone : (name : Text) → fault_of epaxos (name ∷ codes "--version" ∷ []) ≡ DisplayVersion ∷ []
 unfolding clap_on_literals
@@ -225,24 +297,29 @@ has_no_memory want r is = subst (λ r. MatchResult r (λ a. a ≡ want) (λ d. d
 
 answers :
     (want : Asked) (r : Result Asked Declined) (found : Option (Text × List Row)) → ((emit : Emit) → MetReplay emit found → r ≡ Ok (Replay emit)) →
-    (MetAudit found → r ≡ Ok Audit) → IsMet want found → MatchResult r (λ a. a ≡ want) (λ d. d ≡ Memory)
-answers (Replay emit) r found replay audit is = asks (Replay emit) r (replay emit is)
-answers Audit r found replay audit is = asks Audit r (audit is)
-answers Version r found replay audit is = absurd is
-answers (Help text) r found replay audit is = absurd is
+    ((options : Options) → MetRun options found → r ≡ Ok (Run options)) → (MetAudit found → r ≡ Ok Audit) → IsMet want found → MatchResult r (λ a. a ≡ want) (λ d. d ≡ Memory)
+answers (Replay emit) r found replay run audit is = asks (Replay emit) r (replay emit is)
+answers (Run options) r found replay run audit is = asks (Run options) r (run options is)
+answers Audit r found replay run audit is = asks Audit r (audit is)
+answers Version r found replay run audit is = absurd is
+answers (Help text) r found replay run audit is = absurd is
 
 -- the answer where `clap` finds a match
 pub asked_in_match :
     {X : Type 0} (want : Asked) (app : App) (words : List Text) (found : Option (Text × List Row)) (r : Result Asked Declined) → app ≡ epaxos →
     (is_simple app ≡ true → X × (found ≡ subcommand_of app words)) → (is_simple_and_free app ≡ true → fault_of app words ≡ []) →
-    ((emit : Emit) → MetReplay emit found → r ≡ Ok (Replay emit)) → (MetAudit found → r ≡ Ok Audit) → AskFor want words → MatchResult r (λ a. a ≡ want) (λ d. d ≡ Memory)
-asked_in_match (Replay emit) app words found r is has none replay audit ask = answers (Replay emit) r found replay audit (found_met (Replay emit) app words found tt is has ask)
-asked_in_match Audit app words found r is has none replay audit ask = answers Audit r found replay audit (found_met Audit app words found tt is has ask)
-asked_in_match Version app words found r is has none replay audit ask =
+    ((emit : Emit) → MetReplay emit found → r ≡ Ok (Replay emit)) → ((options : Options) → MetRun options found → r ≡ Ok (Run options)) → (MetAudit found → r ≡ Ok Audit) →
+    AskFor want words → MatchResult r (λ a. a ≡ want) (λ d. d ≡ Memory)
+asked_in_match (Replay emit) app words found r is has none replay run audit ask =
+    answers (Replay emit) r found replay run audit (found_met (Replay emit) app words found tt is has ask)
+asked_in_match (Run options) app words found r is has none replay run audit ask =
+    answers (Run options) r found replay run audit (found_met (Run options) app words found tt is has ask)
+asked_in_match Audit app words found r is has none replay run audit ask = answers Audit r found replay run audit (found_met Audit app words found tt is has ask)
+asked_in_match Version app words found r is has none replay run audit ask =
     let empty : fault_of epaxos words ≡ [] = subst (λ a. is_simple_and_free a ≡ true → fault_of a words ≡ []) is none free in
     let bad : DisplayVersion ∷ [] ≡ [] = sym (version_known words ask) ∙ empty in
     cc
-asked_in_match (Help text) app words found r is has none replay audit ask = absurd ask
+asked_in_match (Help text) app words found r is has none replay run audit ask = absurd ask
 
 no_match :
     (want : Asked) (app : App) (words : List Text) (kind : ErrorKind) (r : Result Asked Declined) → IsMatched want → app ≡ epaxos → (takes app words ≡ true → kind ≡ OutOfMemory) →
@@ -264,6 +341,7 @@ pub asked_in_place :
     (is_simple_and_free app ≡ true → (kind ≡ OutOfMemory) ⊎ IsAmong kind (fault_of app words)) → (kind ≡ OutOfMemory → r ≡ Err Memory) →
     (kind ≡ DisplayVersion → r ≡ Ok Version) → AskFor want words → MatchResult r (λ a. a ≡ want) (λ d. d ≡ Memory)
 asked_in_place (Replay emit) app words kind r is passes has memory version ask = no_match (Replay emit) app words kind r tt is passes memory ask
+asked_in_place (Run options) app words kind r is passes has memory version ask = no_match (Run options) app words kind r tt is passes memory ask
 asked_in_place Audit app words kind r is passes has memory version ask = no_match Audit app words kind r tt is passes memory ask
 asked_in_place Version app words kind r is passes has memory version ask =
     versions_by kind (fault_of epaxos words) r (version_known words ask)
@@ -338,5 +416,57 @@ as_replay e emit r x is gives wants =
     let equal : e ≡ emit = cc in
     gives ∙ ap (λ (y : Emit). Ok (Replay y)) equal
 
-pub err_not_ok : (e : Declined) (x : Emit) (r : Result Emit Declined) → r ≡ Err e → r ≡ Ok x → ⊥
-err_not_ok e x r is other = let bad : Err e ≡ Ok x = sym is ∙ other in cc
+pub err_not_ok : {A : Type 0} (e : Declined) (x : A) (r : Result A Declined) → r ≡ Err e → r ≡ Ok x → ⊥
+err_not_ok {A} e x r is other = let bad : Err e ≡ Ok x = sym is ∙ other in cc
+
+-- a run
+
+module _ {Z : Type 0} where
+  met_with_in :
+      (o : Option (Box SubCommand Z)) (name : Text) (rows : List Row) → option_map (λ b. (out-SubCommand (box_value b)).name.now) o ≡ Some name →
+      option_map (λ p. p.1) (subcommand_rows o) ≡ Some rows → met_with (subcommand_rows o) ≡ Some (name, run_words rows)
+  met_with_in None name rows named has = let bad : None ≡ Some name = named in cc
+  met_with_in (Some b) name rows named has =
+      let same : (out-SubCommand (box_value b)).name.now ≡ name = (let e : Some (out-SubCommand (box_value b)).name.now ≡ Some name = named in cc) in
+      let same_rows : rows_of (found_of (out-SubCommand (box_value b)).matches) ≡ rows =
+      (let e : Some (rows_of (found_of (out-SubCommand (box_value b)).matches)) ≡ Some rows = has in cc) in
+      ap₂ (λ n r. Some (n, run_words r)) same same_rows
+
+pub met_with_by :
+    (m : ArgMatches) (name : Text) (rows : List Row) → subcommand_name_of m ≡ Some name → option_map (λ p. p.1) (subcommand_rows_of m) ≡ Some rows →
+    met_with (subcommand_rows_of m) ≡ Some (name, run_words rows)
+met_with_by m name rows named has = met_with_in (out-ArgMatches m).subcommand name rows named has
+
+words_of : (a b : Text) (x y : RunWords) → ◌≡◌ {A = Option (Text × RunWords)} (Some (a, x)) (Some (b, y)) → x ≡ y
+words_of a b x y same =
+    let e : Some x ≡ Some y = ap (option_map (λ (p : Text × RunWords). p.1)) same in cc
+
+pub chooses_met :
+    (m : ArgMatches) (name : Text) (rows : List Row) (options : Options) → subcommand_name_of m ≡ Some name → option_map (λ p. p.1) (subcommand_rows_of m) ≡ Some rows →
+    MetRun options (subcommand_rows_of m) → Chooses (run_words rows) options
+chooses_met m name rows options named has (words, found, chooses) =
+    let same : run_words rows ≡ words = words_of name (codes "run") (run_words rows) words (sym (met_with_by m name rows named has) ∙ found) in
+    subst (λ w. Chooses w options) (sym same) chooses
+
+name_with : (found : Option (Text × List Row)) → option_map (λ (p : Text × RunWords). p.0) (met_with found) ≡ option_map (λ p. p.0) found
+name_with None = refl
+name_with (Some p) = refl
+
+run_named : (m : ArgMatches) (options : Options) → MetRun options (subcommand_rows_of m) → subcommand_name_of m ≡ Some (codes "run")
+run_named m options (words, found, chooses) =
+    sym (name_by m) ∙ sym (name_with (subcommand_rows_of m)) ∙ ap (option_map (λ (p : Text × RunWords). p.0)) found
+
+pub replay_no_run : (m : ArgMatches) (options : Options) → subcommand_name_of m ≡ Some (codes "replay") → MetRun options (subcommand_rows_of m) → ⊥
+replay_no_run m options named found = let bad : Some (codes "replay") ≡ Some (codes "run") = sym named ∙ run_named m options found in cc
+
+pub audit_no_run : (m : ArgMatches) (options : Options) → subcommand_name_of m ≡ Some (codes "audit") → MetRun options (subcommand_rows_of m) → ⊥
+audit_no_run m options named found = let bad : Some (codes "audit") ≡ Some (codes "run") = sym named ∙ run_named m options found in cc
+
+pub run_no_audit : (m : ArgMatches) → subcommand_name_of m ≡ Some (codes "run") → MetAudit (subcommand_rows_of m) → ⊥
+run_no_audit m named found = let bad : Some (codes "run") ≡ Some (codes "audit") = sym named ∙ audit_named m found in cc
+
+pub as_run : (o options : Options) (r : Result Options Declined) (x : Result Asked Declined) → r ≡ Ok o → x ≡ Ok (Run o) → r ≡ Ok options → x ≡ Ok (Run options)
+as_run o options r x is gives wants =
+    let same : Ok o ≡ Ok options = sym is ∙ wants in
+    let equal : o ≡ options = cc in
+    gives ∙ ap (λ (y : Options). Ok (Run y)) equal

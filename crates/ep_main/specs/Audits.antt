@@ -1,27 +1,47 @@
--- Audits of bundles.
+-- What audits say, of bundles and of runs.
 use Rattle.std.specs.Prelude.{◌≡◌, ℕ, List, Ok}
+use Rattle.ep_bundle.specs.Bytes.{bundle_bytes}
 use Rattle.ep_bundle.specs.Journals.{ReadsBundle}
 use Rattle.ep_bundle.specs.Reading.{Left}
 use Rattle.ep_journal.specs.Entries.{Collected, journals_of}
 use Rattle.ep_rules.specs.Audits.{Fault, IsFault}
 use Rattle.ep_rules.specs.declared.receipt.Receipt.{Receipt}
-use Rattle.ep_report.specs.Reports.{text_of, accepted_lines, refusal_lines}
+use Rattle.ep_report.specs.Reports.{text_of, accepted_lines, run_lines, refusal_lines}
+use Rattle.ep_run.specs.declared.ran.Ran.{Ran}
 use Rattle.ep_verdict.specs.declared.verdict.Verdict.{Verdict}
 use Rattle.ep_audit.specs.Audited.{IsAudited}
 use Rattle.ep_main.specs.Outputs.{Output, Wrote}
+use Rattle.ep_main.specs.declared.asked.Emit.{Emit}
+use Rattle.ep_main.specs.declared.asked.Emit.TheVariants.{Report, Bundle}
 use Rattle.ep_main.specs.declared.status.Status.{Status}
 use Rattle.ep_main.specs.declared.status.Status.TheVariants.{Accepted, AuditRefused, Refused, OutOfMemory, Failed}
 
--- the audit accepts, and the text is its verdict and the receipts; or it refuses, and the text is the first fault
+-- the audit accepts, and the text is this of its verdict; or it refuses, and the text is that of the first fault
+abbrev pub Judges : Collected → List Receipt → (Verdict → List ℕ) → (Fault → List ℕ) → Status → List ℕ → Type 0
+Judges journals receipts accepted refused Accepted text =
+    (verdict : Verdict) × IsAudited journals.faults (journals_of journals) receipts verdict × (text ≡ accepted verdict)
+Judges journals receipts accepted refused AuditRefused text =
+    (fault : Fault) × IsFault journals.faults (journals_of journals) receipts fault × (text ≡ refused fault)
+Judges journals receipts accepted refused Refused text = ⊥
+Judges journals receipts accepted refused OutOfMemory text = ⊥
+Judges journals receipts accepted refused Failed text = ⊥
+
+abbrev pub refusal_text : Fault → List ℕ
+refusal_text fault = text_of (refusal_lines fault)
+
+-- of a bundle: its verdict and the receipts, or the first fault
 abbrev pub Says : Collected → List Receipt → Status → List ℕ → Type 0
-Says journals receipts Accepted text =
-    (verdict : Verdict) × IsAudited journals.faults (journals_of journals) receipts verdict
-    × (text ≡ text_of (accepted_lines verdict.committed.items verdict.history.items receipts))
-Says journals receipts AuditRefused text =
-    (fault : Fault) × IsFault journals.faults (journals_of journals) receipts fault × (text ≡ text_of (refusal_lines fault))
-Says journals receipts Refused text = ⊥
-Says journals receipts OutOfMemory text = ⊥
-Says journals receipts Failed text = ⊥
+Says journals receipts status text =
+    Judges journals receipts (λ v. text_of (accepted_lines v.committed.items v.history.items receipts)) refusal_text status text
+
+-- of a run: its report, or the first fault; or, whatever the audit says, the bundle of what the run left
+abbrev pub SaysOfRun : Emit → Ran → Status → List ℕ → Type 0
+SaysOfRun Report ran status text =
+    Judges ran.finished.journals ran.receipts.items (λ v. text_of (run_lines v.committed.items v.history.items ran.receipts.items ran.refused.items ran.lost)) refusal_text
+    status text
+SaysOfRun Bundle ran status text =
+    Judges ran.finished.journals ran.receipts.items (λ v. bundle_bytes ran.finished.journals ran.receipts.items) (λ f. bundle_bytes ran.finished.journals ran.receipts.items)
+    status text
 
 -- The bytes are one bundle, and what was written is what the audit says of it.
 pub record IsAudit (status : Status) (zs : List ℕ) (out : Output) : Type 0 where

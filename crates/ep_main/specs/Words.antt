@@ -1,11 +1,13 @@
 -- The words of the command line.
-use Rattle.std.specs.Prelude.{◌≡◌, ◌⊎◌, List, [], ◌∷◌, Option, Some, None, true, codes, option_map}
+use Rattle.std.specs.Prelude.{ℕ, ◌≡◌, ◌⊎◌, List, [], ◌∷◌, Option, Some, None, true, codes, option_map}
 use Rattle.clap.specs.Walk.{Row, Rule, Text, first_of}
 use Rattle.clap.specs.Faults.{fault_of}
 use Rattle.clap.specs.Kinds.{IsAmong}
 use Rattle.clap.specs.Simple.{App, new_app, new_rule, on_top, subcommand_of, with_rule, with_subcommand}
 use Rattle.ep_main.specs.declared.asked.Asked.{Asked}
-use Rattle.ep_main.specs.declared.asked.Asked.TheVariants.{Replay, Audit, Version, Help}
+use Rattle.ep_main.specs.Options.{Options, plain}
+use Rattle.ep_main.specs.declared.asked.Asked.TheVariants.{Replay, Run, Audit, Version, Help}
+use Rattle.ep_script.specs.Grammar.{number_in}
 use Rattle.ep_main.specs.declared.asked.Emit.{Emit}
 use Rattle.ep_main.specs.declared.asked.Emit.TheVariants.{Report, Bundle}
 use Rattle.clap.specs.declared.builder.action.ArgAction.TheVariants.{Set}
@@ -13,7 +15,8 @@ use Rattle.clap.specs.declared.error.kind.ErrorKind.{ErrorKind}
 use Rattle.clap.specs.declared.error.kind.ErrorKind.TheVariants.{DisplayHelp, DisplayVersion}
 
 -- the words ask for this. The first one is the program's own name, and then: for a report `replay`, and perhaps `--emit report` or `--emit=report`;
--- for a bundle `replay`, and `--emit bundle` or `--emit=bundle`; for an audit `audit`; for the version `--version` or `-V`
+-- for a bundle `replay`, and `--emit bundle` or `--emit=bundle`; for a run, with the limits that hold where none are given, `run`, and perhaps
+-- `--host lock`, `--emit report` or `--emit bundle`; for an audit `audit`; for the version `--version` or `-V`
 abbrev pub AskFor : Asked → List Text → Type 0
 AskFor (Replay Report) words =
     (name : Text)
@@ -21,6 +24,12 @@ AskFor (Replay Report) words =
     ⊎ ((words ≡ name ∷ codes "replay" ∷ codes "--emit" ∷ codes "report" ∷ []) ⊎ (words ≡ name ∷ codes "replay" ∷ codes "--emit=report" ∷ [])))
 AskFor (Replay Bundle) words =
     (name : Text) × ((words ≡ name ∷ codes "replay" ∷ codes "--emit" ∷ codes "bundle" ∷ []) ⊎ (words ≡ name ∷ codes "replay" ∷ codes "--emit=bundle" ∷ []))
+AskFor (Run options) words =
+    (name : Text)
+    × (((options ≡ plain Report) × (words ≡ name ∷ codes "run" ∷ []))
+    ⊎ (((options ≡ plain Report) × (words ≡ name ∷ codes "run" ∷ codes "--host" ∷ codes "lock" ∷ []))
+    ⊎ (((options ≡ plain Report) × (words ≡ name ∷ codes "run" ∷ codes "--emit" ∷ codes "report" ∷ []))
+    ⊎ ((options ≡ plain Bundle) × (words ≡ name ∷ codes "run" ∷ codes "--emit" ∷ codes "bundle" ∷ [])))))
 AskFor Audit words = (name : Text) × (words ≡ name ∷ codes "audit" ∷ [])
 AskFor Version words = (name : Text) × ((words ≡ name ∷ codes "--version" ∷ []) ⊎ (words ≡ name ∷ codes "-V" ∷ []))
 AskFor (Help text) words = ⊥
@@ -29,21 +38,31 @@ AskFor (Help text) words = ⊥
 abbrev pub AskForHelp : List Text → Type 0
 AskForHelp words = (name : Text) × ((words ≡ name ∷ codes "--help" ∷ []) ⊎ ((words ≡ name ∷ codes "-h" ∷ [])
     ⊎ ((words ≡ name ∷ codes "replay" ∷ codes "--help" ∷ []) ⊎ ((words ≡ name ∷ codes "replay" ∷ codes "-h" ∷ [])
-    ⊎ ((words ≡ name ∷ codes "audit" ∷ codes "--help" ∷ []) ⊎ (words ≡ name ∷ codes "audit" ∷ codes "-h" ∷ []))))))
+    ⊎ ((words ≡ name ∷ codes "audit" ∷ codes "--help" ∷ []) ⊎ ((words ≡ name ∷ codes "audit" ∷ codes "-h" ∷ [])
+    ⊎ ((words ≡ name ∷ codes "run" ∷ codes "--help" ∷ []) ⊎ (words ≡ name ∷ codes "run" ∷ codes "-h" ∷ []))))))))
 
 -- What the program has, as `clap` sees it.
 
+-- an option of this name, with a word after it
+abbrev pub option : Text → Rule
+option name = record (new_rule name) { long = Some name; action = Some Set; value_names = 1 }
+
 abbrev pub emit : Rule
-emit = record (new_rule (codes "emit")) { long = Some (codes "emit"); action = Some Set; value_names = 1 }
+emit = option (codes "emit")
 
 abbrev pub replay : App
 replay = with_rule (new_app (codes "replay")) emit
+
+abbrev pub run : App
+run = with_rule (with_rule (with_rule (with_rule (new_app (codes "run")) (option (codes "host"))) (option (codes "capacity"))) (option (codes "turns"))) emit
 
 abbrev pub audit : App
 audit = new_app (codes "audit")
 
 abbrev pub epaxos : App
-epaxos = with_subcommand (with_subcommand (on_top (λ s. record s { subcommand_required = true; has_version = true }) (new_app (codes "epaxos"))) replay.top) audit.top
+epaxos =
+    with_subcommand (with_subcommand (with_subcommand (on_top (λ s. record s { subcommand_required = true; has_version = true }) (new_app (codes "epaxos"))) replay.top) run.top)
+    audit.top
 
 -- the subcommand that was met, and the word after `--emit`
 abbrev pub met : Option (Text × List Row) → Option (Text × Option Text)
@@ -58,12 +77,52 @@ Names what Bundle = what ≡ Some (codes "bundle")
 abbrev pub MetReplay : Emit → Option (Text × List Row) → Type 0
 MetReplay emit found = (what : Option Text) × (met found ≡ Some (codes "replay", what)) × Names what emit
 
+-- `--host lock`, or nothing
+abbrev pub IsLock : Option Text → Type 0
+IsLock what = (what ≡ None) ⊎ (what ≡ Some (codes "lock"))
+
+-- the number from 1 to so much that this word spells, or this one where there is no word
+abbrev pub limit_in : ℕ → ℕ → Option Text → Option ℕ
+limit_in most default None = Some default
+limit_in most default (Some word) = number_in 1 most word
+
+-- the words after the options of `run`
+pub record RunWords : Type 0 where
+  pub host : Option Text
+  pub capacity : Option Text
+  pub turns : Option Text
+  pub emit : Option Text
+
+abbrev pub run_words : List Row → RunWords
+run_words rows = record {
+  host = first_of (codes "host") rows;
+  capacity = first_of (codes "capacity") rows;
+  turns = first_of (codes "turns") rows;
+  emit = first_of (codes "emit") rows;
+}
+
+-- these words ask for this
+pub record Chooses (words : RunWords) (options : Options) : Type 0 where
+  pub host : IsLock words.host
+  pub capacity : limit_in 4096 64 words.capacity ≡ Some options.capacity
+  pub turns : limit_in 10000000 100000 words.turns ≡ Some options.turns
+  pub emit : Names words.emit options.emit
+
+-- the subcommand that was met, and the words after its options
+abbrev pub met_with : Option (Text × List Row) → Option (Text × RunWords)
+met_with = option_map (λ p. (p.0, run_words p.1))
+
+-- a run was met, with these options
+abbrev pub MetRun : Options → Option (Text × List Row) → Type 0
+MetRun options found = (words : RunWords) × (met_with found ≡ Some (codes "run", words)) × Chooses words options
+
 abbrev pub MetAudit : Option (Text × List Row) → Type 0
 MetAudit found = option_map (λ p. p.0) found ≡ Some (codes "audit")
 
 -- what was met is this
 abbrev pub IsMet : Asked → Option (Text × List Row) → Type 0
 IsMet (Replay emit) found = MetReplay emit found
+IsMet (Run options) found = MetRun options found
 IsMet Audit found = MetAudit found
 IsMet Version found = ⊥
 IsMet (Help text) found = ⊥
@@ -71,12 +130,14 @@ IsMet (Help text) found = ⊥
 -- in the words this is met; or the version, or help, is among what `clap` may answer in the place of a match
 abbrev pub IsAsked : Asked → List Text → Type 0
 IsAsked (Replay emit) words = MetReplay emit (subcommand_of epaxos words)
+IsAsked (Run options) words = MetRun options (subcommand_of epaxos words)
 IsAsked Audit words = MetAudit (subcommand_of epaxos words)
 IsAsked Version words = IsAmong DisplayVersion (fault_of epaxos words)
 IsAsked (Help text) words = IsAmong DisplayHelp (fault_of epaxos words)
 
 abbrev pub IsHelp : Asked → Type 0
 IsHelp (Replay emit) = ⊥
+IsHelp (Run options) = ⊥
 IsHelp Audit = ⊥
 IsHelp Version = ⊥
 IsHelp (Help text) = Unit {0}
@@ -84,6 +145,7 @@ IsHelp (Help text) = Unit {0}
 -- what is asked for where `clap` answers by this kind in the place of a match
 abbrev pub IsShown : Asked → ErrorKind → Type 0
 IsShown (Replay emit) kind = ⊥
+IsShown (Run options) kind = ⊥
 IsShown Audit kind = ⊥
 IsShown Version kind = kind ≡ DisplayVersion
 IsShown (Help text) kind = kind ≡ DisplayHelp

@@ -1,10 +1,14 @@
 //! What the program is asked for.
 
+use crate::run_options::RunOptions;
+
 /// What the words of the command line ask for.
 #[derive(Drop)]
 pub enum Asked {
     /// To replay a script, and to print this of it.
     Replay(Emit),
+    /// To run a script in threads, in this way.
+    Run(RunOptions),
     /// To audit a bundle.
     Audit,
     /// The program's name and its version.

@@ -1,23 +1,27 @@
 //! The words of the command line.
 
-ghost use Rattle.std.specs.Prelude.{◌≡◌, Some, Ok, Err, IfErr, IfOk, MatchResult, codes, false, map};
+ghost use Rattle.std.specs.Prelude.{◌≡◌, ◌≤◌, ℕ, Some, Ok, Err, IfErr, IfOk, IsOk, OnOk, MatchResult, codes, false, map};
 ghost use Rattle.clap.specs.Values.{kind_of};
 ghost use Rattle.clap.specs.declared.error.ErrorKind.TheVariants.{DisplayHelp, DisplayVersion, OutOfMemory};
 ghost use Rattle.clap.specs.Walk.{first_of, rows_of, rule_of};
 ghost use Rattle.clap.specs.Matches.{found_of};
 ghost use Rattle.clap.specs.Simple.{app_of, subcommand_rows_of};
 ghost use Rattle.clap.specs.declared.builder.command.Command.TheViews.{out-Command as fields_of};
-ghost use Rattle.ep_main.specs.Words.{AskFor, AskForHelp, IsAsked, IsHelp, IsMet, IsShown, MetReplay, MetAudit, Names, audit as audit_app, emit as emit_rule, replay as replay_app, epaxos};
+ghost use Rattle.ep_main.specs.Options.{Options};
+ghost use Rattle.ep_main.specs.Words.{AskFor, AskForHelp, Chooses, IsAsked, IsHelp, IsLock, IsMet, IsShown, MetReplay, MetRun, MetAudit, Names, audit as audit_app, emit as emit_rule, limit_in, replay as replay_app, run as run_app, run_words, epaxos};
 ghost use Rattle.ep_main.specs.declared.asked.Asked.{Asked};
-ghost use Rattle.ep_main.specs.declared.asked.Asked.TheVariants.{Replay, Audit, Version};
+ghost use Rattle.ep_main.specs.declared.asked.Asked.TheVariants.{Replay, Run, Audit, Version};
 ghost use Rattle.ep_main.specs.declared.declined.Declined.TheVariants.{Memory};
 ghost use Rattle.ep_main.specs.declared.asked.Emit.{Emit};
 ghost use Rattle.ep_main.specs.declared.asked.Emit.TheVariants.{Report, Bundle};
+ghost use Rattle.ep_script.specs.Grammar.{number_in as number_between};
 
 use crate::asked::{Asked, Emit};
 use crate::declined::Declined;
+use crate::run_options::RunOptions;
 use clap::error::ErrorKind;
 use clap::{Arg, ArgAction, ArgMatches, Command, Error};
+use ep_script::number_in;
 use std::alloc::{AllocError, Global};
 use std::convert::AsStr;
 
@@ -37,6 +41,22 @@ Exit status:
   0  the audit accepted what the script left, and what was asked for is printed
   2  the command line or the script is refused; standard error says where
   3  memory was refused
+  4  reading or writing failed";
+
+/// What the help of `run` says at its end.
+const AFTER_RUN: &str = "\
+Standard input, to its end, is a script: lines as in the example; docs/FORMATS.md, section 4, has all of them.
+In each section every replica has a thread that submits its lines, and one that hands on its frames.
+Nothing is printed before the end is read, and all threads have ended.
+
+Example:
+  printf 'replicas 3\\npropose 0 1 put x 1\\nsection\\npropose 2 1 get x\\n' | epaxos run
+
+Exit status:
+  0  the audit accepts what the threads left, and what was asked for is printed
+  1  the audit refuses: the verdict and the first fault are printed, or the bundle
+  2  the command line or the script is refused; standard error says where
+  3  memory was refused, or no thread could be started
   4  reading or writing failed";
 
 /// What the help of `audit` says at its end.
@@ -84,12 +104,92 @@ fn asked_instead(alloc: Global, error: &Error) -> Result<Asked, Declined>
 
 fn asked_by(alloc: Global, matches: &ArgMatches<'_>) -> Result<Asked, Declined>
     ensures replay { (emit : Emit) → MetReplay emit (subcommand_rows_of matches.now) → result ≡ Ok (Replay emit) }
+    ensures run { (options : Options) → MetRun options (subcommand_rows_of matches.now) → result ≡ Ok (Run options) }
     ensures audit { MetAudit (subcommand_rows_of matches.now) → result ≡ Ok Audit }
     ensures only { IfOk result (λ a. IsMet a (subcommand_rows_of matches.now)) }
 {
     match matches.subcommand_matches("replay") {
         Some(options) => Ok(Asked::Replay(emit_of(alloc, options)?)),
+        None => run_by(alloc, matches),
+    }
+}
+
+fn run_by(alloc: Global, matches: &ArgMatches<'_>) -> Result<Asked, Declined>
+    ensures run { (options : Options) → MetRun options (subcommand_rows_of matches.now) → result ≡ Ok (Run options) }
+    ensures audit { MetAudit (subcommand_rows_of matches.now) → result ≡ Ok Audit }
+    ensures only { IfOk result (λ a. IsMet a (subcommand_rows_of matches.now)) }
+{
+    match matches.subcommand_matches("run") {
+        Some(options) => Ok(Asked::Run(options_of(alloc, options)?)),
         None => audit_by(alloc, matches),
+    }
+}
+
+/// How a run is to be done, by its options.
+fn options_of(alloc: Global, options: &ArgMatches<'_>) -> Result<RunOptions, Declined>
+    ensures chosen { (o : Options) → Chooses (run_words (rows_of (found_of options.now))) o → result ≡ Ok o }
+    ensures only { IfOk result (Chooses (run_words (rows_of (found_of options.now)))) }
+{
+    let emit = emit_of(alloc, options)?;
+    check_host(alloc, options)?;
+    let capacity = limit_of(alloc, options, "capacity", 4096, 64)?;
+    let turns = limit_of(alloc, options, "turns", 10_000_000, 100_000)?;
+    Ok(RunOptions::new(emit, capacity, turns))
+}
+
+/// Whether the host is one that there is.
+fn check_host(alloc: Global, options: &ArgMatches<'_>) -> Result<(), Declined>
+    ensures lock { IsLock (first_of (codes "host") (rows_of (found_of options.now))) → IsOk result }
+    ensures only { OnOk result (IsLock (first_of (codes "host") (rows_of (found_of options.now)))) }
+{
+    match options.get_str("host") {
+        Some(host) => check_lock(alloc, host),
+        None => Ok(()),
+    }
+}
+
+fn check_lock(alloc: Global, host: &str) -> Result<(), Declined>
+    ensures lock { host.now ≡ codes "lock" → IsOk result }
+    ensures only { OnOk result (host.now ≡ codes "lock") }
+{
+    if host == "lock" {
+        Ok(())
+    } else {
+        Err(Declined::Words(format!(in alloc;
+            "error: invalid value {host:?} for '--host <HOST>'\n  [possible values: lock]\n\nFor more information, try '--help'.\n"
+        )?))
+    }
+}
+
+/// The number after this option, from 1 to so much, or this one where there is none.
+fn limit_of(
+    alloc: Global,
+    options: &ArgMatches<'_>,
+    name: &str,
+    most: u64,
+    default: u64,
+) -> Result<u64, Declined>
+    requires { (1 ≤ default) × (default ≤ most) }
+    ensures spelled { (n : ℕ) → limit_in most default (first_of name.now (rows_of (found_of options.now))) ≡ Some n → result ≡ Ok n }
+    ensures only { IfOk result (λ n. limit_in most default (first_of name.now (rows_of (found_of options.now))) ≡ Some n) }
+    ensures in_range { IfOk result (λ n. (1 ≤ n) × (n ≤ most)) }
+{
+    match options.get_str(name) {
+        Some(word) => limit_named(alloc, word, name, most),
+        None => Ok(default),
+    }
+}
+
+fn limit_named(alloc: Global, word: &str, name: &str, most: u64) -> Result<u64, Declined>
+    ensures spelled { (n : ℕ) → number_between 1 most word.now ≡ Some n → result ≡ Ok n }
+    ensures only { IfOk result (λ n. number_between 1 most word.now ≡ Some n) }
+    ensures in_range { IfOk result (λ n. (1 ≤ n) × (n ≤ most)) }
+{
+    match number_in(word.as_bytes(), 1, most) {
+        Some(number) => Ok(number),
+        None => Err(Declined::Words(format!(in alloc;
+            "error: invalid value {word:?} for '--{name}': it takes a number from 1 to {most}\n\nFor more information, try '--help'.\n"
+        )?)),
     }
 }
 
@@ -133,6 +233,7 @@ fn program<'a>(alloc: Global) -> Result<Command<'a>, AllocError>
     ensures { IfOk result (λ c. app_of c ≡ epaxos) }
 {
     let replay = replay_command(alloc)?;
+    let run = run_command(alloc)?;
     let audit = Command::new(alloc, "audit")
         .about("Reads a bundle on standard input, audits it, and prints what the audit says")
         .after_help(AFTER_AUDIT);
@@ -141,7 +242,10 @@ fn program<'a>(alloc: Global) -> Result<Command<'a>, AllocError>
         .after_help(AFTER_ALL)
         .version("0.1.0")
         .subcommand_required(true);
-    command.subcommand(replay)?.subcommand(audit)
+    command
+        .subcommand(replay)?
+        .subcommand(run)?
+        .subcommand(audit)
 }
 
 fn replay_command<'a>(alloc: Global) -> Result<Command<'a>, AllocError>
@@ -158,4 +262,37 @@ fn replay_command<'a>(alloc: Global) -> Result<Command<'a>, AllocError>
         )
         .after_help(AFTER_REPLAY);
     command.arg(emit)
+}
+
+fn run_command<'a>(alloc: Global) -> Result<Command<'a>, AllocError>
+    ensures { IfOk result (λ c. (app_of c ≡ run_app) × ((fields_of c).has_globals ≡ false)) }
+{
+    let host = Arg::new(alloc, "host")
+        .long("host")
+        .value_name("HOST")
+        .help("Which host has the replicas: lock (the default)")
+        .action(ArgAction::Set);
+    let capacity = Arg::new(alloc, "capacity")
+        .long("capacity")
+        .value_name("K")
+        .help("How many frames an inbox holds: 1 to 4096 (64 is the default)")
+        .action(ArgAction::Set);
+    let turns = Arg::new(alloc, "turns")
+        .long("turns")
+        .value_name("T")
+        .help(
+            "How often a thread turns in a section, at most: 1 to 10000000 (100000 is the default)",
+        )
+        .action(ArgAction::Set);
+    let emit = Arg::new(alloc, "emit")
+        .long("emit")
+        .value_name("WHAT")
+        .help("What to print: report (the default) or bundle")
+        .action(ArgAction::Set);
+    let command = Command::new(alloc, "run")
+        .about(
+            "Reads a script on standard input, runs it in threads, audits what they leave, and prints a report or a bundle",
+        )
+        .after_help(AFTER_RUN);
+    command.arg(host)?.arg(capacity)?.arg(turns)?.arg(emit)
 }

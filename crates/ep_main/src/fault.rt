@@ -7,6 +7,7 @@ ghost use Rattle.ep_main.specs.declared.fault.Fault.TheVariants.{Memory, Write};
 use crate::status::Status;
 use ep_base::{ReplicaId, WriteFailed};
 use ep_bundle::BundleFault;
+use ep_run::RunFault;
 use ep_script::ScriptFault;
 use std::alloc::AllocError;
 
@@ -62,6 +63,14 @@ impl From<BundleFault> for Fault {
             BundleFault::BadBundle(offset) => Fault::BadBundle(offset),
             BundleFault::NotARun(replica, entry) => Fault::NotARun(replica, entry),
         }
+    }
+}
+
+impl From<RunFault> for Fault {
+    ghost from_gives = { λ _ e. e ≡ Memory };
+
+    fn from(_fault: RunFault) -> Fault {
+        Fault::Memory
     }
 }
 

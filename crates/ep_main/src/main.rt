@@ -1,11 +1,11 @@
-//! `epaxos`: replays scripts of a replicated key-value core, audits bundles, and prints reports.
+//! `epaxos`: replays scripts of a replicated key-value core, runs them in threads, audits bundles, and prints reports.
 //!
 //! `main` hands the words and the standard streams to `engine`, in `program.rt`, which is all of the program: over any source
 //! and sinks, so that its contract can say what the bytes and the status mean, and tests can run it over memory.
 //!
 //! Start with `program.rt`, `command_line.rt` (the words, by `clap`) and specs/Runs.antt (what is done, by status).
 //!
-//! It does no more than call `ep_replay`, `ep_audit` and `ep_bundle`. A fault has one line on the fault output and one status
+//! It does no more than call `ep_replay`, `ep_run`, `ep_audit` and `ep_bundle`. A fault has one line on the fault output and one status
 //! (`fault.rt`, `declined.rt`, `telling.rt`, `status.rt`), as docs/FORMATS.md, section 6, lists them.
 #![tactic(auto)]
 
@@ -18,6 +18,8 @@ mod fault;
 mod judged;
 mod program;
 mod replaying;
+mod run_options;
+mod running;
 mod status;
 mod telling;
 #[cfg(test)]
@@ -29,8 +31,11 @@ use crate::program::{decline, engine};
 use crate::status::Status;
 use ep_base::{Noted, Sink};
 use std::io::{ErrorKind, Read};
+use std::marker::Sync;
 use std::process::ExitCode;
 use std::rt::Env;
+use std::sync::Wait;
+use std::thread::Threads;
 
 fn main(rt: HostRuntime) -> ExitCode {
     let mut writer = Noted::new(rt.stdout());
@@ -43,7 +48,7 @@ fn main(rt: HostRuntime) -> ExitCode {
 }
 
 /// Runs the program, unless its words, or memory to read ahead, can't be had.
-fn run<R: Env + AllocGlobal, I: Read + Drop, W: Sink, F: Sink>(
+fn run<R: Env + AllocGlobal + Threads + Wait + Sync, I: Read + Drop, W: Sink, F: Sink>(
     rt: &R,
     input: I,
     writer: &mut W,
@@ -52,7 +57,14 @@ fn run<R: Env + AllocGlobal, I: Read + Drop, W: Sink, F: Sink>(
     let alloc = rt.alloc();
     let words = words(rt)?;
     let mut reader = read_ahead(alloc, input)?;
-    Ok(engine(alloc, words.as_slice(), &mut reader, writer, fault_writer))
+    Ok(engine(
+        rt,
+        alloc,
+        words.as_slice(),
+        &mut reader,
+        writer,
+        fault_writer,
+    ))
 }
 
 /// The words of the command line, of which the first is the program's own name.

@@ -14,26 +14,32 @@ use crate::command_line::read_words;
 use crate::declined::Declined;
 use crate::fault::Fault;
 use crate::replaying::{emit_bundle, print_replay};
+use crate::running::print_run;
 use crate::status::Status;
 use crate::telling::{tell, tell_words};
 use ep_base::{Sink, Source};
 use std::alloc::Global;
 use std::convert::AsStr;
+use std::marker::Sync;
+use std::sync::Wait;
+use std::thread::Threads;
 
 /// Does what the words ask for, of which the first is the program's own name, and answers how the program ends.
 ///
 /// `replay` reads a script to its end, plays it, audits what it leaves, and writes the report in one go, or, with `--emit
-/// bundle`, the bundle of that. `audit` reads a bundle to its end, audits it, and writes what the audit says in one go.
+/// bundle`, the bundle of that. `run` reads a script, runs it in threads, audits what they leave, and writes the report, or the
+/// bundle, in one go. `audit` reads a bundle to its end, audits it, and writes what the audit says in one go.
 /// What stops it (a refused script or bundle, want of memory, a reader or a writer that fails) is told by one line on the
 /// fault output; a refused command line by one, and what is wrong with it after that. Where telling fails, the status stays.
-pub fn engine<T: AsStr, S: Source, W: Sink, F: Sink>(
+pub fn engine<R: Threads + Wait + Sync, T: AsStr, S: Source, W: Sink, F: Sink>(
+    rt: &R,
     alloc: Global,
     words: &[T],
     reader: &mut S,
     writer: &mut W,
     fault_writer: &mut F,
 ) -> Status
-    // where the words ask for a replay's report, for its bundle, for an audit, or for the version, that is done
+    // where the words ask for a replay's or a run's report, for its bundle, for an audit, or for the version, that is done
     ensures asked { (asked : Asked) → AskFor asked (map T.text words.now) → (zs : List ℕ) → S.left reader.old ≡ Some zs → Performs asked result zs (input (S.has_failed reader.old) (S.has_failed reader.new))
         (output (W.held writer.old) (W.held writer.new) (W.has_failed writer.old) (W.has_failed writer.new))
         (output (F.held fault_writer.old) (F.held fault_writer.new) (F.has_failed fault_writer.old) (F.has_failed fault_writer.new)) }
@@ -57,7 +63,7 @@ pub fn engine<T: AsStr, S: Source, W: Sink, F: Sink>(
         (output (F.held fault_writer.old) (F.held fault_writer.new) (F.has_failed fault_writer.old) (F.has_failed fault_writer.new)) }
 {
     match read_words(alloc, words) {
-        Ok(asked) => perform(alloc, asked, reader, writer, fault_writer),
+        Ok(asked) => perform(rt, alloc, asked, reader, writer, fault_writer),
         Err(why) => decline(why, fault_writer),
     }
 }
@@ -76,7 +82,8 @@ pub(crate) fn decline<F: Sink>(why: Declined, fault_writer: &mut F) -> Status
 }
 
 /// Does what is asked, and answers how the program ends.
-pub fn perform<S: Source, W: Sink, F: Sink>(
+pub fn perform<R: Threads + Wait + Sync, S: Source, W: Sink, F: Sink>(
+    rt: &R,
     alloc: Global,
     asked: Asked,
     reader: &mut S,
@@ -90,12 +97,13 @@ pub fn perform<S: Source, W: Sink, F: Sink>(
         (output (W.held writer.old) (W.held writer.new) (W.has_failed writer.old) (W.has_failed writer.new))
         (output (F.held fault_writer.old) (F.held fault_writer.new) (F.has_failed fault_writer.old) (F.has_failed fault_writer.new)) }
 {
-    let outcome = attempt(alloc, asked, reader, writer);
+    let outcome = attempt(rt, alloc, asked, reader, writer);
     concluded(outcome, fault_writer)
 }
 
 /// Does what is asked, as far as no fault stops it.
-fn attempt<S: Source, W: Sink>(
+fn attempt<R: Threads + Wait + Sync, S: Source, W: Sink>(
+    rt: &R,
     alloc: Global,
     asked: Asked,
     reader: &mut S,
@@ -110,6 +118,7 @@ fn attempt<S: Source, W: Sink>(
     match asked {
         Asked::Replay(Emit::Report) => print_replay(alloc, reader, writer),
         Asked::Replay(Emit::Bundle) => emit_bundle(alloc, reader, writer),
+        Asked::Run(options) => print_run(rt, alloc, &options, reader, writer),
         Asked::Audit => print_audit(alloc, reader, writer),
         Asked::Version => {
             writer.put(b"epaxos 0.1.0\n")?;

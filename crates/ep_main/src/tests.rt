@@ -6,16 +6,21 @@ mod failing;
 mod grammar;
 mod limits;
 mod refused_events;
+mod running;
 mod word_lists;
 
 use crate::program::engine;
 use crate::status::Status;
 use ep_base::Noted;
 use std::alloc::Global;
+use std::marker::Sync;
+use std::sync::Wait;
+use std::thread::Threads;
 
 /// Whether the program, with these words and this input, ends so, and writes just this on its output and just that on its
 /// fault output.
-fn ends(
+fn ends<R: Threads + Wait + Sync>(
+    rt: &R,
     alloc: Global,
     words: &[&str],
     input: &[u8],
@@ -26,15 +31,28 @@ fn ends(
     let mut reader = Noted::new(input);
     let mut writer = Noted::new(Vec::new(alloc));
     let mut fault_writer = Noted::new(Vec::new(alloc));
-    let ended = engine(alloc, words, &mut reader, &mut writer, &mut fault_writer);
+    let ended = engine(
+        rt,
+        alloc,
+        words,
+        &mut reader,
+        &mut writer,
+        &mut fault_writer,
+    );
     ended == status
         && writer.inner().as_slice() == output
         && fault_writer.inner().as_slice() == told
 }
 
 /// Whether a replay of the script is accepted, with just this report.
-fn is_played(alloc: Global, script: &[u8], report: &[u8]) -> bool {
+fn is_played<R: Threads + Wait + Sync>(
+    rt: &R,
+    alloc: Global,
+    script: &[u8],
+    report: &[u8],
+) -> bool {
     ends(
+        rt,
         alloc,
         &["epaxos", "replay"],
         script,
@@ -45,12 +63,24 @@ fn is_played(alloc: Global, script: &[u8], report: &[u8]) -> bool {
 }
 
 /// Whether an audit accepts the bundle, with the report's lines up to those of what was refused.
-fn is_audited(alloc: Global, bundle: &[u8], report: &[u8]) -> bool {
+fn is_audited<R: Threads + Wait + Sync>(
+    rt: &R,
+    alloc: Global,
+    bundle: &[u8],
+    report: &[u8],
+) -> bool {
     let mut reader = Noted::new(bundle);
     let mut writer = Noted::new(Vec::new(alloc));
     let mut fault_writer = Noted::new(Vec::new(alloc));
     let words = ["epaxos", "audit"];
-    let ended = engine(alloc, &words, &mut reader, &mut writer, &mut fault_writer);
+    let ended = engine(
+        rt,
+        alloc,
+        &words,
+        &mut reader,
+        &mut writer,
+        &mut fault_writer,
+    );
     let printed = writer.inner().as_slice();
     let Some(rest) = report.get(printed.len()..) else {
         return false;
@@ -59,23 +89,41 @@ fn is_audited(alloc: Global, bundle: &[u8], report: &[u8]) -> bool {
 }
 
 /// Whether the script's bundle is audited to the lines of this report.
-fn is_audited_again(alloc: Global, script: &[u8], report: &[u8]) -> bool {
+fn is_audited_again<R: Threads + Wait + Sync>(
+    rt: &R,
+    alloc: Global,
+    script: &[u8],
+    report: &[u8],
+) -> bool {
     let mut reader = Noted::new(script);
     let mut writer = Noted::new(Vec::new(alloc));
     let mut fault_writer = Noted::new(Vec::new(alloc));
     let words = ["epaxos", "replay", "--emit", "bundle"];
-    let ended = engine(alloc, &words, &mut reader, &mut writer, &mut fault_writer);
-    ended == Status::Accepted && is_audited(alloc, writer.inner().as_slice(), report)
+    let ended = engine(
+        rt,
+        alloc,
+        &words,
+        &mut reader,
+        &mut writer,
+        &mut fault_writer,
+    );
+    ended == Status::Accepted && is_audited(rt, alloc, writer.inner().as_slice(), report)
 }
 
 /// Whether a replay of the script is accepted, with just this report, and its bundle is audited to the same lines.
-fn is_played_and_audited(alloc: Global, script: &[u8], report: &[u8]) -> bool {
-    is_played(alloc, script, report) && is_audited_again(alloc, script, report)
+fn is_played_and_audited<R: Threads + Wait + Sync>(
+    rt: &R,
+    alloc: Global,
+    script: &[u8],
+    report: &[u8],
+) -> bool {
+    is_played(rt, alloc, script, report) && is_audited_again(rt, alloc, script, report)
 }
 
 /// Whether a replay of the script is refused, with just this line on the fault output.
-fn is_refused(alloc: Global, script: &[u8], line: &[u8]) -> bool {
+fn is_refused<R: Threads + Wait + Sync>(rt: &R, alloc: Global, script: &[u8], line: &[u8]) -> bool {
     ends(
+        rt,
         alloc,
         &["epaxos", "replay"],
         script,

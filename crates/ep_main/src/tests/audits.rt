@@ -5,7 +5,10 @@ use crate::program::engine;
 use crate::status::Status;
 use ep_base::{FailAt, Noted, Source};
 use std::alloc::Global;
+use std::marker::Sync;
 use std::process::Abort;
+use std::sync::Wait;
+use std::thread::Threads;
 
 const WORDS: [&str; 2] = ["epaxos", "audit"];
 
@@ -44,24 +47,42 @@ const ONE_PROPOSAL: [u8; 106] = [
 ];
 
 /// The bundle of this script.
-fn bundle_of(rt: &impl Abort, alloc: Global, script: &[u8]) -> Vec<u8> {
+fn bundle_of<R: Threads + Wait + Sync + Abort>(rt: &R, alloc: Global, script: &[u8]) -> Vec<u8> {
     let words = ["epaxos", "replay", "--emit", "bundle"];
     let mut writer = Noted::new(Vec::new(alloc));
     let mut fault_writer = Noted::new(Vec::new(alloc));
     let mut reader = Noted::new(script);
-    let status = engine(alloc, &words, &mut reader, &mut writer, &mut fault_writer);
+    let status = engine(
+        rt,
+        alloc,
+        &words,
+        &mut reader,
+        &mut writer,
+        &mut fault_writer,
+    );
     assert!(*rt; status == Status::Accepted && fault_writer.inner().is_empty());
     writer.into_inner()
 }
 
 /// Whether an audit of the bundle accepts it, with just this report.
-fn is_accepted(alloc: Global, bundle: &[u8], report: &[u8]) -> bool {
-    ends(alloc, &WORDS, bundle, Status::Accepted, report, b"")
+fn is_accepted<R: Threads + Wait + Sync>(
+    rt: &R,
+    alloc: Global,
+    bundle: &[u8],
+    report: &[u8],
+) -> bool {
+    ends(rt, alloc, &WORDS, bundle, Status::Accepted, report, b"")
 }
 
 /// Whether an audit of the bundle ends so, with just this line on the fault output.
-fn tells(alloc: Global, bundle: &[u8], status: Status, line: &[u8]) -> bool {
-    ends(alloc, &WORDS, bundle, status, b"", line)
+fn tells<R: Threads + Wait + Sync>(
+    rt: &R,
+    alloc: Global,
+    bundle: &[u8],
+    status: Status,
+    line: &[u8],
+) -> bool {
+    ends(rt, alloc, &WORDS, bundle, status, b"", line)
 }
 
 /// Whether an audit of the put's bundle, where these bytes are others, refuses it with just this report.
@@ -72,6 +93,7 @@ fn is_refused_with(rt: &impl Abort, alloc: Global, bytes: &[(usize, u8)], report
         bundle.as_mut_slice()[*place] = *byte;
     }
     ends(
+        rt,
         alloc,
         &WORDS,
         bundle.as_slice(),
@@ -84,7 +106,7 @@ fn is_refused_with(rt: &impl Abort, alloc: Global, bytes: &[(usize, u8)], report
 #[test]
 fn empty_journals(rt: HostRuntime) {
     let report = b"verdict accepted\ncommitted 0\nhistory 0\nreceipts 0\n";
-    assert!(rt; is_accepted(rt.alloc(), &EMPTY, report));
+    assert!(rt; is_accepted(&rt, rt.alloc(), &EMPTY, report));
     let bundle = bundle_of(&rt, rt.alloc(), b"replicas 3\n");
     assert!(rt; bundle.as_slice() == EMPTY.as_slice());
 }
@@ -95,13 +117,13 @@ fn one_proposal(rt: HostRuntime) {
     let bundle = bundle_of(&rt, alloc, b"replicas 3\npropose 0 1 put x 1\n");
     assert!(rt; bundle.as_slice() == ONE_PROPOSAL.as_slice());
     let report = b"verdict accepted\ncommitted 0\nhistory 0\nreceipts 0\n";
-    assert!(rt; is_accepted(alloc, &ONE_PROPOSAL, report));
+    assert!(rt; is_accepted(&rt, alloc, &ONE_PROPOSAL, report));
 }
 
 #[test]
 fn one_put_is_audited_again(rt: HostRuntime) {
     let bundle = bundle_of(&rt, rt.alloc(), SCRIPT);
-    assert!(rt; is_accepted(rt.alloc(), bundle.as_slice(), REPORT));
+    assert!(rt; is_accepted(&rt, rt.alloc(), bundle.as_slice(), REPORT));
 }
 
 #[test]
@@ -132,6 +154,7 @@ fn a_frame_that_nobody_sent(rt: HostRuntime) {
     let report = b"verdict refused\nA1 unsent frame at replica 1 entry 1\n";
     assert!(rt;
         ends(
+            &rt,
             alloc,
             &WORDS,
             bundle.as_slice(),
@@ -151,23 +174,23 @@ fn bundles_that_are_refused(rt: HostRuntime) {
         (9, b"bundle refused E12 at byte 6\n"),
         (105, b"bundle refused E12 at byte 102\n"),
     ] {
-        assert!(rt; tells(alloc, &ONE_PROPOSAL[..length], Status::Refused, line));
+        assert!(rt; tells(&rt, alloc, &ONE_PROPOSAL[..length], Status::Refused, line));
     }
     let mut longer = Vec::from_slice(alloc, &ONE_PROPOSAL).expect(&rt, "memory");
     longer.push(0).expect(&rt, "memory");
     let line = b"bundle refused E12 at byte 106\n";
-    assert!(rt; tells(alloc, longer.as_slice(), Status::Refused, line));
+    assert!(rt; tells(&rt, alloc, longer.as_slice(), Status::Refused, line));
     let mut changed = ONE_PROPOSAL;
     changed[93] = 0x32;
     let line = b"bundle refused E11 at replica 0 entry 1\n";
-    assert!(rt; tells(alloc, &changed, Status::Refused, line));
+    assert!(rt; tells(&rt, alloc, &changed, Status::Refused, line));
 }
 
 #[test]
 fn a_script_without_a_bundle(rt: HostRuntime) {
     let words = ["epaxos", "replay", "--emit", "bundle"];
     let line = b"script refused at line 1\n";
-    assert!(rt; ends(rt.alloc(), &words, b"", Status::Refused, b"", line));
+    assert!(rt; ends(&rt, rt.alloc(), &words, b"", Status::Refused, b"", line));
 }
 
 #[test]
@@ -176,7 +199,14 @@ fn readers_and_writers_that_fail(rt: HostRuntime) {
     let mut reader = FailAt::new(Noted::new(EMPTY.as_slice()), 2);
     let mut writer = Noted::new(Vec::new(alloc));
     let mut fault_writer = Noted::new(Vec::new(alloc));
-    let status = engine(alloc, &WORDS, &mut reader, &mut writer, &mut fault_writer);
+    let status = engine(
+        &rt,
+        alloc,
+        &WORDS,
+        &mut reader,
+        &mut writer,
+        &mut fault_writer,
+    );
     assert!(rt; reader.failed() && status == Status::Failed && writer.inner().is_empty());
     assert!(rt; fault_writer.inner().as_slice() == b"reading failed\n".as_slice());
 
@@ -184,7 +214,14 @@ fn readers_and_writers_that_fail(rt: HostRuntime) {
     let mut reader = Noted::new(b"replicas 3\n".as_slice());
     let mut writer = FailAt::new(Noted::new(Vec::new(alloc)), 1);
     let mut fault_writer = Noted::new(Vec::new(alloc));
-    let status = engine(alloc, &words, &mut reader, &mut writer, &mut fault_writer);
+    let status = engine(
+        &rt,
+        alloc,
+        &words,
+        &mut reader,
+        &mut writer,
+        &mut fault_writer,
+    );
     assert!(rt; status == Status::Failed);
     assert!(rt; fault_writer.inner().as_slice() == b"writing failed\n".as_slice());
 }

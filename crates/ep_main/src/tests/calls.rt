@@ -6,7 +6,10 @@ use crate::status::Status;
 use ep_base::Noted;
 use std::alloc::{AllocError, Global};
 use std::io::{self, ErrorKind, Read, Write};
+use std::marker::Sync;
 use std::process::Abort;
+use std::sync::Wait;
+use std::thread::Threads;
 
 /// A reader that gives at most so many bytes at a time, fails at one read, counted from 1 (at none where that is 0), and
 /// counts its reads.
@@ -57,7 +60,7 @@ fn script(alloc: Global) -> Result<Vec<u8>, AllocError> {
 }
 
 /// The bundle of the script, and in how many writes it was written.
-fn bundle(alloc: Global, script: &[u8]) -> (Vec<u8>, u64) {
+fn bundle<R: Threads + Wait + Sync>(rt: &R, alloc: Global, script: &[u8]) -> (Vec<u8>, u64) {
     let words = ["epaxos", "replay", "--emit", "bundle"];
     let mut reader = Noted::new(script);
     let mut writer = Noted::new(Counted {
@@ -65,21 +68,39 @@ fn bundle(alloc: Global, script: &[u8]) -> (Vec<u8>, u64) {
         writes: 0,
     });
     let mut fault_writer = Noted::new(Vec::new(alloc));
-    let _ = engine(alloc, &words, &mut reader, &mut writer, &mut fault_writer);
+    let _ = engine(
+        rt,
+        alloc,
+        &words,
+        &mut reader,
+        &mut writer,
+        &mut fault_writer,
+    );
     let Counted { bytes, writes } = writer.into_inner();
     (bytes, writes)
 }
 
 /// How an audit of what this reader gives ends, and in how many reads. `None` where a failed read isn't told just so, or
 /// memory was refused.
-fn audited(alloc: Global, slow: Slow<'_>) -> Option<(Status, u64)> {
+fn audited<R: Threads + Wait + Sync>(
+    rt: &R,
+    alloc: Global,
+    slow: Slow<'_>,
+) -> Option<(Status, u64)> {
     let Ok(mut reader) = read_ahead(alloc, slow) else {
         return None;
     };
     let mut writer = Noted::new(Vec::new(alloc));
     let mut fault_writer = Noted::new(Vec::new(alloc));
     let words = ["epaxos", "audit"];
-    let status = engine(alloc, &words, &mut reader, &mut writer, &mut fault_writer);
+    let status = engine(
+        rt,
+        alloc,
+        &words,
+        &mut reader,
+        &mut writer,
+        &mut fault_writer,
+    );
     let told = fault_writer.inner().as_slice() == b"reading failed\n".as_slice();
     if told != (status == Status::Failed) || told && !writer.inner().is_empty() {
         return None;
@@ -88,7 +109,8 @@ fn audited(alloc: Global, slow: Slow<'_>) -> Option<(Status, u64)> {
 }
 
 /// Whether an audit of the bundle by such a reader ends so, in this many reads.
-fn ends_in(
+fn ends_in<R: Threads + Wait + Sync>(
+    rt: &R,
     alloc: Global,
     bundle: &[u8],
     most: usize,
@@ -101,13 +123,13 @@ fn ends_in(
         fails_at,
         reads: 0,
     };
-    audited(alloc, slow) == Some(wanted)
+    audited(rt, alloc, slow) == Some(wanted)
 }
 
 /// The bundle of the script, written at once.
-fn whole(rt: &impl Abort, alloc: Global) -> Vec<u8> {
+fn whole<R: Threads + Wait + Sync + Abort>(rt: &R, alloc: Global) -> Vec<u8> {
     let script = script(alloc).expect(rt, "memory");
-    let (bundle, writes) = bundle(alloc, script.as_slice());
+    let (bundle, writes) = bundle(rt, alloc, script.as_slice());
     assert!(*rt; writes == 1 && bundle.len() > 16_384);
     bundle
 }
@@ -122,7 +144,7 @@ fn a_read_for_each_8_kibibytes(rt: HostRuntime) {
     let alloc = rt.alloc();
     let bundle = whole(&rt, alloc);
     let accepted = (Status::Accepted, reads_of(bundle.as_slice()));
-    assert!(rt; ends_in(alloc, bundle.as_slice(), usize::MAX, 0, accepted));
+    assert!(rt; ends_in(&rt, alloc, bundle.as_slice(), usize::MAX, 0, accepted));
 }
 
 #[test]
@@ -130,7 +152,7 @@ fn a_byte_at_a_time(rt: HostRuntime) {
     let alloc = rt.alloc();
     let bundle = whole(&rt, alloc);
     let accepted = (Status::Accepted, (bundle.len() as u64).saturating_add(1));
-    assert!(rt; ends_in(alloc, bundle.as_slice(), 1, 0, accepted));
+    assert!(rt; ends_in(&rt, alloc, bundle.as_slice(), 1, 0, accepted));
 }
 
 #[test]
@@ -140,7 +162,7 @@ fn each_read_ahead_fails(rt: HostRuntime) {
     for read in 1..=reads_of(bundle.as_slice()) {
         let failed = (Status::Failed, read);
         assert!(rt;
-            ends_in(alloc, bundle.as_slice(), usize::MAX, read, failed),
+            ends_in(&rt, alloc, bundle.as_slice(), usize::MAX, read, failed),
             "at read {read}"
         );
     }

@@ -13,12 +13,19 @@ refused 0
 
 #[test]
 fn an_empty_input(rt: HostRuntime) {
-    assert!(rt; is_refused(rt.alloc(), b"", b"script refused at line 1\n"));
+    assert!(rt; is_refused(&rt, rt.alloc(), b"", b"script refused at line 1\n"));
 }
 
 #[test]
 fn four_replicas(rt: HostRuntime) {
-    assert!(rt; is_refused(rt.alloc(), b"replicas 4\n", b"script refused at line 1\n"));
+    assert!(rt;
+        is_refused(
+            &rt,
+            rt.alloc(),
+            b"replicas 4\n",
+            b"script refused at line 1\n"
+        )
+    );
 }
 
 #[test]
@@ -28,7 +35,7 @@ propose 0 1 put x 1
 flush now
 propose 9 1 put x 1
 ";
-    assert!(rt; is_refused(rt.alloc(), script, b"script refused at line 3\n"));
+    assert!(rt; is_refused(&rt, rt.alloc(), script, b"script refused at line 3\n"));
 }
 
 /// A script of a cluster of three, and then this byte, this often.
@@ -43,10 +50,11 @@ fn padded(alloc: Global, byte: u8, count: usize) -> Result<Vec<u8>, AllocError> 
 #[test]
 fn lines_of_8192_and_8193_bytes(rt: HostRuntime) {
     let longest = padded(rt.alloc(), b' ', 8192).expect(&rt, "memory");
-    assert!(rt; is_played(rt.alloc(), longest.as_slice(), NOTHING));
+    assert!(rt; is_played(&rt, rt.alloc(), longest.as_slice(), NOTHING));
     let too_long = padded(rt.alloc(), b' ', 8193).expect(&rt, "memory");
     assert!(rt;
         is_refused(
+            &rt,
             rt.alloc(),
             too_long.as_slice(),
             b"script refused at line 2\n"
@@ -57,10 +65,11 @@ fn lines_of_8192_and_8193_bytes(rt: HostRuntime) {
 #[test]
 fn scripts_of_100000_and_100001_lines(rt: HostRuntime) {
     let longest = padded(rt.alloc(), b'\n', 99_999).expect(&rt, "memory");
-    assert!(rt; is_played(rt.alloc(), longest.as_slice(), NOTHING));
+    assert!(rt; is_played(&rt, rt.alloc(), longest.as_slice(), NOTHING));
     let too_long = padded(rt.alloc(), b'\n', 100_000).expect(&rt, "memory");
     assert!(rt;
         is_refused(
+            &rt,
             rt.alloc(),
             too_long.as_slice(),
             b"script refused at line 100001\n"
@@ -81,7 +90,7 @@ receipts 1
 client 1 request 1 0.1 absent
 refused 0
 ";
-    assert!(rt; is_played(rt.alloc(), script, report));
+    assert!(rt; is_played(&rt, rt.alloc(), script, report));
 }
 
 #[test]
@@ -107,5 +116,5 @@ client 1 request 1 0.1 absent
 client 1 request 2 0.2 present %-
 refused 0
 ";
-    assert!(rt; is_played(rt.alloc(), script, report));
+    assert!(rt; is_played(&rt, rt.alloc(), script, report));
 }

@@ -22,7 +22,7 @@ receipts 0
 refused 1
 line 1002 E4 space full
 ";
-    assert!(rt; is_played(rt.alloc(), script.as_slice(), report));
+    assert!(rt; is_played(&rt, rt.alloc(), script.as_slice(), report));
 }
 
 #[test]
@@ -35,5 +35,5 @@ receipts 0
 refused 1
 line 60002 E9 ballots exhausted
 ";
-    assert!(rt; is_played(rt.alloc(), script.as_slice(), report));
+    assert!(rt; is_played(&rt, rt.alloc(), script.as_slice(), report));
 }

@@ -15,7 +15,7 @@ receipts 0
 refused 1
 line 3 E10 not committed 0.1
 ";
-    assert!(rt; is_played_and_audited(rt.alloc(), script, report));
+    assert!(rt; is_played_and_audited(&rt, rt.alloc(), script, report));
 }
 
 #[test]
@@ -31,5 +31,5 @@ receipts 0
 refused 1
 line 3 E18 no such message 2
 ";
-    assert!(rt; is_played_and_audited(rt.alloc(), script, report));
+    assert!(rt; is_played_and_audited(&rt, rt.alloc(), script, report));
 }

@@ -1,0 +1,127 @@
+//! Runs in threads.
+
+ghost use Rattle.std.specs.Prelude.{◌≡◌, ◌<◌, ◌^◌, ℕ, List, Some, length, IfOk, IfErr};
+ghost use Rattle.ep_base.specs.Devices.{FailsAsTold};
+ghost use Rattle.ep_bundle.specs.Bytes.{bundle_bytes};
+ghost use Rattle.ep_host.specs.Finishing.{IsFinished};
+ghost use Rattle.ep_main.specs.Audits.{SaysOfRun};
+ghost use Rattle.ep_main.specs.Faults.{is_read, is_write};
+ghost use Rattle.ep_main.specs.Outputs.{output};
+ghost use Rattle.ep_main.specs.Runs.{IsVerdict, Runs};
+ghost use Rattle.ep_main.specs.declared.asked.Emit.TheVariants.{Report, Bundle};
+ghost use Rattle.ep_main.specs.declared.fault.Fault.TheVariants.{Memory};
+
+use crate::asked::Emit;
+use crate::fault::Fault;
+use crate::judged::Judged;
+use crate::run_options::RunOptions;
+use crate::status::Status;
+use ep_base::{Noted, Sink, Source};
+use ep_bundle::write_bundle;
+use ep_report::{Losses, refusal, run_report};
+use ep_run::{Ran, run};
+use ep_script::read_run;
+use std::alloc::Global;
+use std::marker::Sync;
+use std::mem::forget;
+use std::sync::Wait;
+use std::thread::Threads;
+
+/// Reads a script to its end, runs it in threads, audits what they leave, and prints what is asked for.
+pub(crate) fn print_run<R: Threads + Wait + Sync, S: Source, W: Sink>(
+    rt: &R,
+    alloc: Global,
+    options: &RunOptions,
+    reader: &mut S,
+    writer: &mut W,
+) -> Result<Status, Fault>
+    ensures runs { (zs : List ℕ) → S.left reader.old ≡ Some zs → Runs options.now.emit result zs
+        (output (W.held writer.old) (W.held writer.new) (W.has_failed writer.old) (W.has_failed writer.new)) }
+    ensures verdict { IfOk result IsVerdict }
+    ensures read { FailsAsTold is_read result (S.has_failed reader.old) (S.has_failed reader.new) }
+    ensures written { FailsAsTold is_write result (W.has_failed writer.old) (W.has_failed writer.new) }
+{
+    let script = read_run(alloc, reader)?;
+    let ran = run(rt, alloc, &script, &options.limits())?;
+    let judged = judge_run(alloc, options.emit(), &ran)?;
+    writer.put(judged.text.as_slice())?;
+    // The system takes memory back at the process's end, all at once.
+    forget((script, ran));
+    Ok(judged.status)
+}
+
+/// What is printed of a run, and the status by what the audit says of it.
+fn judge_run(alloc: Global, emit: Emit, ran: &Ran) -> Result<Judged, Fault>
+    requires { IsFinished ran.now.receipts.items ran.now.finished }
+    ensures value { IfOk result (λ j. SaysOfRun emit ran.now j.status j.text.items) }
+    ensures memory { IfErr result (λ e. e ≡ Memory) }
+{
+    match emit {
+        Emit::Report => judge_reported(alloc, ran),
+        Emit::Bundle => judge_bundled(alloc, ran),
+    }
+}
+
+/// The report of a run that the audit accepts, or its first fault.
+fn judge_reported(alloc: Global, ran: &Ran) -> Result<Judged, Fault>
+    requires { IsFinished ran.now.receipts.items ran.now.finished }
+    ensures value { IfOk result (λ j. SaysOfRun Report ran.now j.status j.text.items) }
+    ensures memory { IfErr result (λ e. e ≡ Memory) }
+{
+    match &ran.finished.verdict {
+        Ok(verdict) => {
+            let losses = Losses {
+                refused: ran.refused.as_slice(),
+                lost: ran.lost,
+            };
+            let text = run_report(
+                alloc,
+                verdict.committed.as_slice(),
+                verdict.history.as_slice(),
+                ran.receipts.as_slice(),
+                losses,
+            )?;
+            Ok(Judged {
+                status: Status::Accepted,
+                text,
+            })
+        }
+        Err(fault) => Ok(Judged {
+            status: Status::AuditRefused,
+            text: refusal(alloc, *fault)?,
+        }),
+    }
+}
+
+/// The bundle of a run, whatever the audit says of it.
+fn judge_bundled(alloc: Global, ran: &Ran) -> Result<Judged, Fault>
+    requires { IsFinished ran.now.receipts.items ran.now.finished }
+    ensures value { IfOk result (λ j. SaysOfRun Bundle ran.now j.status j.text.items) }
+    ensures memory { IfErr result (λ e. e ≡ Memory) }
+{
+    let text = bundle_of(alloc, ran)?;
+    let status = match &ran.finished.verdict {
+        Ok(_) => Status::Accepted,
+        Err(_) => Status::AuditRefused,
+    };
+    Ok(Judged { status, text })
+}
+
+/// The bytes of the bundle of what a run left. They are gathered first and then put in one go, as a report's are.
+fn bundle_of(alloc: Global, ran: &Ran) -> Result<Vec<u8>, Fault>
+    ensures value { IfOk result (λ bytes. bytes.items ≡ bundle_bytes ran.now.finished.journals ran.now.receipts.items) }
+    ensures memory { IfErr result (λ e. e ≡ Memory) }
+{
+    if ran.receipts.len() >= 4_294_967_296 {
+        return Err(Fault::Memory);
+    }
+    let mut gathered = Noted::new(Vec::new(alloc));
+    match write_bundle(
+        &ran.finished.journals,
+        ran.receipts.as_slice(),
+        &mut gathered,
+    ) {
+        Ok(()) => Ok(gathered.into_inner()),
+        Err(_) => Err(Fault::Memory),
+    }
+}
