@@ -1,5 +1,5 @@
 -- What the words after the options of a run ask for.
-use Rattle.std.proofs.Common.{◌≡◌, inl, inr, ℕ, Option, Some, None, Result, Ok, Err, IfOk, IsOk, OnOk, codes, refl, sym, subst, ◌∙◌}
+use Rattle.std.proofs.Common.{◌≡◌, inl, inr, ℕ, Option, Some, None, Result, Ok, Err, IfOk, IsOk, OnOk, codes, refl, sym, ap, subst, ◌∙◌}
 use Rattle.clap.specs.Walk.{Text}
 use Rattle.ep_script.specs.Grammar.{number_in}
 use Rattle.ep_main.specs.Options.{Options}
@@ -18,10 +18,7 @@ is_lock what o is (inl none) = let e : Some what ≡ None = is ∙ none in cc
 is_lock what o is (inr some) = let e : Some what ≡ Some (codes "lock") = is ∙ some in cc
 
 pub lock_is : (what : Text) (o : Option Text) (r : Result (Unit {0}) Declined) → Some what ≡ o → OnOk r (what ≡ codes "lock") → OnOk r (IsLock o)
-lock_is what o (Ok x) is named = inr (sym is ∙ ap_some what (codes "lock") named)
-  where
-    ap_some : (a b : Text) → a ≡ b → Some a ≡ Some b
-    ap_some a b same = subst (λ (z : Text). Some a ≡ Some z) same refl
+lock_is what o (Ok x) is named = inr (sym is ∙ ap (λ (z : Text). Some z) named)
 lock_is what o (Err d) is named = tt
 
 pub spelled_as :

@@ -4,4 +4,5 @@ pub mod Ending
 mod Flags
 mod Judging
 mod Puts
+mod Verdicts
 pub mod Literals

@@ -100,11 +100,16 @@ fn judge_bundled(alloc: Global, ran: &Ran) -> Result<Judged, Fault>
     ensures memory { IfErr result (λ e. e ≡ Memory) }
 {
     let text = bundle_of(alloc, ran)?;
-    let status = match &ran.finished.verdict {
-        Ok(_) => Status::Accepted,
-        Err(_) => Status::AuditRefused,
-    };
-    Ok(Judged { status, text })
+    match &ran.finished.verdict {
+        Ok(_) => Ok(Judged {
+            status: Status::Accepted,
+            text,
+        }),
+        Err(_) => Ok(Judged {
+            status: Status::AuditRefused,
+            text,
+        }),
+    }
 }
 
 /// The bytes of the bundle of what a run left. They are gathered first and then put in one go, as a report's are.

@@ -86,7 +86,12 @@ fn tells<R: Threads + Wait + Sync>(
 }
 
 /// Whether an audit of the put's bundle, where these bytes are others, refuses it with just this report.
-fn is_refused_with(rt: &impl Abort, alloc: Global, bytes: &[(usize, u8)], report: &[u8]) -> bool {
+fn is_refused_with<R: Threads + Wait + Sync + Abort>(
+    rt: &R,
+    alloc: Global,
+    bytes: &[(usize, u8)],
+    report: &[u8],
+) -> bool {
     let mut bundle = bundle_of(rt, alloc, SCRIPT);
     for (place, byte) in bytes {
         assert!(*rt; *place < bundle.len());

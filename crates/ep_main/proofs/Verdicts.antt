@@ -1,0 +1,45 @@
+-- What the audit says of a run that has ended.
+use Rattle.std.proofs.Common.{◌≡◌, ℕ, List, Result, Ok, Err, MatchResult, subst}
+use Rattle.ep_audit.specs.Audited.{IsAudited}
+use Rattle.ep_bundle.specs.Bytes.{bundle_bytes}
+use Rattle.ep_host.specs.Finishing.{IsFinished}
+use Rattle.ep_journal.specs.Entries.{journals_of}
+use Rattle.ep_report.specs.Refusals.{fault_of}
+use Rattle.ep_report.specs.declared.audit_fault.AuditFault.{AuditFault}
+use Rattle.ep_rules.specs.Audits.{IsFault}
+use Rattle.ep_run.specs.declared.ran.Ran.{Ran}
+use Rattle.ep_verdict.specs.declared.verdict.Verdict.{Verdict}
+use Rattle.ep_main.specs.Audits.{SaysOfRun}
+use Rattle.ep_main.specs.declared.asked.Emit.{Emit}
+use Rattle.ep_main.specs.declared.asked.Emit.TheVariants.{Report, Bundle}
+use Rattle.ep_main.specs.declared.status.Status.{Status}
+use Rattle.ep_main.specs.declared.status.Status.TheVariants.{Accepted, AuditRefused}
+
+pub says_as : (a b : Emit) (ran : Ran) (status : Status) (text : List ℕ) → a ≡ b → SaysOfRun a ran status text → SaysOfRun b ran status text
+says_as a b ran status text is says = subst (λ e. SaysOfRun e ran status text) is says
+
+-- the verdict that it has is the audit's
+pub accepted_in :
+    (ran : Ran) (v : Verdict) → ran.finished.verdict ≡ Ok v → IsFinished ran.receipts.items ran.finished →
+    IsAudited ran.finished.journals.faults (journals_of ran.finished.journals) ran.receipts.items v
+accepted_in ran v is finished =
+    subst (λ (r : Result Verdict AuditFault). MatchResult r (λ v. IsAudited ran.finished.journals.faults (journals_of ran.finished.journals) ran.receipts.items v)
+    (λ fault. IsFault ran.finished.journals.faults (journals_of ran.finished.journals) ran.receipts.items (fault_of fault))) is finished
+
+-- the fault that it has is the first one
+pub refused_in :
+    (ran : Ran) (e : AuditFault) → ran.finished.verdict ≡ Err e → IsFinished ran.receipts.items ran.finished →
+    IsFault ran.finished.journals.faults (journals_of ran.finished.journals) ran.receipts.items (fault_of e)
+refused_in ran e is finished =
+    subst (λ (r : Result Verdict AuditFault). MatchResult r (λ v. IsAudited ran.finished.journals.faults (journals_of ran.finished.journals) ran.receipts.items v)
+    (λ fault. IsFault ran.finished.journals.faults (journals_of ran.finished.journals) ran.receipts.items (fault_of fault))) is finished
+
+pub bundled_in :
+    (ran : Ran) (v : Verdict) (text : List ℕ) → ran.finished.verdict ≡ Ok v → IsFinished ran.receipts.items ran.finished →
+    text ≡ bundle_bytes ran.finished.journals ran.receipts.items → SaysOfRun Bundle ran Accepted text
+bundled_in ran v text is finished same = (v, accepted_in ran v is finished, same)
+
+pub bundled_refused :
+    (ran : Ran) (e : AuditFault) (text : List ℕ) → ran.finished.verdict ≡ Err e → IsFinished ran.receipts.items ran.finished →
+    text ≡ bundle_bytes ran.finished.journals ran.receipts.items → SaysOfRun Bundle ran AuditRefused text
+bundled_refused ran e text is finished same = (fault_of e, refused_in ran e is finished, same)

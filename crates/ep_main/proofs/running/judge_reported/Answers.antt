@@ -1,0 +1,10 @@
+use Rattle.std.proofs.Common.{rules}
+use Rattle.ep_report.specs.Refusals.{fault_of}
+use Rattle.ep_main.proofs.Verdicts.{accepted_in, refused_in}
+use Rattle.ep_main.proofs.running.judge_reported.Goals as goal
+
+pub returns-in_ok-text-in-Ok-clause-value : goal.returns-in_ok-text-in-Ok-clause-value
+returns-in_ok-text-in-Ok-clause-value c = (c.in-Ok.verdict.now, accepted_in c.args.ran.now c.in-Ok.verdict.now (search rules) c.requires, search rules)
+
+pub returns-in_ok-refusal-in-Err-clause-value : goal.returns-in_ok-refusal-in-Err-clause-value
+returns-in_ok-refusal-in-Err-clause-value c = (fault_of c.in-Err.fault.now, refused_in c.args.ran.now c.in-Err.fault.now (search rules) c.requires, search rules)
