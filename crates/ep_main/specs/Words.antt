@@ -44,17 +44,17 @@ AskForHelp words = (name : Text) × ((words ≡ name ∷ codes "--help" ∷ []) 
 -- What the program has, as `clap` sees it.
 
 -- an option of this name, with a word after it
-abbrev pub option : Text → Rule
-option name = record (new_rule name) { long = Some name; action = Some Set; value_names = 1 }
+abbrev pub value_option : Text → Rule
+value_option name = record (new_rule name) { long = Some name; action = Some Set; value_names = 1 }
 
 abbrev pub emit : Rule
-emit = option (codes "emit")
+emit = value_option (codes "emit")
 
 abbrev pub replay : App
 replay = with_rule (new_app (codes "replay")) emit
 
 abbrev pub run : App
-run = with_rule (with_rule (with_rule (with_rule (new_app (codes "run")) (option (codes "host"))) (option (codes "capacity"))) (option (codes "turns"))) emit
+run = with_rule (with_rule (with_rule (with_rule (new_app (codes "run")) (value_option (codes "host"))) (value_option (codes "capacity"))) (value_option (codes "turns"))) emit
 
 abbrev pub audit : App
 audit = new_app (codes "audit")
