@@ -1,14 +1,20 @@
 -- What the words after the options of a run ask for.
-use Rattle.std.proofs.Common.{◌≡◌, inl, inr, ℕ, Option, Some, None, Result, Ok, Err, IfOk, IsOk, OnOk, codes, refl, sym, ap, subst, ◌∙◌}
+use Rattle.std.proofs.Common.{◌≡◌, true, false, inl, inr, ℕ, Option, Some, None, Result, Ok, Err, IfOk, IsOk, OnOk, codes, refl, sym, ap, subst, ◌∙◌}
 use Rattle.clap.specs.Walk.{Text}
 use Rattle.ep_script.specs.Grammar.{number_in}
 use Rattle.ep_main.specs.Options.{Options}
-use Rattle.ep_main.specs.Words.{IsLock, limit_in}
+use Rattle.ep_main.specs.Words.{Chooses, IsLock, RunWords, limit_in}
 use Rattle.ep_main.specs.declared.asked.Emit.{Emit}
 use Rattle.ep_main.specs.declared.declined.Declined.{Declined}
 
 pub ok_is : {A : Type 0} (x y : A) → ◌≡◌ {A = Result A Declined} (Ok x) (Ok y) → x ≡ y
 ok_is {A} x y same = cc
+
+pub no_ok : false ≡ true → ⊥
+no_ok bad = cc
+
+pub chosen_as : (words : RunWords) (a b : Options) → a ≡ b → Chooses words b → Chooses words a
+chosen_as words a b same chooses = subst (Chooses words) (sym same) chooses
 
 pub options_are : (e : Emit) (capacity turns : ℕ) (o : Options) → e ≡ o.emit → capacity ≡ o.capacity → turns ≡ o.turns → record { emit = e; capacity = capacity; turns = turns } ≡ o
 options_are e capacity turns o p q r = λ i. record { emit = p i; capacity = q i; turns = r i }

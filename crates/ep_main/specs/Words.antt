@@ -53,8 +53,17 @@ emit = value_option (codes "emit")
 abbrev pub replay : App
 replay = with_rule (new_app (codes "replay")) emit
 
+abbrev pub hosted : App
+hosted = with_rule (new_app (codes "run")) (value_option (codes "host"))
+
+abbrev pub bounded : App
+bounded = with_rule hosted (value_option (codes "capacity"))
+
+abbrev pub turned : App
+turned = with_rule bounded (value_option (codes "turns"))
+
 abbrev pub run : App
-run = with_rule (with_rule (with_rule (with_rule (new_app (codes "run")) (value_option (codes "host"))) (value_option (codes "capacity"))) (value_option (codes "turns"))) emit
+run = with_rule turned emit
 
 abbrev pub audit : App
 audit = new_app (codes "audit")

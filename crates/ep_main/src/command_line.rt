@@ -8,7 +8,7 @@ ghost use Rattle.clap.specs.Matches.{found_of};
 ghost use Rattle.clap.specs.Simple.{app_of, subcommand_rows_of};
 ghost use Rattle.clap.specs.declared.builder.command.Command.TheViews.{out-Command as fields_of};
 ghost use Rattle.ep_main.specs.Options.{Options};
-ghost use Rattle.ep_main.specs.Words.{AskFor, AskForHelp, Chooses, IsAsked, IsHelp, IsLock, IsMet, IsShown, MetReplay, MetRun, MetAudit, Names, audit as audit_app, emit as emit_rule, limit_in, replay as replay_app, run as run_app, run_words, epaxos};
+ghost use Rattle.ep_main.specs.Words.{AskFor, AskForHelp, Chooses, IsAsked, IsHelp, IsLock, IsMet, IsShown, MetReplay, MetRun, MetAudit, Names, audit as audit_app, bounded, emit as emit_rule, hosted, limit_in, replay as replay_app, run as run_app, run_words, epaxos, turned};
 ghost use Rattle.ep_main.specs.declared.asked.Asked.{Asked};
 ghost use Rattle.ep_main.specs.declared.asked.Asked.TheVariants.{Replay, Run, Audit, Version};
 ghost use Rattle.ep_main.specs.declared.declined.Declined.TheVariants.{Memory};
@@ -267,16 +267,52 @@ fn replay_command<'a>(alloc: Global) -> Result<Command<'a>, AllocError>
 fn run_command<'a>(alloc: Global) -> Result<Command<'a>, AllocError>
     ensures { IfOk result (λ c. (app_of c ≡ run_app) × ((fields_of c).has_globals ≡ false)) }
 {
+    let hosted = hosted_command(alloc)?;
+    let bounded = bounded_command(alloc, hosted)?;
+    let turned = turned_command(alloc, bounded)?;
+    let emit = Arg::new(alloc, "emit")
+        .long("emit")
+        .value_name("WHAT")
+        .help("What to print: report (the default) or bundle")
+        .action(ArgAction::Set);
+    turned.arg(emit)
+}
+
+/// The command `run` with its option `--host` alone.
+fn hosted_command<'a>(alloc: Global) -> Result<Command<'a>, AllocError>
+    ensures { IfOk result (λ c. (app_of c ≡ hosted) × ((fields_of c).has_globals ≡ false)) }
+{
     let host = Arg::new(alloc, "host")
         .long("host")
         .value_name("HOST")
         .help("Which host has the replicas: lock (the default)")
         .action(ArgAction::Set);
+    let command = Command::new(alloc, "run")
+        .about(
+            "Reads a script on standard input, runs it in threads, audits what they leave, and prints a report or a bundle",
+        )
+        .after_help(AFTER_RUN);
+    command.arg(host)
+}
+
+/// The same with its option `--capacity`.
+fn bounded_command<'a>(alloc: Global, command: Command<'a>) -> Result<Command<'a>, AllocError>
+    requires { (app_of command.entry ≡ hosted) × ((fields_of command.entry).has_globals ≡ false) }
+    ensures { IfOk result (λ c. (app_of c ≡ bounded) × ((fields_of c).has_globals ≡ false)) }
+{
     let capacity = Arg::new(alloc, "capacity")
         .long("capacity")
         .value_name("K")
         .help("How many frames an inbox holds: 1 to 4096 (64 is the default)")
         .action(ArgAction::Set);
+    command.arg(capacity)
+}
+
+/// The same with its option `--turns`.
+fn turned_command<'a>(alloc: Global, command: Command<'a>) -> Result<Command<'a>, AllocError>
+    requires { (app_of command.entry ≡ bounded) × ((fields_of command.entry).has_globals ≡ false) }
+    ensures { IfOk result (λ c. (app_of c ≡ turned) × ((fields_of c).has_globals ≡ false)) }
+{
     let turns = Arg::new(alloc, "turns")
         .long("turns")
         .value_name("T")
@@ -284,15 +320,5 @@ fn run_command<'a>(alloc: Global) -> Result<Command<'a>, AllocError>
             "How often a thread turns in a section, at most: 1 to 10000000 (100000 is the default)",
         )
         .action(ArgAction::Set);
-    let emit = Arg::new(alloc, "emit")
-        .long("emit")
-        .value_name("WHAT")
-        .help("What to print: report (the default) or bundle")
-        .action(ArgAction::Set);
-    let command = Command::new(alloc, "run")
-        .about(
-            "Reads a script on standard input, runs it in threads, audits what they leave, and prints a report or a bundle",
-        )
-        .after_help(AFTER_RUN);
-    command.arg(host)?.arg(capacity)?.arg(turns)?.arg(emit)
+    command.arg(turns)
 }
