@@ -68,10 +68,11 @@ run = with_rule turned emit
 abbrev pub audit : App
 audit = new_app (codes "audit")
 
+abbrev pub replaying : App
+replaying = with_subcommand (on_top (λ s. record s { subcommand_required = true; has_version = true }) (new_app (codes "epaxos"))) replay.top
+
 abbrev pub epaxos : App
-epaxos =
-    with_subcommand (with_subcommand (with_subcommand (on_top (λ s. record s { subcommand_required = true; has_version = true }) (new_app (codes "epaxos"))) replay.top) run.top)
-    audit.top
+epaxos = with_subcommand (with_subcommand replaying run.top) audit.top
 
 -- the subcommand that was met, and the word after `--emit`
 abbrev pub met : Option (Text × List Row) → Option (Text × Option Text)

@@ -8,7 +8,7 @@ ghost use Rattle.clap.specs.Matches.{found_of};
 ghost use Rattle.clap.specs.Simple.{app_of, subcommand_rows_of};
 ghost use Rattle.clap.specs.declared.builder.command.Command.TheViews.{out-Command as fields_of};
 ghost use Rattle.ep_main.specs.Options.{Options};
-ghost use Rattle.ep_main.specs.Words.{AskFor, AskForHelp, Chooses, IsAsked, IsHelp, IsLock, IsMet, IsShown, MetReplay, MetRun, MetAudit, Names, audit as audit_app, bounded, emit as emit_rule, hosted, limit_in, replay as replay_app, run as run_app, run_words, epaxos, turned};
+ghost use Rattle.ep_main.specs.Words.{AskFor, AskForHelp, Chooses, IsAsked, IsHelp, IsLock, IsMet, IsShown, MetReplay, MetRun, MetAudit, Names, audit as audit_app, bounded, emit as emit_rule, hosted, limit_in, replay as replay_app, replaying, run as run_app, run_words, epaxos, turned};
 ghost use Rattle.ep_main.specs.declared.asked.Asked.{Asked};
 ghost use Rattle.ep_main.specs.declared.asked.Asked.TheVariants.{Replay, Run, Audit, Version};
 ghost use Rattle.ep_main.specs.declared.declined.Declined.TheVariants.{Memory};
@@ -232,20 +232,25 @@ fn emit_named(alloc: Global, what: &str) -> Result<Emit, Declined>
 fn program<'a>(alloc: Global) -> Result<Command<'a>, AllocError>
     ensures { IfOk result (λ c. app_of c ≡ epaxos) }
 {
-    let replay = replay_command(alloc)?;
+    let command = replaying_program(alloc)?;
     let run = run_command(alloc)?;
     let audit = Command::new(alloc, "audit")
         .about("Reads a bundle on standard input, audits it, and prints what the audit says")
         .after_help(AFTER_AUDIT);
+    command.subcommand(run)?.subcommand(audit)
+}
+
+/// The program with its subcommand `replay` alone.
+fn replaying_program<'a>(alloc: Global) -> Result<Command<'a>, AllocError>
+    ensures { IfOk result (λ c. app_of c ≡ replaying) }
+{
+    let replay = replay_command(alloc)?;
     let command = Command::new(alloc, "epaxos")
         .about("A replicated key-value core without a leader")
         .after_help(AFTER_ALL)
         .version("0.1.0")
         .subcommand_required(true);
-    command
-        .subcommand(replay)?
-        .subcommand(run)?
-        .subcommand(audit)
+    command.subcommand(replay)
 }
 
 fn replay_command<'a>(alloc: Global) -> Result<Command<'a>, AllocError>
