@@ -302,7 +302,7 @@ fn hosted_command<'a>(alloc: Global) -> Result<Command<'a>, AllocError>
 
 /// The same with its option `--capacity`.
 fn bounded_command<'a>(alloc: Global, command: Command<'a>) -> Result<Command<'a>, AllocError>
-    requires { (app_of command.entry ≡ hosted) × ((fields_of command.entry).has_globals ≡ false) }
+    requires { (app_of command ≡ hosted) × ((fields_of command).has_globals ≡ false) }
     ensures { IfOk result (λ c. (app_of c ≡ bounded) × ((fields_of c).has_globals ≡ false)) }
 {
     let capacity = Arg::new(alloc, "capacity")
@@ -315,7 +315,7 @@ fn bounded_command<'a>(alloc: Global, command: Command<'a>) -> Result<Command<'a
 
 /// The same with its option `--turns`.
 fn turned_command<'a>(alloc: Global, command: Command<'a>) -> Result<Command<'a>, AllocError>
-    requires { (app_of command.entry ≡ bounded) × ((fields_of command.entry).has_globals ≡ false) }
+    requires { (app_of command ≡ bounded) × ((fields_of command).has_globals ≡ false) }
     ensures { IfOk result (λ c. (app_of c ≡ turned) × ((fields_of c).has_globals ≡ false)) }
 {
     let turns = Arg::new(alloc, "turns")
