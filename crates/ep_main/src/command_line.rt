@@ -275,12 +275,7 @@ fn run_command<'a>(alloc: Global) -> Result<Command<'a>, AllocError>
     let hosted = hosted_command(alloc)?;
     let bounded = bounded_command(alloc, hosted)?;
     let turned = turned_command(alloc, bounded)?;
-    let emit = Arg::new(alloc, "emit")
-        .long("emit")
-        .value_name("WHAT")
-        .help("What to print: report (the default) or bundle")
-        .action(ArgAction::Set);
-    turned.arg(emit)
+    emitting_command(alloc, turned)
 }
 
 /// The command `run` with its option `--host` alone.
@@ -326,4 +321,17 @@ fn turned_command<'a>(alloc: Global, command: Command<'a>) -> Result<Command<'a>
         )
         .action(ArgAction::Set);
     command.arg(turns)
+}
+
+/// The same with its option `--emit`, the last one.
+fn emitting_command<'a>(alloc: Global, command: Command<'a>) -> Result<Command<'a>, AllocError>
+    requires { (app_of command ≡ turned) × ((fields_of command).has_globals ≡ false) }
+    ensures { IfOk result (λ c. (app_of c ≡ run_app) × ((fields_of c).has_globals ≡ false)) }
+{
+    let emit = Arg::new(alloc, "emit")
+        .long("emit")
+        .value_name("WHAT")
+        .help("What to print: report (the default) or bundle")
+        .action(ArgAction::Set);
+    command.arg(emit)
 }
