@@ -16,6 +16,7 @@ use ep_base::{Sink, Source};
 use ep_bundle::{Bundle, read_bundle};
 use ep_report::{accepted, refusal};
 use std::alloc::Global;
+use std::mem::forget;
 
 /// Reads a bundle to its end, audits it, and prints what the audit says.
 pub(crate) fn print_audit<S: Source, W: Sink>(
@@ -32,6 +33,8 @@ pub(crate) fn print_audit<S: Source, W: Sink>(
     let bundle = read_bundle(alloc, reader)?;
     let judged = judge_bundle(alloc, &bundle)?;
     writer.put(judged.text.as_slice())?;
+    // The system takes memory back at the process's end, all at once.
+    forget(bundle);
     Ok(judged.status)
 }
 
@@ -41,15 +44,19 @@ fn judge_bundle(alloc: Global, bundle: &Bundle) -> Result<Judged, Fault>
     ensures memory { IfErr result (λ e. e ≡ Memory) }
 {
     match audit(alloc, &bundle.journals, bundle.receipts.as_slice()) {
-        Ok(verdict) => Ok(Judged {
-            status: Status::Accepted,
-            text: accepted(
+        Ok(verdict) => {
+            let text = accepted(
                 alloc,
                 verdict.committed.as_slice(),
                 verdict.history.as_slice(),
                 bundle.receipts.as_slice(),
-            )?,
-        }),
+            )?;
+            forget(verdict);
+            Ok(Judged {
+                status: Status::Accepted,
+                text,
+            })
+        }
         Err(Refusal::Fault(fault)) => Ok(Judged {
             status: Status::AuditRefused,
             text: refusal(alloc, fault)?,

@@ -20,6 +20,7 @@ use ep_replay::{Replayed, replay};
 use ep_report::report;
 use ep_script::read_script;
 use std::alloc::Global;
+use std::mem::forget;
 
 /// Reads a script to its end, plays it, audits what it leaves, and prints the report.
 pub(crate) fn print_replay<S: Source, W: Sink>(
@@ -37,6 +38,8 @@ pub(crate) fn print_replay<S: Source, W: Sink>(
     let played = replay(alloc, &script)?;
     let text = report_of(alloc, &played)?;
     writer.put(text.as_slice())?;
+    // The system takes memory back at the process's end, all at once.
+    forget((script, played));
     Ok(Status::Accepted)
 }
 
@@ -56,6 +59,8 @@ pub(crate) fn emit_bundle<S: Source, W: Sink>(
     let played = replay(alloc, &script)?;
     let bundle = bundle_of(alloc, &played)?;
     writer.put(bundle.as_slice())?;
+    // The system takes memory back at the process's end, all at once.
+    forget((script, played));
     Ok(Status::Accepted)
 }
 
@@ -87,6 +92,7 @@ fn report_of(alloc: Global, played: &Replayed) -> Result<Vec<u8>, Fault>
                 played.receipts.as_slice(),
                 played.refused.as_slice(),
             )?;
+            forget(verdict);
             Ok(text)
         }
         Err(Refusal::Fault(_)) => unreachable!(),
