@@ -89,7 +89,7 @@ impl Parts {
         let cell = Cell::of(&self.space, &self.lead, self.me, id);
         let change = decide(alloc, &cell, input)?;
         let frames = written(alloc, &cell, mark, &change.out)?;
-        change.install(&mut self.space, &mut self.lead, id);
+        change.install(&mut self.space, &mut self.lead, id)?;
         Ok(Taken {
             frames,
             done: Executions::none(alloc),

@@ -23,7 +23,8 @@ use std::alloc::{AllocError, Global};
 use std::marker::Model;
 
 /// The records of a replica, one for each instance of which it knows anything (EPaxos, section 4.3: the `cmds` array).
-/// An instance first gets a place, which takes memory; its record is then written there without.
+/// An instance first gets a place, which takes memory; its record is then written there, and may take memory where its command has a key
+/// that it didn't have.
 #[derive(Drop)]
 pub struct Space {
     size: Size,
@@ -75,7 +76,7 @@ impl Space {
         }
     }
 
-    /// Makes a place for the instance's record, if it has none. It counts as no record, and nothing else takes memory in the table.
+    /// Makes a place for the instance's record, if it has none. It counts as no record.
     pub fn reserve(&mut self, id: InstanceId) -> Result<(), AllocError>
         ensures ok { OnOk result (self.new ≡ record { faults = self.old.faults; records = self.old.records; places = set.insert self.old.places id }) }
         ensures place { OnOk result (HasPlace self.new.places id) }
@@ -84,11 +85,16 @@ impl Space {
         self.table.reserve(id)
     }
 
-    /// Puts back an earlier record, or that there was none, and gives what there is now. It takes no memory.
-    pub fn put_back(&mut self, id: InstanceId, earlier: Option<Record>) -> Option<Record>
+    /// Puts back an earlier record, or that there was none, and gives what there is now; at want of memory, nothing has changed.
+    pub fn put_back(
+        &mut self,
+        id: InstanceId,
+        earlier: Option<Record>,
+    ) -> Result<Option<Record>, AllocError>
         requires { HasPlace self.old.places id }
-        ensures old { result ≡ get self.old.records id }
-        ensures new { self.new ≡ with_earlier self.old id earlier }
+        ensures old { IfOk result (λ there. there ≡ get self.old.records id) }
+        ensures new { OnOk result (self.new ≡ with_earlier self.old id earlier) }
+        ensures err { OnErr result (self.new ≡ self.old) }
     {
         self.table.put_back(id, earlier)
     }
@@ -172,9 +178,9 @@ impl Space {
         }
     }
 
-    // What is written. It takes no memory.
+    // What is written. A vote may take memory in the index by key; at want of it nothing has changed.
 
-    /// Joins the ballot (Sutra, 2019): the last vote stays.
+    /// Joins the ballot (Sutra, 2019): the last vote stays. It takes no memory.
     pub fn join_ballot(&mut self, id: InstanceId, ballot: Ballot)
         requires { HasPlace self.old.places id }
         ensures { self.new ≡ with_record self.old id (record { promised = ballot; vote = (record_at self.old id).vote }) }
@@ -183,25 +189,38 @@ impl Space {
     }
 
     /// Pre-accepts the decree at the ballot.
-    pub fn vote_pre(&mut self, id: InstanceId, ballot: Ballot, decree: Decree)
+    pub fn vote_pre(
+        &mut self,
+        id: InstanceId,
+        ballot: Ballot,
+        decree: Decree,
+    ) -> Result<(), AllocError>
         requires { HasPlace self.old.places id }
-        ensures { self.new ≡ with_record self.old id (voted ballot Status.PreAccepted decree) }
+        ensures ok { OnOk result (self.new ≡ with_record self.old id (voted ballot Status.PreAccepted decree)) }
+        ensures err { OnErr result (self.new ≡ self.old) }
     {
-        self.write_vote(id, ballot, Status::PreAccepted, decree);
+        self.write_vote(id, ballot, Status::PreAccepted, decree)
     }
 
     /// Accepts the decree at the ballot.
-    pub fn vote_accept(&mut self, id: InstanceId, ballot: Ballot, decree: Decree)
+    pub fn vote_accept(
+        &mut self,
+        id: InstanceId,
+        ballot: Ballot,
+        decree: Decree,
+    ) -> Result<(), AllocError>
         requires { HasPlace self.old.places id }
-        ensures { self.new ≡ with_record self.old id (voted ballot Status.Accepted decree) }
+        ensures ok { OnOk result (self.new ≡ with_record self.old id (voted ballot Status.Accepted decree)) }
+        ensures err { OnErr result (self.new ≡ self.old) }
     {
-        self.write_vote(id, ballot, Status::Accepted, decree);
+        self.write_vote(id, ballot, Status::Accepted, decree)
     }
 
     /// Commits the decree: both ballots stay.
-    pub fn commit(&mut self, id: InstanceId, decree: Decree)
+    pub fn commit(&mut self, id: InstanceId, decree: Decree) -> Result<(), AllocError>
         requires { HasPlace self.old.places id }
-        ensures { self.new ≡ with_record self.old id (with_commit id (record_at self.old id) decree) }
+        ensures ok { OnOk result (self.new ≡ with_record self.old id (with_commit id (record_at self.old id) decree)) }
+        ensures err { OnErr result (self.new ≡ self.old) }
     {
         let promised = self.promised(id);
         let ballot = self.voted_ballot(id);
@@ -216,12 +235,19 @@ impl Space {
                 promised,
                 vote: Some(vote),
             }),
-        );
+        )
     }
 
-    fn write_vote(&mut self, id: InstanceId, ballot: Ballot, status: Status, decree: Decree)
+    fn write_vote(
+        &mut self,
+        id: InstanceId,
+        ballot: Ballot,
+        status: Status,
+        decree: Decree,
+    ) -> Result<(), AllocError>
         requires { HasPlace self.old.places id }
-        ensures { self.new ≡ with_record self.old id (voted ballot status decree) }
+        ensures ok { OnOk result (self.new ≡ with_record self.old id (voted ballot status decree)) }
+        ensures err { OnErr result (self.new ≡ self.old) }
     {
         let promised = ballot;
         let vote = Vote {
@@ -235,7 +261,7 @@ impl Space {
                 promised,
                 vote: Some(vote),
             }),
-        );
+        )
     }
 
     // What is free, and what interferes.
