@@ -1,4 +1,4 @@
--- One step of the code's parts, and why there is none.
+-- One step of the code's parts: what the screen lets through, and how what is asked of an instance is done.
 use Rattle.std.specs.Prelude.{◌≡◌, ℕ, List, [], Option, Some, None, Result, Ok, Err}
 use Rattle.ep_phase.specs.Leads.{Leads}
 use Rattle.ep_rules.specs.Cells as rules
@@ -63,31 +63,10 @@ abbrev pub Acted : Result (ℕ × Change) Refusal → ℕ → Mark → State →
 Acted (Ok p) me mark s s' out = (s' ≡ changed s p.0 p.1) × AreSpelled mark.number mark.stamp 0 out (sent_from me p.1.out)
 Acted (Err e) me mark s s' out = ⊥
 
--- a step of the protocol, which executes nothing
-pub record Moves (r : Result (ℕ × Change) Refusal) (mark : Mark) (p : Parts) (t : Taken) (p' : Parts) : Type 0 where
+-- a step of the protocol, which executes nothing, and writes these frames
+pub record Moves (r : Result (ℕ × Change) Refusal) (mark : Mark) (p : Parts) (out : List (List ℕ)) (p' : Parts) : Type 0 where
   pub me : p'.me ≡ p.me
   pub faults : p'.space.faults ≡ p.space.faults
-  pub acted : Acted r p.me mark (known p.space p.lead) (known p'.space p'.lead) t.frames
+  pub acted : Acted r p.me mark (known p.space p.lead) (known p'.space p'.lead) out
   pub executed : p'.executed.list ≡ p.executed.list
   pub store : p'.store ≡ p.store
-  pub done : t.done ≡ []
-
--- an execution, which changes nothing that the protocol knows, and sends nothing
-pub record Executes (root : ℕ) (p : Parts) (t : Taken) (p' : Parts) : Type 0 where
-  pub me : p'.me ≡ p.me
-  pub space : p'.space ≡ p.space
-  pub lead : p'.lead ≡ p.lead
-  pub executed : IsExecuted p.space root t.done p.executed.list p.store p'.executed.list p'.store
-  pub frames : t.frames ≡ []
-
--- what is asked is done, as the rule book says
-abbrev pub Took : Parts → Admitted → Mark → Taken → Parts → Type 0
-Took p (Request c) mark t p' = Moves (asks p.me p.space p.lead (Request c)) mark p t p'
-Took p (Asked i input) mark t p' = Moves (asks p.me p.space p.lead (Asked i input)) mark p t p'
-Took p (Execution root) mark t p' = Executes root p t p'
-
--- why it is not done: want of memory, or the rule book's reason
-abbrev pub IsUntaken : Parts → Admitted → StepFault → Type 0
-IsUntaken p (Request c) fault = IsRefused (asks p.me p.space p.lead (Request c)) fault
-IsUntaken p (Asked i input) fault = IsRefused (asks p.me p.space p.lead (Asked i input)) fault
-IsUntaken p (Execution root) fault = IsUnexecuted p.space root p.executed.list fault
