@@ -26,7 +26,7 @@ use Rattle.ep_rules.proofs.Closed.{leaves_closed}
 use Rattle.ep_rules.proofs.Fitting.{leaves_fit}
 use Rattle.ep_journal.specs.Entries.{entry_of, frames_at, AreFrames}
 use Rattle.ep_journal.specs.Events.{frame_at, event_of, IsReadable, AreSpelled}
-use Rattle.ep_journal.specs.Executing.{IsExecuted, IsUnexecuted}
+use Rattle.ep_journal.specs.Executing.{IsUnexecuted}
 use Rattle.ep_journal.specs.Inputs.{outcome_at, admitted, IsWritable}
 use Rattle.ep_journal.specs.Parts.{state_of, known}
 use Rattle.ep_journal.specs.Refused as parts
@@ -109,7 +109,7 @@ pub record IsAsked (p : Parts) (event : Happening) (r : Result (ℕ × Change) R
   pub executes : Does (whole p) (event_of event) []
 
 -- what is asked by an event and done is the event's step
-pub advanced : (p p' : Parts) (event : Happening) (mark : Mark) (out : List (List ℕ)) (r : Result (ℕ × Change) Refusal) → IsAsked p event r → Moves r mark p out p' →
+advanced : (p p' : Parts) (event : Happening) (mark : Mark) (out : List (List ℕ)) (r : Result (ℕ × Change) Refusal) → IsAsked p event r → Moves r mark p out p' →
     Advances (standing_of p) mark event (entry_by mark event out []) (standing_of p')
 advanced p p' event mark out r a moves =
     let m = subst (λ x. Moved p.me (whole p) (state_of p'.space p'.lead p.executed.list p.store) mark out x) (sym a.asked) (moved p.me p.space p'.space p.lead p'.lead p.executed.list p.store mark out r moves.acted) in
@@ -129,7 +129,14 @@ advanced p p' event mark out r a moves =
       };
     }
 
--- what an event that the screen lets through asks
+-- What an event that the screen lets through asks.
+
+pub record IsLet (p : Parts) (event : Happening) (a : Admitted) : Type 0 where
+  pub through : IsLetThrough p.space.faults p.me event
+  pub admitted : a ≡ admitted event
+
+pub let_as : (p : Parts) (event : Happening) (f : ℕ) (a b : Admitted) → f ≡ p.space.faults → (a ≡ admitted event) × IsLetThrough f p.me event → a ≡ b → IsLet p event b
+let_as p event f a b same h is = record { through = subst (λ n. IsLetThrough n p.me event) same h.1; admitted = sym is ∙ h.0 }
 
 executes_nothing : (s : State) (event : Happening) (a : Admitted) → a ≡ admitted event → IsOfInstance a → Does s (event_of event) []
 executes_nothing s (Propose client request command seen) a is h = refl
@@ -138,21 +145,30 @@ executes_nothing s (GiveUp i) a is h = refl
 executes_nothing s (Recover i) a is h = refl
 executes_nothing s (Execute root) a is h = absurd (subst IsOfInstance is h)
 
-asked_as : (p : Parts) (event : Happening) (a : Admitted) (r : Result (ℕ × Change) Refusal) → IsLetThrough p.space.faults p.me event → a ≡ admitted event → IsOfInstance a → asks p.me p.space p.lead a ≡ r → IsAsked p event r
-asked_as p event a r h is of same =
-    record { through = h; asked = acts_asked p.me p.space p.lead p.executed.list p.store event ∙ ap (asks p.me p.space p.lead) (sym is) ∙ same; executes = executes_nothing (whole p) event a is of }
+asked_as : (p : Parts) (event : Happening) (a : Admitted) (r : Result (ℕ × Change) Refusal) → IsLet p event a → IsOfInstance a → asks p.me p.space p.lead a ≡ r → IsAsked p event r
+asked_as p event a r h of same = record {
+  through = h.through;
+  asked = acts_asked p.me p.space p.lead p.executed.list p.store event ∙ ap (asks p.me p.space p.lead) (sym h.admitted) ∙ same;
+  executes = executes_nothing (whole p) event a h.admitted of;
+}
 
-pub request_asked : (p : Parts) (event : Happening) (c : Command) (i n : ℕ) → IsLetThrough p.space.faults p.me event → Request c ≡ admitted event → free_number p.space.records p.me ≡ Some n → i ≡ instance_of p.me (n + 1) →
+pub request_asked : (p : Parts) (event : Happening) (c : Command) (i n : ℕ) → IsLet p event (Request c) → free_number p.space.records p.me ≡ Some n → i ≡ instance_of p.me (n + 1) →
     IsAsked p event (at i (outcome_at (known_of p.me p.space p.lead i) (Start c)))
-request_asked p event c i n h is free at_next = asked_as p event (Request c) _ h is tt (asks_next p.me p.space p.lead c i n free at_next)
+request_asked p event c i n h free next = asked_as p event (Request c) (at i (outcome_at (known_of p.me p.space p.lead i) (Start c))) h tt (asks_next p.me p.space p.lead c i n free next)
 
-pub request_full : (p : Parts) (event : Happening) (c : Command) → IsLetThrough p.space.faults p.me event → Request c ≡ admitted event → free_number p.space.records p.me ≡ None → IsAsked p event (Err rule.SpaceFull)
-request_full p event c h is free = asked_as p event (Request c) _ h is tt (asks_full p.me p.space p.lead c free)
+pub request_full : (p : Parts) (event : Happening) (c : Command) → IsLet p event (Request c) → free_number p.space.records p.me ≡ None → IsAsked p event (Err rule.SpaceFull)
+request_full p event c h free = asked_as p event (Request c) (Err rule.SpaceFull) h tt (asks_full p.me p.space p.lead c free)
 
-pub input_asked : (p : Parts) (event : Happening) (i : ℕ) (input : Input) → IsLetThrough p.space.faults p.me event → Asked i input ≡ admitted event → IsAsked p event (at i (outcome_at (known_of p.me p.space p.lead i) input))
-input_asked p event i input h is = asked_as p event (Asked i input) _ h is tt refl
+pub input_asked : (p : Parts) (event : Happening) (i : ℕ) (input : Input) → IsLet p event (Asked i input) → IsAsked p event (at i (outcome_at (known_of p.me p.space p.lead i) input))
+input_asked p event i input h = asked_as p event (Asked i input) (at i (outcome_at (known_of p.me p.space p.lead i) input)) h tt refl
 
--- An execution, which changes nothing that the protocol knows, and sends nothing.
+-- What is asked and done, where there is a mark.
+
+pub moved_entry : (p p' : Parts) (event : Happening) (mark : Option Mark) (m : Mark) (out : List (List ℕ)) (done : List (ℕ × Answer)) (r : Result (ℕ × Change) Refusal) → mark ≡ Some m → done ≡ [] → IsAsked p event r → Moves r m p out p' →
+    MarkedBy (λ x. Advances (standing_of p) x event (entry_by m event out done) (standing_of p')) mark
+moved_entry p p' event mark m out done r given none a moves =
+    subst (MarkedBy (λ x. Advances (standing_of p) x event (entry_by m event out done) (standing_of p'))) (sym given)
+    (subst (λ (d : List (ℕ × Answer)). Advances (standing_of p) m event (entry_by m event out d) (standing_of p')) (sym none) (advanced p p' event m out r a moves))
 
 is_execution : (event : Happening) (root : ℕ) → Execution root ≡ admitted event → event ≡ Execute root
 is_execution (Propose client request command seen) root is = absurd (cc)
@@ -160,31 +176,6 @@ is_execution (Handle b) root is = absurd (cc)
 is_execution (GiveUp i) root is = absurd (cc)
 is_execution (Recover i) root is = absurd (cc)
 is_execution (Execute i) root is = let same : i ≡ root = cc in ap Execute same
-
-pub executed_advances : (p p' : Parts) (event : Happening) (root : ℕ) (mark : Mark) (done : List (ℕ × Answer)) → IsLetThrough p.space.faults p.me event → Execution root ≡ admitted event →
-    p'.me ≡ p.me → p'.space ≡ p.space → p'.lead ≡ p.lead → IsExecuted p.space root done p.executed.list p.store p'.executed.list p'.store →
-    Advances (standing_of p) mark event (entry_by mark event [] done) (standing_of p')
-executed_advances p p' event root mark done h is me space lead x =
-    let e : event ≡ Execute root = is_execution event root is in
-    let through : IsLetThrough p.space.faults p.me (Execute root) = subst (IsLetThrough p.space.faults p.me) e h in
-    subst (λ (v : Happening). Advances (standing_of p) mark v (entry_by mark v [] done) (standing_of p')) (sym e) (record {
-      number = refl;
-      stamp = refl;
-      event = refl;
-      entry = record { step = record { unscreened = through.unscreened; taken = tt; executes = (x.plan, x.answers) }; sent = refl };
-      marked = tt;
-      readable = tt;
-      frames = tt;
-      leaves = λ t. record {
-        faults = (space t).faults;
-        me = me t;
-        state = record { records = (space t).records; leads = (lead t).leads; told = (lead t).told; executed = x.order t; store = x.map t };
-      };
-    })
-
--- the entry where there is a mark
-pub with_mark : (s s' : Standing) (event : Happening) (mark : Option Mark) (m : Mark) (e e' : Entry) → mark ≡ Some m → e ≡ e' → Advances s m event e' s' → MarkedBy (λ x. Advances s x event e s') mark
-with_mark s s' event mark m e e' given is a = subst (MarkedBy (λ x. Advances s x event e s')) (sym given) (subst (λ (z : Entry). Advances s m event z s') (sym is) a)
 
 -- Why there is no step.
 
@@ -204,45 +195,41 @@ refused_screen p event mark AlreadyCommitted h = absurd h
 refused_screen p event mark BallotsExhausted h = absurd h
 refused_screen p event mark (NotCommitted i) h = absurd h
 
-pub refused_unmarked : (p : Parts) (event : Happening) (mark : Option Mark) → IsLetThrough p.space.faults p.me event → mark ≡ None → IsRefused (standing_of p) event mark StampFull
-refused_unmarked p event mark h none = inr (inl (refl, h.readable, h.unscreened, none))
-
-ruled : (p : Parts) (event : Happening) (mark : Mark) (fault : StepFault) (why : Refusal) → named fault ≡ Some why → IsAsked p event (Err why) → IsRefused (standing_of p) event (Some mark) fault
-ruled p event mark fault why name a = inr (inr (why, record { readable = a.through.readable; named = name; refuses = inr (a.through.unscreened, inl a.asked); marked = λ none. absurd (cc) }))
+ruled : (p : Parts) (event : Happening) (mark : Option Mark) (m : Mark) (fault : StepFault) (why : Refusal) → mark ≡ Some m → named fault ≡ Some why → IsAsked p event (Err why) → IsRefused (standing_of p) event mark fault
+ruled p event mark m fault why given name a = inr (inr (why, record { readable = a.through.readable; named = name; refuses = inr (a.through.unscreened, inl a.asked); marked = λ none. absurd (cc) }))
 
 -- what is asked by an event and refused refuses the event
-pub refused_rule : (p : Parts) (event : Happening) (mark : Mark) (fault : StepFault) (r : Result (ℕ × Change) Refusal) → IsAsked p event r → parts.IsRefused r fault → IsRefused (standing_of p) event (Some mark) fault
-refused_rule p event mark Memory r a why = inl refl
-refused_rule p event mark OutOfRange r a why = absurd why
-refused_rule p event mark NotMine r a why = absurd why
-refused_rule p event mark StampFull r a why = absurd why
-refused_rule p event mark SpaceFull r a why = ruled p event mark SpaceFull _ refl (subst (IsAsked p event) why a)
-refused_rule p event mark SeqExhausted r a why = ruled p event mark SeqExhausted _ refl (subst (IsAsked p event) why a)
-refused_rule p event mark NotLeading r a why = ruled p event mark NotLeading _ refl (subst (IsAsked p event) why a)
-refused_rule p event mark TooFewAnswers r a why = ruled p event mark TooFewAnswers _ refl (subst (IsAsked p event) why a)
-refused_rule p event mark AlreadyCommitted r a why = ruled p event mark AlreadyCommitted _ refl (subst (IsAsked p event) why a)
-refused_rule p event mark BallotsExhausted r a why = ruled p event mark BallotsExhausted _ refl (subst (IsAsked p event) why a)
-refused_rule p event mark (NotCommitted i) r a why = absurd why
+pub refused_rule : (p : Parts) (event : Happening) (mark : Option Mark) (m : Mark) (fault : StepFault) (r : Result (ℕ × Change) Refusal) → mark ≡ Some m → IsAsked p event r → parts.IsRefused r fault → IsRefused (standing_of p) event mark fault
+refused_rule p event mark m Memory r given a why = inl refl
+refused_rule p event mark m OutOfRange r given a why = absurd why
+refused_rule p event mark m NotMine r given a why = absurd why
+refused_rule p event mark m StampFull r given a why = absurd why
+refused_rule p event mark m SpaceFull r given a why = ruled p event mark m SpaceFull _ given refl (subst (IsAsked p event) why a)
+refused_rule p event mark m SeqExhausted r given a why = ruled p event mark m SeqExhausted _ given refl (subst (IsAsked p event) why a)
+refused_rule p event mark m NotLeading r given a why = ruled p event mark m NotLeading _ given refl (subst (IsAsked p event) why a)
+refused_rule p event mark m TooFewAnswers r given a why = ruled p event mark m TooFewAnswers _ given refl (subst (IsAsked p event) why a)
+refused_rule p event mark m AlreadyCommitted r given a why = ruled p event mark m AlreadyCommitted _ given refl (subst (IsAsked p event) why a)
+refused_rule p event mark m BallotsExhausted r given a why = ruled p event mark m BallotsExhausted _ given refl (subst (IsAsked p event) why a)
+refused_rule p event mark m (NotCommitted i) r given a why = absurd why
 
-refused_here : (p : Parts) (root : ℕ) (mark : Mark) (fault : StepFault) → IsLetThrough p.space.faults p.me (Execute root) → IsUnexecuted p.space root p.executed.list fault → IsRefused (standing_of p) (Execute root) (Some mark) fault
-refused_here p root mark Memory h why = inl refl
-refused_here p root mark OutOfRange h why = absurd why
-refused_here p root mark NotMine h why = absurd why
-refused_here p root mark StampFull h why = absurd why
-refused_here p root mark SpaceFull h why = absurd why
-refused_here p root mark SeqExhausted h why = absurd why
-refused_here p root mark NotLeading h why = absurd why
-refused_here p root mark TooFewAnswers h why = absurd why
-refused_here p root mark AlreadyCommitted h why = absurd why
-refused_here p root mark BallotsExhausted h why = absurd why
-refused_here p root mark (NotCommitted i) h why = inr (inr (_, record { readable = tt; named = refl; refuses = inr (h.unscreened, inr (i, refl, why)); marked = λ none. absurd (cc) }))
+refused_here : (p : Parts) (root : ℕ) (mark : Option Mark) (m : Mark) (fault : StepFault) → mark ≡ Some m → IsLetThrough p.space.faults p.me (Execute root) → IsUnexecuted p.space root p.executed.list fault → IsRefused (standing_of p) (Execute root) mark fault
+refused_here p root mark m Memory given h why = inl refl
+refused_here p root mark m OutOfRange given h why = absurd why
+refused_here p root mark m NotMine given h why = absurd why
+refused_here p root mark m StampFull given h why = absurd why
+refused_here p root mark m SpaceFull given h why = absurd why
+refused_here p root mark m SeqExhausted given h why = absurd why
+refused_here p root mark m NotLeading given h why = absurd why
+refused_here p root mark m TooFewAnswers given h why = absurd why
+refused_here p root mark m AlreadyCommitted given h why = absurd why
+refused_here p root mark m BallotsExhausted given h why = absurd why
+refused_here p root mark m (NotCommitted i) given h why = inr (inr (_, record { readable = tt; named = refl; refuses = inr (h.unscreened, inr (i, refl, why)); marked = λ none. absurd (cc) }))
 
 -- an execution that is refused refuses the event
-pub refused_root : (p : Parts) (event : Happening) (root : ℕ) (mark : Mark) (fault : StepFault) → IsLetThrough p.space.faults p.me event → Execution root ≡ admitted event → IsUnexecuted p.space root p.executed.list fault →
-    IsRefused (standing_of p) event (Some mark) fault
-refused_root p event root mark fault h is why =
-    let e : event ≡ Execute root = is_execution event root is in
-    subst (λ (v : Happening). IsRefused (standing_of p) v (Some mark) fault) (sym e) (refused_here p root mark fault (subst (IsLetThrough p.space.faults p.me) e h) why)
+pub refused_root : (p : Parts) (event : Happening) (root : ℕ) (mark : Option Mark) (m : Mark) (fault : StepFault) → mark ≡ Some m → IsLet p event (Execution root) → IsUnexecuted p.space root p.executed.list fault → IsRefused (standing_of p) event mark fault
+refused_root p event root mark m fault given h why =
+    let e : event ≡ Execute root = is_execution event root h.admitted in
+    subst (λ (v : Happening). IsRefused (standing_of p) v mark fault) (sym e) (refused_here p root mark m fault given (subst (IsLetThrough p.space.faults p.me) e h.through) why)
 
 -- What is handled fits.
 

@@ -1,15 +1,12 @@
 -- What is asked of a replica, and what the rule book answers. A rule looks at what is known of one instance.
-use Rattle.std.specs.Prelude.{◌≡◌, ℕ, ◌+◌, ◌≤◌, Bool, eqb, List, length, Option, Some, None, Result, Ok, Err}
-use Rattle.ep_base.specs.Instances.{instance_of, leader_of}
+use Rattle.std.specs.Prelude.{ℕ, Bool, eqb, Result, Ok, Err}
+use Rattle.ep_base.specs.Instances.{leader_of}
 use Rattle.ep_base.specs.Messages.{instance_of_message}
 use Rattle.ep_base.specs.Quorums.{is_fast}
-use Rattle.ep_base.specs.declared.command.Command.{Command}
-use Rattle.ep_base.specs.declared.message.Message.{Message}
 use Rattle.ep_base.specs.declared.message.Message.TheVariants.{PreAccept, PreAcceptOk, Accept, AcceptOk, Commit, Prepare, PrepareOk, Nack}
 use Rattle.ep_frame.specs.Meaning.{sender_at, message_at}
-use Rattle.ep_phase.specs.Known.{Known, known_of, record_of}
-use Rattle.ep_phase.specs.Leads.{Leads}
-use Rattle.ep_rules.specs.Cells.{Change, nothing, Refusal, SpaceFull}
+use Rattle.ep_phase.specs.Known.{Known, record_of}
+use Rattle.ep_rules.specs.Cells.{Change, Refusal}
 use Rattle.ep_phase.specs.declared.receivers.Receivers.{Receivers}
 use Rattle.ep_phase.specs.declared.receivers.Receivers.TheVariants.{One, FastQuorum, Others}
 use Rattle.ep_rules.specs.Counting.{is_other}
@@ -17,9 +14,6 @@ use Rattle.ep_rules.specs.Fitting.{AllFit}
 use Rattle.ep_rules.specs.InterferenceSet.{interference}
 use Rattle.ep_rules.specs.Phases.{Outcome, propose, give_up, on_pre_accept, on_pre_accept_ok, on_accept, on_accept_ok, on_commit}
 use Rattle.ep_rules.specs.Recovery.{recover, on_prepare, on_prepare_ok, on_nack}
-use Rattle.ep_rules.specs.States.{free_number}
-use Rattle.ep_rules.specs.Steps.{at}
-use Rattle.ep_space.specs.Records.{Records}
 use Rattle.ep_journal.specs.declared.admitted.Admitted.{Admitted}
 use Rattle.ep_journal.specs.declared.admitted.Admitted.TheVariants.{Request, Asked, Execution}
 use Rattle.ep_journal.specs.declared.event.Event.{Event as Happening}

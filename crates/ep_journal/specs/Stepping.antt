@@ -1,26 +1,17 @@
 -- One step of the code's parts: what the screen lets through, and how what is asked of an instance is done.
-use Rattle.std.specs.Prelude.{◌≡◌, ℕ, List, [], Option, Some, None, Result, Ok, Err}
-use Rattle.ep_phase.specs.Leads.{Leads}
+use Rattle.std.specs.Prelude.{◌≡◌, ℕ, List, Option, Some, None, Result, Ok, Err}
 use Rattle.ep_rules.specs.Cells as rules
 use Rattle.ep_rules.specs.Cells.{Change, Refusal}
-use Rattle.ep_rules.specs.Phases.{Outcome}
 use Rattle.ep_rules.specs.States.{State, changed}
-use Rattle.ep_rules.specs.Steps.{screened, sent_from, at}
-use Rattle.ep_space.specs.Records.{Records}
+use Rattle.ep_rules.specs.Steps.{screened, sent_from}
 use Rattle.ep_journal.specs.Events.{event_of, IsReadable, AreSpelled}
-use Rattle.ep_journal.specs.Executing.{IsExecuted, IsUnexecuted}
-use Rattle.ep_journal.specs.Inputs.{asks}
 use Rattle.ep_journal.specs.Parts.{known}
-use Rattle.ep_journal.specs.Refused.{IsRefused}
 use Rattle.ep_journal.specs.Standing.{Standing, stands}
-use Rattle.ep_journal.specs.declared.admitted.Admitted.{Admitted}
-use Rattle.ep_journal.specs.declared.admitted.Admitted.TheVariants.{Request, Asked, Execution}
 use Rattle.ep_journal.specs.declared.event.Event.{Event as Happening}
 use Rattle.ep_journal.specs.declared.mark.Mark.{Mark}
 use Rattle.ep_journal.specs.declared.parts.Parts.{Parts}
 use Rattle.ep_journal.specs.declared.step_fault.StepFault.{StepFault}
 use Rattle.ep_journal.specs.declared.step_fault.StepFault.TheVariants.{Memory, OutOfRange, NotMine, StampFull, SpaceFull, SeqExhausted, NotLeading, TooFewAnswers, AlreadyCommitted, BallotsExhausted, NotCommitted}
-use Rattle.ep_journal.specs.declared.taken.Taken.{Taken}
 
 -- the replica that the parts are
 abbrev pub standing_of : Parts → Standing

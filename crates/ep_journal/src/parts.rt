@@ -50,14 +50,14 @@ impl Parts {
         ensures err { OnErr result (standing_of self.new ≡ standing_of self.old) }
     {
         let admitted = screen(alloc, self.space.size(), self.me, &event)?;
-        let Some(Mark { number, stamp }) = mark else {
+        let Some(mark) = mark else {
             return Err(StepFault::StampFull);
         };
+        let Mark { number, stamp } = mark;
         match admitted {
             Admitted::Request(command) => {
                 let id = next_instance(&self.space, self.me)?;
-                let frames =
-                    self.change(alloc, id, Input::Start(command), Mark { number, stamp })?;
+                let frames = self.change(alloc, id, Input::Start(command), Mark { number, stamp })?;
                 Ok(Entry {
                     number,
                     stamp,
