@@ -41,7 +41,7 @@ pub block_cut : (g : Graph) (skipped done : List ℕ) (o : Option (List ℕ)) �
 block_cut g skipped done None = refl
 block_cut g skipped done (Some c) = ranked_left_cut g skipped done [] c
 
-some_of : (o : Option Attrs) → ¬ (o ≡ None) → (a : Attrs) × (o ≡ Some a)
+pub some_of : (o : Option Attrs) → ¬ (o ≡ None) → (a : Attrs) × (o ≡ Some a)
 some_of None n = absurd (n refl)
 some_of (Some a) n = (a, refl)
 

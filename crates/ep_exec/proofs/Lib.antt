@@ -12,3 +12,4 @@ pub mod Clear
 pub mod Cut
 pub mod Alone
 pub mod Marking
+pub mod Searching

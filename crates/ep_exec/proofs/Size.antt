@@ -23,7 +23,7 @@ weight_fewer g xs ys (u ∷ us) sub = go (has_or xs u) (weight_fewer g xs ys us 
     go (inl h) r = rw (lt-ltb (place xs u) (length xs) h, lt-ltb (place ys u) (length ys) (sub u h)) r
     go (inr n) r = rw (le-ltb (place xs u) (length xs) (let e = not_has xs u n in omega arith)) (elim (cases_Bool (ltb (place ys u) (length ys))) [ inl e ↦ rw e (omega arith) | inr e ↦ rw e (omega arith) ])
 
-weight_falls : (g : Graph) (xs ys us : List ℕ) (d : ℕ) → ((u : ℕ) → Has xs u → Has ys u) → Has us d → (Has xs d → ⊥) → Has ys d → weight g ys us + (2 + length (deps_at (g d))) ≤ weight g xs us
+pub weight_falls : (g : Graph) (xs ys us : List ℕ) (d : ℕ) → ((u : ℕ) → Has xs u → Has ys u) → Has us d → (Has xs d → ⊥) → Has ys d → weight g ys us + (2 + length (deps_at (g d))) ≤ weight g xs us
 weight_falls g xs ys [] d sub h n y = absurd (omega arith)
 weight_falls g xs ys (u ∷ us) d sub h n y = elim (has_cons u d us h) [
   | inl e ↦ subst (λ z. weight g ys (z ∷ us) + (2 + length (deps_at (g d))) ≤ weight g xs (z ∷ us)) (sym e)

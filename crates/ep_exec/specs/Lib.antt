@@ -7,3 +7,4 @@ pub mod Walk
 pub mod Ready
 pub mod Refusal
 pub mod Cut
+pub mod Missing

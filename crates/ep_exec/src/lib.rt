@@ -19,6 +19,7 @@ mod marks;
 mod part;
 mod plan_fault;
 mod planning;
+mod reach;
 mod ready;
 mod store;
 mod table;
@@ -28,6 +29,7 @@ mod walk;
 pub use executed::Executed;
 pub use plan_fault::PlanFault;
 pub use planning::{plan, plan_left};
+pub use reach::missing;
 pub use store::Store;
 pub use trial::Trial;
 

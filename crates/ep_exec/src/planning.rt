@@ -20,7 +20,7 @@ use ep_space::Space;
 use std::alloc::{AllocError, Global};
 
 /// Whether nothing is committed in the instance.
-fn is_missing(space: &Space, instance: InstanceId) -> bool
+pub fn is_missing(space: &Space, instance: InstanceId) -> bool
     ensures { IsTrue result ↔ (graph_in space.now.records instance ≡ None) }
 {
     attrs_at(space, instance).is_none()

@@ -4,6 +4,7 @@
 mod closed;
 mod executing;
 mod ordering;
+mod reaching;
 mod storing;
 
 ghost use Rattle.std.specs.Prelude.{◌≡◌, ◌<◌};

@@ -4,3 +4,5 @@ pub mod Own
 pub mod Outcomes
 pub mod Settled
 pub mod Given
+pub mod Trying
+pub mod Taking

@@ -4,3 +4,4 @@ pub mod Applied
 pub mod Receipts
 pub mod Slots
 pub mod Outcomes
+pub mod Pending

@@ -11,7 +11,9 @@
 #![tactic(auto)]
 
 mod clock;
+mod pending;
 mod proposal;
+mod proposing;
 mod receipt_view;
 mod replica;
 mod replica_fault;

@@ -4,6 +4,7 @@
 
 ghost use Rattle.std.specs.Prelude.{◌≡◌, OnErr};
 
+mod executing;
 mod printing;
 mod recovering;
 mod refusing;

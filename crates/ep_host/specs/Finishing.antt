@@ -1,0 +1,13 @@
+-- What a host that is finished hands back.
+use Rattle.std.specs.Prelude.{List, MatchResult}
+use Rattle.ep_audit.specs.Audited.{IsAudited}
+use Rattle.ep_journal.specs.Entries.{journals_of}
+use Rattle.ep_report.specs.Refusals.{fault_of}
+use Rattle.ep_rules.specs.Audits.{IsFault}
+use Rattle.ep_rules.specs.declared.receipt.Receipt.{Receipt}
+use Rattle.ep_host.specs.declared.finished.Finished.{Finished}
+
+-- the verdict on the journals with these receipts; or the first fault of theirs
+abbrev pub IsFinished : List Receipt → Finished → Type 0
+IsFinished receipts f =
+    MatchResult f.verdict (λ v. IsAudited f.journals.faults (journals_of f.journals) receipts v) (λ fault. IsFault f.journals.faults (journals_of f.journals) receipts (fault_of fault))

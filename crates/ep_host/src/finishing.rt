@@ -1,0 +1,41 @@
+//! The audit of a host's journals.
+
+ghost use Rattle.std.specs.Prelude.{IfOk};
+ghost use Rattle.ep_host.specs.Finishing.{IsFinished};
+
+use crate::finished::Finished;
+use ep_audit::{Refusal, audit};
+use ep_journal::{Journal, Journals};
+use ep_rules::Receipt;
+use std::alloc::{AllocError, Global};
+
+/// The audit of these journals with the receipts.
+fn audited(alloc: Global, journals: Journals, receipts: &[Receipt]) -> Result<Finished, AllocError>
+    ensures { IfOk result (IsFinished receipts.now) }
+{
+    match audit(alloc, &journals, receipts) {
+        Ok(verdict) => Ok(Finished {
+            journals,
+            verdict: Ok(verdict),
+        }),
+        Err(Refusal::Fault(fault)) => Ok(Finished {
+            journals,
+            verdict: Err(fault),
+        }),
+        Err(Refusal::Memory) => Err(AllocError),
+    }
+}
+
+/// The same of the journals of a cluster, one for each replica, in replica order. A host's always are these.
+pub fn finished(
+    alloc: Global,
+    journals: Vec<Journal>,
+    receipts: &[Receipt],
+) -> Result<Finished, AllocError>
+    ensures { IfOk result (IsFinished receipts.now) }
+{
+    match Journals::new(journals) {
+        Ok(journals) => audited(alloc, journals, receipts),
+        Err(_) => Err(AllocError),
+    }
+}

@@ -1,0 +1,89 @@
+-- What a try to execute an own instance comes to.
+use Rattle.std.proofs.Common.{◌≡◌, ℕ, ◌+◌, ◌<◌, ◌≤◌, inl, inr, true, false, Option, Some, None, sym, ap, subst, ◌∙◌, arith}
+use Rattle.std.proofs.lemmas.Bool.{cases_lt}
+use Rattle.ep_base.specs.Instances.{instance_of, leader_of, number_of}
+use Rattle.ep_journal.specs.declared.entry.Entry.{Entry}
+use Rattle.ep_journal.specs.declared.event.Event.TheVariants.{Execute}
+use Rattle.ep_replica.specs.Applied.{Applied}
+use Rattle.ep_replica.specs.Kept.{Kept}
+use Rattle.ep_replica.specs.Pending.{IsPending, IsWaiting, IsShort, LesserWait, IsAbove, IsNext, ExecutesNext}
+
+-- Instances by their numbers.
+
+own_again : (me j : ℕ) → leader_of j ≡ me → instance_of me (number_of j) ≡ j
+own_again me j own = omega arith
+
+pending_again : (k : Kept) (j : ℕ) → IsPending k j → IsPending k (instance_of k.me (number_of j))
+pending_again k j p = subst (λ z. IsPending k z) (sym (own_again k.me j p.own)) p
+
+-- The least pending instance.
+
+-- no own instance below this number is above `after` and pending
+abbrev pub NoneBelow : Kept → Option ℕ → ℕ → Type 0
+NoneBelow k after n = (m : ℕ) → 1 ≤ m → m < n → IsAbove after (instance_of k.me m) → ¬ IsPending k (instance_of k.me m)
+
+pub none_first : (k : Kept) (after : Option ℕ) → NoneBelow k after 1
+none_first k after m some low = absurd (omega arith)
+
+pub none_more : (k : Kept) (after : Option ℕ) (n i : ℕ) → i ≡ instance_of k.me n → (IsAbove after i → ¬ IsPending k i) → NoneBelow k after n → NoneBelow k after (n + 1)
+none_more k after n i is not_this h m some low above p = elim (cases_lt m n) [
+  | inl l ↦ h m some l above p
+  | inr l ↦ (let same : m ≡ n = omega arith in
+      let here : instance_of k.me m ≡ i = ap (λ z. instance_of k.me z) same ∙ sym is in
+      not_this (subst (λ z. IsAbove after z) here above) (subst (λ z. IsPending k z) here p))
+]
+
+pub next_none : (k : Kept) (after : Option ℕ) (n : ℕ) → 1000 < n → NoneBelow k after n → IsNext k after None
+next_none k after n past h j p above = h (number_of j) p.named.1 (let le = p.named.2 in omega arith) (subst (λ z. IsAbove after z) (sym (own_again k.me j p.own)) above) (pending_again k j p)
+
+pub next_some : (k : Kept) (after : Option ℕ) (n i : ℕ) → i ≡ instance_of k.me n → n ≤ 1000 → NoneBelow k after n → IsPending k i → IsAbove after i → IsNext k after (Some i)
+next_some k after n i is few h pending over = (
+  pending,
+  over,
+  λ j p above low. (
+      let own = own_again k.me j p.own in
+      let le = p.named.2 in
+      h (number_of j) p.named.1 (omega arith) (subst (λ z. IsAbove after z) (sym own) above) (pending_again k j p)),
+)
+
+-- The least one that doesn't wait.
+
+-- each pending instance below this number waits
+abbrev pub AllWait : Kept → ℕ → Type 0
+AllWait k n = (m : ℕ) → 1 ≤ m → m < n → IsPending k (instance_of k.me m) → IsWaiting k (instance_of k.me m)
+
+pub wait_first : (k : Kept) → AllWait k 1
+wait_first k m some low = absurd (omega arith)
+
+pub wait_more : (k : Kept) (n i : ℕ) → i ≡ instance_of k.me n → (IsPending k i → IsWaiting k i) → AllWait k n → AllWait k (n + 1)
+wait_more k n i is waits h m some low p = elim (cases_lt m n) [
+  | inl l ↦ h m some l p
+  | inr l ↦ (let same : m ≡ n = omega arith in
+      let here : instance_of k.me m ≡ i = ap (λ z. instance_of k.me z) same ∙ sym is in
+      subst (λ z. IsWaiting k z) (sym here) (waits (subst (λ z. IsPending k z) here p)))
+]
+
+pub all_wait : (k : Kept) (n : ℕ) → 1000 < n → AllWait k n → (j : ℕ) → IsPending k j → IsWaiting k j
+all_wait k n past h j p = subst (λ z. IsWaiting k z) (own_again k.me j p.own) (h (number_of j) p.named.1 (let le = p.named.2 in omega arith) (pending_again k j p))
+
+pub lesser_wait : (k : Kept) (n i : ℕ) → i ≡ instance_of k.me n → n ≤ 1000 → AllWait k n → LesserWait k i
+lesser_wait k n i is few h j p low =
+    let own = own_again k.me j p.own in
+    let le = p.named.2 in
+    subst (λ z. IsWaiting k z) own (h (number_of j) p.named.1 (omega arith) (pending_again k j p))
+
+-- One more number.
+
+pub executed_next : (k s k' : Kept) (n i : ℕ) → s ≡ k → i ≡ instance_of s.me n → n ≤ 1000 → AllWait k n → IsPending s i × ((e : Entry) × Applied s (Execute i) e k') → ExecutesNext k true k'
+executed_next k s k' n i same is few h t =
+    let here : i ≡ instance_of k.me n = is ∙ ap (λ (z : Kept). instance_of z.me n) same in
+    (i, subst (λ (z : Kept). IsPending z i) same t.0, subst (λ (z : Kept). (e : Entry) × Applied z (Execute i) e k') same t.1, lesser_wait k n i here few h)
+
+pub passed_next : (k s : Kept) (n i : ℕ) → s ≡ k → i ≡ instance_of s.me n → AllWait k n → (IsPending s i → IsWaiting s i) → AllWait k (n + 1)
+passed_next k s n i same is h t =
+    wait_more k n i (is ∙ ap (λ (z : Kept). instance_of z.me n) same) (subst (λ (z : Kept). IsPending z i → IsWaiting z i) same t) h
+
+pub refused_next : (k s k' : Kept) (n i : ℕ) → s ≡ k → i ≡ instance_of s.me n → n ≤ 1000 → AllWait k n → IsPending s i × IsShort s i × (k' ≡ s) → ExecutesNext k false k'
+refused_next k s k' n i same is few h t =
+    let here : i ≡ instance_of k.me n = is ∙ ap (λ (z : Kept). instance_of z.me n) same in
+    (inr (i, subst (λ (z : Kept). IsPending z i) same t.0, subst (λ (z : Kept). IsShort z i) same t.1, lesser_wait k n i here few h), t.2 ∙ same)

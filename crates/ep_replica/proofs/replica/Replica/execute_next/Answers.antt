@@ -1,0 +1,26 @@
+use Rattle.std.proofs.Common.{◌≡◌, ℕ, inl, ap, ◌∙◌, arith}
+use Rattle.ep_base.specs.Instances.{instance_of}
+use Rattle.ep_replica.proofs.Trying.{all_wait, executed_next, passed_next, refused_next}
+use Rattle.ep_replica.proofs.replica.Replica.execute_next.Goals as goal
+
+pub returns-in-Executed : goal.returns-in-Executed
+returns-in-Executed c =
+    let i : c.instance_at-instance.result ≡ instance_of c.loop-number.self.me c.loop-number.number = c.instance_at-instance.ensures ∙ ap (λ (m : ℕ). instance_of m c.loop-number.number) c.me.ensures in
+    executed_next c.args.self.now c.loop-number.self c.try_execute.new.self c.loop-number.number c.instance_at-instance.result c.loop-number.invariant.same i (let low = c.loop-number-test.true in omega arith) c.loop-number.invariant.wait c.in-Executed.ensures
+
+pub returns-in-Refused : goal.returns-in-Refused
+returns-in-Refused c =
+    let i : c.instance_at-instance.result ≡ instance_of c.loop-number.self.me c.loop-number.number = c.instance_at-instance.ensures ∙ ap (λ (m : ℕ). instance_of m c.loop-number.number) c.me.ensures in
+    refused_next c.args.self.now c.loop-number.self c.try_execute.new.self c.loop-number.number c.instance_at-instance.result c.loop-number.invariant.same i (let low = c.loop-number-test.true in omega arith) c.loop-number.invariant.wait c.in-Refused.ensures
+
+pub loop-number-preserved : goal.loop-number-preserved
+loop-number-preserved c =
+    let i : c.instance_at-instance.result ≡ instance_of c.loop-number.self.me c.loop-number.number = c.instance_at-instance.ensures ∙ ap (λ (m : ℕ). instance_of m c.loop-number.number) c.me.ensures in
+    record {
+      some = omega arith;
+      same = c.in-Passed.ensures.1 ∙ c.loop-number.invariant.same;
+      wait = passed_next c.args.self.now c.loop-number.self c.loop-number.number c.instance_at-instance.result c.loop-number.invariant.same i c.loop-number.invariant.wait c.in-Passed.ensures.0;
+    }
+
+pub returns : goal.returns
+returns c = (inl (all_wait c.args.self.now c.loop-number.number (let past = c.loop-number-test.false in omega arith) c.loop-number.invariant.wait), c.loop-number.invariant.same)
