@@ -50,6 +50,18 @@ accepted_lines committed history receipts =
 abbrev pub refused_lines : List (ℕ × Cause) → List (List ℕ)
 refused_lines refused = counted (codes "refused") (map refused_line refused)
 
+-- the frames that a run lost
+abbrev pub lost_line : ℕ → List ℕ
+lost_line lost = codes "lost " ++ decimal lost
+
+-- what a replay prints
+abbrev pub replay_lines : List (ℕ × Decree) → List Happening → List Receipt → List (ℕ × Cause) → List (List ℕ)
+replay_lines committed history receipts refused = accepted_lines committed history receipts ++ refused_lines refused
+
+-- what a run prints: the same, and how many frames were lost
+abbrev pub run_lines : List (ℕ × Decree) → List Happening → List Receipt → List (ℕ × Cause) → ℕ → List (List ℕ)
+run_lines committed history receipts refused lost = replay_lines committed history receipts refused ++ lost_line lost ∷ []
+
 -- the audit's refusal
 abbrev pub refusal_lines : Fault → List (List ℕ)
 refusal_lines fault = codes "verdict refused" ∷ fault_text fault ∷ []

@@ -13,13 +13,15 @@ mod audit_fault;
 mod cause;
 mod happening;
 mod lines;
+mod losses;
 mod parts;
 mod reports;
 
 pub use audit_fault::AuditFault;
 pub use cause::Cause;
 pub use happening::Happening;
-pub use reports::{accepted, refusal, report};
+pub use losses::Losses;
+pub use reports::{accepted, refusal, report, run_report};
 
 #[cfg(test)]
 mod tests;

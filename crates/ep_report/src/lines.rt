@@ -1,7 +1,7 @@
 //! Lines of a report, each ended by a line feed.
 
-ghost use Rattle.std.specs.Prelude.{◌≡◌, ◌++◌, OnOk, codes, decimal};
-ghost use Rattle.ep_report.specs.Reports.{committed_line, history_line, receipt_line, refused_line};
+ghost use Rattle.std.specs.Prelude.{◌≡◌, ◌++◌, [], ◌∷◌, OnOk, codes, decimal};
+ghost use Rattle.ep_report.specs.Reports.{text_of, committed_line, history_line, receipt_line, refused_line, lost_line};
 
 use crate::cause::Cause;
 use crate::happening::Happening;
@@ -88,6 +88,16 @@ pub(crate) fn push_refused_line(
     push_number(text, u64::from(line))?;
     text.push(b' ')?;
     text.extend_from_slice(cause.to_string(alloc)?.as_bytes())?;
+    text.push(b'\n')?;
+    Ok(())
+}
+
+/// Appends the line of the frames that a run lost.
+pub(crate) fn push_lost_line(text: &mut Vec<u8>, lost: u64) -> Result<(), AllocError>
+    ensures { OnOk result (text.new.items ≡ text.old.items ++ text_of (lost_line lost ∷ [])) }
+{
+    text.extend_from_slice(b"lost ")?;
+    push_number(text, lost)?;
     text.push(b'\n')?;
     Ok(())
 }

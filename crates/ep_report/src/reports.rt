@@ -2,14 +2,16 @@
 
 ghost use Rattle.std.specs.Prelude.{◌≡◌, ◌++◌, OnOk, IfOk, codes, map};
 ghost use Rattle.ep_report.specs.Refusals.{fault_of};
-ghost use Rattle.ep_report.specs.Reports.{text_of, counted, committed_line, history_lines, receipt_line, accepted_lines, refused_lines, refusal_lines};
+ghost use Rattle.ep_report.specs.Reports.{text_of, counted, committed_line, history_lines, receipt_line, accepted_lines, refused_lines, run_lines, refusal_lines};
 
 use crate::audit_fault::AuditFault;
 use crate::cause::Cause;
 use crate::happening::Happening;
 use crate::lines::{
-    push_committed_line, push_heading, push_history_line, push_receipt_line, push_refused_line,
+    push_committed_line, push_heading, push_history_line, push_lost_line, push_receipt_line,
+    push_refused_line,
 };
+use crate::losses::Losses;
 use ep_base::{Decree, InstanceId};
 use ep_rules::Receipt;
 use std::alloc::{AllocError, Global};
@@ -95,6 +97,22 @@ pub fn report(
 {
     let mut text = accepted(alloc, committed, history, receipts)?;
     push_refused(alloc, &mut text, refused)?;
+    Ok(text)
+}
+
+/// The report of a run in threads that the audit accepts: the `report` of the lines that were refused, and then the line that
+/// counts the frames that were lost.
+pub fn run_report(
+    alloc: Global,
+    committed: &[(InstanceId, Decree)],
+    history: &[Happening],
+    receipts: &[Receipt],
+    losses: Losses<'_>,
+) -> Result<Vec<u8>, AllocError>
+    ensures { IfOk result (λ t. t.items ≡ text_of (run_lines committed.now history.now receipts.now losses.entry.refused.now losses.entry.lost)) }
+{
+    let mut text = report(alloc, committed, history, receipts, losses.refused)?;
+    push_lost_line(&mut text, losses.lost)?;
     Ok(text)
 }
 

@@ -1,6 +1,6 @@
 //! Reports of worked runs, and each cause and fault.
 
-use crate::{AuditFault, Cause, Happening, accepted, refusal, report};
+use crate::{AuditFault, Cause, Happening, Losses, accepted, refusal, report, run_report};
 use ep_base::{Answer, Attrs, Command, Decree, Deps, InstanceId, ReplicaId, Reply, Seq, Value};
 use ep_rules::Receipt;
 use std::alloc::Global;
@@ -118,6 +118,22 @@ fn printed(rt: &impl Abort, alloc: Global, outcome: &Outcome, refused: &[(u32, C
         outcome.history.as_slice(),
         outcome.receipts.as_slice(),
         refused,
+    )
+    .expect(rt, "memory for a report")
+}
+
+fn printed_of_run(
+    rt: &impl Abort,
+    alloc: Global,
+    outcome: &Outcome,
+    losses: Losses<'_>,
+) -> Vec<u8> {
+    run_report(
+        alloc,
+        outcome.committed.as_slice(),
+        outcome.history.as_slice(),
+        outcome.receipts.as_slice(),
+        losses,
     )
     .expect(rt, "memory for a report")
 }
@@ -466,4 +482,69 @@ fn each_fault_of_an_audit(rt: HostRuntime) {
         let said = refusal(alloc, *fault).expect(&rt, "memory for a report");
         assert_eq!(rt; said.as_slice(), *text);
     }
+}
+
+#[test]
+fn a_run_in_threads(rt: HostRuntime) {
+    let alloc = rt.alloc();
+    let first = at(&rt, 0, 1);
+    let second = at(&rt, 2, 1);
+    let mut outcome = Outcome::new(alloc);
+    let put_1 = decree(&rt, put(&rt, alloc, b"x", b"1"), 1, Deps::new(alloc));
+    commit(&rt, &mut outcome, first, put_1);
+    let asked = decree(&rt, get(&rt, alloc, b"x"), 2, deps_of(&rt, alloc, &[first]));
+    commit(&rt, &mut outcome, second, asked);
+    let put_1 = put(&rt, alloc, b"x", b"1");
+    happen(&rt, &mut outcome, first, put_1, Reply::Absent);
+    let has = present(&rt, alloc, b"1");
+    happen(&rt, &mut outcome, second, get(&rt, alloc, b"x"), has);
+    let told = Answer::Told(Reply::Absent);
+    receive(&rt, &mut outcome, (1, 1), first, told);
+    let has = present(&rt, alloc, b"1");
+    receive(&rt, &mut outcome, (1, 2), second, Answer::Told(has));
+    let losses = Losses {
+        refused: &[],
+        lost: 0,
+    };
+    let text = b"verdict accepted
+committed 2
+0.1 seq 1 deps - put x 1
+2.1 seq 2 deps 0.1 get x
+history 2
+1 0.1 put x 1 -> absent
+2 2.1 get x -> present 1
+receipts 2
+client 1 request 1 0.1 absent
+client 1 request 2 2.1 present 1
+refused 0
+lost 0
+";
+    assert_eq!(rt;
+        printed_of_run(&rt, alloc, &outcome, losses).as_slice(),
+        text.as_slice()
+    );
+}
+
+#[test]
+fn a_run_that_refuses_lines_and_loses_frames(rt: HostRuntime) {
+    let alloc = rt.alloc();
+    let outcome = Outcome::new(alloc);
+    let refused = [(2, Cause::NotLeading), (7, Cause::Memory)];
+    let losses = Losses {
+        refused: &refused,
+        lost: 18_446_744_073_709_551_615,
+    };
+    let text = b"verdict accepted
+committed 0
+history 0
+receipts 0
+refused 2
+line 2 E6 not leading
+line 7 E1 memory
+lost 18446744073709551615
+";
+    assert_eq!(rt;
+        printed_of_run(&rt, alloc, &outcome, losses).as_slice(),
+        text.as_slice()
+    );
 }

@@ -1,4 +1,5 @@
 pub mod Spelling
-pub mod Windows
 pub mod LineLemmas
 pub mod Steps
+pub mod LinesFit
+pub mod Splitting

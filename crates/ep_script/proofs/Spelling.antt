@@ -1,11 +1,12 @@
 -- Words of bytes, read and printed.
-use Rattle.std.proofs.Common.{◌≡◌, ℕ, ◌+◌, ◌*◌, ◌/◌, ◌%◌, ◌<◌, Bool, true, false, cond, List, [], ◌∷◌, ◌++◌, Some, All, refl, sym, ap, subst, ◌∙◌, arith, append_assoc}
-use Rattle.std.specs.Prelude.{nat_le, ◌==◌, option_and_then, codes}
+use Rattle.std.proofs.Common.{◌≡◌, ℕ, ◌+◌, ◌*◌, ◌/◌, ◌%◌, ◌<◌, Bool, true, false, cond, List, [], ◌∷◌, ◌++◌, Some, All, refl, sym, ap, subst, ◌∙◌, arith, append_assoc, length}
+use Rattle.std.specs.Prelude.{nat_le, ◌==◌, ◌&&◌, option_and_then, codes}
+use Rattle.std.specs.List.{list_all}
 use Rattle.std.specs.Str.{bytes_eq}
 use Rattle.std.proofs.lemmas.Bool.Decides.{nat_tests}
 use Rattle.std.proofs.lemmas.List.{append-nil}
 use Rattle.std.proofs.lemmas.List.Elements.{All-head, All-tail}
-use Rattle.ep_script.specs.Word.{is_plain, digit_of, digit_value, digits_byte, byte_word, byte_words, spelled, between, after_sign, bytes_of, WordLaw}
+use Rattle.ep_script.specs.Word.{is_plain, digit_of, digit_value, digits_byte, byte_word, byte_words, spelled, between, after_sign, word_of, bytes_of, WordLaw}
 
 digit_again : (n : ℕ) → n < 16 → digit_value (digit_of n) ≡ Some n
 digit_again n h = grind (arith, nat_tests)
@@ -40,6 +41,20 @@ spelled_other done h l b rest e = ap (option_and_then (λ (x : ℕ). spelled bet
 
 pub escape_once : (done word after rest : List ℕ) (h l b : ℕ) → word ≡ h ∷ after → after ≡ l ∷ rest → digits_byte h l ≡ Some b → spelled after_sign done word ≡ spelled between (done ++ b ∷ []) rest
 escape_once done word after rest h l b e f d = rw (e, f) (ap (option_and_then (λ (x : ℕ). spelled between (done ++ x ∷ []) rest)) d)
+
+first_passes : (b : ℕ) (bs : List ℕ) → list_all is_plain (b ∷ bs) ≡ true → is_plain b ≡ true
+first_passes b bs h = go (is_plain b) refl h
+  where
+    go : (p : Bool) → is_plain b ≡ p → (p && list_all is_plain bs) ≡ true → is_plain b ≡ true
+    go true e k = e
+    go false e k = absurd (cc k)
+
+rest_pass : (b : ℕ) (bs : List ℕ) → list_all is_plain (b ∷ bs) ≡ true → list_all is_plain bs ≡ true
+rest_pass b bs h = go (is_plain b) h
+  where
+    go : (p : Bool) → (p && list_all is_plain bs) ≡ true → list_all is_plain bs ≡ true
+    go true k = k
+    go false k = absurd (cc k)
 
 -- one byte is read back
 spelled_byte : (done : List ℕ) (b : ℕ) (rest : List ℕ) → b < 256 → spelled between done (byte_word b ++ rest) ≡ spelled between (done ++ b ∷ []) rest
@@ -80,3 +95,24 @@ some_is_not_none b ws = by_plain (is_plain b) refl
 pub word_law_holds : WordLaw
 word_law_holds [] h = refl
 word_law_holds (b ∷ bs) h = some_is_not_none b (byte_words bs) ∙ spelled_bytes [] (b ∷ bs) h
+
+-- bytes that stand for themselves are printed as themselves
+plain_bytes : (bs : List ℕ) → list_all is_plain bs ≡ true → byte_words bs ≡ bs
+plain_bytes [] h = refl
+plain_bytes (b ∷ bs) h = let e = first_passes b bs h in rw (byte_word_plain b e) (ap (λ (t : List ℕ). b ∷ t) (plain_bytes bs (rest_pass b bs h)))
+
+pub plain_word : (w : List ℕ) → 0 < length w → list_all is_plain w ≡ true → word_of w ≡ w
+plain_word [] n h = absurd (omega arith)
+plain_word (b ∷ bs) n h = plain_bytes (b ∷ bs) h
+
+-- and are read as themselves
+spelled_plainly : (done bs : List ℕ) → list_all is_plain bs ≡ true → spelled between done bs ≡ Some (done ++ bs)
+spelled_plainly done [] h = ap (λ (l : List ℕ). Some l) (sym (append-nil done))
+spelled_plainly done (b ∷ bs) h =
+    spelled_plain done b bs (first_passes b bs h)
+    ∙ spelled_plainly (done ++ b ∷ []) bs (rest_pass b bs h)
+    ∙ ap (λ (l : List ℕ). Some l) (append_assoc done (b ∷ []) bs)
+
+pub plain_spells_itself : (w : List ℕ) → 0 < length w → list_all is_plain w ≡ true → bytes_of w ≡ Some w
+plain_spells_itself [] n h = absurd (omega arith)
+plain_spells_itself (b ∷ bs) n h = not_none b bs (first_differs b bs (plain_is_no_sign b (first_passes b bs h))) ∙ spelled_plainly [] (b ∷ bs) h

@@ -19,20 +19,20 @@ le_false n m h = grind (arith, nat_tests)
 strip_len : (l : List ℕ) → length l ≤ length (strip_carriage_return l) + 1
 strip_len l = grind (arith, common_steps, nat_tests)
 
-pub long_none : (n : ℕ) (p : Part) (l : List ℕ) → longest < length l → line_step n p l ≡ None
-long_none n p l h = let s = strip_len l in rw (le_false (length (strip_carriage_return l)) 8192 (omega arith)) refl
+pub long_none : {L : Type 0} (says : ℕ → List (List ℕ) → Option L) (n : ℕ) (p : Part L) (l : List ℕ) → longest < length l → line_step says n p l ≡ None
+long_none says n p l h = let s = strip_len l in rw (le_false (length (strip_carriage_return l)) 8192 (omega arith)) refl
 
-pub reads_none : (n : ℕ) (p : Part) (l : List ℕ) (ls : List (List ℕ)) → n ≤ 100000 → line_step n p l ≡ None → reads n p (l ∷ ls) ≡ Err n
-reads_none n p l ls h e = rw (le_true n 100000 h, e) refl
+pub reads_none : {L : Type 0} (says : ℕ → List (List ℕ) → Option L) (n : ℕ) (p : Part L) (l : List ℕ) (ls : List (List ℕ)) → n ≤ 100000 → line_step says n p l ≡ None → reads says n p (l ∷ ls) ≡ Err n
+reads_none says n p l ls h e = rw (le_true n 100000 h, e) refl
 
-pub reads_some : (n : ℕ) (p q : Part) (l : List ℕ) (ls : List (List ℕ)) → n ≤ 100000 → line_step n p l ≡ Some q → reads n p (l ∷ ls) ≡ reads (n + 1) q ls
-reads_some n p q l ls h e = rw (le_true n 100000 h, e) refl
+pub reads_some : {L : Type 0} (says : ℕ → List (List ℕ) → Option L) (n : ℕ) (p q : Part L) (l : List ℕ) (ls : List (List ℕ)) → n ≤ 100000 → line_step says n p l ≡ Some q → reads says n p (l ∷ ls) ≡ reads says (n + 1) q ls
+reads_some says n p q l ls h e = rw (le_true n 100000 h, e) refl
 
-pub reads_past : (n : ℕ) (p : Part) (l : List ℕ) (ls : List (List ℕ)) → 100000 < n → reads n p (l ∷ ls) ≡ Err n
-reads_past n p l ls h = rw (le_false n 100000 h) refl
+pub reads_past : {L : Type 0} (says : ℕ → List (List ℕ) → Option L) (n : ℕ) (p : Part L) (l : List ℕ) (ls : List (List ℕ)) → 100000 < n → reads says n p (l ∷ ls) ≡ Err n
+reads_past says n p l ls h = rw (le_false n 100000 h) refl
 
 -- a line after the last that a script can have
-pub got_past : (got : Got) (n : ℕ) (p : Part) (ws line window : List ℕ) (left : Option (List ℕ)) → GotOf got ws line window left → (got ≡ End → ⊥) → 100000 < n → reads n p (raw_lines ws) ≡ Err n
-got_past Line n p ws line window left h other past = ap (reads n p) h.1 ∙ reads_past n p line (raw_lines h.0) past
-got_past End n p ws line window left h other past = absurd (other refl)
-got_past TooLong n p ws line window left h other past = ap (reads n p) h.2 ∙ reads_past n p h.0 h.1 past
+pub got_past : {L : Type 0} (says : ℕ → List (List ℕ) → Option L) (got : Got) (n : ℕ) (p : Part L) (ws line window : List ℕ) (left : Option (List ℕ)) → GotOf got ws line window left → (got ≡ End → ⊥) → 100000 < n → reads says n p (raw_lines ws) ≡ Err n
+got_past says Line n p ws line window left h other past = ap (reads says n p) h.1 ∙ reads_past says n p line (raw_lines h.0) past
+got_past says End n p ws line window left h other past = absurd (other refl)
+got_past says TooLong n p ws line window left h other past = ap (reads says n p) h.2 ∙ reads_past says n p h.0 h.1 past

@@ -1,4 +1,4 @@
--- What the words of a line say, in a cluster of n replicas.
+-- What the words of a line say, in a cluster of n replicas. Lines of agendas stand in scripts for a replay and for a run alike.
 use Rattle.std.specs.Prelude.{ℕ, ◌==◌, ◌&&◌, nat_le, nat_lt, Bool, false, List, [], ◌∷◌, ◌++◌, Option, Some, None, length, if◌then◌else◌, codes, option_map, option_and_then}
 use Rattle.std.specs.Str.{bytes_eq}
 use Rattle.std.specs.List.{slice_split}
@@ -7,8 +7,12 @@ use Rattle.ep_base.specs.declared.command.Command.{Command}
 use Rattle.ep_base.specs.declared.command.Command.TheVariants.{Get, Put, Del}
 use Rattle.ep_script.specs.Word.{bytes_of}
 use Rattle.ep_script.specs.Parts.{number_of}
+use Rattle.ep_script.specs.declared.agenda_line.AgendaLine.{AgendaLine}
+use Rattle.ep_script.specs.declared.agenda_line.AgendaLine.TheVariants as agenda
 use Rattle.ep_script.specs.declared.line.Line.{Line}
 use Rattle.ep_script.specs.declared.line.Line.TheVariants.{Propose, GiveUp, Recover, Execute, Deliver, Flush}
+use Rattle.ep_script.specs.declared.run_line.RunLine.{RunLine}
+use Rattle.ep_script.specs.declared.run_line.RunLine.TheVariants.{Agenda, Section}
 
 abbrev pub starts_comment : List ℕ → Bool
 starts_comment [] = false
@@ -49,11 +53,18 @@ instance_parts n (r ∷ i ∷ w ∷ more) = None
 abbrev pub parts_of : List ℕ → List (List ℕ)
 parts_of w = slice_split (λ b. b == 46) w
 
+-- bytes that can be a key, and a value
+abbrev pub key_of : List ℕ → Option (List ℕ)
+key_of k = if nat_le 1 (length k) && nat_le (length k) 255 then Some k else None
+
+abbrev pub value_of : List ℕ → Option (List ℕ)
+value_of v = if nat_le (length v) 1024 then Some v else None
+
 abbrev pub key_word : List ℕ → Option (List ℕ)
-key_word w = option_and_then (λ k. if nat_le 1 (length k) && nat_le (length k) 255 then Some k else None) (bytes_of w)
+key_word w = option_and_then key_of (bytes_of w)
 
 abbrev pub value_word : List ℕ → Option (List ℕ)
-value_word w = option_and_then (λ v. if nat_le (length v) 1024 then Some v else None) (bytes_of w)
+value_word w = option_and_then value_of (bytes_of w)
 
 abbrev pub key_only : List (List ℕ) → Option (List ℕ)
 key_only [] = None
@@ -84,10 +95,10 @@ command_of (w ∷ ws) =
     else None
 
 -- `propose R C` and a command
-abbrev pub propose_of : ℕ → List (List ℕ) → Option Line
+abbrev pub propose_of : ℕ → List (List ℕ) → Option AgendaLine
 propose_of n [] = None
 propose_of n (r ∷ []) = None
-propose_of n (r ∷ c ∷ command) = option_and_then (λ replica. option_and_then (λ client. option_map (λ x. Propose replica client x) (command_of command)) (count_of c)) (replica_of n r)
+propose_of n (r ∷ c ∷ command) = option_and_then (λ replica. option_and_then (λ client. option_map (λ x. agenda.Propose replica client x) (command_of command)) (count_of c)) (replica_of n r)
 
 -- a replica and an instance
 abbrev pub place_of : ℕ → List (List ℕ) → Option (ℕ × ℕ)
@@ -95,6 +106,15 @@ place_of n [] = None
 place_of n (r ∷ []) = None
 place_of n (r ∷ i ∷ []) = option_and_then (λ replica. option_map (λ instance. (replica, instance)) (instance_parts n (parts_of i))) (replica_of n r)
 place_of n (r ∷ i ∷ w ∷ more) = None
+
+-- what a replica is to do: `propose`, `giveup` and `recover`
+abbrev pub agenda_line : ℕ → List (List ℕ) → Option AgendaLine
+agenda_line n [] = None
+agenda_line n (w ∷ ws) =
+    if bytes_eq w (codes "propose") then propose_of n ws
+    else if bytes_eq w (codes "giveup") then option_map (λ p. agenda.GiveUp p.0 p.1) (place_of n ws)
+    else if bytes_eq w (codes "recover") then option_map (λ p. agenda.Recover p.0 p.1) (place_of n ws)
+    else None
 
 -- numbers of messages, after those that were read before
 abbrev pub counts_after : List ℕ → List (List ℕ) → Option (List ℕ)
@@ -110,14 +130,28 @@ abbrev pub flush_of : List (List ℕ) → Option Line
 flush_of [] = Some Flush
 flush_of (w ∷ ws) = None
 
+-- the line of an agenda as a line of a replay
+abbrev pub in_replay : AgendaLine → Line
+in_replay (agenda.Propose replica client command) = Propose replica client command
+in_replay (agenda.GiveUp replica instance) = GiveUp replica instance
+in_replay (agenda.Recover replica instance) = Recover replica instance
+
 -- a line of a replay, other than `replicas N`; none where it is refused
 abbrev pub replay_line : ℕ → List (List ℕ) → Option Line
 replay_line n [] = None
 replay_line n (w ∷ ws) =
-    if bytes_eq w (codes "propose") then propose_of n ws
-    else if bytes_eq w (codes "giveup") then option_map (λ p. GiveUp p.0 p.1) (place_of n ws)
-    else if bytes_eq w (codes "recover") then option_map (λ p. Recover p.0 p.1) (place_of n ws)
-    else if bytes_eq w (codes "execute") then option_map (λ p. Execute p.0 p.1) (place_of n ws)
+    if bytes_eq w (codes "execute") then option_map (λ p. Execute p.0 p.1) (place_of n ws)
     else if bytes_eq w (codes "deliver") then deliver_of ws
     else if bytes_eq w (codes "flush") then flush_of ws
-    else None
+    else option_map in_replay (agenda_line n (w ∷ ws))
+
+abbrev pub section_of : List (List ℕ) → Option RunLine
+section_of [] = Some Section
+section_of (w ∷ ws) = None
+
+-- a line of a run, other than `replicas N`; none where it is refused
+abbrev pub run_line : ℕ → List (List ℕ) → Option RunLine
+run_line n [] = None
+run_line n (w ∷ ws) =
+    if bytes_eq w (codes "section") then section_of ws
+    else option_map (λ l. Agenda l) (agenda_line n (w ∷ ws))

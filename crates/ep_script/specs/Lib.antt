@@ -1,9 +1,12 @@
 pub mod Word
 pub mod Parts
+pub mod Places
 pub mod Grammar
 pub mod Window
 pub mod RawLines
 pub mod SoFar
 pub mod Plan
+pub mod Sections
+pub mod Fits
 pub mod Outcome
 pub mod Faults

@@ -1,36 +1,49 @@
 //! Scripts of a replicated key-value core: words of bytes, lines, and whole scripts from a source.
 //!
-//! `ep_replay` plays what `read_script` reads, and `ep_report` prints keys and values by `push_word`. It keeps to
-//! docs/FORMATS.md, sections 3 and 4, byte for byte: a script is read whole, or its first line at fault is told.
+//! `ep_replay` plays what `read_script` reads, and `ep_report` prints keys and values by `push_word`. `read_run` reads what is
+//! to run in threads. It keeps to docs/FORMATS.md, sections 3 and 4, byte for byte: a script is read whole, or its first line
+//! at fault is told.
 //!
 //! Start with `reader.rt` and `line.rt`, then specs/Grammar.antt and specs/Plan.antt.
 //!
-//! It knows nothing of the protocol. A new line of the grammar is a case of `Line`, with its words in specs/Grammar.antt
-//! first; lines of `run` aren't read yet.
+//! It knows nothing of the protocol. A new line of the grammar is a case of `Line`, of `RunLine`, or of `AgendaLine` where
+//! both kinds of scripts have it, with its words in specs/Grammar.antt first. `drop`, `hold` and `repeat` aren't read yet.
 #![tactic(auto)]
 
+mod agenda_line;
+mod cutting;
 mod draft;
 mod got;
 mod line;
 mod line_fault;
+mod listing;
 mod messages;
 mod numbers;
 mod operands;
 mod reader;
 mod reading;
+mod reading_replay;
+mod reading_run;
+mod run_line;
+mod run_script;
 mod script;
 mod script_fault;
+mod script_line;
+mod section;
 mod window;
 mod window_line;
 mod word;
 mod words;
 
+pub use agenda_line::AgendaLine;
 pub use line::Line;
 pub use messages::Messages;
-pub use numbers::number;
-pub use reader::read_script;
+pub use numbers::{number, number_in};
+pub use reader::{read_run, read_script};
+pub use run_script::RunScript;
 pub use script::Script;
 pub use script_fault::ScriptFault;
+pub use section::Section;
 pub use word::{push_word, read_word, word_law};
 
 #[cfg(test)]

@@ -1,5 +1,6 @@
-//! Lines of scripts.
+//! Lines of scripts for a replay.
 
+use crate::agenda_line::AgendaLine;
 use crate::messages::Messages;
 use ep_base::{Command, InstanceId, ReplicaId};
 
@@ -22,4 +23,27 @@ pub enum Line {
     Deliver(Messages),
     /// Each message that was sent and never given is given.
     Flush,
+}
+
+impl From<AgendaLine> for Line {
+    ghost use Rattle.std.specs.Prelude.{◌≡◌};
+    ghost use Rattle.ep_script.specs.Grammar.{in_replay};
+
+    ghost from_gives = { λ asked line. line ≡ in_replay asked };
+
+    fn from(asked: AgendaLine) -> Line {
+        match asked {
+            AgendaLine::Propose {
+                replica,
+                client,
+                command,
+            } => Line::Propose {
+                replica,
+                client,
+                command,
+            },
+            AgendaLine::GiveUp(replica, instance) => Line::GiveUp(replica, instance),
+            AgendaLine::Recover(replica, instance) => Line::Recover(replica, instance),
+        }
+    }
 }

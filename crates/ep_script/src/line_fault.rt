@@ -4,7 +4,7 @@ ghost use Rattle.std.specs.Prelude.{◌≡◌};
 ghost use Rattle.ep_script.specs.declared.line_fault.LineFault.TheVariants.{ReadFailed as NoRead, Memory};
 
 use ep_base::ReadFailed;
-use std::alloc::AllocFailed;
+use std::alloc::AllocError;
 
 /// Why a line was not read.
 #[derive(Clone, Copy, Debug, PartialEq, Eq)]
@@ -23,10 +23,10 @@ impl From<ReadFailed> for LineFault {
     }
 }
 
-impl<T: Drop> From<AllocFailed<T>> for LineFault {
+impl From<AllocError> for LineFault {
     ghost from_gives = { λ _ e. e ≡ Memory };
 
-    fn from(_fault: AllocFailed<T>) -> LineFault {
+    fn from(_fault: AllocError) -> LineFault {
         LineFault::Memory
     }
 }

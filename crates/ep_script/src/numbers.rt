@@ -1,7 +1,8 @@
 //! Numbers of scripts and of command lines.
 
-ghost use Rattle.std.specs.Prelude.{◌≡◌};
+ghost use Rattle.std.specs.Prelude.{◌≡◌, ◌≤◌, IfSome};
 ghost use Rattle.std.specs.List.{list_all};
+ghost use Rattle.ep_script.specs.Grammar.{number_in as number_between};
 ghost use Rattle.ep_script.specs.Parts.{number_of, is_digit};
 
 /// The number that a word of 1 to 10 decimal digits spells; none for any other word. Leading zeros are allowed.
@@ -16,6 +17,19 @@ pub fn number(word: &[u8]) -> Option<u64>
         value = 10 * value + u64::from(*digit - b'0');
     }
     Some(value)
+}
+
+/// The number that a word of 1 to 10 decimal digits spells, where it is in this range; none for any other word.
+pub fn number_in(word: &[u8], least: u64, most: u64) -> Option<u64>
+    ensures value { result ≡ number_between least most word.now }
+    ensures in_range { IfSome result (λ n. (least ≤ n) × (n ≤ most)) }
+{
+    let number = number(word)?;
+    if number >= least && number <= most {
+        Some(number)
+    } else {
+        None
+    }
 }
 
 fn are_digits(word: &[u8]) -> bool

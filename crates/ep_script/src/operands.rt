@@ -3,11 +3,12 @@
 ghost use Rattle.std.specs.Prelude.{◌≡◌, ◌≤◌, IfOk, IfSome, map};
 ghost use Rattle.ep_base.specs.Quorums.{size as size_with};
 ghost use Rattle.ep_base.specs.Instances.{instance_of};
-ghost use Rattle.ep_script.specs.Grammar.{number_in, count_of, replica_of, instance_parts, parts_of, key_word, value_word, key_only, get_of, put_of, del_of, command_of, place_of};
+ghost use Rattle.ep_script.specs.Parts.{words_of};
+ghost use Rattle.ep_script.specs.Grammar.{number_in as number_between, count_of, replica_of, instance_parts, parts_of, key_of, value_of, key_word, value_word, key_only, get_of, put_of, del_of, command_of, place_of};
 
-use crate::numbers::number;
-use crate::word::read_word;
-use crate::words::{is_word, parts};
+use crate::numbers::{number, number_in};
+use crate::word::{read_word, spells_itself};
+use crate::words::{has_dot, is_word, next_word, split_dot};
 use ep_base::{Command, CommandFault, InstanceId, Key, ReplicaId, Size, Value};
 use std::alloc::{AllocError, Global};
 
@@ -15,12 +16,8 @@ use std::alloc::{AllocError, Global};
 pub(crate) fn count(word: &[u8]) -> Option<u32>
     ensures { result ≡ count_of word.now }
 {
-    let count = number(word)?;
-    if count >= 1 && count <= 4_294_967_295 {
-        Some(count as u32)
-    } else {
-        None
-    }
+    let count = number_in(word, 1, 4_294_967_295)?;
+    Some(count as u32)
 }
 
 /// A replica of a cluster of this size.
@@ -47,15 +44,11 @@ fn made_replica(index: u8) -> ReplicaId
 }
 
 fn instance_number(word: &[u8]) -> Option<u16>
-    ensures value { result ≡ number_in 1 1000 word.now }
+    ensures value { result ≡ number_between 1 1000 word.now }
     ensures in_range { IfSome result (λ i. (1 ≤ i) × (i ≤ 1000)) }
 {
-    let number = number(word)?;
-    if number >= 1 && number <= 1000 {
-        Some(number as u16)
-    } else {
-        None
-    }
+    let number = number_in(word, 1, 1000)?;
+    Some(number as u16)
 }
 
 fn made_instance(leader: ReplicaId, number: u16) -> InstanceId
@@ -69,51 +62,48 @@ fn made_instance(leader: ReplicaId, number: u16) -> InstanceId
     }
 }
 
-fn instance_of_parts(size: Size, parts: &[&[u8]]) -> Option<InstanceId>
-    ensures { result ≡ instance_parts (size_with size) (map (λ w. w.now) parts.now) }
+fn instance(size: Size, word: &[u8]) -> Option<InstanceId>
+    ensures { result ≡ instance_parts (size_with size) (parts_of word.now) }
 {
-    let [leader, number] = parts else {
+    let (leader, number) = split_dot(word)?;
+    if has_dot(number) {
         return None;
-    };
+    }
     let leader = replica(size, leader)?;
     let number = instance_number(number)?;
     Some(made_instance(leader, number))
 }
 
-fn instance(alloc: Global, size: Size, word: &[u8]) -> Result<Option<InstanceId>, AllocError>
-    ensures { IfOk result (λ i. i ≡ instance_parts (size_with size) (parts_of word.now)) }
-{
-    let parts = parts(alloc, word)?;
-    Ok(instance_of_parts(size, parts.as_slice()))
-}
-
 /// A replica of a cluster of this size, and an instance of one of its replicas.
-pub(crate) fn place(
-    alloc: Global,
-    size: Size,
-    words: &[&[u8]],
-) -> Result<Option<(ReplicaId, InstanceId)>, AllocError>
-    ensures { IfOk result (λ p. p ≡ place_of (size_with size) (map (λ w. w.now) words.now)) }
+pub(crate) fn place(size: Size, words: &[u8]) -> Option<(ReplicaId, InstanceId)>
+    ensures { result ≡ place_of (size_with size) (words_of words.now) }
 {
-    let [first, second] = words else {
-        return Ok(None);
-    };
-    let Some(replica) = replica(size, first) else {
-        return Ok(None);
-    };
-    let Some(instance) = instance(alloc, size, second)? else {
-        return Ok(None);
-    };
-    Ok(Some((replica, instance)))
+    let (first, after) = next_word(words)?;
+    let (second, rest) = next_word(after)?;
+    if next_word(rest).is_some() {
+        return None;
+    }
+    let replica = replica(size, first)?;
+    let instance = instance(size, second)?;
+    Some((replica, instance))
 }
 
 fn read_key(alloc: Global, word: &[u8]) -> Result<Option<Key>, AllocError>
     ensures { IfOk result (λ k. k ≡ key_word word.now) }
 {
+    if spells_itself(word) {
+        return key(alloc, word);
+    }
     let Some(bytes) = read_word(alloc, word)? else {
         return Ok(None);
     };
-    match Key::new(alloc, bytes.as_slice()) {
+    key(alloc, bytes.as_slice())
+}
+
+fn key(alloc: Global, bytes: &[u8]) -> Result<Option<Key>, AllocError>
+    ensures { IfOk result (λ k. k ≡ key_of bytes.now) }
+{
+    match Key::new(alloc, bytes) {
         Ok(key) => Ok(Some(key)),
         Err(CommandFault::OutOfRange) => Ok(None),
         Err(CommandFault::Memory) => Err(AllocError),
@@ -123,30 +113,39 @@ fn read_key(alloc: Global, word: &[u8]) -> Result<Option<Key>, AllocError>
 fn read_value(alloc: Global, word: &[u8]) -> Result<Option<Value>, AllocError>
     ensures { IfOk result (λ v. v ≡ value_word word.now) }
 {
+    if spells_itself(word) {
+        return value(alloc, word);
+    }
     let Some(bytes) = read_word(alloc, word)? else {
         return Ok(None);
     };
-    match Value::new(alloc, bytes.as_slice()) {
+    value(alloc, bytes.as_slice())
+}
+
+fn value(alloc: Global, bytes: &[u8]) -> Result<Option<Value>, AllocError>
+    ensures { IfOk result (λ v. v ≡ value_of bytes.now) }
+{
+    match Value::new(alloc, bytes) {
         Ok(value) => Ok(Some(value)),
         Err(CommandFault::OutOfRange) => Ok(None),
         Err(CommandFault::Memory) => Err(AllocError),
     }
 }
 
-fn one_key(alloc: Global, words: &[&[u8]]) -> Result<Option<Key>, AllocError>
-    ensures { IfOk result (λ k. k ≡ key_only (map (λ w. w.now) words.now)) }
+fn one_key(alloc: Global, words: &[u8]) -> Result<Option<Key>, AllocError>
+    ensures { IfOk result (λ k. k ≡ key_only (words_of words.now)) }
 {
-    let Some((first, rest)) = words.split_first() else {
+    let Some((first, rest)) = next_word(words) else {
         return Ok(None);
     };
-    if rest.split_first().is_some() {
+    if next_word(rest).is_some() {
         return Ok(None);
     }
     read_key(alloc, first)
 }
 
-fn get(alloc: Global, words: &[&[u8]]) -> Result<Option<Command>, AllocError>
-    ensures { IfOk result (λ c. c ≡ get_of (map (λ w. w.now) words.now)) }
+fn get(alloc: Global, words: &[u8]) -> Result<Option<Command>, AllocError>
+    ensures { IfOk result (λ c. c ≡ get_of (words_of words.now)) }
 {
     let Some(key) = one_key(alloc, words)? else {
         return Ok(None);
@@ -154,8 +153,8 @@ fn get(alloc: Global, words: &[&[u8]]) -> Result<Option<Command>, AllocError>
     Ok(Some(Command::Get(key)))
 }
 
-fn del(alloc: Global, words: &[&[u8]]) -> Result<Option<Command>, AllocError>
-    ensures { IfOk result (λ c. c ≡ del_of (map (λ w. w.now) words.now)) }
+fn del(alloc: Global, words: &[u8]) -> Result<Option<Command>, AllocError>
+    ensures { IfOk result (λ c. c ≡ del_of (words_of words.now)) }
 {
     let Some(key) = one_key(alloc, words)? else {
         return Ok(None);
@@ -163,16 +162,16 @@ fn del(alloc: Global, words: &[&[u8]]) -> Result<Option<Command>, AllocError>
     Ok(Some(Command::Del(key)))
 }
 
-fn put(alloc: Global, words: &[&[u8]]) -> Result<Option<Command>, AllocError>
-    ensures { IfOk result (λ c. c ≡ put_of (map (λ w. w.now) words.now)) }
+fn put(alloc: Global, words: &[u8]) -> Result<Option<Command>, AllocError>
+    ensures { IfOk result (λ c. c ≡ put_of (words_of words.now)) }
 {
-    let Some((first, after)) = words.split_first() else {
+    let Some((first, after)) = next_word(words) else {
         return Ok(None);
     };
-    let Some((second, rest)) = after.split_first() else {
+    let Some((second, rest)) = next_word(after) else {
         return Ok(None);
     };
-    if rest.split_first().is_some() {
+    if next_word(rest).is_some() {
         return Ok(None);
     }
     let Some(key) = read_key(alloc, first)? else {
@@ -185,10 +184,10 @@ fn put(alloc: Global, words: &[&[u8]]) -> Result<Option<Command>, AllocError>
 }
 
 /// A get, a put or a del.
-pub(crate) fn read_command(alloc: Global, words: &[&[u8]]) -> Result<Option<Command>, AllocError>
-    ensures { IfOk result (λ c. c ≡ command_of (map (λ w. w.now) words.now)) }
+pub(crate) fn read_command(alloc: Global, words: &[u8]) -> Result<Option<Command>, AllocError>
+    ensures { IfOk result (λ c. c ≡ command_of (words_of words.now)) }
 {
-    let Some((first, rest)) = words.split_first() else {
+    let Some((first, rest)) = next_word(words) else {
         return Ok(None);
     };
     if is_word(first, b"get") {

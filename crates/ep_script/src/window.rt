@@ -1,7 +1,8 @@
 //! A window on the bytes of a source.
-ghost use Rattle.std.specs.Prelude.{◌≡◌, ◌↔◌, ℕ, List, [], ◌∷◌, true, IfOk, OnOk, IsTrue, MatchOption};
+
+ghost use Rattle.std.specs.Prelude.{◌≡◌, ◌↔◌, ◌≤◌, ℕ, List, [], true, length, drop, OnOk, IsTrue};
 ghost use Rattle.ep_base.specs.Devices.{FailsAsTold};
-ghost use Rattle.ep_script.specs.Window.{HasLeft, NextIs};
+ghost use Rattle.ep_script.specs.Window.{HasLeft};
 
 use ep_base::{ReadFailed, Source};
 use std::marker::Model;
@@ -38,17 +39,8 @@ impl Window {
         }
     }
 
-    /// Takes the next byte of the window, or of the source where the window is empty.
-    pub(crate) fn next<S: Source>(&mut self, source: &mut S) -> Result<Option<u8>, ReadFailed>
-        ensures bytes { (zs : List ℕ) → HasLeft self.old (S.left source.old) zs → IfOk result (λ o. NextIs o zs self.new (S.left source.new)) }
-        ensures failed { FailsAsTold (λ _. true) result (S.has_failed source.old) (S.has_failed source.new) }
-    {
-        self.ready(source)?;
-        Ok(self.take())
-    }
-
-    // Pulls bytes if there are none.
-    fn ready<S: Source>(&mut self, source: &mut S) -> Result<(), ReadFailed>
+    /// Pulls bytes if there are none. None are there then only at the end of the source.
+    pub(crate) fn ready<S: Source>(&mut self, source: &mut S) -> Result<(), ReadFailed>
         ensures bytes { (zs : List ℕ) → HasLeft self.old (S.left source.old) zs → OnOk result (HasLeft self.new (S.left source.new) zs × (self.new ≡ [] → zs ≡ [])) }
         ensures failed { FailsAsTold (λ _. true) result (S.has_failed source.old) (S.has_failed source.new) }
     {
@@ -58,7 +50,8 @@ impl Window {
         self.fill(source)
     }
 
-    fn is_empty(&self) -> bool
+    /// Whether no byte is there.
+    pub(crate) fn is_empty(&self) -> bool
         ensures { IsTrue result ↔ (self.now ≡ []) }
     {
         self.start == self.end
@@ -76,15 +69,18 @@ impl Window {
         Ok(())
     }
 
-    // Takes the first byte, if there is one.
-    fn take(&mut self) -> Option<u8>
-        ensures { MatchOption result ((self.old ≡ []) × (self.new ≡ [])) (λ b. self.old ≡ b ∷ self.new) }
+    /// The bytes that were pulled and not yet taken.
+    pub(crate) fn bytes(&self) -> &[u8]
+        ensures { result.now ≡ self.now }
     {
-        if self.start == self.end {
-            return None;
-        }
-        let byte = self.bytes[self.start];
-        self.start += 1;
-        Some(byte)
+        &self.bytes[self.start..self.end]
+    }
+
+    /// Takes so many bytes.
+    pub(crate) fn skip(&mut self, count: usize)
+        requires { count ≤ length self.old }
+        ensures { self.new ≡ drop count self.old }
+    {
+        self.start += count;
     }
 }

@@ -1,6 +1,7 @@
 //! Keys and values as words of printable bytes.
 
-ghost use Rattle.std.specs.Prelude.{◌≡◌, ◌++◌, ◌<◌, [], IfOk, IfSome, OnOk, MatchOption, length};
+ghost use Rattle.std.specs.Prelude.{◌≡◌, ◌++◌, ◌<◌, [], Some, IfOk, IfSome, IsTrue, OnOk, MatchOption, length};
+ghost use Rattle.std.specs.List.{list_all};
 ghost use Rattle.ep_script.specs.Word.{is_plain, digit_of, digit_value, digits_byte, byte_word, byte_words, word_of, spelled, between, bytes_of, Escapes, WordLaw};
 
 use std::alloc::{AllocError, Global};
@@ -10,9 +11,12 @@ use std::alloc::{AllocError, Global};
 pub fn push_word(text: &mut Vec<u8>, bytes: &[u8]) -> Result<(), AllocError>
     ensures { OnOk result (text.new.items ≡ text.old.items ++ word_of bytes.now) }
 {
+    if spells_itself(bytes) {
+        text.extend_from_slice(bytes)?;
+        return Ok(());
+    }
     let [first, rest @ ..] = bytes else {
-        text.push(b'%')?;
-        text.push(b'-')?;
+        text.extend_from_slice(b"%-")?;
         return Ok(());
     };
     push_byte(text, *first)?;
@@ -45,6 +49,20 @@ fn is_plain_byte(byte: u8) -> bool
     ensures { result ≡ is_plain byte }
 {
     byte >= 0x21 && byte <= 0x7e && byte != b'%'
+}
+
+fn are_plain(bytes: &[u8]) -> bool
+    ensures { result ≡ list_all is_plain bytes.now }
+{
+    bytes.iter().all(|byte| is_plain_byte(*byte))
+}
+
+/// Whether the bytes are their own word: there is one, and each of them stands for itself.
+pub(crate) fn spells_itself(word: &[u8]) -> bool
+    ensures read { IsTrue result → bytes_of word.now ≡ Some word.now }
+    ensures printed { IsTrue result → word_of word.now ≡ word.now }
+{
+    !word.is_empty() && are_plain(word)
 }
 
 fn digit(value: u8) -> u8

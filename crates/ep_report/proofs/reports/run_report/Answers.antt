@@ -1,0 +1,10 @@
+use Rattle.std.proofs.Common.{[], ◌∷◌}
+use Rattle.ep_report.specs.Reports.{replay_lines, lost_line}
+use Rattle.ep_report.proofs.Texts.{longer_text}
+use Rattle.ep_report.proofs.reports.run_report.Goals as goal
+
+pub returns : goal.returns
+returns c =
+    longer_text c.in_ok-text.text.items c.push_lost_line.new.text.items
+    (replay_lines c.args.committed.now c.args.history.now c.args.receipts.now c.args.losses.refused.now) (lost_line c.args.losses.lost ∷ [])
+    c.in_ok-text.ensures c.in_ok-push_lost_line.ensures

@@ -1,0 +1,14 @@
+use Rattle.std.proofs.Common.{◌≡◌, ◌+◌, ◌≤◌, length}
+use Rattle.std.specs.Prelude.{◌==◌}
+use Rattle.std.specs.List.{position_or_len}
+use Rattle.ep_script.proofs.window_line.run_length.Given as goal
+
+abbrev pub invariant-loop-rest : goal.invariant-loop-rest
+invariant-loop-rest l = record {
+  place : position_or_len (λ b. b == 10) l.bytes ≡ l.count + position_or_len (λ b. b == 10) l.rest;
+  whole : l.count + length l.rest ≡ length l.bytes;
+  room : l.count ≤ l.room;
+}
+
+abbrev pub decreases-loop-rest : goal.decreases-loop-rest
+decreases-loop-rest l = length l.rest

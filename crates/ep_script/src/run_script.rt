@@ -1,0 +1,53 @@
+//! Scripts for a run.
+
+ghost use Rattle.std.specs.Prelude.{◌≡◌};
+ghost use Rattle.ep_base.specs.Quorums.{size as size_with};
+ghost use Rattle.ep_script.specs.Fits.{AllFit};
+
+use crate::section::Section;
+use ep_base::Size;
+use std::marker::Model;
+
+/// A script for a run: the size of its cluster, and its sections. Each of their lines is for a replica of the cluster, names instances of its
+/// replicas alone, and has a client of number 1 or more.
+#[derive(Debug, Drop)]
+pub struct RunScript {
+    size: Size,
+    sections: Vec<Section>,
+}
+
+impl Model for RunScript {
+    ghost use Rattle.ep_base.specs.Quorums.{size as size_with};
+    ghost use Rattle.ep_script.specs.Fits.{AllFit};
+    ghost use Rattle.ep_script.specs.Plan.{RunPlan};
+
+    ghost Value = { RunPlan };
+
+    ghost view = { λ s. record { faults = s.size; sections = s.sections.items } };
+
+    ghost invariant = { λ s. AllFit (size_with s.size) s.sections.items };
+}
+
+impl RunScript {
+    pub(crate) fn new(size: Size, sections: Vec<Section>) -> RunScript
+        requires { AllFit (size_with size) sections.items }
+        ensures { result ≡ record { faults = size; sections = sections.items } }
+    {
+        RunScript { size, sections }
+    }
+
+    /// The size of the cluster.
+    pub fn size(&self) -> Size
+        ensures { result ≡ self.now.faults }
+    {
+        self.size
+    }
+
+    /// The sections, in order. What follows the last line `section` is one if it has a line.
+    pub fn sections(&self) -> &[Section]
+        ensures value { result.now ≡ self.now.sections }
+        ensures fit { AllFit (size_with self.now.faults) self.now.sections }
+    {
+        self.sections.as_slice()
+    }
+}
