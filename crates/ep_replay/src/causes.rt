@@ -10,7 +10,8 @@ use ep_report::Cause;
 use ep_world::Cause as Refusal;
 use std::alloc::AllocError;
 
-fn step_cause(fault: StepFault) -> Cause
+/// A step's fault as a report names it.
+pub fn step_cause(fault: StepFault) -> Cause
     ensures { result ≡ cause_of_step fault }
 {
     match fault {

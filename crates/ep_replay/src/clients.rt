@@ -11,7 +11,7 @@ use std::alloc::{AllocError, Global};
 
 /// What a client has done and seen.
 #[derive(Clone, Copy)]
-pub(crate) struct Client {
+pub struct Client {
     /// How often it has proposed.
     pub requests: u32,
     /// The greatest stamp of its receipts, 0 where it has none.
@@ -20,7 +20,7 @@ pub(crate) struct Client {
 
 /// What each client has done and seen.
 #[derive(Drop)]
-pub(crate) struct Clients {
+pub struct Clients {
     table: IndexMap<u32, Client>,
 }
 
@@ -36,7 +36,7 @@ fn next(requests: u32) -> Result<u32, AllocError>
 
 impl Clients {
     /// Nobody has done anything.
-    pub(crate) fn new(alloc: Global) -> Clients
+    pub fn new(alloc: Global) -> Clients
         ensures { AreCounted result [] [] }
     {
         Clients {
@@ -66,7 +66,7 @@ impl Clients {
     }
 
     /// Counts one proposal more of the client, and gives what is then known of it.
-    pub(crate) fn count(&mut self, client: u32) -> Result<Client, AllocError>
+    pub fn count(&mut self, client: u32) -> Result<Client, AllocError>
         ensures requests { IfOk result (λ k. (ps : List ℕ) (ts : List Told) → AreCounted self.old ps ts → k.requests ≡ times client ps + 1) }
         ensures seen { IfOk result (λ k. (ps : List ℕ) (ts : List Told) → AreCounted self.old ps ts → k.seen ≡ greatest client ts) }
         ensures counted { OnOk result ((ps : List ℕ) (ts : List Told) → AreCounted self.old ps ts → AreCounted self.new (ps ++ client ∷ []) ts) }
@@ -95,7 +95,7 @@ impl Clients {
     }
 
     /// The clients of the receipts have seen their stamps.
-    pub(crate) fn note_all(&mut self, receipts: &[Receipt]) -> Result<(), AllocError>
+    pub fn note_all(&mut self, receipts: &[Receipt]) -> Result<(), AllocError>
         ensures { OnOk result ((ps : List ℕ) (ts : List Told) → AreCounted self.old ps ts → AreCounted self.new ps (ts ++ receipts.now)) }
     {
         for receipt in receipts {

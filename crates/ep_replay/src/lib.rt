@@ -15,6 +15,8 @@ mod given;
 mod player;
 mod replayed;
 
+pub use causes::step_cause;
+pub use clients::{Client, Clients};
 pub use player::replay;
 pub use replayed::Replayed;
 

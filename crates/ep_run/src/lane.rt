@@ -1,0 +1,88 @@
+//! A replica's two threads.
+
+use crate::run_fault::RunFault;
+use crate::task::Task;
+use ep_base::{ReplicaId, Size};
+use ep_host::{LockHost, Turn};
+use std::alloc::{AllocError, Global};
+use std::marker::Sync;
+use std::sync::Wait;
+use std::sync::atomic::{AtomicBool, Ordering};
+use std::thread;
+use std::thread::Threads;
+
+/// What a replica's two threads share in a section.
+#[derive(Drop)]
+pub(crate) struct Lane {
+    replica: ReplicaId,
+    has_submitted: AtomicBool,
+}
+
+impl Lane {
+    fn new(replica: ReplicaId) -> Lane {
+        Lane {
+            replica,
+            has_submitted: AtomicBool::new(false),
+        }
+    }
+
+    /// Has the replica do its tasks, in order.
+    fn submit_all<R: Wait>(&self, rt: &R, alloc: Global, host: &LockHost, tasks: &[Task<'_>]) {
+        for task in tasks {
+            if task.replica() == self.replica {
+                task.run(rt, alloc, host);
+            }
+        }
+        self.has_submitted.store(true, Ordering::SeqCst);
+    }
+
+    /// Pumps the replica, so often at most, until its tasks are done and a later pump is idle.
+    fn pump_all<R: Wait>(&self, rt: &R, host: &LockHost, turns: u32) {
+        for _ in 0..turns {
+            let is_last = self.has_submitted.load(Ordering::SeqCst);
+            if host.pump(rt, self.replica) != Ok(Turn::Moved) {
+                if is_last {
+                    return;
+                }
+                thread::yield_now();
+            }
+        }
+    }
+}
+
+/// A lane for each replica of a cluster of this size.
+pub(crate) fn lanes(alloc: Global, cluster: Size) -> Result<Vec<Lane>, AllocError> {
+    let mut lanes = Vec::new(alloc);
+    for index in 0..cluster.count() {
+        let replica = ReplicaId::new(index).unwrap();
+        lanes.push(Lane::new(replica))?;
+    }
+    Ok(lanes)
+}
+
+/// Runs a section's tasks, in two threads for each lane.
+pub(crate) fn run_lanes<R: Threads + Wait + Sync>(
+    rt: &R,
+    alloc: Global,
+    host: &LockHost,
+    tasks: &[Task<'_>],
+    lanes: &[Lane],
+    turns: u32,
+) -> Result<(), RunFault> {
+    let is_started = thread::scope(thread::scope_env(), rt, |scope| {
+        let mut is_started = true;
+        for lane in lanes {
+            is_started = is_started
+                && scope
+                    .spawn(move || lane.submit_all(rt, alloc, host, tasks))
+                    .is_ok()
+                && scope.spawn(move || lane.pump_all(rt, host, turns)).is_ok();
+        }
+        is_started
+    });
+    if is_started {
+        Ok(())
+    } else {
+        Err(RunFault::NoThread)
+    }
+}

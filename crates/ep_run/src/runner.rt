@@ -1,0 +1,201 @@
+//! Runs.
+
+ghost use Rattle.std.specs.Prelude.{IfOk};
+ghost use Rattle.ep_host.specs.Finishing.{IsFinished};
+
+use crate::lane::{lanes, run_lanes};
+use crate::limits::Limits;
+use crate::ran::Ran;
+use crate::run_fault::RunFault;
+use crate::task::Task;
+use ep_base::{ReplicaId, Size};
+use ep_host::{HostFault, LockHost, Turn};
+use ep_replay::Clients;
+use ep_report::Cause;
+use ep_rules::Receipt;
+use ep_script::{RunScript, Section};
+use std::alloc::{AllocError, Global};
+use std::marker::Sync;
+use std::sync::Wait;
+use std::thread::Threads;
+
+/// Runs the sections of a script.
+#[derive(Drop)]
+struct Runner {
+    host: LockHost,
+    cluster: Size,
+    clients: Clients,
+    receipts: Vec<Receipt>,
+    refused: Vec<(u32, Cause)>,
+    /// For each replica the number of the last entry whose receipts were collected.
+    collected: Vec<u32>,
+    alloc: Global,
+}
+
+/// No entry of any replica.
+fn none_collected(alloc: Global, cluster: Size) -> Result<Vec<u32>, AllocError> {
+    let mut collected = Vec::new(alloc);
+    for _ in 0..cluster.count() {
+        collected.push(0)?;
+    }
+    Ok(collected)
+}
+
+/// What the section's lines ask for, in order.
+fn tasks_of<'a>(
+    alloc: Global,
+    clients: &mut Clients,
+    section: &'a Section,
+) -> Result<Vec<Task<'a>>, AllocError> {
+    let mut tasks = Vec::new(alloc);
+    for (line, asked) in section.lines() {
+        tasks.push(Task::new(clients, *line, asked)?)?;
+    }
+    Ok(tasks)
+}
+
+/// The last entry that gave one of the receipts, or this one where there are none.
+fn last_entry(receipts: &[Receipt], before: u32) -> u32 {
+    match receipts.last() {
+        None => before,
+        Some(receipt) => receipt.entry,
+    }
+}
+
+impl Runner {
+    /// A runner before any section.
+    fn new(alloc: Global, cluster: Size, limits: &Limits) -> Result<Runner, AllocError> {
+        Ok(Runner {
+            host: LockHost::new(alloc, cluster, limits.capacity)?,
+            cluster,
+            clients: Clients::new(alloc),
+            receipts: Vec::new(alloc),
+            refused: Vec::new(alloc),
+            collected: none_collected(alloc, cluster)?,
+            alloc,
+        })
+    }
+
+    /// Runs a section in threads, settles, and collects what came of it.
+    fn run<R: Threads + Wait + Sync>(
+        &mut self,
+        rt: &R,
+        section: &Section,
+        turns: u32,
+    ) -> Result<(), RunFault> {
+        let tasks = tasks_of(self.alloc, &mut self.clients, section)?;
+        let lanes = lanes(self.alloc, self.cluster)?;
+        run_lanes(rt, self.alloc, &self.host, &tasks, &lanes, turns)?;
+        self.settle(rt, turns);
+        self.list(rt, &tasks)?;
+        self.collect_all(rt)?;
+        Ok(())
+    }
+
+    /// Pumps the replicas in rounds, until none of them moves, or after so many.
+    fn settle<R: Wait>(&self, rt: &R, rounds: u32) {
+        for _ in 0..rounds {
+            if !self.pump_each(rt) {
+                return;
+            }
+        }
+    }
+
+    /// One pump of each replica; whether one of them moved.
+    fn pump_each<R: Wait>(&self, rt: &R) -> bool {
+        let mut has_moved = false;
+        for index in 0..self.cluster.count() {
+            let replica = ReplicaId::new(index).unwrap();
+            if self.host.pump(rt, replica) == Ok(Turn::Moved) {
+                has_moved = true;
+            }
+        }
+        has_moved
+    }
+
+    /// Lists the tasks that were refused.
+    fn list<R: Wait>(&mut self, rt: &R, tasks: &[Task<'_>]) -> Result<(), AllocError> {
+        for task in tasks {
+            if let Some(cause) = task.refusal(rt) {
+                self.refused.push((task.line, cause))?;
+            }
+        }
+        Ok(())
+    }
+
+    /// Collects the receipts that the replicas have given since the last section, by replica.
+    fn collect_all<R: Wait>(&mut self, rt: &R) -> Result<(), RunFault> {
+        for index in 0..self.cluster.count() {
+            let replica = ReplicaId::new(index).unwrap();
+            self.collect(rt, replica)?;
+        }
+        Ok(())
+    }
+
+    /// Collects the receipts that the replica has given since the last section.
+    fn collect<R: Wait>(&mut self, rt: &R, replica: ReplicaId) -> Result<(), RunFault> {
+        let place = replica.index() as usize;
+        let before = match self.collected.get(place) {
+            Some(entry) => *entry,
+            None => return Ok(()),
+        };
+        let Ok(mut new) = self.host.receipts_after(rt, replica, before) else {
+            return Err(RunFault::Memory);
+        };
+        self.clients.note_all(&new)?;
+        if let Some(entry) = self.collected.get_mut(place) {
+            *entry = last_entry(&new, before);
+        }
+        self.receipts.append(&mut new)?;
+        Ok(())
+    }
+
+    /// What the run leaves.
+    fn end<R: Wait>(self, rt: &R) -> Result<Ran, AllocError>
+        ensures { IfOk result (λ r. IsFinished r.receipts.items r.finished) }
+    {
+        let Runner {
+            host,
+            cluster: _,
+            clients: _,
+            receipts,
+            refused,
+            collected: _,
+            alloc: _,
+        } = self;
+        let lost = host.lost(rt);
+        let finished = host.finish(&receipts)?;
+        Ok(Ran {
+            finished,
+            receipts,
+            refused,
+            lost,
+        })
+    }
+}
+
+/// Runs the script in threads, over replicas behind locks.
+///
+/// The sections are run one after another. In each, every replica has a thread that submits its lines, in the script's order,
+/// and one that pumps it, until its lines are submitted and a later pump is idle, or for the limit of turns; then all are
+/// pumped in rounds until none of them moves, or for as many rounds; then receipts are collected. A client's requests are
+/// numbered from 1 in the script's order, refused ones included; what it has seen is the greatest stamp of its receipts
+/// before the section. A line that its replica refuses is listed, and the run goes on; so it does where a thread finds no
+/// memory. Elsewhere want of memory ends the run, and so does a thread that can't be started.
+///
+/// The audit's verdict of the journals and the receipts, or its first fault, is part of what a run leaves.
+pub fn run<R: Threads + Wait + Sync>(
+    rt: &R,
+    alloc: Global,
+    script: &RunScript,
+    limits: &Limits,
+) -> Result<Ran, RunFault>
+    ensures { IfOk result (λ r. IsFinished r.receipts.items r.finished) }
+{
+    let mut runner = Runner::new(alloc, script.size(), limits)?;
+    for section in script.sections() {
+        runner.run(rt, section, limits.turns)?;
+    }
+    let ran = runner.end(rt)?;
+    Ok(ran)
+}
