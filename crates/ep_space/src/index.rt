@@ -1,6 +1,6 @@
 //! An index of records by key.
 
-ghost use Rattle.std.specs.Prelude.{◌≡◌, ◌≤◌, ℕ, List, [], ◌∷◌, length, None, true, cond, OnOk, OnErr, IsTrue, ◌↔◌};
+ghost use Rattle.std.specs.Prelude.{◌≡◌, ◌≤◌, ℕ, List, [], ◌∷◌, length, None, true, cond, IsOk, OnOk, OnErr, IsTrue, ◌↔◌};
 ghost use Rattle.std.specs.Map.{lookup};
 ghost use Rattle.std.specs.Option.{option_copied};
 ghost use Rattle.ep_base.specs.Attributes.{same_list};
@@ -43,6 +43,7 @@ pub(crate) fn keeps_key(table: &Table<Record>, id: InstanceId, value: &Option<Re
 /// Puts the place into the run of the key that this has, if it has one. At want of memory all runs stay as they were.
 pub(crate) fn enter(index: &mut Index, place: u32, value: &Option<Record>) -> Result<(), AllocError>
     requires { (k : List ℕ) → IsRising (run index.old.entries k) }
+    ensures succeeds { recorded_key value.now ≡ None → IsOk result }
     ensures ok { OnOk result ((k : List ℕ) → run index.new.entries k ≡ cond (is_key k (recorded_key value.now)) (with_instance place (run index.old.entries k)) (run index.old.entries k)) }
     ensures err { OnErr result ((k : List ℕ) → run index.new.entries k ≡ run index.old.entries k) }
 {

@@ -1,6 +1,6 @@
 //! Records of instances, with an index by key.
 
-ghost use Rattle.std.specs.Prelude.{◌≡◌, ◌≤◌, ◌<◌, ℕ, false, Some, None, IfOk, OnOk, OnErr, if◌then◌else◌};
+ghost use Rattle.std.specs.Prelude.{◌≡◌, ◌≤◌, ◌<◌, ℕ, false, Some, None, IsOk, IfOk, OnOk, OnErr, if◌then◌else◌};
 ghost use Rattle.std.specs.FinSet as set;
 ghost use Rattle.std.specs.Option.{option_copied};
 ghost use Rattle.ep_base.specs.Deps.{AreInstances};
@@ -9,7 +9,7 @@ ghost use Rattle.ep_rules.specs.Maps.{none, get, insert};
 ghost use Rattle.ep_rules.specs.States.{with_held, is_free};
 ghost use Rattle.ep_space.specs.Held.{HasPlace};
 ghost use Rattle.ep_space.specs.Index.{IsKept};
-ghost use Rattle.ep_space.specs.Keys.{holders};
+ghost use Rattle.ep_space.specs.Keys.{recorded_key, key_at, holders, NeedsNoRoom};
 
 use crate::index::{Index, enter, keeps_key, leave, run_of};
 use crate::place::{instance_of, place_of};
@@ -86,6 +86,7 @@ impl Keyed {
         ensures old { IfOk result (λ there. there ≡ get self.old.held id) }
         ensures new { OnOk result (self.new ≡ record { held = with_held self.old.held id value; places = self.old.places }) }
         ensures err { OnErr result (self.new ≡ self.old) }
+        ensures succeeds { NeedsNoRoom (key_at self.old.held id) (recorded_key value) → IsOk result }
     {
         let earlier = exchange(&mut self.table, &mut self.index, id, value)?;
         note(&mut self.taken, &self.table, id);
@@ -97,6 +98,7 @@ impl Keyed {
         requires { HasPlace self.old.places id }
         ensures ok { OnOk result (self.new ≡ record { held = with_held self.old.held id value; places = self.old.places }) }
         ensures err { OnErr result (self.new ≡ self.old) }
+        ensures succeeds { NeedsNoRoom (key_at self.old.held id) (recorded_key value) → IsOk result }
     {
         let _ = self.put_back(id, value)?;
         Ok(())
@@ -152,6 +154,7 @@ fn exchange(
     ensures old { IfOk result (λ there. there ≡ get table.old.held id) }
     ensures new { OnOk result (table.new ≡ record { held = with_held table.old.held id value; places = table.old.places }) }
     ensures err { OnErr result (table.new ≡ table.old) }
+    ensures succeeds { NeedsNoRoom (key_at table.old.held id) (recorded_key value) → IsOk result }
     ensures kept { IsKept table.new index.new.entries }
 {
     if keeps_key(table, id, &value) {

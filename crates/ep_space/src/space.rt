@@ -1,8 +1,9 @@
 //! The records of a replica.
 
-ghost use Rattle.std.specs.Prelude.{◌≡◌, ◌≤◌, ◌<◌, ◌-◌, true, Ok, Err, Some, None, IfOk, IsErr, OnOk, OnErr, if◌then◌else◌};
+ghost use Rattle.std.specs.Prelude.{◌≡◌, ◌≤◌, ◌<◌, ◌-◌, true, Ok, Err, Some, None, IsOk, IfOk, IsErr, OnOk, OnErr, if◌then◌else◌};
 ghost use Rattle.std.specs.Option.{option_copied};
 ghost use Rattle.std.specs.FinSet as set;
+ghost use Rattle.ep_base.specs.Interference.{key_of};
 ghost use Rattle.ep_rules.specs.Cells.{is_committed, is_done_at, is_settled_at, voted, voted_ballot};
 ghost use Rattle.ep_rules.specs.InterferenceSet.{interference};
 ghost use Rattle.ep_rules.specs.Maps.{none, get};
@@ -10,7 +11,7 @@ ghost use Rattle.ep_rules.specs.Phases.{with_commit};
 ghost use Rattle.ep_rules.specs.States.{is_free, free_number, committed_in};
 ghost use Rattle.ep_space.specs.Gathering.{next_attrs};
 ghost use Rattle.ep_space.specs.Held.{HasPlace};
-ghost use Rattle.ep_space.specs.Keys.{holders};
+ghost use Rattle.ep_space.specs.Keys.{recorded_key, key_at, holders, NeedsNoRoom};
 ghost use Rattle.ep_space.specs.Records.{record_at, with_record, with_earlier};
 
 use crate::gathered::{Gathered, gathered_from};
@@ -85,7 +86,8 @@ impl Space {
         self.table.reserve(id)
     }
 
-    /// Puts back an earlier record, or that there was none, and gives what there is now; at want of memory, nothing has changed.
+    /// Puts back an earlier record, or that there was none, and gives what there is now. It takes no memory where the key stays, or there
+    /// is none; at want of memory, nothing has changed.
     pub fn put_back(
         &mut self,
         id: InstanceId,
@@ -95,6 +97,7 @@ impl Space {
         ensures old { IfOk result (λ there. there ≡ get self.old.records id) }
         ensures new { OnOk result (self.new ≡ with_earlier self.old id earlier) }
         ensures err { OnErr result (self.new ≡ self.old) }
+        ensures succeeds { NeedsNoRoom (key_at self.old.records id) (recorded_key earlier) → IsOk result }
     {
         self.table.put_back(id, earlier)
     }
@@ -178,7 +181,8 @@ impl Space {
         }
     }
 
-    // What is written. A vote may take memory in the index by key; at want of it nothing has changed.
+    // What is written. A vote may take memory in the index by key, unless its command has the key that the one before had, or none. At want
+    // of it nothing has changed.
 
     /// Joins the ballot (Sutra, 2019): the last vote stays. It takes no memory.
     pub fn join_ballot(&mut self, id: InstanceId, ballot: Ballot)
@@ -198,6 +202,7 @@ impl Space {
         requires { HasPlace self.old.places id }
         ensures ok { OnOk result (self.new ≡ with_record self.old id (voted ballot Status.PreAccepted decree)) }
         ensures err { OnErr result (self.new ≡ self.old) }
+        ensures succeeds { NeedsNoRoom (key_at self.old.records id) (key_of decree.command) → IsOk result }
     {
         self.write_vote(id, ballot, Status::PreAccepted, decree)
     }
@@ -212,6 +217,7 @@ impl Space {
         requires { HasPlace self.old.places id }
         ensures ok { OnOk result (self.new ≡ with_record self.old id (voted ballot Status.Accepted decree)) }
         ensures err { OnErr result (self.new ≡ self.old) }
+        ensures succeeds { NeedsNoRoom (key_at self.old.records id) (key_of decree.command) → IsOk result }
     {
         self.write_vote(id, ballot, Status::Accepted, decree)
     }
@@ -221,6 +227,7 @@ impl Space {
         requires { HasPlace self.old.places id }
         ensures ok { OnOk result (self.new ≡ with_record self.old id (with_commit id (record_at self.old id) decree)) }
         ensures err { OnErr result (self.new ≡ self.old) }
+        ensures succeeds { NeedsNoRoom (key_at self.old.records id) (key_of decree.command) → IsOk result }
     {
         let promised = self.promised(id);
         let ballot = self.voted_ballot(id);
@@ -248,6 +255,7 @@ impl Space {
         requires { HasPlace self.old.places id }
         ensures ok { OnOk result (self.new ≡ with_record self.old id (voted ballot status decree)) }
         ensures err { OnErr result (self.new ≡ self.old) }
+        ensures succeeds { NeedsNoRoom (key_at self.old.records id) (key_of decree.command) → IsOk result }
     {
         let promised = ballot;
         let vote = Vote {

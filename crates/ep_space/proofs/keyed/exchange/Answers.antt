@@ -1,4 +1,4 @@
-use Rattle.std.proofs.Common.{◌≢◌, ◌∙◌, ap, sym, subst, cond, true≢false}
+use Rattle.std.proofs.Common.{◌≢◌, ◌∙◌, ap, sym, subst, cond, true≢false, inl, inr}
 use Rattle.ep_base.specs.Places.{Has}
 use Rattle.ep_space.specs.Index.{run, with_instance, without}
 use Rattle.ep_space.specs.Keys.{recorded_key, key_at, is_key}
@@ -43,3 +43,7 @@ returns-clause-kept c =
     rw c.put_back-2.ensures.new
     (kept-changed t.held c.args.id c.args.value other t.places es c.requires.kept fs c.leave.new.index.entries c.requires.place entered
     (λ k. c.leave.ensures k ∙ ap (λ p. cond (is_key k (key_at t.held c.args.id)) (without p (run fs k)) (run fs k)) c.place_of-place.ensures.value))
+
+pub returns-in_err-enter-clause-succeeds : goal.returns-in_err-enter-clause-succeeds
+returns-in_err-enter-clause-succeeds c (inl same) = absurd (true≢false (sym (c.keeps_key.ensures.1 same) ∙ c.if-keeps_key.false))
+returns-in_err-enter-clause-succeeds c (inr none) = absurd (true≢false (sym (c.in_err-enter.ensures.succeeds none)))
