@@ -75,8 +75,9 @@ def built():
     passed = failed = 0
     for program, by in PROGRAMS.items():
         if not os.path.isfile(program):
+            # (where Rattle's own compiler does not compile a program, `rt ci` says so, and the LLVM build alone is run)
             print(f"there is no {os.path.relpath(program, TOP)}", flush=True)
-            failed += 1
+            failed += program == PROGRAM
             continue
         counts = rows.tried(program, by=by)
         passed, failed = passed + counts[0], failed + counts[1]

@@ -86,8 +86,7 @@ fn commit_once(
             command: Command::noop(),
             attrs: Attrs { seq, deps },
         },
-    );
-    Ok(())
+    )
 }
 
 /// Commits a no-op with these attributes.

@@ -81,7 +81,7 @@ fn made_deps(alloc: Global, bytes: &[u8]) -> Result<Deps, AllocError>
     requires { are_deps (deps_in bytes.now) ≡ true }
     ensures { IfOk result (λ d. d ≡ deps_in bytes.now) }
 {
-    let mut deps = Deps::new(alloc);
+    let mut deps = Deps::with_capacity(alloc, bytes.len() / 3)?;
     let mut rest = bytes;
     while let [replica, high, low, after @ ..] = rest {
         let number = u16::from_be_bytes([*high, *low]);

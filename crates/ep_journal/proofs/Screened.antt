@@ -2,7 +2,7 @@
 use Rattle.std.proofs.Common.{◌≡◌, ℕ, true, false, cond, Option, Some, None, Result, Ok, Err, IfOk, ap, sym, subst, ◌∙◌}
 use Rattle.ep_base.specs.Quorums.{size}
 use Rattle.ep_base.specs.declared.command.Command.{Command}
-use Rattle.ep_rules.specs.Cells.{Refusal, OutOfRange, NotMine}
+use Rattle.ep_rules.specs.Cells.{Refusal, OutOfRange}
 use Rattle.ep_rules.specs.Steps.{is_within, Propose as Proposes}
 use Rattle.ep_journal.specs.Inputs.{admitted}
 use Rattle.ep_journal.specs.Stepping.{IsLetThrough, ScreenedBy}

@@ -1,12 +1,12 @@
 -- Frames that are written one after the other.
-use Rattle.std.proofs.Common.{◌≡◌, ◌≢◌, ℕ, zero, suc, ◌+◌, ◌-◌, ◌<◌, ◌≤◌, Bool, true, false, cond, List, [], ◌∷◌, ◌++◌, length, refl, sym, ap, subst, ◌∙◌, arith}
+use Rattle.std.proofs.Common.{◌≡◌, ◌≢◌, ℕ, zero, suc, ◌+◌, ◌-◌, ◌<◌, ◌≤◌, Bool, true, false, cond, List, [], ◌∷◌, ◌++◌, length, refl, sym, ap, subst, arith}
 use Rattle.std.proofs.lemmas.List.{append-nil, length-append}
 use Rattle.ep_base.specs.Fitting.{BallotsFit}
 use Rattle.ep_base.specs.declared.message.Message.{Message}
 use Rattle.ep_frame.specs.Spelling.{Spells}
 use Rattle.ep_rules.specs.Counting.{to_those}
 use Rattle.ep_rules.specs.Fitting.{AllFit}
-use Rattle.ep_rules.specs.Steps.{Sent, sent_from}
+use Rattle.ep_rules.specs.Steps.{sent_from}
 use Rattle.ep_journal.specs.Events.{AreSpelled}
 
 -- as many frames as messages

@@ -1,17 +1,21 @@
 -- From what a step does to the parts of a state to the rule book's step of the whole.
-use Rattle.std.proofs.Common.{◌≡◌, inl, inr, ℕ, suc, List, [], ◌∷◌, Option, Some, None, Result, Ok, Err, IfOk, OnErr, refl, sym, ap, subst, ◌∙◌, append-nil}
+use Rattle.std.proofs.Common.{◌≡◌, inl, inr, ℕ, suc, ◌+◌, List, [], ◌∷◌, Option, Some, None, Result, Ok, Err, IfOk, OnErr, refl, sym, ap, subst, ◌∙◌, append-nil}
+use Rattle.ep_base.specs.Instances.{instance_of}
+use Rattle.ep_base.specs.declared.command.Command.{Command}
 use Rattle.ep_base.specs.declared.message.Message.{Message}
 use Rattle.ep_base.specs.declared.message.Message.TheVariants.{PreAccept, PreAcceptOk, Accept, AcceptOk, Commit, Prepare, PrepareOk, Nack}
 use Rattle.ep_frame.specs.declared.origin.Origin.{Origin}
 use Rattle.ep_frame.specs.Spelling.{Spells}
 use Rattle.ep_frame.proofs.Meanings.{sender_spelled, origin_spelled, message_spelled}
+use Rattle.ep_phase.specs.Known.{known_of}
 use Rattle.ep_phase.specs.Leads.{Leads}
 use Rattle.ep_rules.specs.Cells.{Change, Refusal}
+use Rattle.ep_rules.specs.Cells as rule
 use Rattle.ep_rules.specs.Journals as rules
 use Rattle.ep_rules.specs.Journals.{messages_of, AreMarked}
 use Rattle.ep_rules.specs.OneMap.{Contents}
-use Rattle.ep_rules.specs.States.{State}
-use Rattle.ep_rules.specs.Steps.{Sent, Frame, acts, screened, sent_by, IsTaken, Executes as Does, IsStep, changed_by}
+use Rattle.ep_rules.specs.States.{State, free_number}
+use Rattle.ep_rules.specs.Steps.{Sent, Frame, at, acts, screened, sent_by, IsTaken, Executes as Does, IsStep, changed_by}
 use Rattle.ep_space.specs.Records.{Records}
 use Rattle.ep_base.specs.Fitting.{BallotsFit, VoteFits}
 use Rattle.ep_base.specs.declared.reply.Answer.{Answer}
@@ -22,22 +26,25 @@ use Rattle.ep_rules.proofs.Closed.{leaves_closed}
 use Rattle.ep_rules.proofs.Fitting.{leaves_fit}
 use Rattle.ep_journal.specs.Entries.{entry_of, frames_at, AreFrames}
 use Rattle.ep_journal.specs.Events.{frame_at, event_of, IsReadable, AreSpelled}
-use Rattle.ep_journal.specs.Inputs.{asks, admitted, IsWritable}
+use Rattle.ep_journal.specs.Executing.{IsUnexecuted}
+use Rattle.ep_journal.specs.Inputs.{outcome_at, admitted, IsWritable}
 use Rattle.ep_journal.specs.Parts.{state_of, known}
 use Rattle.ep_journal.specs.Refused as parts
 use Rattle.ep_journal.specs.Refused.{named}
 use Rattle.ep_journal.specs.Standing.{Standing, Advances, IsRefused, IsSound}
-use Rattle.ep_journal.specs.Stepping.{standing_of, Acted, Moves, Executes, Took, IsUntaken, MarkedBy, IsLetThrough, ScreenedBy, IsScreened}
+use Rattle.ep_journal.specs.Stepping.{standing_of, Acted, Moves, MarkedBy, IsLetThrough, ScreenedBy, IsScreened}
 use Rattle.ep_journal.specs.declared.admitted.Admitted.{Admitted}
+use Rattle.ep_journal.specs.declared.admitted.Admitted.TheVariants.{Request, Asked, Execution}
 use Rattle.ep_journal.specs.declared.entry.Entry.{Entry}
 use Rattle.ep_journal.specs.declared.event.Event.{Event as Happening}
 use Rattle.ep_journal.specs.declared.event.Event.TheVariants.{Propose, Handle, GiveUp, Recover, Execute}
+use Rattle.ep_journal.specs.declared.input.Input.{Input}
+use Rattle.ep_journal.specs.declared.input.Input.TheVariants.{Start}
 use Rattle.ep_journal.specs.declared.mark.Mark.{Mark}
 use Rattle.ep_journal.specs.declared.parts.Parts.{Parts}
 use Rattle.ep_journal.specs.declared.step_fault.StepFault.{StepFault}
 use Rattle.ep_journal.specs.declared.step_fault.StepFault.TheVariants.{Memory, OutOfRange, NotMine, StampFull, SpaceFull, SeqExhausted, NotLeading, TooFewAnswers, AlreadyCommitted, BallotsExhausted, NotCommitted}
-use Rattle.ep_journal.specs.declared.taken.Taken.{Taken}
-use Rattle.ep_journal.proofs.Asked.{acts_asked}
+use Rattle.ep_journal.proofs.Asked.{asks, IsOfInstance, acts_asked, asks_next, asks_full}
 use Rattle.ep_journal.proofs.Writable.{step_writable}
 
 -- Frames.
@@ -95,61 +102,80 @@ whole p = state_of p.space p.lead p.executed.list p.store
 abbrev pub entry_by : Mark → Happening → List (List ℕ) → List (ℕ × Answer) → Entry
 entry_by mark event out done = record { number = mark.number; stamp = mark.stamp; event = event; frames = out; done = done }
 
-advanced_moves : (p p' : Parts) (event : Happening) (mark : Mark) (k : Taken) (r : Result (ℕ × Change) Refusal) → acts p.space.faults p.me (whole p) (event_of event) ≡ r → Does (whole p) (event_of event) [] →
-    IsLetThrough p.space.faults p.me event → Moves r mark p k p' → Advances (standing_of p) mark event (entry_by mark event k.frames k.done) (standing_of p')
-advanced_moves p p' event mark k r same nothing h moves =
-    let out = k.frames in
-    let m = subst (λ x. Moved p.me (whole p) (state_of p'.space p'.lead p.executed.list p.store) mark out x) (sym same) (moved p.me p.space p'.space p.lead p'.lead p.executed.list p.store mark out r moves.acted) in
+-- what an event that the screen lets through asks of an instance, and that it executes nothing
+pub record IsAsked (p : Parts) (event : Happening) (r : Result (ℕ × Change) Refusal) : Type 0 where
+  pub through : IsLetThrough p.space.faults p.me event
+  pub asked : acts p.space.faults p.me (whole p) (event_of event) ≡ r
+  pub executes : Does (whole p) (event_of event) []
+
+-- what is asked by an event and done is the event's step
+advanced : (p p' : Parts) (event : Happening) (mark : Mark) (out : List (List ℕ)) (r : Result (ℕ × Change) Refusal) → IsAsked p event r → Moves r mark p out p' →
+    Advances (standing_of p) mark event (entry_by mark event out []) (standing_of p')
+advanced p p' event mark out r a moves =
+    let m = subst (λ x. Moved p.me (whole p) (state_of p'.space p'.lead p.executed.list p.store) mark out x) (sym a.asked) (moved p.me p.space p'.space p.lead p'.lead p.executed.list p.store mark out r moves.acted) in
     let is = sym m.changed in
-    subst (λ (d : List (ℕ × Answer)). Advances (standing_of p) mark event (entry_by mark event out d) (standing_of p')) (sym moves.done) (record {
+    record {
       number = refl;
       stamp = refl;
       event = refl;
-      entry = record { step = record { unscreened = h.unscreened; taken = m.taken; executes = nothing }; sent = messages_spelled mark.number mark.stamp 0 out _ m.sent };
+      entry = record { step = record { unscreened = a.through.unscreened; taken = m.taken; executes = a.executes }; sent = messages_spelled mark.number mark.stamp 0 out _ m.sent };
       marked = marked_spelled (entry_of (entry_by mark event out [])) 0 out _ m.sent;
-      readable = h.readable;
+      readable = a.through.readable;
       frames = frames_spelled mark.number mark.stamp 0 out _ m.sent;
       leaves = λ t. record {
         faults = moves.faults t;
         me = moves.me t;
         state = record { records = (is t).records; leads = (is t).leads; told = (is t).told; executed = (moves.executed ∙ sym (append-nil p.executed.list)) t; store = moves.store t };
       };
-    })
+    }
 
-advanced_executes : (p p' : Parts) (root : ℕ) (mark : Mark) (k : Taken) → IsLetThrough p.space.faults p.me (Execute root) → Executes root p k p' →
-    Advances (standing_of p) mark (Execute root) (entry_by mark (Execute root) k.frames k.done) (standing_of p')
-advanced_executes p p' root mark k h done =
-    let x = done.executed in
-    subst (λ (bs : List (List ℕ)). Advances (standing_of p) mark (Execute root) (entry_by mark (Execute root) bs k.done) (standing_of p')) (sym done.frames) (record {
-      number = refl;
-      stamp = refl;
-      event = refl;
-      entry = record { step = record { unscreened = h.unscreened; taken = tt; executes = (x.plan, x.answers) }; sent = refl };
-      marked = tt;
-      readable = tt;
-      frames = tt;
-      leaves = λ t. record {
-        faults = (done.space t).faults;
-        me = done.me t;
-        state = record { records = (done.space t).records; leads = (done.lead t).leads; told = (done.lead t).told; executed = x.order t; store = x.map t };
-      };
-    })
+-- What an event that the screen lets through asks.
 
--- what is asked by an event and done is the event's step
-pub advanced : (p p' : Parts) (event : Happening) (mark : Mark) (k : Taken) → IsLetThrough p.space.faults p.me event → Took p (admitted event) mark k p' →
-    Advances (standing_of p) mark event (entry_by mark event k.frames k.done) (standing_of p')
-advanced p p' (Propose client request command seen) mark k h took = advanced_moves p p' (Propose client request command seen) mark k _ (acts_asked p.me p.space p.lead p.executed.list p.store (Propose client request command seen)) refl h took
-advanced p p' (Handle b) mark k h took = advanced_moves p p' (Handle b) mark k _ (acts_asked p.me p.space p.lead p.executed.list p.store (Handle b)) refl h took
-advanced p p' (GiveUp i) mark k h took = advanced_moves p p' (GiveUp i) mark k _ (acts_asked p.me p.space p.lead p.executed.list p.store (GiveUp i)) refl h took
-advanced p p' (Recover i) mark k h took = advanced_moves p p' (Recover i) mark k _ (acts_asked p.me p.space p.lead p.executed.list p.store (Recover i)) refl h took
-advanced p p' (Execute root) mark k h took = advanced_executes p p' root mark k h took
+pub record IsLet (p : Parts) (event : Happening) (a : Admitted) : Type 0 where
+  pub through : IsLetThrough p.space.faults p.me event
+  pub admitted : a ≡ admitted event
 
-pub advanced_marked : (p p' : Parts) (event : Happening) (mark : Option Mark) (a : Admitted) (m n : Mark) (k : Taken) (e : Entry) → mark ≡ Some m → n ≡ m → IsLetThrough p.space.faults p.me event → a ≡ admitted event → Took p a n k p' →
-    e ≡ entry_by n event k.frames k.done → MarkedBy (λ x. Advances (standing_of p) x event e (standing_of p')) mark
-advanced_marked p p' event mark a m n k e given same h asked took is =
-    let done : Advances (standing_of p) n event (entry_by n event k.frames k.done) (standing_of p') = advanced p p' event n k h (subst (λ b. Took p b n k p') asked took) in
-    let here : Advances (standing_of p) n event e (standing_of p') = subst (λ x. Advances (standing_of p) n event x (standing_of p')) (sym is) done in
-    subst (MarkedBy (λ x. Advances (standing_of p) x event e (standing_of p'))) (sym given) (subst (λ x. Advances (standing_of p) x event e (standing_of p')) same here)
+pub let_as : (p : Parts) (event : Happening) (f : ℕ) (a b : Admitted) → f ≡ p.space.faults → (a ≡ admitted event) × IsLetThrough f p.me event → a ≡ b → IsLet p event b
+let_as p event f a b same h is = record { through = subst (λ n. IsLetThrough n p.me event) same h.1; admitted = sym is ∙ h.0 }
+
+executes_nothing : (s : State) (event : Happening) (a : Admitted) → a ≡ admitted event → IsOfInstance a → Does s (event_of event) []
+executes_nothing s (Propose client request command seen) a is h = refl
+executes_nothing s (Handle b) a is h = refl
+executes_nothing s (GiveUp i) a is h = refl
+executes_nothing s (Recover i) a is h = refl
+executes_nothing s (Execute root) a is h = absurd (subst IsOfInstance is h)
+
+asked_as : (p : Parts) (event : Happening) (a : Admitted) (r : Result (ℕ × Change) Refusal) → IsLet p event a → IsOfInstance a → asks p.me p.space p.lead a ≡ r → IsAsked p event r
+asked_as p event a r h of same = record {
+  through = h.through;
+  asked = acts_asked p.me p.space p.lead p.executed.list p.store event ∙ ap (asks p.me p.space p.lead) (sym h.admitted) ∙ same;
+  executes = executes_nothing (whole p) event a h.admitted of;
+}
+
+pub request_asked : (p : Parts) (event : Happening) (c : Command) (i n : ℕ) → IsLet p event (Request c) → free_number p.space.records p.me ≡ Some n → i ≡ instance_of p.me (n + 1) →
+    IsAsked p event (at i (outcome_at (known_of p.me p.space p.lead i) (Start c)))
+request_asked p event c i n h free next = asked_as p event (Request c) (at i (outcome_at (known_of p.me p.space p.lead i) (Start c))) h tt (asks_next p.me p.space p.lead c i n free next)
+
+pub request_full : (p : Parts) (event : Happening) (c : Command) → IsLet p event (Request c) → free_number p.space.records p.me ≡ None → IsAsked p event (Err rule.SpaceFull)
+request_full p event c h free = asked_as p event (Request c) (Err rule.SpaceFull) h tt (asks_full p.me p.space p.lead c free)
+
+pub input_asked : (p : Parts) (event : Happening) (i : ℕ) (input : Input) → IsLet p event (Asked i input) → IsAsked p event (at i (outcome_at (known_of p.me p.space p.lead i) input))
+input_asked p event i input h = asked_as p event (Asked i input) (at i (outcome_at (known_of p.me p.space p.lead i) input)) h tt refl
+
+-- What is asked and done, where there is a mark.
+
+pub moved_entry : (p p' : Parts) (event : Happening) (mark : Option Mark) (m : Mark) (out : List (List ℕ)) (done : List (ℕ × Answer)) (r : Result (ℕ × Change) Refusal) → mark ≡ Some m → done ≡ [] → IsAsked p event r → Moves r m p out p' →
+    MarkedBy (λ x. Advances (standing_of p) x event (entry_by m event out done) (standing_of p')) mark
+moved_entry p p' event mark m out done r given none a moves =
+    subst (MarkedBy (λ x. Advances (standing_of p) x event (entry_by m event out done) (standing_of p'))) (sym given)
+    (subst (λ (d : List (ℕ × Answer)). Advances (standing_of p) m event (entry_by m event out d) (standing_of p')) (sym none) (advanced p p' event m out r a moves))
+
+is_execution : (event : Happening) (root : ℕ) → Execution root ≡ admitted event → event ≡ Execute root
+is_execution (Propose client request command seen) root is = absurd (cc)
+is_execution (Handle b) root is = absurd (cc)
+is_execution (GiveUp i) root is = absurd (cc)
+is_execution (Recover i) root is = absurd (cc)
+is_execution (Execute i) root is = let same : i ≡ root = cc in ap Execute same
 
 -- Why there is no step.
 
@@ -169,48 +195,41 @@ refused_screen p event mark AlreadyCommitted h = absurd h
 refused_screen p event mark BallotsExhausted h = absurd h
 refused_screen p event mark (NotCommitted i) h = absurd h
 
-pub refused_unmarked : (p : Parts) (event : Happening) (mark : Option Mark) → IsLetThrough p.space.faults p.me event → mark ≡ None → IsRefused (standing_of p) event mark StampFull
-refused_unmarked p event mark h none = inr (inl (refl, h.readable, h.unscreened, none))
+ruled : (p : Parts) (event : Happening) (mark : Option Mark) (m : Mark) (fault : StepFault) (why : Refusal) → mark ≡ Some m → named fault ≡ Some why → IsAsked p event (Err why) → IsRefused (standing_of p) event mark fault
+ruled p event mark m fault why given name a = inr (inr (why, record { readable = a.through.readable; named = name; refuses = inr (a.through.unscreened, inl a.asked); marked = λ none. absurd (cc) }))
 
-ruled : (p : Parts) (event : Happening) (mark : Mark) (fault : StepFault) (why : Refusal) → named fault ≡ Some why → IsLetThrough p.space.faults p.me event → acts p.space.faults p.me (whole p) (event_of event) ≡ Err why →
-    IsRefused (standing_of p) event (Some mark) fault
-ruled p event mark fault why name h is = inr (inr (why, record { readable = h.readable; named = name; refuses = inr (h.unscreened, inl is); marked = λ none. absurd (cc) }))
+-- what is asked by an event and refused refuses the event
+pub refused_rule : (p : Parts) (event : Happening) (mark : Option Mark) (m : Mark) (fault : StepFault) (r : Result (ℕ × Change) Refusal) → mark ≡ Some m → IsAsked p event r → parts.IsRefused r fault → IsRefused (standing_of p) event mark fault
+refused_rule p event mark m Memory r given a why = inl refl
+refused_rule p event mark m OutOfRange r given a why = absurd why
+refused_rule p event mark m NotMine r given a why = absurd why
+refused_rule p event mark m StampFull r given a why = absurd why
+refused_rule p event mark m SpaceFull r given a why = ruled p event mark m SpaceFull _ given refl (subst (IsAsked p event) why a)
+refused_rule p event mark m SeqExhausted r given a why = ruled p event mark m SeqExhausted _ given refl (subst (IsAsked p event) why a)
+refused_rule p event mark m NotLeading r given a why = ruled p event mark m NotLeading _ given refl (subst (IsAsked p event) why a)
+refused_rule p event mark m TooFewAnswers r given a why = ruled p event mark m TooFewAnswers _ given refl (subst (IsAsked p event) why a)
+refused_rule p event mark m AlreadyCommitted r given a why = ruled p event mark m AlreadyCommitted _ given refl (subst (IsAsked p event) why a)
+refused_rule p event mark m BallotsExhausted r given a why = ruled p event mark m BallotsExhausted _ given refl (subst (IsAsked p event) why a)
+refused_rule p event mark m (NotCommitted i) r given a why = absurd why
 
-refused_rule : (p : Parts) (event : Happening) (mark : Mark) (fault : StepFault) (r : Result (ℕ × Change) Refusal) → acts p.space.faults p.me (whole p) (event_of event) ≡ r → IsLetThrough p.space.faults p.me event →
-    parts.IsRefused r fault → IsRefused (standing_of p) event (Some mark) fault
-refused_rule p event mark Memory r same h why = inl refl
-refused_rule p event mark OutOfRange r same h why = absurd why
-refused_rule p event mark NotMine r same h why = absurd why
-refused_rule p event mark StampFull r same h why = absurd why
-refused_rule p event mark SpaceFull r same h why = ruled p event mark SpaceFull _ refl h (same ∙ why)
-refused_rule p event mark SeqExhausted r same h why = ruled p event mark SeqExhausted _ refl h (same ∙ why)
-refused_rule p event mark NotLeading r same h why = ruled p event mark NotLeading _ refl h (same ∙ why)
-refused_rule p event mark TooFewAnswers r same h why = ruled p event mark TooFewAnswers _ refl h (same ∙ why)
-refused_rule p event mark AlreadyCommitted r same h why = ruled p event mark AlreadyCommitted _ refl h (same ∙ why)
-refused_rule p event mark BallotsExhausted r same h why = ruled p event mark BallotsExhausted _ refl h (same ∙ why)
-refused_rule p event mark (NotCommitted i) r same h why = absurd why
+refused_here : (p : Parts) (root : ℕ) (mark : Option Mark) (m : Mark) (fault : StepFault) → mark ≡ Some m → IsLetThrough p.space.faults p.me (Execute root) → IsUnexecuted p.space root p.executed.list fault → IsRefused (standing_of p) (Execute root) mark fault
+refused_here p root mark m Memory given h why = inl refl
+refused_here p root mark m OutOfRange given h why = absurd why
+refused_here p root mark m NotMine given h why = absurd why
+refused_here p root mark m StampFull given h why = absurd why
+refused_here p root mark m SpaceFull given h why = absurd why
+refused_here p root mark m SeqExhausted given h why = absurd why
+refused_here p root mark m NotLeading given h why = absurd why
+refused_here p root mark m TooFewAnswers given h why = absurd why
+refused_here p root mark m AlreadyCommitted given h why = absurd why
+refused_here p root mark m BallotsExhausted given h why = absurd why
+refused_here p root mark m (NotCommitted i) given h why = inr (inr (_, record { readable = tt; named = refl; refuses = inr (h.unscreened, inr (i, refl, why)); marked = λ none. absurd (cc) }))
 
-refused_root : (p : Parts) (root : ℕ) (mark : Mark) (fault : StepFault) → IsLetThrough p.space.faults p.me (Execute root) → IsUntaken p (admitted (Execute root)) fault → IsRefused (standing_of p) (Execute root) (Some mark) fault
-refused_root p root mark Memory h why = inl refl
-refused_root p root mark OutOfRange h why = absurd why
-refused_root p root mark NotMine h why = absurd why
-refused_root p root mark StampFull h why = absurd why
-refused_root p root mark SpaceFull h why = absurd why
-refused_root p root mark SeqExhausted h why = absurd why
-refused_root p root mark NotLeading h why = absurd why
-refused_root p root mark TooFewAnswers h why = absurd why
-refused_root p root mark AlreadyCommitted h why = absurd why
-refused_root p root mark BallotsExhausted h why = absurd why
-refused_root p root mark (NotCommitted i) h why = inr (inr (_, record { readable = tt; named = refl; refuses = inr (h.unscreened, inr (i, refl, why)); marked = λ none. absurd (cc) }))
-
--- what is asked by an event and not done refuses the event
-pub refused_take : (p : Parts) (event : Happening) (mark : Mark) (fault : StepFault) → IsLetThrough p.space.faults p.me event → IsUntaken p (admitted event) fault → IsRefused (standing_of p) event (Some mark) fault
-refused_take p (Propose client request command seen) mark fault h why =
-    refused_rule p (Propose client request command seen) mark fault _ (acts_asked p.me p.space p.lead p.executed.list p.store (Propose client request command seen)) h why
-refused_take p (Handle b) mark fault h why = refused_rule p (Handle b) mark fault _ (acts_asked p.me p.space p.lead p.executed.list p.store (Handle b)) h why
-refused_take p (GiveUp i) mark fault h why = refused_rule p (GiveUp i) mark fault _ (acts_asked p.me p.space p.lead p.executed.list p.store (GiveUp i)) h why
-refused_take p (Recover i) mark fault h why = refused_rule p (Recover i) mark fault _ (acts_asked p.me p.space p.lead p.executed.list p.store (Recover i)) h why
-refused_take p (Execute root) mark fault h why = refused_root p root mark fault h why
+-- an execution that is refused refuses the event
+pub refused_root : (p : Parts) (event : Happening) (root : ℕ) (mark : Option Mark) (m : Mark) (fault : StepFault) → mark ≡ Some m → IsLet p event (Execution root) → IsUnexecuted p.space root p.executed.list fault → IsRefused (standing_of p) event mark fault
+refused_root p event root mark m fault given h why =
+    let e : event ≡ Execute root = is_execution event root h.admitted in
+    subst (λ (v : Happening). IsRefused (standing_of p) v mark fault) (sym e) (refused_here p root mark m fault given (subst (IsLetThrough p.space.faults p.me) e h.through) why)
 
 -- What is handled fits.
 
@@ -258,7 +277,6 @@ stays s s' event None (Ok e) h ok err = absurd ok
 stays s s' event mark (Err fault) h ok err = subst IsSound (sym err) h
 
 -- what is asked by an event that the screen lets through has a spelling
-pub asked_writable : (p : Parts) (event : Happening) → IsSound (standing_of p) → IsLetThrough p.space.faults p.me event → IsWritable p.me (asks p.me p.space p.lead (admitted event))
-asked_writable p event sound h =
-    subst (λ r. IsWritable p.me r) (acts_asked p.me p.space p.lead p.executed.list p.store event)
-    (step_writable p.space.faults p.me (whole p) (event_of event) sound.few sound.here sound.fits (event_fits event h.readable) h.unscreened)
+pub asked_writable : (p : Parts) (event : Happening) (r : Result (ℕ × Change) Refusal) → IsSound (standing_of p) → IsAsked p event r → IsWritable p.me r
+asked_writable p event r sound a =
+    subst (λ x. IsWritable p.me x) a.asked (step_writable p.space.faults p.me (whole p) (event_of event) sound.few sound.here sound.fits (event_fits event a.through.readable) a.through.unscreened)

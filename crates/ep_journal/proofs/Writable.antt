@@ -1,5 +1,5 @@
 -- What a rule sends, for an event that the screen lets through, has a spelling.
-use Rattle.std.proofs.Common.{◌≡◌, ℕ, ◌<◌, ◌≤◌, List, [], ◌∷◌, Option, None, Result, Ok, Err}
+use Rattle.std.proofs.Common.{◌≡◌, ℕ, ◌<◌, ◌≤◌, List, [], ◌∷◌, None, Result, Ok, Err}
 use Rattle.ep_base.specs.Quorums.{size}
 use Rattle.ep_base.specs.declared.message.Message.{Message}
 use Rattle.ep_rules.specs.Cells.{Change, Refusal}

@@ -1,26 +1,17 @@
--- One step of the code's parts, and why there is none.
-use Rattle.std.specs.Prelude.{◌≡◌, ℕ, List, [], Option, Some, None, Result, Ok, Err}
-use Rattle.ep_phase.specs.Leads.{Leads}
+-- One step of the code's parts: what the screen lets through, and how what is asked of an instance is done.
+use Rattle.std.specs.Prelude.{◌≡◌, ℕ, List, Option, Some, None, Result, Ok, Err}
 use Rattle.ep_rules.specs.Cells as rules
 use Rattle.ep_rules.specs.Cells.{Change, Refusal}
-use Rattle.ep_rules.specs.Phases.{Outcome}
 use Rattle.ep_rules.specs.States.{State, changed}
-use Rattle.ep_rules.specs.Steps.{screened, sent_from, at}
-use Rattle.ep_space.specs.Records.{Records}
+use Rattle.ep_rules.specs.Steps.{screened, sent_from}
 use Rattle.ep_journal.specs.Events.{event_of, IsReadable, AreSpelled}
-use Rattle.ep_journal.specs.Executing.{IsExecuted, IsUnexecuted}
-use Rattle.ep_journal.specs.Inputs.{asks}
 use Rattle.ep_journal.specs.Parts.{known}
-use Rattle.ep_journal.specs.Refused.{IsRefused}
 use Rattle.ep_journal.specs.Standing.{Standing, stands}
-use Rattle.ep_journal.specs.declared.admitted.Admitted.{Admitted}
-use Rattle.ep_journal.specs.declared.admitted.Admitted.TheVariants.{Request, Asked, Execution}
 use Rattle.ep_journal.specs.declared.event.Event.{Event as Happening}
 use Rattle.ep_journal.specs.declared.mark.Mark.{Mark}
 use Rattle.ep_journal.specs.declared.parts.Parts.{Parts}
 use Rattle.ep_journal.specs.declared.step_fault.StepFault.{StepFault}
 use Rattle.ep_journal.specs.declared.step_fault.StepFault.TheVariants.{Memory, OutOfRange, NotMine, StampFull, SpaceFull, SeqExhausted, NotLeading, TooFewAnswers, AlreadyCommitted, BallotsExhausted, NotCommitted}
-use Rattle.ep_journal.specs.declared.taken.Taken.{Taken}
 
 -- the replica that the parts are
 abbrev pub standing_of : Parts → Standing
@@ -63,31 +54,10 @@ abbrev pub Acted : Result (ℕ × Change) Refusal → ℕ → Mark → State →
 Acted (Ok p) me mark s s' out = (s' ≡ changed s p.0 p.1) × AreSpelled mark.number mark.stamp 0 out (sent_from me p.1.out)
 Acted (Err e) me mark s s' out = ⊥
 
--- a step of the protocol, which executes nothing
-pub record Moves (r : Result (ℕ × Change) Refusal) (mark : Mark) (p : Parts) (t : Taken) (p' : Parts) : Type 0 where
+-- a step of the protocol, which executes nothing, and writes these frames
+pub record Moves (r : Result (ℕ × Change) Refusal) (mark : Mark) (p : Parts) (out : List (List ℕ)) (p' : Parts) : Type 0 where
   pub me : p'.me ≡ p.me
   pub faults : p'.space.faults ≡ p.space.faults
-  pub acted : Acted r p.me mark (known p.space p.lead) (known p'.space p'.lead) t.frames
+  pub acted : Acted r p.me mark (known p.space p.lead) (known p'.space p'.lead) out
   pub executed : p'.executed.list ≡ p.executed.list
   pub store : p'.store ≡ p.store
-  pub done : t.done ≡ []
-
--- an execution, which changes nothing that the protocol knows, and sends nothing
-pub record Executes (root : ℕ) (p : Parts) (t : Taken) (p' : Parts) : Type 0 where
-  pub me : p'.me ≡ p.me
-  pub space : p'.space ≡ p.space
-  pub lead : p'.lead ≡ p.lead
-  pub executed : IsExecuted p.space root t.done p.executed.list p.store p'.executed.list p'.store
-  pub frames : t.frames ≡ []
-
--- what is asked is done, as the rule book says
-abbrev pub Took : Parts → Admitted → Mark → Taken → Parts → Type 0
-Took p (Request c) mark t p' = Moves (asks p.me p.space p.lead (Request c)) mark p t p'
-Took p (Asked i input) mark t p' = Moves (asks p.me p.space p.lead (Asked i input)) mark p t p'
-Took p (Execution root) mark t p' = Executes root p t p'
-
--- why it is not done: want of memory, or the rule book's reason
-abbrev pub IsUntaken : Parts → Admitted → StepFault → Type 0
-IsUntaken p (Request c) fault = IsRefused (asks p.me p.space p.lead (Request c)) fault
-IsUntaken p (Asked i input) fault = IsRefused (asks p.me p.space p.lead (Asked i input)) fault
-IsUntaken p (Execution root) fault = IsUnexecuted p.space root p.executed.list fault

@@ -6,8 +6,8 @@
 //! Start with `event.rt`, `entry.rt` and `state.rt` (`State::step`), then specs/Standing.antt (`Advances`, `IsRefused`). A
 //! `Journal` is a local run by its type, so whoever holds one knows it.
 //!
-//! A step screens the event once (`screen.rt`), decides (`deciding.rt`), writes the frames, and then puts the change in place
-//! (`parts.rt`): all that may fail comes first, so nothing has to be put back. Several executions are tried first, and kept
+//! A step (`parts.rt`) screens the event once (`screen.rt`), decides (`deciding.rt`), writes the frames, and then puts the change
+//! in place: all that may fail comes first, so nothing has to be put back. Several executions are tried first, and kept
 //! or taken back together. Nothing else is ever undone: keep it so.
 #![tactic(auto)]
 
@@ -28,8 +28,6 @@ mod parts;
 mod screen;
 mod state;
 mod step_fault;
-mod stepping;
-mod taken;
 
 pub use entry::Entry;
 pub use event::Event;

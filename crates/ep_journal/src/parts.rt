@@ -1,25 +1,25 @@
-//! What a replica is, by its parts, and what it does with what is asked.
+//! What a replica is, by its parts, and its step.
 
-ghost use Rattle.std.specs.Prelude.{◌≡◌, ◌≤◌, IfOk, IfErr, OnErr};
+ghost use Rattle.std.specs.Prelude.{◌≡◌, ◌≤◌, IfOk, IfErr, IfSome, OnErr};
 ghost use Rattle.ep_phase.specs.Known.{known_of};
-ghost use Rattle.ep_rules.specs.Order.{IsClosed};
-ghost use Rattle.ep_rules.specs.States.{graph_in};
 ghost use Rattle.ep_rules.specs.Steps.{at};
-ghost use Rattle.ep_journal.specs.Executing.{IsUnexecuted};
-ghost use Rattle.ep_journal.specs.Inputs.{asks, outcome_at, IsWritable};
-ghost use Rattle.ep_journal.specs.Refused.{IsRefused};
-ghost use Rattle.ep_journal.specs.Stepping.{standing_of, Moves, Executes, Took, IsUntaken};
+ghost use Rattle.ep_journal.specs.Inputs.{outcome_at, IsWritable};
+ghost use Rattle.ep_journal.specs.Refused.{IsRefused as IsRefusedBy};
+ghost use Rattle.ep_journal.specs.Standing.{Advances, IsRefused, IsSound};
+ghost use Rattle.ep_journal.specs.Stepping.{standing_of, MarkedBy, Moves};
 
 use crate::admitted::Admitted;
 use crate::deciding::decide;
+use crate::entry::Entry;
+use crate::event::Event;
 use crate::execute::execute;
 use crate::executions::Executions;
 use crate::frames::{Frames, written};
 use crate::input::Input;
 use crate::mark::Mark;
+use crate::screen::screen;
 use crate::step_fault::StepFault;
-use crate::taken::Taken;
-use ep_base::{Command, InstanceId, ReplicaId};
+use ep_base::{InstanceId, ReplicaId};
 use ep_exec::{Executed, Store};
 use ep_phase::{Cell, Lead, next_instance};
 use ep_space::Space;
@@ -36,37 +36,63 @@ pub struct Parts {
 }
 
 impl Parts {
-    /// Takes what an event asks, as the entry so marked, or refuses it.
-    pub fn take(
+    /// Takes the step of an event: its entry, so marked; or why it is refused. Where there is no mark, it is past its limits.
+    pub fn step(
         &mut self,
         alloc: Global,
-        admitted: Admitted,
-        mark: Mark,
-    ) -> Result<Taken, StepFault>
-        requires numbered { 1 ≤ mark.number }
-        requires writable { IsWritable self.old.me (asks self.old.me self.old.space self.old.lead admitted) }
-        requires closed { IsClosed (graph_in self.old.space.records) self.old.executed.list }
-        ensures ok { IfOk result (λ t. Took self.old admitted mark t self.new) }
-        ensures refused { IfErr result (λ e. IsUntaken self.old admitted e) }
+        event: Event,
+        mark: Option<Mark>,
+    ) -> Result<Entry, StepFault>
+        requires sound { IsSound (standing_of self.old) }
+        requires numbered { IfSome mark (λ m. 1 ≤ m.number) }
+        ensures ok { IfOk result (λ e. MarkedBy (λ m. Advances (standing_of self.old) m event e (standing_of self.new)) mark) }
+        ensures refused { IfErr result (λ e. IsRefused (standing_of self.old) event mark e) }
         ensures err { OnErr result (standing_of self.new ≡ standing_of self.old) }
     {
+        let admitted = screen(alloc, self.space.size(), self.me, &event)?;
+        let Some(mark) = mark else {
+            return Err(StepFault::StampFull);
+        };
+        let Mark { number, stamp } = mark;
         match admitted {
-            Admitted::Request(command) => self.propose(alloc, command, mark),
-            Admitted::Asked(id, input) => self.change(alloc, id, input, mark),
-            Admitted::Execution(root) => self.execute(alloc, root),
+            Admitted::Request(command) => {
+                let id = next_instance(&self.space, self.me)?;
+                let frames = self.change(alloc, id, Input::Start(command), Mark { number, stamp })?;
+                Ok(Entry {
+                    number,
+                    stamp,
+                    event,
+                    frames,
+                    done: Executions::none(alloc),
+                })
+            }
+            Admitted::Asked(id, input) => {
+                let frames = self.change(alloc, id, input, Mark { number, stamp })?;
+                Ok(Entry {
+                    number,
+                    stamp,
+                    event,
+                    frames,
+                    done: Executions::none(alloc),
+                })
+            }
+            Admitted::Execution(root) => {
+                let done = execute(
+                    alloc,
+                    &self.space,
+                    &mut self.executed,
+                    &mut self.store,
+                    root,
+                )?;
+                Ok(Entry {
+                    number,
+                    stamp,
+                    event,
+                    frames: Frames::none(alloc),
+                    done,
+                })
+            }
         }
-    }
-
-    /// Proposes the command in this replica's next instance, if there is one.
-    fn propose(&mut self, alloc: Global, command: Command, mark: Mark) -> Result<Taken, StepFault>
-        requires numbered { 1 ≤ mark.number }
-        requires writable { IsWritable self.old.me (asks self.old.me self.old.space self.old.lead (Admitted.Request command)) }
-        ensures ok { IfOk result (λ t. Took self.old (Admitted.Request command) mark t self.new) }
-        ensures refused { IfErr result (λ e. IsUntaken self.old (Admitted.Request command) e) }
-        ensures err { OnErr result (standing_of self.new ≡ standing_of self.old) }
-    {
-        let id = next_instance(&self.space, self.me)?;
-        self.change(alloc, id, Input::Start(command), mark)
     }
 
     /// Does what is asked of the instance: decides, writes the frames, and puts the change in place. All that may fail comes before
@@ -77,11 +103,11 @@ impl Parts {
         id: InstanceId,
         input: Input,
         mark: Mark,
-    ) -> Result<Taken, StepFault>
+    ) -> Result<Frames, StepFault>
         requires numbered { 1 ≤ mark.number }
         requires writable { IsWritable self.old.me (at id (outcome_at (known_of self.old.me self.old.space self.old.lead id) input)) }
-        ensures ok { IfOk result (λ t. Moves (at id (outcome_at (known_of self.old.me self.old.space self.old.lead id) input)) mark self.old t self.new) }
-        ensures refused { IfErr result (λ e. IsRefused (at id (outcome_at (known_of self.old.me self.old.space self.old.lead id) input)) e) }
+        ensures ok { IfOk result (λ f. Moves (at id (outcome_at (known_of self.old.me self.old.space self.old.lead id) input)) mark self.old f self.new) }
+        ensures refused { IfErr result (λ e. IsRefusedBy (at id (outcome_at (known_of self.old.me self.old.space self.old.lead id) input)) e) }
         ensures err { OnErr result (standing_of self.new ≡ standing_of self.old) }
     {
         self.space.reserve(id)?;
@@ -89,30 +115,7 @@ impl Parts {
         let cell = Cell::of(&self.space, &self.lead, self.me, id);
         let change = decide(alloc, &cell, input)?;
         let frames = written(alloc, &cell, mark, &change.out)?;
-        change.install(&mut self.space, &mut self.lead, id);
-        Ok(Taken {
-            frames,
-            done: Executions::none(alloc),
-        })
-    }
-
-    /// Executes the root, and all that it waits for, or nothing.
-    fn execute(&mut self, alloc: Global, root: InstanceId) -> Result<Taken, StepFault>
-        requires closed { IsClosed (graph_in self.old.space.records) self.old.executed.list }
-        ensures ok { IfOk result (λ t. Executes root self.old t self.new) }
-        ensures refused { IfErr result (λ e. IsUnexecuted self.old.space root self.old.executed.list e) }
-        ensures err { OnErr result (standing_of self.new ≡ standing_of self.old) }
-    {
-        let done = execute(
-            alloc,
-            &self.space,
-            &mut self.executed,
-            &mut self.store,
-            root,
-        )?;
-        Ok(Taken {
-            frames: Frames::none(alloc),
-            done,
-        })
+        change.install(&mut self.space, &mut self.lead, id)?;
+        Ok(frames)
     }
 }

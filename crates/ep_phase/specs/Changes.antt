@@ -2,6 +2,7 @@
 use Rattle.std.specs.Prelude.{◌≡◌, ℕ, List, [], ◌∷◌, Option, Some, None, Result, Ok, Err}
 use Rattle.ep_base.specs.Instances.{leader_of}
 use Rattle.ep_base.specs.Quorums.{size, is_fast}
+use Rattle.ep_base.specs.declared.decree.Decree.{Decree}
 use Rattle.ep_base.specs.declared.message.Message.{Message}
 use Rattle.ep_base.specs.declared.vote.Status.TheVariants.{PreAccepted, Accepted}
 use Rattle.ep_rules.specs.Cells as rules
@@ -27,6 +28,14 @@ entry_of i r (recorded.Joins b) = Some (record { promised = b; vote = r.vote })
 entry_of i r (recorded.PreAccepts b x) = Some (voted b PreAccepted x)
 entry_of i r (recorded.Accepts b x) = Some (voted b Accepted x)
 entry_of i r (recorded.Commits x) = Some (with_commit i r x)
+
+-- what is voted for, if something is
+abbrev pub voted_for : Recorded → Option Decree
+voted_for recorded.Stays = None
+voted_for (recorded.Joins b) = None
+voted_for (recorded.PreAccepts b x) = Some x
+voted_for (recorded.Accepts b x) = Some x
+voted_for (recorded.Commits x) = Some x
 
 -- what is led from now on; none where it stays
 abbrev pub led_of : Leading → Option (Option Led)

@@ -1,12 +1,14 @@
 //! What an event changes.
 
-ghost use Rattle.std.specs.Prelude.{◌≡◌, None, Some};
+ghost use Rattle.std.specs.Prelude.{◌≡◌, None, Some, IsOk, OnOk, OnErr, IfSome};
 ghost use Rattle.std.specs.FinSet as set;
+ghost use Rattle.ep_base.specs.Interference.{key_of};
 ghost use Rattle.ep_rules.specs.Cells as rules;
 ghost use Rattle.ep_rules.specs.States.{with_entry, with_led};
 ghost use Rattle.ep_space.specs.Held.{HasPlace};
+ghost use Rattle.ep_space.specs.Keys.{key_at, NeedsNoRoom};
 ghost use Rattle.ep_space.specs.Records.{record_at};
-ghost use Rattle.ep_phase.specs.Changes.{change_of, entry_of, led_of};
+ghost use Rattle.ep_phase.specs.Changes.{change_of, entry_of, led_of, voted_for};
 ghost use Rattle.ep_phase.specs.Known.{Known};
 
 use crate::lead::Lead;
@@ -17,6 +19,7 @@ use crate::sending::Sending;
 use ep_base::{InstanceId, Message, ReplicaId};
 use ep_rules::Led;
 use ep_space::Space;
+use std::alloc::AllocError;
 
 /// What an event changes of one instance, and what it sends. All the memory that it needs is taken; nothing has changed yet.
 #[derive(Drop)]
@@ -66,12 +69,21 @@ impl Change {
         }
     }
 
-    /// Puts the change in place. It takes no memory, and can't fail.
-    pub fn install(self, space: &mut Space, lead: &mut Lead, id: InstanceId)
+    /// Puts the change in place. A vote for another key than before may take memory, and is written first: at want of it nothing has
+    /// changed.
+    pub fn install(
+        self,
+        space: &mut Space,
+        lead: &mut Lead,
+        id: InstanceId,
+    ) -> Result<(), AllocError>
         requires place { HasPlace space.old.places id }
         requires led { HasPlace lead.old.places id }
-        ensures records { space.new ≡ record space.old { records = with_entry space.old.records id (entry_of id (record_at space.old id) self.entry) } }
-        ensures leads { lead.new ≡ record lead.old { leads = with_led lead.old.leads id (led_of self.led); told = with_entry lead.old.told id self.told } }
+        ensures records { OnOk result (space.new ≡ record space.old { records = with_entry space.old.records id (entry_of id (record_at space.old id) self.entry) }) }
+        ensures leads { OnOk result (lead.new ≡ record lead.old { leads = with_led lead.old.leads id (led_of self.led); told = with_entry lead.old.told id self.told }) }
+        ensures records_stay { OnErr result (space.new ≡ space.old) }
+        ensures leads_stay { OnErr result (lead.new ≡ lead.old) }
+        ensures succeeds { IfSome (voted_for self.entry) (λ x. NeedsNoRoom (key_at space.old.records id) (key_of x.command)) → IsOk result }
     {
         let Change {
             entry,
@@ -79,21 +91,27 @@ impl Change {
             told,
             out: _,
         } = self;
-        write_record(space, id, entry);
+        write_record(space, id, entry)?;
         write_led(lead, id, led);
         if let Some(counter) = told {
             lead.tell(id, counter);
         }
+        Ok(())
     }
 }
 
-fn write_record(space: &mut Space, id: InstanceId, entry: Recorded)
+fn write_record(space: &mut Space, id: InstanceId, entry: Recorded) -> Result<(), AllocError>
     requires place { HasPlace space.old.places id }
-    ensures { space.new ≡ record space.old { records = with_entry space.old.records id (entry_of id (record_at space.old id) entry) } }
+    ensures ok { OnOk result (space.new ≡ record space.old { records = with_entry space.old.records id (entry_of id (record_at space.old id) entry) }) }
+    ensures err { OnErr result (space.new ≡ space.old) }
+    ensures succeeds { IfSome (voted_for entry) (λ x. NeedsNoRoom (key_at space.old.records id) (key_of x.command)) → IsOk result }
 {
     match entry {
-        Recorded::Stays => (),
-        Recorded::Joins(ballot) => space.join_ballot(id, ballot),
+        Recorded::Stays => Ok(()),
+        Recorded::Joins(ballot) => {
+            space.join_ballot(id, ballot);
+            Ok(())
+        }
         Recorded::PreAccepts(ballot, decree) => space.vote_pre(id, ballot, decree),
         Recorded::Accepts(ballot, decree) => space.vote_accept(id, ballot, decree),
         Recorded::Commits(decree) => space.commit(id, decree),

@@ -1,7 +1,7 @@
 -- A replica's journal with one entry more.
-use Rattle.std.proofs.Common.{◌≡◌, ℕ, ◌+◌, ◌<◌, ◌-◌, max, length, length-append, get_or, cond, Bool, true, false, ◌&&◌, ltb, Option, Some, None, Result, Ok, Err, List, [], ◌∷◌, ◌++◌, refl, sym, ap, subst, ◌∙◌, arith}
+use Rattle.std.proofs.Common.{◌≡◌, ℕ, ◌+◌, ◌<◌, ◌-◌, max, length, length-append, get_or, cond, Bool, true, false, ◌&&◌, ltb, Option, Some, None, List, [], ◌∷◌, ◌++◌, sym, ap, subst, ◌∙◌, arith}
 use Rattle.std.proofs.lemmas.List.{get_or_push}
-use Rattle.std.specs.Prelude.{IfSome, OnOk, OnErr}
+use Rattle.std.specs.Prelude.{IfSome}
 use Rattle.ep_rules.specs.Journals.{AreClocked, last_stamp, heard}
 use Rattle.ep_rules.proofs.JournalsGrow.{clocks_grow_lem}
 use Rattle.ep_journal.specs.Entries.{Log, entry_of, entries_of, IsJournal}
@@ -11,7 +11,6 @@ use Rattle.ep_journal.specs.Stepping.{MarkedBy}
 use Rattle.ep_journal.specs.declared.entry.Entry.{Entry}
 use Rattle.ep_journal.specs.declared.event.Event.{Event as Happening}
 use Rattle.ep_journal.specs.declared.mark.Mark.{Mark}
-use Rattle.ep_journal.specs.declared.step_fault.StepFault.{StepFault}
 use Rattle.ep_journal.proofs.Growing.{entries_grow, next_journal}
 use Rattle.ep_replica.specs.Kept.{Kept, kept_of}
 use Rattle.ep_replica.specs.Slots.{found, Tells}
@@ -73,17 +72,13 @@ pub record Holds (j : Log) : Type 0 where
   pub clock : AreClocked 0 (entries_of j.entries)
   pub some : 0 < j.faults
 
-holds_next : (j j' : Log) (event : Happening) → AreClocked 0 (entries_of j.entries) → 0 < j.faults → (e : Entry) × Applied (kept_of j) event e (kept_of j') → Holds j'
+pub holds_next : (j j' : Log) (event : Happening) → AreClocked 0 (entries_of j.entries) → 0 < j.faults → (e : Entry) × Applied (kept_of j) event e (kept_of j') → Holds j'
 holds_next j j' event clock some p =
     let more : j'.entries ≡ j.entries ++ p.0 ∷ [] = ap (λ (k : Kept). k.entries) p.1.appended in
     record {
       clock = subst (λ (es : List Entry). AreClocked 0 (entries_of es)) (sym more) (clock_grows (kept_of j) event p.0 (kept_of j') clock p.1);
       some = subst (λ n. 0 < n) (sym (ap (λ (k : Kept). k.faults) p.1.appended)) some;
     }
-
-pub goes_on : (r : Result (Unit {0}) StepFault) (j j' : Log) (event : Happening) → AreClocked 0 (entries_of j.entries) → 0 < j.faults → OnOk r ((e : Entry) × Applied (kept_of j) event e (kept_of j')) → OnErr r (j' ≡ j) → Holds j'
-goes_on (Ok u) j j' event clock some ok err = holds_next j j' event clock some ok
-goes_on (Err fault) j j' event clock some ok err = subst (λ (l : Log). Holds l) (sym err) (record { clock = clock; some = some })
 
 -- the last entry of what a step left is the one that it made
 pub last_made : (k k' : Kept) (event : Happening) (r : Entry) → (e : Entry) × Applied k event e k' → r ≡ get_or k'.entries (length k'.entries - 1) r → Applied k event r k'

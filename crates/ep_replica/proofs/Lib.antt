@@ -1,5 +1,4 @@
 pub mod Growing
-pub mod Declined
 pub mod Noted
 pub mod Own
 pub mod Outcomes

@@ -1,12 +1,16 @@
 -- What a try to execute an own instance comes to.
-use Rattle.std.proofs.Common.{◌≡◌, ℕ, ◌+◌, ◌<◌, ◌≤◌, inl, inr, true, false, Option, Some, None, sym, ap, subst, ◌∙◌, arith}
+use Rattle.std.proofs.Common.{◌≡◌, ℕ, ◌+◌, ◌<◌, ◌≤◌, inl, inr, List, true, false, Option, Some, None, sym, ap, subst, ◌∙◌, arith, length, get_or, IfSome}
 use Rattle.std.proofs.lemmas.Bool.{cases_lt}
 use Rattle.ep_base.specs.Instances.{instance_of, leader_of, number_of}
 use Rattle.ep_journal.specs.declared.entry.Entry.{Entry}
 use Rattle.ep_journal.specs.declared.event.Event.TheVariants.{Execute}
 use Rattle.ep_replica.specs.Applied.{Applied}
 use Rattle.ep_replica.specs.Kept.{Kept}
-use Rattle.ep_replica.specs.Pending.{IsPending, IsWaiting, IsShort, LesserWait, IsAbove, IsNext, ExecutesNext}
+use Rattle.ep_base.specs.Places.{Has}
+use Rattle.ep_exec.proofs.Counts.{place_at}
+use Rattle.ep_rules.proofs.Reaching.{reach_trans}
+use Rattle.ep_rules.specs.Graph.Reaches.{itself, onward}
+use Rattle.ep_replica.specs.Pending.{DependsOn, IsPending, IsWaiting, IsShort, LesserWait, IsAbove, IsNext, ExecutesNext}
 
 -- Instances by their numbers.
 
@@ -87,3 +91,18 @@ pub refused_next : (k s k' : Kept) (n i : ℕ) → s ≡ k → i ≡ instance_of
 refused_next k s k' n i same is few h t =
     let here : i ≡ instance_of k.me n = is ∙ ap (λ (z : Kept). instance_of z.me n) same in
     (inr (i, subst (λ (z : Kept). IsPending z i) same t.0, subst (λ (z : Kept). IsShort z i) same t.1, lesser_wait k n i here few h), t.2 ∙ same)
+
+-- what depends on one that waits does so too
+pub waits_on : (k : Kept) (i : ℕ) (known : Option ℕ) → IfSome known (IsWaiting k) → DependsOn k i known → IsWaiting k i
+waits_on k i None h d = absurd d
+waits_on k i (Some j) h d = (h.0, reach_trans (onward d.0 itself d.1 d.2) h.1, h.2)
+
+pub known_next : (k s : Kept) (i : ℕ) → s ≡ k → IsWaiting s i → IsWaiting k i
+known_next k s i same w = subst (λ (z : Kept). IsWaiting z i) same w
+
+pub known_still : (k s : Kept) (known : Option ℕ) → s ≡ k → IfSome known (IsWaiting k) → IfSome known (IsWaiting s)
+known_still k s known same h = subst (λ (z : Kept). IfSome known (IsWaiting z)) (sym same) h
+
+-- an element of a list is in it
+pub has_item : (xs : List ℕ) (n x i : ℕ) → n < length xs → x ≡ get_or xs n x → x ≡ i → Has xs i
+has_item xs n x i low is same = subst (λ z. Has xs z) same (subst (λ z. Has xs z) (sym is) (let p = place_at xs n x low in omega arith))

@@ -2,6 +2,7 @@
 
 ghost use Rattle.std.specs.Prelude.{◌≡◌, ◌≤◌, ◌↔◌, IsTrue};
 ghost use Rattle.ep_base.specs.Instances.{instance_of, highest_number};
+ghost use Rattle.ep_base.specs.Places.{Has};
 ghost use Rattle.ep_replica.specs.Pending.{IsAbove};
 
 use crate::replica::Replica;
@@ -13,8 +14,10 @@ use ep_journal::Event;
 enum Tried {
     /// It was executed.
     Executed,
-    /// It isn't committed, or was executed before, or waits for one that isn't committed.
+    /// It isn't committed, or was executed before, or depends on one that waits.
     Passed,
+    /// It waits for one that isn't committed.
+    Waits,
     /// It was refused for want of memory or a full stamp.
     Refused,
 }
@@ -37,10 +40,22 @@ fn is_above(after: &Option<InstanceId>, instance: InstanceId) -> bool
     }
 }
 
+/// Whether the list has the instance.
+fn has(list: &[InstanceId], instance: InstanceId) -> bool
+    ensures { IsTrue result → Has list.now instance }
+{
+    for other in list {
+        if *other == instance {
+            return true;
+        }
+    }
+    false
+}
+
 impl Replica {
-    ghost use Rattle.std.specs.Prelude.{◌↔◌, ◌≡◌, ◌≤◌, IsTrue};
+    ghost use Rattle.std.specs.Prelude.{◌↔◌, ◌≡◌, ◌≤◌, IsTrue, IfSome};
     ghost use Rattle.ep_base.specs.Places.{Has};
-    ghost use Rattle.ep_replica.specs.Pending.{state_of, IsPending, IsNext, Tries, ExecutesNext};
+    ghost use Rattle.ep_replica.specs.Pending.{state_of, DependsOn, IsPending, IsWaiting, IsNext, Tries, ExecutesNext};
 
     /// Whether the instance was executed here.
     pub fn has_executed(&self, instance: InstanceId) -> bool
@@ -82,16 +97,34 @@ impl Replica {
         }
     }
 
-    /// Executes an instance, if it is pending and waits for none. Otherwise the replica is left as it was.
-    fn try_execute(&mut self, instance: InstanceId) -> Tried
+    /// Whether the instance is committed and depends on this one, where there is one.
+    fn depends_on(&self, instance: InstanceId, known: &Option<InstanceId>) -> bool
+        ensures { IsTrue result → DependsOn self.now instance known.now }
+    {
+        let Some(decree) = self.committed(instance) else {
+            return false;
+        };
+        match known {
+            Some(known) => has(decree.attrs.deps.as_slice(), *known),
+            None => false,
+        }
+    }
+
+    /// Executes an instance, if it is pending and waits for none. Otherwise the replica is left as it was. One that depends on what is known to
+    /// wait is not looked at any further.
+    fn try_execute(&mut self, instance: InstanceId, known: &Option<InstanceId>) -> Tried
+        requires { IfSome known.now (IsWaiting self.old) }
         ensures { Tries self.old instance result self.new }
     {
         if !self.is_pending(instance) {
             return Tried::Passed;
         }
+        if self.depends_on(instance, known) {
+            return Tried::Passed;
+        }
         match self.missing(instance) {
             Ok(None) => self.execute(instance),
-            Ok(Some(_)) => Tried::Passed,
+            Ok(Some(_)) => Tried::Waits,
             Err(_) => Tried::Refused,
         }
     }
@@ -102,11 +135,13 @@ impl Replica {
     pub fn execute_next(&mut self) -> bool
         ensures { ExecutesNext self.old result self.new }
     {
+        let mut known = None;
         for number in 1..1001 {
             let instance = instance_at(self.me(), number);
-            match self.try_execute(instance) {
+            match self.try_execute(instance, &known) {
                 Tried::Executed => return true,
                 Tried::Passed => {}
+                Tried::Waits => known = Some(instance),
                 Tried::Refused => return false,
             }
         }

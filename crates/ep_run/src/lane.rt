@@ -27,9 +27,9 @@ impl Lane {
     }
 
     /// Has the replica do its tasks, in order.
-    fn submit_all<R: Wait>(&self, rt: &R, alloc: Global, host: &LockHost, tasks: &[Task<'_>]) {
+    fn submit_all<R: Wait>(&self, rt: &R, alloc: Global, host: &LockHost, tasks: &[Task]) {
         for task in tasks {
-            if task.replica() == self.replica {
+            if task.replica == self.replica {
                 task.run(rt, alloc, host);
             }
         }
@@ -65,7 +65,7 @@ pub(crate) fn run_lanes<R: Threads + Wait + Sync>(
     rt: &R,
     alloc: Global,
     host: &LockHost,
-    tasks: &[Task<'_>],
+    tasks: &[Task],
     lanes: &[Lane],
     turns: u32,
 ) -> Result<(), RunFault> {

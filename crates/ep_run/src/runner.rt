@@ -42,14 +42,14 @@ fn none_collected(alloc: Global, cluster: Size) -> Result<Vec<u32>, AllocError> 
 }
 
 /// What the section's lines ask for, in order.
-fn tasks_of<'a>(
+fn tasks_of(
     alloc: Global,
     clients: &mut Clients,
-    section: &'a Section,
-) -> Result<Vec<Task<'a>>, AllocError> {
+    section: &Section,
+) -> Result<Vec<Task>, AllocError> {
     let mut tasks = Vec::new(alloc);
     for (line, asked) in section.lines() {
-        tasks.push(Task::new(clients, *line, asked)?)?;
+        tasks.push(Task::new(alloc, clients, *line, asked)?)?;
     }
     Ok(tasks)
 }
@@ -114,7 +114,7 @@ impl Runner {
     }
 
     /// Lists the tasks that were refused.
-    fn list<R: Wait>(&mut self, rt: &R, tasks: &[Task<'_>]) -> Result<(), AllocError> {
+    fn list<R: Wait>(&mut self, rt: &R, tasks: &[Task]) -> Result<(), AllocError> {
         for task in tasks {
             if let Some(cause) = task.refusal(rt) {
                 self.refused.push((task.line, cause))?;

@@ -1,6 +1,6 @@
 //! What a line of a section has its replica do.
 
-use ep_base::ReplicaId;
+use ep_base::{Command, ReplicaId};
 use ep_host::{Act, HostFault, LockHost};
 use ep_replay::{Clients, step_cause};
 use ep_report::Cause;
@@ -8,46 +8,47 @@ use ep_script::AgendaLine;
 use std::alloc::{AllocError, Global};
 use std::sync::{Mutex, Wait};
 
+/// What a replica is asked for.
+#[derive(Drop)]
+enum Asked {
+    /// To propose the client's command, with the greatest stamp that the client has seen.
+    Proposal {
+        client: u32,
+        request: u32,
+        seen: u64,
+        command: Command,
+    },
+    /// To do this with an instance.
+    Act(Act),
+}
+
 /// What a line of a section has its replica do.
 #[derive(Drop)]
-pub(crate) struct Task<'a> {
+pub(crate) struct Task {
     /// The line's number.
     pub line: u32,
-    asked: &'a AgendaLine,
-    /// Of a proposal: the number of the client's request, and the greatest stamp that the client has seen.
-    request: u32,
-    seen: u64,
+    /// The replica that does it.
+    pub replica: ReplicaId,
+    asked: Asked,
     /// Why the replica refused it, if it did.
     refusal: Mutex<Option<Cause>>,
 }
 
-impl<'a> Task<'a> {
+impl Task {
     /// What the line asks for. A proposal counts as one request more of its client.
     pub(crate) fn new(
+        alloc: Global,
         clients: &mut Clients,
         line: u32,
-        asked: &'a AgendaLine,
-    ) -> Result<Task<'a>, AllocError> {
-        let (request, seen) = numbered(clients, asked)?;
+        asked: &AgendaLine,
+    ) -> Result<Task, AllocError> {
+        let (replica, asked) = asked_by(alloc, clients, asked)?;
         Ok(Task {
             line,
+            replica,
             asked,
-            request,
-            seen,
             refusal: Mutex::new(None),
         })
-    }
-
-    /// The replica that does it.
-    pub(crate) fn replica(&self) -> ReplicaId {
-        match self.asked {
-            AgendaLine::Propose {
-                replica,
-                client: _,
-                command: _,
-            } => *replica,
-            AgendaLine::GiveUp(replica, _) | AgendaLine::Recover(replica, _) => *replica,
-        }
     }
 
     /// Has the replica do it, and keeps why it refused.
@@ -58,22 +59,18 @@ impl<'a> Task<'a> {
     }
 
     fn submit<R: Wait>(&self, rt: &R, alloc: Global, host: &LockHost) -> Result<(), HostFault> {
-        match self.asked {
-            AgendaLine::Propose {
-                replica,
+        match &self.asked {
+            Asked::Proposal {
                 client,
+                request,
+                seen,
                 command,
             } => {
                 let command = command.copy(alloc)?;
-                host.submit(rt, *replica, *client, self.request, command, self.seen)?;
+                host.submit(rt, self.replica, *client, *request, command, *seen)?;
                 Ok(())
             }
-            AgendaLine::GiveUp(replica, instance) => {
-                host.direct(rt, *replica, Act::GiveUp(*instance))
-            }
-            AgendaLine::Recover(replica, instance) => {
-                host.direct(rt, *replica, Act::Recover(*instance))
-            }
+            Asked::Act(act) => host.direct(rt, self.replica, *act),
         }
     }
 
@@ -83,19 +80,45 @@ impl<'a> Task<'a> {
     }
 }
 
-/// The number of the request that a line makes, and what its client has seen; 0 and 0 where it makes none.
-fn numbered(clients: &mut Clients, asked: &AgendaLine) -> Result<(u32, u64), AllocError> {
+/// Who is asked for what by the line.
+fn asked_by(
+    alloc: Global,
+    clients: &mut Clients,
+    asked: &AgendaLine,
+) -> Result<(ReplicaId, Asked), AllocError> {
     match asked {
         AgendaLine::Propose {
-            replica: _,
+            replica,
             client,
-            command: _,
+            command,
         } => {
-            let known = clients.count(*client)?;
-            Ok((known.requests, known.seen))
+            let proposal = proposal(alloc, clients, *client, command)?;
+            Ok((*replica, proposal))
         }
-        _ => Ok((0, 0)),
+        AgendaLine::GiveUp(replica, instance) => {
+            Ok((*replica, Asked::Act(Act::GiveUp(*instance))))
+        }
+        AgendaLine::Recover(replica, instance) => {
+            Ok((*replica, Asked::Act(Act::Recover(*instance))))
+        }
     }
+}
+
+/// The client's next proposal.
+fn proposal(
+    alloc: Global,
+    clients: &mut Clients,
+    client: u32,
+    command: &Command,
+) -> Result<Asked, AllocError> {
+    let command = command.copy(alloc)?;
+    let known = clients.count(client)?;
+    Ok(Asked::Proposal {
+        client,
+        request: known.requests,
+        seen: known.seen,
+        command,
+    })
 }
 
 /// The cause as a report names it.

@@ -1,21 +1,15 @@
 -- What a write leaves of the first instances that all have a record.
-use Rattle.std.proofs.Common.{◌≡◌, ◌≢◌, ℕ, zero, suc, ◌+◌, ◌≤◌, cond, Result, Ok, Err, OnOk, OnErr, List, [], ◌∷◌, Option, Some, None, is_none, refl, sym, ap, subst, ◌∙◌, arith}
-use Rattle.std.specs.Cmp.{nat_cmp_total}
-use Rattle.std.specs.FinMap as map
+use Rattle.std.proofs.Common.{◌≡◌, ℕ, zero, suc, ◌+◌, ◌≤◌, Result, Ok, Err, OnOk, OnErr, List, [], ◌∷◌, Option, is_none, refl, sym, ap, subst, ◌∙◌, arith}
 use Rattle.std.specs.FinSet as set
 use Rattle.std.specs.declared.alloc.AllocError.{AllocError}
 use Rattle.std.specs.List.{AllByRecursion}
 use Rattle.ep_base.specs.Instances.{instance_of}
-use Rattle.ep_rules.specs.Maps.{Map, get}
+use Rattle.ep_rules.specs.Maps.{Map}
 use Rattle.ep_rules.specs.States.{with_held}
 use Rattle.ep_rules.specs.declared.record.Record.{Record}
 use Rattle.ep_space.specs.Held.{Held}
 use Rattle.ep_space.specs.Taken.{taken_by, AreTaken, AreTakenBut}
-use Rattle.ep_space.proofs.Kept.{tied_apart}
-
-pub get-other : (m : Map Record) (i : ℕ) (o : Option Record) (q : ℕ) → q ≢ i → get (with_held m i o) q ≡ get m q
-get-other m i None q apart = map.get-remove nat_cmp_total m i q ∙ ap (λ b. cond b None (get m q)) (tied_apart q i apart)
-get-other m i (Some r) q apart = map.get-insert nat_cmp_total m i r q ∙ ap (λ b. cond b (Some r) (get m q)) (tied_apart q i apart)
+use Rattle.ep_space.proofs.Kept.{get-other}
 
 -- a write says nothing of other instances
 pub taken-written : (m : Map Record) (i : ℕ) (o : Option Record) (ns : List ℕ) → AreTaken m ns → AreTakenBut i (with_held m i o) ns

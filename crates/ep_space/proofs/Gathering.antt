@@ -21,7 +21,7 @@ use Rattle.ep_rules.specs.declared.record.Record.{Record}
 use Rattle.ep_space.specs.Gathering.{gather, gather_all, next_attrs}
 use Rattle.ep_space.specs.Keys.{voted_key, is_key, has_key, holders}
 use Rattle.ep_space.specs.declared.gathered.Gathered.{Gathered}
-use Rattle.ep_space.proofs.Runs.{found_on, sorted_true}
+use Rattle.ep_space.proofs.Holders.{found_on, sorted_true}
 
 abbrev Entry : Type 0
 Entry = ℕ × Record

@@ -1,10 +1,10 @@
 pub mod Order
 pub mod Lookup
 pub mod Spots
-pub mod Before
-pub mod Ordered
+pub mod Rising
+pub mod Holders
+pub mod Entered
 pub mod Kept
-pub mod Runs
 pub mod Gathering
 pub mod FirstTaken
 pub mod Least

@@ -53,15 +53,6 @@ module _ {X : Type 0} where
   contains-held q (e ∷ es) =
       set.contains-insert nat_cmp_total (held es).places e.0 q ∙ (λ t. same-is q e.0 t || contains-held q es t) ∙ some_or (same q e.0) e.1 (lookup (same q) es)
 
-  -- there are as many places as entries
-  pub len-places : (es : List (ℕ × Option X)) → IsTable es → set.len (held es).places ≡ length es
-  len-places [] h = set.len-empty nat_cmp
-  len-places (e ∷ es) h =
-      let rest = len-places es (IsDistinct-tail same e.0 (keys_of es) h) in
-      let one_more : set.len (held es).places + 1 ≡ suc (length es) = omega (arith, rest) in
-      let fresh : set.contains (held es).places e.0 ≡ false = contains-held e.0 es ∙ ap is_some (lookup-none (same e.0) es (none_past_head same_equiv e.0 e es h (same_equiv.refl e.0))) in
-      set.len-insert nat_cmp_total (held es).places e.0 ∙ ap (λ b. cond b (set.len (held es).places) (set.len (held es).places + 1)) fresh ∙ one_more
-
   -- a place adds no value
   held_in-push_none : (es : List (ℕ × Option X)) (i : ℕ) → held_in (es ++ (i, None) ∷ []) ≡ held_in es
   held_in-push_none [] i = refl

@@ -11,7 +11,7 @@ use Rattle.std.proofs.lemmas.Option.{slice_get-get_or}
 use Rattle.ep_base.specs.Instances.{IsInstance}
 use Rattle.ep_space.specs.Entries.{same, slot, spot, spot_after, value_at, with_place, AreSpots}
 use Rattle.ep_space.proofs.Order.{same_equiv, same_number}
-use Rattle.ep_space.proofs.Ordered.{some_is}
+use Rattle.ep_space.proofs.Rising.{some_is}
 
 after_within : (n m : ℕ) → n ≤ m → spot_after n ≤ suc m
 after_within zero m h = omega arith

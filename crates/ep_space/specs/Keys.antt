@@ -1,5 +1,5 @@
 -- The keys of recorded commands.
-use Rattle.std.specs.Prelude.{ℕ, Bool, false, List, Option, Some, None}
+use Rattle.std.specs.Prelude.{◌≡◌, ◌⊎◌, ℕ, Bool, false, List, Option, Some, None}
 use Rattle.ep_base.specs.Attributes.{same_list}
 use Rattle.ep_base.specs.Interference.{key_of}
 use Rattle.ep_base.specs.declared.vote.Vote.{Vote}
@@ -18,6 +18,10 @@ recorded_key (Some r) = voted_key r.vote
 -- the key of i's recorded command, if it has one
 abbrev pub key_at : Map Record → ℕ → Option (List ℕ)
 key_at m i = recorded_key (get m i)
+
+-- a record of the key `new` takes no room in the index, where the one before had the key `own`
+abbrev pub NeedsNoRoom : Option (List ℕ) → Option (List ℕ) → Type 0
+NeedsNoRoom own new = (new ≡ own) ⊎ (new ≡ None)
 
 abbrev pub is_key : List ℕ → Option (List ℕ) → Bool
 is_key k None = false

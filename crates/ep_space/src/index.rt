@@ -1,43 +1,32 @@
 //! An index of records by key.
 
-ghost use Rattle.std.specs.Prelude.{◌≡◌, ◌≤◌, ◌<◌, length, OnOk, is_some, true, None, ℕ, IsTrue, ◌↔◌};
-ghost use Rattle.std.specs.FinSet as set;
+ghost use Rattle.std.specs.Prelude.{◌≡◌, ◌≤◌, ℕ, List, [], ◌∷◌, length, None, true, cond, IsOk, OnOk, OnErr, IsTrue, ◌↔◌};
+ghost use Rattle.std.specs.Map.{lookup};
 ghost use Rattle.std.specs.Option.{option_copied};
-ghost use Rattle.std.specs.Vec.{vec_capacity};
-ghost use Rattle.ep_base.specs.Deps.{AreInstances};
-ghost use Rattle.ep_base.specs.Instances.{IsInstance};
+ghost use Rattle.ep_base.specs.Attributes.{same_list};
+ghost use Rattle.ep_base.specs.Deps.{IsRising};
 ghost use Rattle.ep_base.specs.Places.{Has};
-ghost use Rattle.ep_rules.specs.Maps.{get};
-ghost use Rattle.ep_space.specs.Held.{HasPlace};
-ghost use Rattle.ep_space.specs.Index.{word, before, without, count_before, with_place_of, IsSearchable, IsKept};
-ghost use Rattle.ep_space.specs.Keys.{voted_key, recorded_key, key_at, holders};
+ghost use Rattle.ep_space.specs.Index.{is_at, run, count_below, with_instance, without};
+ghost use Rattle.ep_space.specs.Keys.{voted_key, recorded_key, key_at, is_key};
 
-use crate::place::{instance_of, place_of};
 use crate::table::Table;
 use ep_base::{InstanceId, Key};
 use ep_rules::Record;
+use indexmap::IndexMap;
 use std::alloc::AllocError;
-use std::cmp::Ordering;
 
-/// Room for the places of all that the table has a place for, and of one more.
-pub(crate) fn make_room(table: &Table<Record>, index: &mut Vec<u32>) -> Result<(), AllocError>
-    ensures items { index.new.items ≡ index.old.items }
-    ensures capacity { vec_capacity index.old ≤ vec_capacity index.new }
-    ensures ok { OnOk result (set.len table.now.places < vec_capacity index.new) }
-{
-    let wanted = table.count() + 1;
-    index.reserve(wanted.saturating_sub(index.len()))
-}
+/// From a key to its run: the places of the records whose command has it, in rising order of instances. A key whose last place was
+/// taken out stays, with an empty run.
+pub(crate) type Index = IndexMap<Vec<u8>, Vec<u32>>;
 
-/// The places of the records whose command has the key, in rising order of instances.
-pub(crate) fn run_of<'a>(table: &Table<Record>, index: &'a [u32], key: &[u8]) -> &'a [u32]
-    requires searchable { IsSearchable table.now.held index.now }
-    requires all { (i : ℕ) → is_some (key_at table.now.held i) ≡ true → Has index.now i }
-    ensures { result.now ≡ holders key.now table.now.held }
+/// The run of the key.
+pub(crate) fn run_of<'a>(index: &'a Index, key: &[u8]) -> &'a [u32]
+    ensures { result.now ≡ run index.now.entries key.now }
 {
-    let start = position(table, index, key, 0);
-    let end = position(table, index, key, u32::MAX);
-    &index[start..end]
+    match index.get(key) {
+        None => &[],
+        Some(run) => run.as_slice(),
+    }
 }
 
 /// Whether the instance's command has the same key after this is written there, or has none as before.
@@ -51,73 +40,104 @@ pub(crate) fn keeps_key(table: &Table<Record>, id: InstanceId, value: &Option<Re
     }
 }
 
-/// Takes the instance's place out of the index, while its record is there.
-pub(crate) fn remove_place(table: &Table<Record>, index: &mut Vec<u32>, id: InstanceId)
-    requires { IsKept table.now index.old.items (vec_capacity index.old) }
-    ensures items { index.new.items ≡ without id index.old.items }
-    ensures capacity { vec_capacity index.new ≡ vec_capacity index.old }
+/// Puts the place into the run of the key that this has, if it has one. At want of memory all runs stay as they were.
+pub(crate) fn enter(index: &mut Index, place: u32, value: &Option<Record>) -> Result<(), AllocError>
+    requires { (k : List ℕ) → IsRising (run index.old.entries k) }
+    ensures succeeds { recorded_key value.now ≡ None → IsOk result }
+    ensures ok { OnOk result ((k : List ℕ) → run index.new.entries k ≡ cond (is_key k (recorded_key value.now)) (with_instance place (run index.old.entries k)) (run index.old.entries k)) }
+    ensures err { OnErr result ((k : List ℕ) → run index.new.entries k ≡ run index.old.entries k) }
 {
-    let Some(key) = key_in(table, id) else {
-        return;
-    };
-    let place = position(table, index.as_slice(), key.as_slice(), place_of(id));
-    index.remove(place);
+    match key_of_entry(value) {
+        None => Ok(()),
+        Some(key) => add(index, key.as_slice(), place),
+    }
 }
 
-/// Puts the instance's place into the index, before its record is there. It takes no memory.
-pub(crate) fn insert_place(
-    table: &Table<Record>,
-    index: &mut Vec<u32>,
-    id: InstanceId,
-    written: &Record,
-)
-    requires place { HasPlace table.now.places id }
-    requires none { get table.now.held id ≡ None }
-    requires kept { IsKept table.now index.old.items (vec_capacity index.old) }
-    ensures items { index.new.items ≡ with_place_of (key_at table.now.held) (voted_key written.now.vote) id index.old.items }
-    ensures capacity { vec_capacity index.new ≡ vec_capacity index.old }
+/// Takes the place out of the run of the key that the instance's record has, if it has one.
+pub(crate) fn leave(table: &Table<Record>, index: &mut Index, id: InstanceId, place: u32)
+    requires rising { (k : List ℕ) → IsRising (run index.old.entries k) }
+    requires there { (k : List ℕ) → is_key k (key_at table.now.held id) ≡ true → Has (run index.old.entries k) place }
+    ensures { (k : List ℕ) → run index.new.entries k ≡ cond (is_key k (key_at table.now.held id)) (without place (run index.old.entries k)) (run index.old.entries k) }
 {
-    let Some(key) = key_of(written) else {
-        return;
-    };
-    let place = position(table, index.as_slice(), key.as_slice(), place_of(id));
-    let _ = index.insert(place, place_of(id));
+    match key_in(table, id) {
+        None => (),
+        Some(key) => remove(index, key.as_slice(), place),
+    }
 }
 
-// How many places of the index are of a lesser key, or of this one and of a lesser instance.
-fn position(table: &Table<Record>, index: &[u32], key: &[u8], place: u32) -> usize
-    requires { IsSearchable table.now.held index.now }
-    ensures value { result ≡ count_before (key_at table.now.held) key.now place index.now }
-    ensures bound { result ≤ length index.now }
+fn add(index: &mut Index, key: &[u8], place: u32) -> Result<(), AllocError>
+    requires { IsRising (run index.old.entries key.now) }
+    ensures ok { OnOk result ((k : List ℕ) → run index.new.entries k ≡ cond (same_list k key.now) (with_instance place (run index.old.entries k)) (run index.old.entries k)) }
+    ensures err { OnErr result ((k : List ℕ) → run index.new.entries k ≡ run index.old.entries k) }
+{
+    match index.get_mut(key) {
+        Some(run) => insert(run, place),
+        None => add_run(index, key, place),
+    }
+}
+
+fn add_run(index: &mut Index, key: &[u8], place: u32) -> Result<(), AllocError>
+    requires { lookup (is_at key.now) index.old.entries ≡ None }
+    ensures ok { OnOk result ((k : List ℕ) → run index.new.entries k ≡ cond (same_list k key.now) (place ∷ []) (run index.old.entries k)) }
+    ensures err { OnErr result ((k : List ℕ) → run index.new.entries k ≡ run index.old.entries k) }
+{
+    let alloc = *index.allocator();
+    let key = Vec::from_slice(alloc, key)?;
+    let mut run = Vec::new(alloc);
+    run.push(place)?;
+    match index.insert(key, run) {
+        Ok(_) => Ok(()),
+        Err(_) => Err(AllocError),
+    }
+}
+
+fn remove(index: &mut Index, key: &[u8], place: u32)
+    requires rising { IsRising (run index.old.entries key.now) }
+    requires there { Has (run index.old.entries key.now) place }
+    ensures { (k : List ℕ) → run index.new.entries k ≡ cond (same_list k key.now) (without place (run index.old.entries k)) (run index.old.entries k) }
+{
+    match index.get_mut(key) {
+        Some(run) => take(run, place),
+        None => unreachable!(),
+    }
+}
+
+fn insert(run: &mut Vec<u32>, place: u32) -> Result<(), AllocError>
+    requires { IsRising run.old.items }
+    ensures ok { OnOk result (run.new.items ≡ with_instance place run.old.items) }
+    ensures err { OnErr result (run.new.items ≡ run.old.items) }
+{
+    let at = position(run.as_slice(), place);
+    run.insert(at, place)?;
+    Ok(())
+}
+
+fn take(run: &mut Vec<u32>, place: u32)
+    requires rising { IsRising run.old.items }
+    requires there { Has run.old.items place }
+    ensures { run.new.items ≡ without place run.old.items }
+{
+    let at = position(run.as_slice(), place);
+    run.remove(at);
+}
+
+// How many places of a run are of lesser instances.
+fn position(run: &[u32], place: u32) -> usize
+    requires { IsRising run.now }
+    ensures value { result ≡ count_below place run.now }
+    ensures bound { result ≤ length run.now }
 {
     let mut low = 0;
-    let mut high = index.len();
+    let mut high = run.len();
     while low < high {
         let middle = low + (high - low) / 2;
-        if is_before(table, index[middle], key, place) {
+        if run[middle] < place {
             low = middle + 1;
         } else {
             high = middle;
         }
     }
     low
-}
-
-// Whether a place of the index stands before that one of that key.
-fn is_before(table: &Table<Record>, own: u32, key: &[u8], place: u32) -> bool
-    requires instance { IsInstance own }
-    requires keyed { is_some (key_at table.now.held own) ≡ true }
-    ensures { result ≡ before (word (key_at table.now.held own)) own key.now place }
-{
-    let id = instance_of(own).unwrap();
-    match key_in(table, id) {
-        None => unreachable!(),
-        Some(own_key) => match own_key.as_slice().cmp(key) {
-            Ordering::Less => true,
-            Ordering::Equal => own < place,
-            Ordering::Greater => false,
-        },
-    }
 }
 
 // The key of the instance's recorded command, if it has one.

@@ -1,36 +1,35 @@
 //! Records of instances, with an index by key.
 
-ghost use Rattle.std.specs.Prelude.{◌≡◌, ◌≤◌, ◌<◌, ℕ, false, Some, None, OnOk, OnErr, if◌then◌else◌};
+ghost use Rattle.std.specs.Prelude.{◌≡◌, ◌≤◌, ◌<◌, ℕ, false, Some, None, IsOk, IfOk, OnOk, OnErr, if◌then◌else◌};
 ghost use Rattle.std.specs.FinSet as set;
 ghost use Rattle.std.specs.Option.{option_copied};
-ghost use Rattle.std.specs.Vec.{vec_capacity};
 ghost use Rattle.ep_base.specs.Deps.{AreInstances};
 ghost use Rattle.ep_rules.specs.Cells.{record_or_fresh};
-ghost use Rattle.ep_rules.specs.Maps.{none, get, insert, remove};
+ghost use Rattle.ep_rules.specs.Maps.{none, get, insert};
 ghost use Rattle.ep_rules.specs.States.{with_held, is_free};
 ghost use Rattle.ep_space.specs.Held.{HasPlace};
 ghost use Rattle.ep_space.specs.Index.{IsKept};
-ghost use Rattle.ep_space.specs.Keys.{holders};
+ghost use Rattle.ep_space.specs.Keys.{recorded_key, key_at, holders, NeedsNoRoom};
 
-use crate::index::{insert_place, keeps_key, make_room, remove_place, run_of};
-use crate::place::instance_of;
+use crate::index::{Index, enter, keeps_key, leave, run_of};
+use crate::place::{instance_of, place_of};
 use crate::table::Table;
 use crate::taken::note;
 use ep_base::{Ballot, InstanceId, ReplicaId, Vote};
 use ep_rules::Record;
+use indexmap::IndexMap;
 use std::alloc::{AllocError, Global};
 use std::marker::Model;
 
-/// A table of records, and the places of those whose command has a key, in the order of key and then instance.
+/// A table of records, and an index of them by key.
 #[derive(Drop)]
 pub struct Keyed {
     table: Table<Record>,
-    index: Vec<u32>,
+    index: Index,
     taken: [u16; 7],
 }
 
 impl Model for Keyed {
-    ghost use Rattle.std.specs.Vec.{vec_capacity};
     ghost use Rattle.ep_rules.specs.declared.record.Record.{Record};
     ghost use Rattle.ep_rules.specs.contracts.record.Record as record_facts;
     ghost use Rattle.ep_space.specs.Held.{Held, held_code};
@@ -44,7 +43,7 @@ impl Model for Keyed {
 
     ghost view = { λ k. k.table };
 
-    ghost invariant = { λ k. IsKept k.table k.index.items (vec_capacity k.index) × AreTaken k.table.held k.taken };
+    ghost invariant = { λ k. IsKept k.table k.index.entries × AreTaken k.table.held k.taken };
 }
 
 impl Keyed {
@@ -54,7 +53,7 @@ impl Keyed {
     {
         Keyed {
             table: Table::new(alloc),
-            index: Vec::new(alloc),
+            index: IndexMap::new(alloc),
             taken: [0; 7],
         }
     }
@@ -66,34 +65,43 @@ impl Keyed {
         self.table.get(id)
     }
 
-    /// Makes a place for the instance, if it has none. Nothing else takes memory in the table.
+    /// Makes a place for the instance, if it has none.
     pub fn reserve(&mut self, id: InstanceId) -> Result<(), AllocError>
         ensures ok { OnOk result (self.new ≡ record { held = self.old.held; places = set.insert self.old.places id }) }
         ensures place { OnOk result (HasPlace self.new.places id) }
         ensures err { OnErr result (self.new ≡ self.old) }
     {
-        make_room(&self.table, &mut self.index)?;
         let _number = id.number();
         self.table.reserve(id)
     }
 
-    /// Writes this record, or none, at the instance's place, and gives what was there. It takes no memory.
-    pub fn put_back(&mut self, id: InstanceId, value: Option<Record>) -> Option<Record>
+    /// Writes this record, or none, at the instance's place, and gives what was there. A key that the instance's command didn't have may
+    /// take memory in the index; at want of it nothing has changed.
+    pub fn put_back(
+        &mut self,
+        id: InstanceId,
+        value: Option<Record>,
+    ) -> Result<Option<Record>, AllocError>
         requires { HasPlace self.old.places id }
-        ensures old { result ≡ get self.old.held id }
-        ensures new { self.new ≡ record { held = with_held self.old.held id value; places = self.old.places } }
+        ensures old { IfOk result (λ there. there ≡ get self.old.held id) }
+        ensures new { OnOk result (self.new ≡ record { held = with_held self.old.held id value; places = self.old.places }) }
+        ensures err { OnErr result (self.new ≡ self.old) }
+        ensures succeeds { NeedsNoRoom (key_at self.old.held id) (recorded_key value) → IsOk result }
     {
-        let earlier = exchange(&mut self.table, &mut self.index, id, value);
+        let earlier = exchange(&mut self.table, &mut self.index, id, value)?;
         note(&mut self.taken, &self.table, id);
-        earlier
+        Ok(earlier)
     }
 
-    /// Writes this record, or none, at the instance's place. It takes no memory.
-    pub fn write(&mut self, id: InstanceId, value: Option<Record>)
+    /// Writes this record, or none, at the instance's place, as `put_back` does.
+    pub fn write(&mut self, id: InstanceId, value: Option<Record>) -> Result<(), AllocError>
         requires { HasPlace self.old.places id }
-        ensures { self.new ≡ record { held = with_held self.old.held id value; places = self.old.places } }
+        ensures ok { OnOk result (self.new ≡ record { held = with_held self.old.held id value; places = self.old.places }) }
+        ensures err { OnErr result (self.new ≡ self.old) }
+        ensures succeeds { NeedsNoRoom (key_at self.old.held id) (recorded_key value) → IsOk result }
     {
-        let _ = self.put_back(id, value);
+        let _ = self.put_back(id, value)?;
+        Ok(())
     }
 
     /// Writes this ballot as the one that is promised in the instance; the vote stays. It takes no memory.
@@ -110,7 +118,7 @@ impl Keyed {
         ensures value { result.now ≡ holders key.now self.now.held }
         ensures instances { AreInstances result.now }
     {
-        run_of(&self.table, self.index.as_slice(), key)
+        run_of(&self.index, key)
     }
 
     /// A number of the replica's first instances that all have a record.
@@ -133,54 +141,29 @@ impl Keyed {
     }
 }
 
-/// Writes this record, or none, at the instance's place, and gives what was there; its place in the index is that of its key.
+/// Writes this record, or none, at the instance's place, and gives what was there; the index follows. All that may fail comes before
+/// anything changes.
 fn exchange(
     table: &mut Table<Record>,
-    index: &mut Vec<u32>,
+    index: &mut Index,
     id: InstanceId,
     value: Option<Record>,
-) -> Option<Record>
+) -> Result<Option<Record>, AllocError>
     requires place { HasPlace table.old.places id }
-    requires kept { IsKept table.old index.old.items (vec_capacity index.old) }
-    ensures old { result ≡ get table.old.held id }
-    ensures new { table.new ≡ record { held = with_held table.old.held id value; places = table.old.places } }
-    ensures kept { IsKept table.new index.new.items (vec_capacity index.new) }
+    requires kept { IsKept table.old index.old.entries }
+    ensures old { IfOk result (λ there. there ≡ get table.old.held id) }
+    ensures new { OnOk result (table.new ≡ record { held = with_held table.old.held id value; places = table.old.places }) }
+    ensures err { OnErr result (table.new ≡ table.old) }
+    ensures succeeds { NeedsNoRoom (key_at table.old.held id) (recorded_key value) → IsOk result }
+    ensures kept { IsKept table.new index.new.entries }
 {
     if keeps_key(table, id, &value) {
-        return table.put_back(id, value);
+        return Ok(table.put_back(id, value));
     }
-    let earlier = take_out(table, index, id);
-    put_in(table, index, id, value);
-    earlier
-}
-
-/// Takes the instance's record, and its place out of the index.
-fn take_out(table: &mut Table<Record>, index: &mut Vec<u32>, id: InstanceId) -> Option<Record>
-    requires place { HasPlace table.old.places id }
-    requires kept { IsKept table.old index.old.items (vec_capacity index.old) }
-    ensures old { result ≡ get table.old.held id }
-    ensures new { table.new ≡ record { held = remove table.old.held id; places = table.old.places } }
-    ensures kept { IsKept table.new index.new.items (vec_capacity index.new) }
-{
-    remove_place(table, index, id);
-    table.put_back(id, None)
-}
-
-/// Writes the instance's record, if this is one, where there is none, and its place into the index.
-fn put_in(table: &mut Table<Record>, index: &mut Vec<u32>, id: InstanceId, value: Option<Record>)
-    requires place { HasPlace table.old.places id }
-    requires none { get table.old.held id ≡ None }
-    requires kept { IsKept table.old index.old.items (vec_capacity index.old) }
-    ensures new { table.new ≡ record { held = with_held table.old.held id value; places = table.old.places } }
-    ensures kept { IsKept table.new index.new.items (vec_capacity index.new) }
-{
-    match value {
-        None => (),
-        Some(record) => {
-            insert_place(table, index, id, &record);
-            table.write(id, Some(record));
-        }
-    }
+    let place = place_of(id);
+    enter(index, place, &value)?;
+    leave(table, index, id, place);
+    Ok(table.put_back(id, value))
 }
 
 #[tactic(auto, using(crate::proofs::Twice::insert_after_remove))]

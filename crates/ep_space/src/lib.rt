@@ -1,7 +1,8 @@
 //! The records of a replica, and the interference set of a command.
 //!
 //! `ep_phase`, `ep_prepare` and `ep_exec` keep what a replica knows of each instance in a `Space`, which contracts see as a
-//! finite map. Once an instance has a place, reading and writing its record take no memory and can't fail.
+//! finite map. An instance's place is made before its record is written. A vote may be refused memory for the index by key, and then
+//! nothing has changed; a promise and all that is read take none.
 //!
 //! Start with `space.rt`: `get`, `join_ballot`, `vote_pre`, `vote_accept`, `commit`, and `interference`. `table.rt` is the
 //! table below it, which `ep_phase` uses too.

@@ -1,8 +1,9 @@
 //! The records of a replica.
 
-ghost use Rattle.std.specs.Prelude.{◌≡◌, ◌≤◌, ◌<◌, ◌-◌, true, Ok, Err, Some, None, IfOk, IsErr, OnOk, OnErr, if◌then◌else◌};
+ghost use Rattle.std.specs.Prelude.{◌≡◌, ◌≤◌, ◌<◌, ◌-◌, true, Ok, Err, Some, None, IsOk, IfOk, IsErr, OnOk, OnErr, if◌then◌else◌};
 ghost use Rattle.std.specs.Option.{option_copied};
 ghost use Rattle.std.specs.FinSet as set;
+ghost use Rattle.ep_base.specs.Interference.{key_of};
 ghost use Rattle.ep_rules.specs.Cells.{is_committed, is_done_at, is_settled_at, voted, voted_ballot};
 ghost use Rattle.ep_rules.specs.InterferenceSet.{interference};
 ghost use Rattle.ep_rules.specs.Maps.{none, get};
@@ -10,7 +11,7 @@ ghost use Rattle.ep_rules.specs.Phases.{with_commit};
 ghost use Rattle.ep_rules.specs.States.{is_free, free_number, committed_in};
 ghost use Rattle.ep_space.specs.Gathering.{next_attrs};
 ghost use Rattle.ep_space.specs.Held.{HasPlace};
-ghost use Rattle.ep_space.specs.Keys.{holders};
+ghost use Rattle.ep_space.specs.Keys.{recorded_key, key_at, holders, NeedsNoRoom};
 ghost use Rattle.ep_space.specs.Records.{record_at, with_record, with_earlier};
 
 use crate::gathered::{Gathered, gathered_from};
@@ -23,7 +24,8 @@ use std::alloc::{AllocError, Global};
 use std::marker::Model;
 
 /// The records of a replica, one for each instance of which it knows anything (EPaxos, section 4.3: the `cmds` array).
-/// An instance first gets a place, which takes memory; its record is then written there without.
+/// An instance first gets a place, which takes memory; its record is then written there, and may take memory where its command has a key
+/// that it didn't have.
 #[derive(Drop)]
 pub struct Space {
     size: Size,
@@ -75,7 +77,7 @@ impl Space {
         }
     }
 
-    /// Makes a place for the instance's record, if it has none. It counts as no record, and nothing else takes memory in the table.
+    /// Makes a place for the instance's record, if it has none. It counts as no record.
     pub fn reserve(&mut self, id: InstanceId) -> Result<(), AllocError>
         ensures ok { OnOk result (self.new ≡ record { faults = self.old.faults; records = self.old.records; places = set.insert self.old.places id }) }
         ensures place { OnOk result (HasPlace self.new.places id) }
@@ -84,11 +86,18 @@ impl Space {
         self.table.reserve(id)
     }
 
-    /// Puts back an earlier record, or that there was none, and gives what there is now. It takes no memory.
-    pub fn put_back(&mut self, id: InstanceId, earlier: Option<Record>) -> Option<Record>
+    /// Puts back an earlier record, or that there was none, and gives what there is now. It takes no memory where the key stays, or there
+    /// is none; at want of memory, nothing has changed.
+    pub fn put_back(
+        &mut self,
+        id: InstanceId,
+        earlier: Option<Record>,
+    ) -> Result<Option<Record>, AllocError>
         requires { HasPlace self.old.places id }
-        ensures old { result ≡ get self.old.records id }
-        ensures new { self.new ≡ with_earlier self.old id earlier }
+        ensures old { IfOk result (λ there. there ≡ get self.old.records id) }
+        ensures new { OnOk result (self.new ≡ with_earlier self.old id earlier) }
+        ensures err { OnErr result (self.new ≡ self.old) }
+        ensures succeeds { NeedsNoRoom (key_at self.old.records id) (recorded_key earlier) → IsOk result }
     {
         self.table.put_back(id, earlier)
     }
@@ -172,9 +181,10 @@ impl Space {
         }
     }
 
-    // What is written. It takes no memory.
+    // What is written. A vote may take memory in the index by key, unless its command has the key that the one before had, or none. At want
+    // of it nothing has changed.
 
-    /// Joins the ballot (Sutra, 2019): the last vote stays.
+    /// Joins the ballot (Sutra, 2019): the last vote stays. It takes no memory.
     pub fn join_ballot(&mut self, id: InstanceId, ballot: Ballot)
         requires { HasPlace self.old.places id }
         ensures { self.new ≡ with_record self.old id (record { promised = ballot; vote = (record_at self.old id).vote }) }
@@ -183,25 +193,41 @@ impl Space {
     }
 
     /// Pre-accepts the decree at the ballot.
-    pub fn vote_pre(&mut self, id: InstanceId, ballot: Ballot, decree: Decree)
+    pub fn vote_pre(
+        &mut self,
+        id: InstanceId,
+        ballot: Ballot,
+        decree: Decree,
+    ) -> Result<(), AllocError>
         requires { HasPlace self.old.places id }
-        ensures { self.new ≡ with_record self.old id (voted ballot Status.PreAccepted decree) }
+        ensures ok { OnOk result (self.new ≡ with_record self.old id (voted ballot Status.PreAccepted decree)) }
+        ensures err { OnErr result (self.new ≡ self.old) }
+        ensures succeeds { NeedsNoRoom (key_at self.old.records id) (key_of decree.command) → IsOk result }
     {
-        self.write_vote(id, ballot, Status::PreAccepted, decree);
+        self.write_vote(id, ballot, Status::PreAccepted, decree)
     }
 
     /// Accepts the decree at the ballot.
-    pub fn vote_accept(&mut self, id: InstanceId, ballot: Ballot, decree: Decree)
+    pub fn vote_accept(
+        &mut self,
+        id: InstanceId,
+        ballot: Ballot,
+        decree: Decree,
+    ) -> Result<(), AllocError>
         requires { HasPlace self.old.places id }
-        ensures { self.new ≡ with_record self.old id (voted ballot Status.Accepted decree) }
+        ensures ok { OnOk result (self.new ≡ with_record self.old id (voted ballot Status.Accepted decree)) }
+        ensures err { OnErr result (self.new ≡ self.old) }
+        ensures succeeds { NeedsNoRoom (key_at self.old.records id) (key_of decree.command) → IsOk result }
     {
-        self.write_vote(id, ballot, Status::Accepted, decree);
+        self.write_vote(id, ballot, Status::Accepted, decree)
     }
 
     /// Commits the decree: both ballots stay.
-    pub fn commit(&mut self, id: InstanceId, decree: Decree)
+    pub fn commit(&mut self, id: InstanceId, decree: Decree) -> Result<(), AllocError>
         requires { HasPlace self.old.places id }
-        ensures { self.new ≡ with_record self.old id (with_commit id (record_at self.old id) decree) }
+        ensures ok { OnOk result (self.new ≡ with_record self.old id (with_commit id (record_at self.old id) decree)) }
+        ensures err { OnErr result (self.new ≡ self.old) }
+        ensures succeeds { NeedsNoRoom (key_at self.old.records id) (key_of decree.command) → IsOk result }
     {
         let promised = self.promised(id);
         let ballot = self.voted_ballot(id);
@@ -216,12 +242,20 @@ impl Space {
                 promised,
                 vote: Some(vote),
             }),
-        );
+        )
     }
 
-    fn write_vote(&mut self, id: InstanceId, ballot: Ballot, status: Status, decree: Decree)
+    fn write_vote(
+        &mut self,
+        id: InstanceId,
+        ballot: Ballot,
+        status: Status,
+        decree: Decree,
+    ) -> Result<(), AllocError>
         requires { HasPlace self.old.places id }
-        ensures { self.new ≡ with_record self.old id (voted ballot status decree) }
+        ensures ok { OnOk result (self.new ≡ with_record self.old id (voted ballot status decree)) }
+        ensures err { OnErr result (self.new ≡ self.old) }
+        ensures succeeds { NeedsNoRoom (key_at self.old.records id) (key_of decree.command) → IsOk result }
     {
         let promised = ballot;
         let vote = Vote {
@@ -235,7 +269,7 @@ impl Space {
                 promised,
                 vote: Some(vote),
             }),
-        );
+        )
     }
 
     // What is free, and what interferes.

@@ -1,6 +1,6 @@
 //! A table with places for values of instances.
 
-ghost use Rattle.std.specs.Prelude.{◌≡◌, ◌≢◌, ◌≤◌, ◌<◌, ◌^◌, ℕ, true, Some, OnOk, OnErr, is_some, length, slice_index_or, slice_set};
+ghost use Rattle.std.specs.Prelude.{◌≡◌, ◌≢◌, ◌≤◌, ◌<◌, ℕ, true, Some, OnOk, OnErr, is_some, length, slice_index_or, slice_set};
 ghost use Rattle.std.specs.Option.{option_copied};
 ghost use Rattle.std.specs.FinSet as set;
 ghost use Rattle.std.specs.Map.{keys_of, lookup, set_value};
@@ -90,14 +90,6 @@ impl<V: Drop> Table<V> {
         ensures { result ≡ set.contains self.now.places id }
     {
         spot_of(&self.spots, id) != 0
-    }
-
-    /// How many places there are.
-    pub(crate) fn count(&self) -> usize
-        ensures value { result ≡ set.len self.now.places }
-        ensures small { result < 2 ^ 63 }
-    {
-        self.entries.len()
     }
 }
 

@@ -70,10 +70,38 @@ fn known(space: &Space, id: InstanceId) -> (Ballot, Ballot, bool) {
 
 /// With `put x 1`, pre-accepted with this sequence number.
 fn hold(rt: &impl Abort, alloc: Global, space: &mut Space, id: InstanceId, seq: u32) {
-    place(rt, space, id);
-    let held = decree(rt, alloc, seq);
     let ballot = Ballot::default_of(id.replica());
-    space.vote_pre(id, ballot, held);
+    place(rt, space, id);
+    let before = known(space, id);
+    let held = decree(rt, alloc, seq);
+    if space.vote_pre(id, ballot, held).is_err() {
+        assert_eq!(rt; known(space, id), before);
+        let held = decree(rt, alloc, seq);
+        space
+            .vote_pre(id, ballot, held)
+            .expect(rt, "memory for a vote");
+    }
+}
+
+/// Accepts the decree at the ballot (1, 3).
+fn accept(rt: &impl Abort, alloc: Global, space: &mut Space, id: InstanceId, decree: Decree) {
+    let ballot = ballot(rt, 1, 3);
+    place(rt, space, id);
+    let before = known(space, id);
+    let second = copy_of(rt, alloc, &decree);
+    if space.vote_accept(id, ballot, decree).is_err() {
+        assert_eq!(rt; known(space, id), before);
+        space
+            .vote_accept(id, ballot, second)
+            .expect(rt, "memory for a vote");
+    }
+}
+
+fn copy_of(rt: &impl Abort, alloc: Global, decree: &Decree) -> Decree {
+    match decree.copy(alloc) {
+        Ok(copy) => copy,
+        Err(_) => decree.copy(alloc).expect(rt, "memory for a copy"),
+    }
 }
 
 /// The sequence number that `put x 1` gets in the instance, and how many it depends on; none where it would pass its limit.
@@ -140,6 +168,12 @@ fn a_command_depends_on_all_that_interfere(rt: HostRuntime) {
     );
 }
 
+/// That there was no record. It takes no memory.
+fn put_nothing_back(rt: &impl Abort, space: &mut Space, id: InstanceId) {
+    place(rt, space, id);
+    let _ = space.put_back(id, None).expect(rt, "no memory is taken");
+}
+
 #[test]
 fn a_promise_takes_a_number(rt: HostRuntime) {
     let alloc = rt.alloc();
@@ -154,12 +188,10 @@ fn a_promise_takes_a_number(rt: HostRuntime) {
     }
     assert_eq!(rt; space.free_number(me), Err(SpaceFull));
     let last = instance(&rt, 2, 1000);
-    place(&rt, &mut space, last);
-    space.put_back(last, None);
+    put_nothing_back(&rt, &mut space, last);
     assert_eq!(rt; space.free_number(me), Ok(1000));
     let third = instance(&rt, 2, 3);
-    place(&rt, &mut space, third);
-    space.put_back(third, None);
+    put_nothing_back(&rt, &mut space, third);
     assert_eq!(rt; space.free_number(me), Ok(3));
 }
 
@@ -184,9 +216,8 @@ fn an_accepted_vote_settles_its_ballot(rt: HostRuntime) {
     let low = ballot(&rt, 1, 3);
     let high = ballot(&rt, 2, 4);
     let mut space = empty(&rt, alloc);
-    place(&rt, &mut space, id);
     let value = decree(&rt, alloc, 1);
-    space.vote_accept(id, low, value);
+    accept(&rt, alloc, &mut space, id, value);
     assert!(rt; space.is_settled_at(id, low) && space.is_done_at(id, low));
     assert!(rt; !space.is_settled_at(id, high) && !space.is_done_at(id, high));
     hold(&rt, alloc, &mut space, id, 1);
@@ -202,13 +233,14 @@ fn a_commit_keeps_both_ballots(rt: HostRuntime) {
     let high = ballot(&rt, 2, 4);
     let mut space = empty(&rt, alloc);
     assert_eq!(rt; space.size().count(), 5);
-    place(&rt, &mut space, id);
     let value = decree(&rt, alloc, 1);
-    space.vote_accept(id, low, value);
+    accept(&rt, alloc, &mut space, id, value);
+    place(&rt, &mut space, id);
     space.join_ballot(id, high);
     assert_eq!(rt; known(&space, id), (high, low, false));
     let value = decree(&rt, alloc, 5);
-    space.commit(id, value);
+    place(&rt, &mut space, id);
+    space.commit(id, value).expect(&rt, "no memory is taken");
     assert_eq!(rt; known(&space, id), (high, low, true));
     assert!(rt; space.is_settled_at(id, high) && space.is_done_at(id, high));
     let seq = space.committed(id).map(|decree| decree.attrs.seq.number());
@@ -226,7 +258,9 @@ fn an_earlier_record_is_put_back(rt: HostRuntime) {
     let before = known(&space, id);
     place(&rt, &mut space, id);
     space.join_ballot(id, ballot(&rt, 1, 4));
-    let there = space.put_back(id, earlier);
+    let there = space
+        .put_back(id, earlier)
+        .expect(&rt, "no memory is taken");
     assert_eq!(rt; known(&space, id), before);
     assert_eq!(rt;
         there.map(|record| record.promised),
@@ -267,12 +301,6 @@ fn first_of_all(rt: &impl Abort, alloc: Global, command: Command) -> Decree {
     Decree { command, attrs }
 }
 
-/// Accepts the decree at a new ballot.
-fn vote_again(rt: &impl Abort, space: &mut Space, id: InstanceId, decree: Decree) {
-    place(rt, space, id);
-    space.vote_accept(id, ballot(rt, 1, 4), decree);
-}
-
 /// The instances that the index names for the key are these.
 fn assert_run(rt: &impl Abort, space: &Space, key: &[u8], wanted: &[InstanceId]) {
     let run = space.key_run(key);
@@ -306,10 +334,10 @@ fn a_vote_for_another_key_moves_a_place(rt: HostRuntime) {
     let mut space = empty(&rt, alloc);
     hold(&rt, alloc, &mut space, first, 1);
     hold(&rt, alloc, &mut space, second, 1);
-    vote_again(&rt, &mut space, first, put_of(&rt, alloc, b"a"));
+    accept(&rt, alloc, &mut space, first, put_of(&rt, alloc, b"a"));
     assert_run(&rt, &space, b"a", &[first]);
     assert_run(&rt, &space, b"x", &[second]);
-    vote_again(&rt, &mut space, first, put_of(&rt, alloc, b"x"));
+    accept(&rt, alloc, &mut space, first, put_of(&rt, alloc, b"x"));
     assert_run(&rt, &space, b"a", &[]);
     assert_run(&rt, &space, b"x", &[first, second]);
 }
@@ -321,14 +349,15 @@ fn what_is_put_back_is_in_the_index_again(rt: HostRuntime) {
     let mut space = empty(&rt, alloc);
     hold(&rt, alloc, &mut space, id, 1);
     let earlier = again(&rt, alloc, &space, id);
-    vote_again(&rt, &mut space, id, put_of(&rt, alloc, b"y"));
+    accept(&rt, alloc, &mut space, id, put_of(&rt, alloc, b"y"));
     assert_run(&rt, &space, b"y", &[id]);
     place(&rt, &mut space, id);
-    let _ = space.put_back(id, earlier);
+    let _ = space
+        .put_back(id, earlier)
+        .expect(&rt, "no memory is taken");
     assert_run(&rt, &space, b"x", &[id]);
     assert_run(&rt, &space, b"y", &[]);
-    place(&rt, &mut space, id);
-    let _ = space.put_back(id, None);
+    put_nothing_back(&rt, &mut space, id);
     assert_run(&rt, &space, b"x", &[]);
 }
 
@@ -338,8 +367,9 @@ fn a_no_op_is_not_in_the_index(rt: HostRuntime) {
     let id = instance(&rt, 0, 1);
     let mut space = empty(&rt, alloc);
     hold(&rt, alloc, &mut space, id, 1);
-    vote_again(
+    accept(
         &rt,
+        alloc,
         &mut space,
         id,
         first_of_all(&rt, alloc, Command::noop()),
@@ -370,8 +400,9 @@ fn a_thousand_keys_have_a_run_each(rt: HostRuntime) {
     let mut space = empty(&rt, alloc);
     for number in 1..=1000_u16 {
         let id = instance(&rt, 2, number);
-        vote_again(
+        accept(
             &rt,
+            alloc,
             &mut space,
             id,
             put_of(&rt, alloc, &number.to_le_bytes()),

@@ -46,6 +46,31 @@ fn place(rt: &impl Abort, space: &mut Space, id: InstanceId)
     }
 }
 
+/// `put x 1`, pre-accepted in the instance; where memory is refused, there is no record of it as before.
+fn hold(rt: &impl Abort, alloc: Global, space: &mut Space, id: InstanceId)
+    ensures { HasPlace space.new.places id }
+{
+    let ballot = Ballot::default_of(id.replica());
+    place(rt, space, id);
+    match space.vote_pre(id, ballot, decree(rt, alloc, 1)) {
+        Ok(()) => (),
+        Err(_) => {
+            assert!(rt; space.get(id).is_none());
+            space
+                .vote_pre(id, ballot, decree(rt, alloc, 1))
+                .expect(rt, "memory for a vote");
+        }
+    }
+}
+
+/// A place for the instance, and room in the index for `x`, so that no vote for it there takes memory.
+fn room(rt: &impl Abort, alloc: Global, space: &mut Space, id: InstanceId)
+    ensures { HasPlace space.new.places id }
+{
+    hold(rt, alloc, space, id);
+    let _ = space.put_back(id, None).expect(rt, "no memory is taken");
+}
+
 /// A place in what is led; where memory is refused, nothing is led there as before.
 pub fn lead(rt: &impl Abort, alloc: Global, id: InstanceId) -> Lead
     ensures { HasPlace result.places id }
@@ -114,18 +139,13 @@ impl Trial {
         other: InstanceId,
     ) -> Trial {
         let mut space = Space::new(alloc, Size::new(5).expect(rt, "a size"));
-        place(rt, &mut space, other);
-        space.vote_pre(
-            other,
-            Ballot::default_of(other.replica()),
-            decree(rt, alloc, 1),
-        );
+        hold(rt, alloc, &mut space, other);
         Trial::over(rt, alloc, me, id, space)
     }
 
     fn over(rt: &impl Abort, alloc: Global, me: u8, id: InstanceId, records: Space) -> Trial {
         let mut space = records;
-        place(rt, &mut space, id);
+        room(rt, alloc, &mut space, id);
         let lead = lead(rt, alloc, id);
         Trial {
             me: replica(rt, me),
@@ -144,7 +164,9 @@ impl Trial {
     /// The change takes place, and this is sent.
     pub fn take(&mut self, rt: &impl Abort, alloc: Global, change: Change, sent: &str) {
         self.assert_sends(rt, alloc, &change, sent);
-        change.install(&mut self.space, &mut self.lead, self.id);
+        change
+            .install(&mut self.space, &mut self.lead, self.id)
+            .expect(rt, "no memory is taken");
     }
 
     pub fn begins(&mut self, rt: &impl Abort, alloc: Global, sent: &str) {

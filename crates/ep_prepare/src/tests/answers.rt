@@ -26,7 +26,7 @@ fn recovering(rt: &impl Abort, alloc: Global, size: u8) -> Trial {
         Kind::Prepare,
         ballot(rt, 1, 2),
     );
-    it.take(change);
+    it.take(rt, change);
     it
 }
 
@@ -43,7 +43,7 @@ fn others(size: u8) -> &'static [u8] {
 fn sends_nothing(rt: &impl Abort, alloc: Global, it: &mut Trial, from: u8) {
     let change = answered(rt, alloc, it, from, &None);
     assert_sends_nothing(rt, &change);
-    it.take(change);
+    it.take(rt, change);
 }
 
 /// These answer in turn; the last one of them is the one that the replica waited for, and a no-op is proposed.
@@ -62,7 +62,7 @@ fn counts(rt: &impl Abort, alloc: Global, size: u8, early: &[u8], last: u8, late
         Kind::PreAccept,
         ballot(rt, 1, 2),
     );
-    it.take(change);
+    it.take(rt, change);
     sends_nothing(rt, alloc, &mut it, late);
     drop(it);
 }
@@ -81,7 +81,7 @@ fn uses_no_answer_elsewhere(rt: HostRuntime) {
     let mut it = recovering(&rt, rt.alloc(), 3);
     let change = it.answered(&rt, rt.alloc(), replica(&rt, 0), ballot(&rt, 2, 2), &None);
     assert_sends_nothing(&rt, &change);
-    it.take(change);
+    it.take(&rt, change);
     assert_led(&rt, &it, Some((Kind::Prepare, ballot(&rt, 1, 2))));
     drop(it);
 }
@@ -99,7 +99,7 @@ fn uses_no_answer_after_a_promise(rt: HostRuntime) {
         Kind::PrepareOk,
         ballot(&rt, 2, 1),
     );
-    it.take(change);
+    it.take(&rt, change);
     sends_nothing(&rt, rt.alloc(), &mut it, 0);
     drop(it);
 }
@@ -134,7 +134,7 @@ fn commits_what_was_committed(rt: HostRuntime) {
         ballot(&rt, 0, 0),
     );
     assert_decree(&rt, &change, decree(&rt, rt.alloc(), true));
-    it.take(change);
+    it.take(&rt, change);
     assert!(rt; it.cell().is_committed());
     assert_led(&rt, &it, None);
     drop(it);
@@ -155,7 +155,7 @@ fn accepts(rt: &impl Abort, alloc: Global, status: Status) {
         ballot(rt, 1, 2),
     );
     assert_decree(rt, &change, decree(rt, alloc, true));
-    it.take(change);
+    it.take(rt, change);
     assert_led(rt, &it, Some((Kind::Accept, ballot(rt, 1, 2))));
     drop(it);
 }
@@ -181,7 +181,7 @@ fn proposes(rt: &impl Abort, alloc: Global, vote: Option<Vote>, command: Command
         ballot(rt, 1, 2),
     );
     assert_decree(rt, &change, with_command(rt, alloc, command));
-    it.take(change);
+    it.take(rt, change);
     assert_led(rt, &it, Some((Kind::PreAccept, ballot(rt, 1, 2))));
     drop(it);
 }

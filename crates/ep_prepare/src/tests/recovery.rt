@@ -21,7 +21,7 @@ fn asks(rt: &impl Abort, alloc: Global, size: u8, others: &[u8]) {
         Kind::Prepare,
         ballot(rt, 1, 2),
     );
-    it.take(change);
+    it.take(rt, change);
     it.assert_promised(rt, ballot(rt, 1, 2));
     assert!(rt; it.cell().vote().is_none());
     assert_eq!(rt; answered(&it), Some((ballot(rt, 1, 2), 1)));
@@ -47,7 +47,7 @@ fn asks_all_others(rt: HostRuntime) {
 fn hears(rt: &impl Abort, it: &mut Trial, promised: Ballot) {
     let change = on_nack(&it.cell(), promised);
     assert_sends_nothing(rt, &change);
-    it.take(change);
+    it.take(rt, change);
 }
 
 /// The replica is refused at this counter, and then at a lower one.
@@ -60,7 +60,7 @@ fn is_told(rt: &impl Abort, it: &mut Trial, told: u16) {
 /// A replica that has promised this counter, and was told this one.
 fn knowing(rt: &impl Abort, alloc: Global, promised: u16, told: Option<u16>) -> Trial {
     let mut it = Trial::new(rt, alloc, 5, 2, instance(rt, 0));
-    it.joins(ballot(rt, promised, 4));
+    it.joins(rt, ballot(rt, promised, 4));
     if let Some(told) = told {
         is_told(rt, &mut it, told);
     }
@@ -80,7 +80,7 @@ fn joins(rt: &impl Abort, alloc: Global, promised: u16, told: Option<u16>, joine
         Kind::Prepare,
         joined,
     );
-    it.take(change);
+    it.take(rt, change);
     it.assert_promised(rt, joined);
     drop(it);
 }
@@ -110,8 +110,8 @@ fn joins_a_higher_ballot(rt: HostRuntime) {
 /// What is committed is not recovered, even where no higher ballot is left.
 fn recovers_not(rt: &impl Abort, alloc: Global, promised: u16) {
     let mut it = Trial::new(rt, alloc, 3, 2, instance(rt, 0));
-    it.joins(ballot(rt, promised, 2));
-    it.commits(decree(rt, alloc, false));
+    it.joins(rt, ballot(rt, promised, 2));
+    it.commits(rt, decree(rt, alloc, false));
     assert_refused(rt, alloc, &it, PrepareFault::AlreadyCommitted);
     drop(it);
 }
@@ -127,7 +127,7 @@ fn answers(rt: &impl Abort, alloc: Global, it: &mut Trial, asked: Ballot, kind: 
     let from = asked.replica();
     let change = it.asked(rt, alloc, from, asked);
     assert_sends(rt, &it.cell(), &change, &[from.index()], kind, asked);
-    it.take(change);
+    it.take(rt, change);
 }
 
 /// A Prepare above the promised ballot is answered, once; one below it is refused.
@@ -148,12 +148,12 @@ fn answers_a_prepare(rt: HostRuntime) {
 #[test]
 fn answers_what_it_committed(rt: HostRuntime) {
     let mut it = Trial::new(&rt, rt.alloc(), 5, 1, instance(&rt, 0));
-    it.commits(decree(&rt, rt.alloc(), true));
+    it.commits(&rt, decree(&rt, rt.alloc(), true));
     let asked = ballot(&rt, 1, 2);
     let change = it.asked(&rt, rt.alloc(), replica(&rt, 2), asked);
     assert_sends(&rt, &it.cell(), &change, &[2], Kind::PrepareOk, asked);
     assert_decree(&rt, &change, decree(&rt, rt.alloc(), true));
-    it.take(change);
+    it.take(&rt, change);
     it.assert_promised(&rt, asked);
     drop(it);
 }

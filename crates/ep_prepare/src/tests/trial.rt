@@ -4,7 +4,7 @@ ghost use Rattle.std.specs.Prelude.{◌≡◌, true};
 ghost use Rattle.std.specs.FinSet as set;
 ghost use Rattle.ep_space.specs.Held.{HasPlace};
 
-use crate::tests::samples::replica;
+use crate::tests::samples::{decree, replica};
 use crate::{PrepareFault, on_prepare, on_prepare_ok, recover};
 use ep_base::{Ballot, Decree, InstanceId, ReplicaId, Size, Vote};
 use ep_phase::{Cell, Change, Lead, Leading, Recorded};
@@ -33,7 +33,23 @@ fn space(rt: &impl Abort, alloc: Global, size: u8, id: InstanceId) -> Space
         Ok(()) => (),
         Err(_) => space.reserve(id).expect(rt, "memory"),
     }
+    room(rt, alloc, &mut space, id);
     space
+}
+
+/// Makes room in the index for `x`, so that no vote for it there takes memory.
+fn room(rt: &impl Abort, alloc: Global, space: &mut Space, id: InstanceId)
+    requires { HasPlace space.old.places id }
+    ensures { HasPlace space.new.places id }
+{
+    let ballot = Ballot::default_of(id.replica());
+    match space.vote_pre(id, ballot, decree(rt, alloc, true)) {
+        Ok(()) => (),
+        Err(_) => space
+            .vote_pre(id, ballot, decree(rt, alloc, true))
+            .expect(rt, "memory"),
+    }
+    let _ = space.put_back(id, None).expect(rt, "no memory is taken");
 }
 
 fn lead(rt: &impl Abort, alloc: Global, id: InstanceId) -> Lead
@@ -66,18 +82,26 @@ impl Trial {
     }
 
     /// The change takes place.
-    pub fn take(&mut self, change: Change) {
-        change.install(&mut self.space, &mut self.lead, self.id);
+    pub fn take(&mut self, rt: &impl Abort, change: Change) {
+        change
+            .install(&mut self.space, &mut self.lead, self.id)
+            .expect(rt, "no memory is taken");
     }
 
     /// Joins the ballot.
-    pub fn joins(&mut self, ballot: Ballot) {
-        self.take(Change::of(Recorded::Joins(ballot), Leading::Stays, None));
+    pub fn joins(&mut self, rt: &impl Abort, ballot: Ballot) {
+        self.take(
+            rt,
+            Change::of(Recorded::Joins(ballot), Leading::Stays, None),
+        );
     }
 
     /// Commits the decree.
-    pub fn commits(&mut self, decree: Decree) {
-        self.take(Change::of(Recorded::Commits(decree), Leading::Stays, None));
+    pub fn commits(&mut self, rt: &impl Abort, decree: Decree) {
+        self.take(
+            rt,
+            Change::of(Recorded::Commits(decree), Leading::Stays, None),
+        );
     }
 
     /// What it decides when it is to recover.

@@ -1,5 +1,4 @@
-use Rattle.std.proofs.Common.{◌≡◌, ◌≢◌, ◌≤◌, ◌+◌, ℕ, suc, Bool, true, length, arith, sym, subst, ◌∙◌}
-use Rattle.ep_base.specs.Fitting.{BallotsFit}
+use Rattle.std.proofs.Common.{◌≡◌, ◌≤◌, ◌+◌, ℕ, suc, Bool, length, arith, sym, subst, ◌∙◌}
 use Rattle.ep_base.specs.Quorums.{size}
 use Rattle.ep_frame.specs.Spelling.{Spells}
 use Rattle.ep_rules.specs.Counting.{to_those}

@@ -1,4 +1,3 @@
-use Rattle.std.proofs.Common.{◌≡◌}
 use Rattle.ep_rules.specs.Counting.{to_those}
 use Rattle.ep_rules.specs.Steps.{sent_from}
 use Rattle.ep_journal.specs.Events.{AreSpelled}

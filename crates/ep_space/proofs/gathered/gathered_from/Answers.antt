@@ -5,7 +5,7 @@ use Rattle.ep_space.specs.Gathering.{gather_all, next_attrs}
 use Rattle.ep_space.specs.Keys.{holders}
 use Rattle.ep_space.specs.declared.gathered.Gathered.{Gathered}
 use Rattle.ep_space.proofs.Gathering.{gathered-none, gathered-run}
-use Rattle.ep_space.proofs.Runs.{rising-holders}
+use Rattle.ep_space.proofs.Holders.{rising-holders}
 use Rattle.ep_space.proofs.gathered.gathered_from.Goals as goal
 
 pub gathered_run-requires-clause-rising : goal.gathered_run-requires-clause-rising

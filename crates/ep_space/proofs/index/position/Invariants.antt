@@ -1,13 +1,12 @@
 use Rattle.std.proofs.Common.{length, ◌-◌, ◌≤◌}
-use Rattle.ep_space.specs.Index.{count_before}
-use Rattle.ep_space.specs.Keys.{key_at}
+use Rattle.ep_space.specs.Index.{count_below}
 use Rattle.ep_space.proofs.index.position.Given as goal
 
 abbrev pub invariant-loop-low : goal.invariant-loop-low
 invariant-loop-low l = record {
-  above : l.low ≤ count_before (key_at l.table.held) l.key l.place l.index;
-  below : count_before (key_at l.table.held) l.key l.place l.index ≤ l.high;
-  within : l.high ≤ length l.index;
+  above : l.low ≤ count_below l.place l.run;
+  below : count_below l.place l.run ≤ l.high;
+  within : l.high ≤ length l.run;
 }
 
 abbrev pub decreases-loop-low : goal.decreases-loop-low

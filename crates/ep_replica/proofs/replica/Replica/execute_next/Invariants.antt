@@ -1,4 +1,5 @@
-use Rattle.std.proofs.Common.{◌≡◌, ◌≤◌}
+use Rattle.std.proofs.Common.{◌≡◌, ◌≤◌, IfSome}
+use Rattle.ep_replica.specs.Pending.{IsWaiting}
 use Rattle.ep_replica.proofs.Trying.{AllWait}
 use Rattle.ep_replica.proofs.replica.Replica.execute_next.Given as goal
 
@@ -7,4 +8,5 @@ invariant-loop-number l = record {
   some : 1 ≤ l.number;
   same : l.self ≡ l.fn.self;
   wait : AllWait l.fn.self l.number;
+  known : IfSome l.known (IsWaiting l.fn.self);
 }

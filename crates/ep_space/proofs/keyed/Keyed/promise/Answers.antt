@@ -1,4 +1,4 @@
-use Rattle.std.proofs.Common.{vec_capacity, Some}
+use Rattle.std.proofs.Common.{Some}
 use Rattle.ep_rules.specs.Cells.{record_or_fresh}
 use Rattle.ep_rules.specs.Maps.{get}
 use Rattle.ep_space.proofs.FirstTaken.{taken-written}
@@ -13,8 +13,7 @@ note-requires c =
 pub invariant_of-self : goal.invariant_of-self
 invariant_of-self c = (
   rw c.write_promise.ensures
-      (kept-written c.self.inside.table c.self.inside.index.items (vec_capacity c.self.inside.index) c.args.id
-      (Some (record { promised = c.args.ballot; vote = (record_or_fresh c.args.id (get c.self.inside.table.held c.args.id)).vote }))
+      (kept-written c.self.inside.table.held c.args.id (Some (record { promised = c.args.ballot; vote = (record_or_fresh c.args.id (get c.self.inside.table.held c.args.id)).vote })) c.self.inside.table.places c.self.inside.index.entries
       (key_promised c.args.id (get c.self.inside.table.held c.args.id)) c.self.invariant.0),
   c.note.ensures,
 )

@@ -1,0 +1,72 @@
+-- What a change of one entry of an index says of its runs.
+use Rattle.std.proofs.Common.{◌≡◌, ℕ, Bool, true, false, true≢false, cond, Some, List, [], ◌∷◌, refl, sym, ap, ◌∙◌}
+use Rattle.std.specs.Cmp.Lexicographic.{nat_list_eq_equiv}
+use Rattle.std.specs.Prelude.{Vec, is_some}
+use Rattle.std.specs.Global.{Global}
+use Rattle.std.specs.Map.{lookup, set_value, KeepsOthers}
+use Rattle.ep_base.specs.Attributes.{same_list}
+use Rattle.ep_base.proofs.Same.{Decides-same_list}
+use Rattle.ep_space.specs.Index.{Entry, is_at, listed, run}
+
+abbrev pub same : Vec ℕ Global → Vec ℕ Global → Bool
+same k l = same_list k.items l.items
+
+turned : (k l : List ℕ) → same_list k l ≡ same_list l k
+turned k l = nat_list_eq_equiv.symm k l
+
+-- an index that keeps what other keys have keeps it at each list of bytes
+other_kept : (old new : List Entry) (k q : List ℕ) → KeepsOthers same (is_at k) old new → same_list q k ≡ false → lookup (is_at q) new ≡ lookup (is_at q) old
+unfolding KeepsOthers
+other_kept old new k q keeps e = keeps (is_at q) (λ x y h. nat_list_eq_equiv.congr q x.items y.items h)
+    (λ l h. turned q l.items ∙ sym (nat_list_eq_equiv.congr k l.items q h) ∙ turned k q ∙ e)
+
+-- a new entry
+pub run-updated : (old new : List Entry) (k : List ℕ) (v : Vec ℕ Global) → lookup (is_at k) new ≡ Some v → KeepsOthers same (is_at k) old new
+    → (q : List ℕ) → run new q ≡ cond (same_list q k) v.items (run old q)
+run-updated old new k v here keeps q = go (same_list q k) refl
+  where
+    go : (b : Bool) → same_list q k ≡ b → run new q ≡ cond b v.items (run old q)
+    go true e = ap (λ z. run new z) ((Decides-same_list q k).0 e) ∙ ap listed here
+    go false e = ap listed (other_kept old new k q keeps e)
+
+-- an entry that is written
+pub run-set : (es : List Entry) (k : List ℕ) (v w : Vec ℕ Global) → lookup (is_at k) es ≡ Some v → (q : List ℕ) → run (set_value (is_at k) es w) q ≡ cond (same_list q k) w.items (run es q)
+run-set [] k v w here q = absurd (true≢false (sym (ap is_some here)))
+run-set (e ∷ es) k v w here q = go (is_at k e.0) refl here (λ h. run-set es k v w h q)
+  where
+    at_key : (b : Bool) → same_list q k ≡ b → same_list k e.0.items ≡ true → listed (cond (same_list q e.0.items) (Some w) (lookup (is_at q) es)) ≡ cond b w.items (listed (cond (same_list q e.0.items) (Some e.1) (lookup (is_at q) es)))
+    at_key true s h =
+        let own : same_list q e.0.items ≡ true = nat_list_eq_equiv.congr q k e.0.items s ∙ h in
+        ap (λ b. listed (cond b (Some w) (lookup (is_at q) es))) own
+    at_key false s h =
+        let own : same_list q e.0.items ≡ false = turned q e.0.items ∙ sym (nat_list_eq_equiv.congr k e.0.items q h) ∙ turned k q ∙ s in
+        ap (λ b. listed (cond b (Some w) (lookup (is_at q) es))) own ∙ sym (ap (λ b. listed (cond b (Some e.1) (lookup (is_at q) es))) own)
+
+    later : (b c : Bool) → same_list q e.0.items ≡ b → same_list q k ≡ c → same_list k e.0.items ≡ false → run (set_value (is_at k) es w) q ≡ cond c w.items (run es q)
+        → listed (cond b (Some e.1) (lookup (is_at q) (set_value (is_at k) es w))) ≡ cond c w.items (listed (cond b (Some e.1) (lookup (is_at q) es)))
+    later true true s t h rest = absurd (true≢false (sym s ∙ nat_list_eq_equiv.congr q k e.0.items t ∙ h))
+    later true false s t h rest = refl
+    later false c s t h rest = rest
+
+    go : (b : Bool) → is_at k e.0 ≡ b → cond b (Some e.1) (lookup (is_at k) es) ≡ Some v → (lookup (is_at k) es ≡ Some v → run (set_value (is_at k) es w) q ≡ cond (same_list q k) w.items (run es q))
+        → run (cond b ((e.0, w) ∷ es) (e ∷ set_value (is_at k) es w)) q ≡ cond (same_list q k) w.items (run (e ∷ es) q)
+    go true h here rest = at_key (same_list q k) refl h
+    go false h here rest = later (same_list q e.0.items) (same_list q k) refl refl h (rest here)
+
+abbrev Changes : (List ℕ → List ℕ) → List Entry → List ℕ → List Entry → Type 0
+Changes f es k fs = (q : List ℕ) → run fs q ≡ cond (same_list q k) (f (run es q)) (run es q)
+
+-- where the run of one key is changed so
+pub run-changed : (f : List ℕ → List ℕ) (es fs : List Entry) (k : List ℕ) (v w : Vec ℕ Global) → lookup (is_at k) es ≡ Some v → fs ≡ set_value (is_at k) es w → w.items ≡ f v.items → Changes f es k fs
+run-changed f es fs k v w here written changed q = ap (λ gs. run gs q) written ∙ run-set es k v w here q ∙ go (same_list q k) refl
+  where
+    go : (b : Bool) → same_list q k ≡ b → cond b w.items (run es q) ≡ cond b (f (run es q)) (run es q)
+    go true e = changed ∙ sym (ap f (ap (run es) ((Decides-same_list q k).0 e) ∙ ap listed here))
+    go false e = refl
+
+pub run-kept : (es fs : List Entry) (k : List ℕ) (v w : Vec ℕ Global) → lookup (is_at k) es ≡ Some v → fs ≡ set_value (is_at k) es w → w.items ≡ v.items → (q : List ℕ) → run fs q ≡ run es q
+run-kept es fs k v w here written kept q = run-changed (λ xs. xs) es fs k v w here written kept q ∙ go (same_list q k)
+  where
+    go : (b : Bool) → cond b (run es q) (run es q) ≡ run es q
+    go true = refl
+    go false = refl

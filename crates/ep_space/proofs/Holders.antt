@@ -1,0 +1,153 @@
+-- The instances whose recorded command has a key.
+use Rattle.std.proofs.Common.{◌≡◌, ℕ, ◌<◌, Bool, true, false, cond, List, [], ◌∷◌, is_some, Option, Some, None, refl, sym, ap, subst, ◌∙◌, arith, true≢false, inl, inr, T}
+use Rattle.std.specs.Cmp.{unsigned_tied}
+use Rattle.std.specs.FinMap as map
+use Rattle.std.specs.FinMap.{find, is_sorted}
+use Rattle.std.specs.FinMap.Entries.{below_all}
+use Rattle.std.specs.Ordering.{nat_cmp, eq_by_cmp, is_lt}
+use Rattle.std.specs.declared.cmp.Ordering.{Ordering}
+use Rattle.std.specs.declared.cmp.Ordering.TheVariants.{Less, Equal, Greater}
+use Rattle.std.proofs.lemmas.Bool.{and_parts, eq-eqb, eqb-true}
+use Rattle.std.proofs.lemmas.Cmp.{ranked}
+use Rattle.std.proofs.lemmas.Option.{none-some}
+use Rattle.ep_base.specs.Deps.{IsRising, IsBelowFirst, AreInstances}
+use Rattle.ep_base.specs.Instances.{IsInstance}
+use Rattle.ep_base.specs.Places.{Has}
+use Rattle.ep_base.proofs.Members.{same_members}
+use Rattle.ep_base.proofs.Places.{Has-empty, Has-cons_cases, Has-head, Has-tail}
+use Rattle.ep_rules.specs.InterferenceSet.{those, instances}
+use Rattle.ep_rules.specs.Maps.{Map, none, get}
+use Rattle.ep_rules.specs.declared.record.Record.{Record}
+use Rattle.ep_space.specs.Keys.{voted_key, recorded_key, key_at, is_key, has_key, holders}
+use Rattle.ep_space.proofs.Rising.{some_is, all_from}
+
+-- The instances of those entries of a map that pass a test.
+
+less_from : (o : Ordering) → is_lt o ≡ true → o ≡ Less
+less_from Less e = refl
+less_from Equal e = absurd cc
+less_from Greater e = absurd cc
+
+lt_from : (i j : ℕ) → is_lt (nat_cmp i j) ≡ true → i < j
+lt_from i j e = ranked i j Less (sym (less_from (nat_cmp i j) e))
+
+below_found : (k i : ℕ) (r : Record) (es : List (ℕ × Record)) → below_all nat_cmp k es ≡ true → find nat_cmp i es ≡ Some r → k < i
+below_found k i r [] h e = absurd (none-some r e)
+below_found k i r (f ∷ fs) h e = go (eq_by_cmp nat_cmp i f.0) refl e (below_found k i r fs p.1)
+  where
+    p : (is_lt (nat_cmp k f.0) ≡ true) × (below_all nat_cmp k fs ≡ true)
+    p = and_parts (is_lt (nat_cmp k f.0)) (below_all nat_cmp k fs) h
+
+    go : (b : Bool) → eq_by_cmp nat_cmp i f.0 ≡ b → cond b (Some f.1) (find nat_cmp i fs) ≡ Some r → (find nat_cmp i fs ≡ Some r → k < i) → k < i
+    go true same at rest = subst (λ q. k < q) (sym (eqb-true i f.0 (sym (unsigned_tied i f.0) ∙ same))) (lt_from k f.0 p.0)
+    go false apart at rest = rest at
+
+-- what is found further on is found from the start
+pub found_on : (e : ℕ × Record) (es : List (ℕ × Record)) (i : ℕ) (r : Record) → below_all nat_cmp e.0 es ≡ true → find nat_cmp i es ≡ Some r → find nat_cmp i (e ∷ es) ≡ Some r
+found_on e es i r h at = go (eq_by_cmp nat_cmp i e.0) refl
+  where
+    go : (b : Bool) → eq_by_cmp nat_cmp i e.0 ≡ b → cond b (Some e.1) (find nat_cmp i es) ≡ Some r
+    go true same =
+        let low = below_found e.0 i r es h at in
+        let tied = eqb-true i e.0 (sym (unsigned_tied i e.0) ∙ same) in
+        absurd (omega (arith, low, tied))
+    go false apart = at
+
+abbrev pub Found : (ℕ × Record → Bool) → List (ℕ × Record) → ℕ → Type 0
+Found t es i = (r : Record) × (find nat_cmp i es ≡ Some r) × (t (i, r) ≡ true)
+
+module _ (t : ℕ × Record → Bool) where
+  first_low : (k : ℕ) (es : List (ℕ × Record)) → below_all nat_cmp k es ≡ true → IsBelowFirst k (instances (those t es))
+  first_low k [] h = tt
+  first_low k (e ∷ es) h =
+      let p = and_parts (is_lt (nat_cmp k e.0)) (below_all nat_cmp k es) h in
+      elim (t e) as (λ b. IsBelowFirst k (instances (cond b (e ∷ those t es) (those t es)))) [ true ↦ lt_from k e.0 p.0 | false ↦ first_low k es p.1 ]
+
+  pub rising_those : (es : List (ℕ × Record)) → is_sorted nat_cmp es ≡ true → IsRising (instances (those t es))
+  rising_those [] h = tt
+  rising_those (e ∷ es) h =
+      let p = and_parts (below_all nat_cmp e.0 es) (is_sorted nat_cmp es) h in
+      elim (t e) as (λ b. IsRising (instances (cond b (e ∷ those t es) (those t es)))) [ true ↦ (first_low e.0 es p.0, rising_those es p.1) | false ↦ rising_those es p.1 ]
+
+  pub those-found : (es : List (ℕ × Record)) (i : ℕ) → is_sorted nat_cmp es ≡ true → Has (instances (those t es)) i → Found t es i
+  those-found [] i s has = absurd (Has-empty i has)
+  those-found (e ∷ es) i s has = go (t e) refl (those-found es i p.1) has
+    where
+      p : (below_all nat_cmp e.0 es ≡ true) × (is_sorted nat_cmp es ≡ true)
+      p = and_parts (below_all nat_cmp e.0 es) (is_sorted nat_cmp es) s
+
+      on : Found t es i → Found t (e ∷ es) i
+      on f = (f.0, found_on e es i f.0 p.0 f.1, f.2)
+
+      here : e.0 ≡ i → find nat_cmp i (e ∷ es) ≡ Some e.1
+      here same = ap (λ b. cond b (Some e.1) (find nat_cmp i es)) (unsigned_tied i e.0 ∙ eq-eqb i e.0 (sym same))
+
+      go : (b : Bool) → t e ≡ b → (Has (instances (those t es)) i → Found t es i) → Has (instances (cond b (e ∷ those t es) (those t es))) i → Found t (e ∷ es) i
+      go true passes rest h = elim (Has-cons_cases e.0 (instances (those t es)) i h) [
+        | inl same ↦ (e.1, here same, subst (λ q. t (q, e.1) ≡ true) same passes)
+        | inr u ↦ on (rest u)
+      ]
+      go false fails rest h = on (rest h)
+
+  pub found-those : (es : List (ℕ × Record)) (i : ℕ) (r : Record) → find nat_cmp i es ≡ Some r → t (i, r) ≡ true → Has (instances (those t es)) i
+  found-those [] i r at h = absurd (none-some r at)
+  found-those (e ∷ es) i r at h = go (eq_by_cmp nat_cmp i e.0) refl at (λ u. found-those es i r u h)
+    where
+      here : e.0 ≡ i → e.1 ≡ r → (b : Bool) → t e ≡ b → Has (instances (cond b (e ∷ those t es) (those t es))) i
+      here same value true passes = Has-head e.0 (instances (those t es)) i same
+      here same value false fails = absurd (true≢false (sym h ∙ (λ d. t (sym same d, sym value d)) ∙ fails))
+
+      there : (b : Bool) → Has (instances (those t es)) i → Has (instances (cond b (e ∷ those t es) (those t es))) i
+      there true has = Has-tail e.0 (instances (those t es)) i has
+      there false has = has
+
+      go : (b : Bool) → eq_by_cmp nat_cmp i e.0 ≡ b → cond b (Some e.1) (find nat_cmp i es) ≡ Some r → (find nat_cmp i es ≡ Some r → Has (instances (those t es)) i)
+          → Has (instances (those t (e ∷ es))) i
+      go true tied at rest = here (sym (eqb-true i e.0 (sym (unsigned_tied i e.0) ∙ tied))) (some_is e.1 r at) (t e) refl
+      go false apart at rest = there (t e) (rest at)
+
+true_from : (b : Bool) → T b → b ≡ true
+true_from true h = refl
+true_from false h = absurd h
+
+pub sorted_true : (m : Map Record) → is_sorted nat_cmp (map.entries m) ≡ true
+sorted_true m = true_from (is_sorted nat_cmp (map.entries m)) (map.entries_sorted m)
+
+pub rising-holders : (l : List ℕ) (m : Map Record) → IsRising (holders l m)
+rising-holders l m = rising_those (has_key l) (map.entries m) (sorted_true m)
+
+-- Who holds a key.
+
+pub holds-key : (k : List ℕ) (m : Map Record) (i : ℕ) → Has (holders k m) i → is_key k (key_at m i) ≡ true
+holds-key k m i has =
+    let found = those-found (has_key k) (map.entries m) i (sorted_true m) has in
+    let own : key_at m i ≡ voted_key found.0.vote = ap recorded_key (map.get-entries m i ∙ found.1) in
+    ap (is_key k) own ∙ found.2
+
+pub key-holds : (k : List ℕ) (m : Map Record) (i : ℕ) → is_key k (key_at m i) ≡ true → Has (holders k m) i
+key-holds k m i h = go (get m i) refl h
+  where
+    go : (o : Option Record) → get m i ≡ o → is_key k (recorded_key o) ≡ true → Has (holders k m) i
+    go None e h = absurd (true≢false (sym h))
+    go (Some r) e h = found-those (has_key k) (map.entries m) i r (sym (map.get-entries m i) ∙ e) h
+
+is_key-some : (k : List ℕ) (o : Option (List ℕ)) → is_key k o ≡ true → is_some o ≡ true
+is_key-some k None h = absurd (true≢false (sym h))
+is_key-some k (Some l) h = refl
+
+-- of no records, none
+pub holders-none : (k : List ℕ) → holders k none ≡ []
+holders-none k = same_members (holders k none) [] (rising-holders k none) tt (λ i has. absurd (nobody i (holds-key k none i has))) (λ i has. absurd (Has-empty i has))
+  where
+    nobody : (i : ℕ) → is_key k (key_at none i) ≡ true → ⊥
+    nobody i h = true≢false (sym h ∙ ap (λ o. is_key k (recorded_key o)) (map.get-empty nat_cmp i))
+
+pub instances-holders : (k : List ℕ) (m : Map Record) → ((i : ℕ) → is_some (key_at m i) ≡ true → IsInstance i) → AreInstances (holders k m)
+instances-holders k m known = all_from IsInstance (holders k m) (λ i has. known i (is_key-some k (key_at m i) (holds-key k m i has)))
+
+-- maps with the same keys have the same holders
+pub holders-same : (k : List ℕ) (m n : Map Record) → ((i : ℕ) → key_at m i ≡ key_at n i) → holders k m ≡ holders k n
+holders-same k m n same =
+    same_members (holders k m) (holders k n) (rising-holders k m) (rising-holders k n)
+    (λ i has. key-holds k n i (sym (ap (is_key k) (same i)) ∙ holds-key k m i has))
+    (λ i has. key-holds k m i (ap (is_key k) (same i) ∙ holds-key k n i has))

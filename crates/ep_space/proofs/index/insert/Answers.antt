@@ -1,0 +1,10 @@
+use Rattle.std.proofs.Common.{◌≡◌, ◌∙◌, ap, insert}
+use Rattle.ep_space.specs.Index.{count_below}
+use Rattle.ep_space.proofs.Rising.{insert-at_count}
+use Rattle.ep_space.proofs.index.insert.Goals as goal
+
+pub returns-clause-ok : goal.returns-clause-ok
+returns-clause-ok c =
+    let is = c.args.run.now.items in
+    let at : c.position-at.result ≡ count_below c.args.place is = c.position-at.ensures.value ∙ ap (count_below c.args.place) c.as_slice.ensures.value in
+    c.in_ok-insert.ensures.items ∙ ap (λ n. insert is n c.args.place) at ∙ insert-at_count c.args.place is
