@@ -6,3 +6,5 @@ pub mod Settled
 pub mod Given
 pub mod Trying
 pub mod Taking
+pub mod Remembering
+pub mod Waking

@@ -8,9 +8,12 @@ use Rattle.ep_replica.specs.Applied.{Applied}
 use Rattle.ep_replica.specs.Kept.{Kept}
 use Rattle.ep_base.specs.Places.{Has}
 use Rattle.ep_exec.proofs.Counts.{place_at}
+use Rattle.ep_base.specs.declared.attrs.Attrs.{Attrs}
+use Rattle.ep_rules.specs.States.{graph_in}
+use Rattle.ep_replica.specs.Blockers.{IsBlockedBy}
 use Rattle.ep_rules.proofs.Reaching.{reach_trans}
 use Rattle.ep_rules.specs.Graph.Reaches.{itself, onward}
-use Rattle.ep_replica.specs.Pending.{DependsOn, IsPending, IsWaiting, IsShort, LesserWait, IsAbove, IsNext, ExecutesNext}
+use Rattle.ep_replica.specs.Pending.{state_of, IsPending, IsWaiting, IsShort, LesserWait, IsAbove, IsNext, ExecutesNext}
 
 -- Instances by their numbers.
 
@@ -59,12 +62,10 @@ AllWait k n = (m : ℕ) → 1 ≤ m → m < n → IsPending k (instance_of k.me 
 pub wait_first : (k : Kept) → AllWait k 1
 wait_first k m some low = absurd (omega arith)
 
-pub wait_more : (k : Kept) (n i : ℕ) → i ≡ instance_of k.me n → (IsPending k i → IsWaiting k i) → AllWait k n → AllWait k (n + 1)
-wait_more k n i is waits h m some low p = elim (cases_lt m n) [
-  | inl l ↦ h m some l p
-  | inr l ↦ (let same : m ≡ n = omega arith in
-      let here : instance_of k.me m ≡ i = ap (λ z. instance_of k.me z) same ∙ sym is in
-      subst (λ z. IsWaiting k z) (sym here) (waits (subst (λ z. IsPending k z) here p)))
+pub wait_more : (k : Kept) (n m : ℕ) → AllWait k n → ((l : ℕ) → n ≤ l → l < m → IsPending k (instance_of k.me l) → IsWaiting k (instance_of k.me l)) → AllWait k m
+wait_more k n m h more l some low p = elim (cases_lt l n) [
+  | inl lt ↦ h l some lt p
+  | inr le ↦ more l (omega arith) low p
 ]
 
 pub all_wait : (k : Kept) (n : ℕ) → 1000 < n → AllWait k n → (j : ℕ) → IsPending k j → IsWaiting k j
@@ -76,32 +77,32 @@ lesser_wait k n i is few h j p low =
     let le = p.named.2 in
     subst (λ z. IsWaiting k z) own (h (number_of j) p.named.1 (omega arith) (pending_again k j p))
 
--- One more number.
+-- A try at the least that is due.
+
+-- what was tried waits, and so do those up to the next one
+pub passed_next : (k s : Kept) (n m i : ℕ) → s ≡ k → i ≡ instance_of s.me n → AllWait k n → (IsPending s i → IsWaiting s i) → ((l : ℕ) → n + 1 ≤ l → l < m → IsPending s (instance_of s.me l) → IsWaiting s (instance_of s.me l)) → AllWait k m
+passed_next k s n m i same is h tried more = wait_more k n m h (λ l le low p. elim (cases_lt n l) [
+  | inl above ↦ subst (λ (z : Kept). IsPending z (instance_of z.me l) → IsWaiting z (instance_of z.me l)) same (more l (omega arith) low) p
+  | inr le_n ↦ (
+      let at : l ≡ n = omega arith in
+      let here : IsPending s (instance_of s.me n) → IsWaiting s (instance_of s.me n) = subst (λ j. IsPending s j → IsWaiting s j) is tried in
+      subst (λ (z : Kept). IsPending z (instance_of z.me l) → IsWaiting z (instance_of z.me l)) same (subst (λ x. IsPending s (instance_of s.me x) → IsWaiting s (instance_of s.me x)) (sym at) here) p)
+])
 
 pub executed_next : (k s k' : Kept) (n i : ℕ) → s ≡ k → i ≡ instance_of s.me n → n ≤ 1000 → AllWait k n → IsPending s i × ((e : Entry) × Applied s (Execute i) e k') → ExecutesNext k true k'
 executed_next k s k' n i same is few h t =
     let here : i ≡ instance_of k.me n = is ∙ ap (λ (z : Kept). instance_of z.me n) same in
     (i, subst (λ (z : Kept). IsPending z i) same t.0, subst (λ (z : Kept). (e : Entry) × Applied z (Execute i) e k') same t.1, lesser_wait k n i here few h)
 
-pub passed_next : (k s : Kept) (n i : ℕ) → s ≡ k → i ≡ instance_of s.me n → AllWait k n → (IsPending s i → IsWaiting s i) → AllWait k (n + 1)
-passed_next k s n i same is h t =
-    wait_more k n i (is ∙ ap (λ (z : Kept). instance_of z.me n) same) (subst (λ (z : Kept). IsPending z i → IsWaiting z i) same t) h
-
 pub refused_next : (k s k' : Kept) (n i : ℕ) → s ≡ k → i ≡ instance_of s.me n → n ≤ 1000 → AllWait k n → IsPending s i × IsShort s i × (k' ≡ s) → ExecutesNext k false k'
 refused_next k s k' n i same is few h t =
     let here : i ≡ instance_of k.me n = is ∙ ap (λ (z : Kept). instance_of z.me n) same in
     (inr (i, subst (λ (z : Kept). IsPending z i) same t.0, subst (λ (z : Kept). IsShort z i) same t.1, lesser_wait k n i here few h), t.2 ∙ same)
 
--- what depends on one that waits does so too
-pub waits_on : (k : Kept) (i : ℕ) (known : Option ℕ) → IfSome known (IsWaiting k) → DependsOn k i known → IsWaiting k i
-waits_on k i None h d = absurd d
-waits_on k i (Some j) h d = (h.0, reach_trans (onward d.0 itself d.1 d.2) h.1, h.2)
-
-pub known_next : (k s : Kept) (i : ℕ) → s ≡ k → IsWaiting s i → IsWaiting k i
-known_next k s i same w = subst (λ (z : Kept). IsWaiting z i) same w
-
-pub known_still : (k s : Kept) (known : Option ℕ) → s ≡ k → IfSome known (IsWaiting k) → IfSome known (IsWaiting s)
-known_still k s known same h = subst (λ (z : Kept). IfSome known (IsWaiting z)) (sym same) h
+-- what depends on a blocked instance is blocked
+pub blocked_on : (k : Kept) (i : ℕ) (a : Attrs) (o : Option ℕ) → graph_in (state_of k).records i ≡ Some a → IfSome o (λ j. (d : ℕ) × Has a.deps d × IsBlockedBy k d j) → IfSome o (IsBlockedBy k i)
+blocked_on k i a None is h = tt
+blocked_on k i a (Some j) is h = (reach_trans (onward a itself is h.1) h.2.0, h.2.1)
 
 -- an element of a list is in it
 pub has_item : (xs : List ℕ) (n x i : ℕ) → n < length xs → x ≡ get_or xs n x → x ≡ i → Has xs i

@@ -5,3 +5,5 @@ pub mod Receipts
 pub mod Slots
 pub mod Outcomes
 pub mod Pending
+pub mod Spans
+pub mod Blockers

@@ -3,7 +3,6 @@ use Rattle.std.specs.Prelude.{◌≡◌, ◌⊎◌, ℕ, ◌<◌, ◌+◌, Bool,
 use Rattle.ep_base.specs.Instances.{instance_of, leader_of, IsInstance}
 use Rattle.ep_base.specs.Messages.{instance_of_message}
 use Rattle.ep_base.specs.Places.{Has}
-use Rattle.ep_base.specs.declared.attrs.Attrs.{Attrs}
 use Rattle.ep_base.specs.declared.decree.Decree.{Decree}
 use Rattle.ep_frame.specs.Meaning.{message_at}
 use Rattle.ep_rules.specs.Graph.{Reaches}
@@ -17,7 +16,7 @@ use Rattle.ep_journal.specs.Leaving.{state_left}
 use Rattle.ep_replica.specs.Applied.{Applied, IsDeclined}
 use Rattle.ep_replica.specs.Kept.{Kept}
 use Rattle.ep_replica.specs.declared.pending.Tried.{Tried}
-use Rattle.ep_replica.specs.declared.pending.Tried.TheVariants.{Executed, Passed, Waits, Refused}
+use Rattle.ep_replica.specs.declared.pending.Tried.TheVariants.{Executed, Passed, Refused}
 
 -- the state that the replica's journal leaves
 abbrev pub state_of : Kept → State
@@ -48,16 +47,10 @@ abbrev pub IsNext : Kept → Option ℕ → Option ℕ → Type 0
 IsNext k after None = (j : ℕ) → IsPending k j → ¬ IsAbove after j
 IsNext k after (Some i) = IsPending k i × IsAbove after i × ((j : ℕ) → IsPending k j → IsAbove after j → ¬ (j < i))
 
--- the instance is committed, and depends on this one
-abbrev pub DependsOn : Kept → ℕ → Option ℕ → Type 0
-DependsOn k i None = ⊥
-DependsOn k i (Some j) = (a : Attrs) × (graph_in (state_of k).records i ≡ Some a) × Has a.deps j
-
--- a try to execute an instance: it was executed; or it isn't pending or waits; or it waits; or it was refused for another reason
+-- a try to execute an instance: it was executed; or it isn't pending or waits; or it was refused for another reason
 abbrev pub Tries : Kept → ℕ → Tried → Kept → Type 0
 Tries k i Executed k' = IsPending k i × ((e : Entry) × Applied k (Execute i) e k')
 Tries k i Passed k' = (IsPending k i → IsWaiting k i) × (k' ≡ k)
-Tries k i Waits k' = IsWaiting k i × (k' ≡ k)
 Tries k i Refused k' = IsPending k i × IsShort k i × (k' ≡ k)
 
 -- each lesser pending instance waits

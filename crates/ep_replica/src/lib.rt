@@ -10,14 +10,18 @@
 //! by its type. No disk, no socket, no time and no thread is in here; leave those to the program.
 #![tactic(auto)]
 
+mod blockers;
 mod clock;
+mod due;
 mod pending;
 mod proposal;
 mod proposing;
 mod receipt_view;
+mod remembered;
 mod replica;
 mod replica_fault;
 mod slots;
+mod span;
 
 pub use proposal::Proposal;
 pub use receipt_view::ReceiptView;

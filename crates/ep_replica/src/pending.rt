@@ -2,22 +2,20 @@
 
 ghost use Rattle.std.specs.Prelude.{◌≡◌, ◌≤◌, ◌↔◌, IsTrue};
 ghost use Rattle.ep_base.specs.Instances.{instance_of, highest_number};
-ghost use Rattle.ep_base.specs.Places.{Has};
 ghost use Rattle.ep_replica.specs.Pending.{IsAbove};
 
 use crate::replica::Replica;
 use ep_base::{InstanceId, ReplicaId};
 use ep_journal::Event;
+use std::alloc::AllocError;
 
 /// What came of a try to execute an instance.
 #[derive(Clone, Copy, Debug, PartialEq, Eq)]
 enum Tried {
     /// It was executed.
     Executed,
-    /// It isn't committed, or was executed before, or depends on one that waits.
+    /// It isn't committed, or was executed before, or waits for one that isn't committed.
     Passed,
-    /// It waits for one that isn't committed.
-    Waits,
     /// It was refused for want of memory or a full stamp.
     Refused,
 }
@@ -40,22 +38,12 @@ fn is_above(after: &Option<InstanceId>, instance: InstanceId) -> bool
     }
 }
 
-/// Whether the list has the instance.
-fn has(list: &[InstanceId], instance: InstanceId) -> bool
-    ensures { IsTrue result → Has list.now instance }
-{
-    for other in list {
-        if *other == instance {
-            return true;
-        }
-    }
-    false
-}
-
 impl Replica {
-    ghost use Rattle.std.specs.Prelude.{◌↔◌, ◌≡◌, ◌≤◌, IsTrue, IfSome};
+    ghost use Rattle.std.specs.Prelude.{◌↔◌, ◌≡◌, ◌≤◌, IsTrue, IfSome, IfOk};
     ghost use Rattle.ep_base.specs.Places.{Has};
-    ghost use Rattle.ep_replica.specs.Pending.{state_of, DependsOn, IsPending, IsWaiting, IsNext, Tries, ExecutesNext};
+    ghost use Rattle.ep_base.specs.Instances.{leader_of};
+    ghost use Rattle.ep_replica.specs.Blockers.{IsBlockedBy};
+    ghost use Rattle.ep_replica.specs.Pending.{state_of, IsPending, IsNext, Tries, ExecutesNext};
 
     /// Whether the instance was executed here.
     pub fn has_executed(&self, instance: InstanceId) -> bool
@@ -97,34 +85,41 @@ impl Replica {
         }
     }
 
-    /// Whether the instance is committed and depends on this one, where there is one.
-    fn depends_on(&self, instance: InstanceId, known: &Option<InstanceId>) -> bool
-        ensures { IsTrue result → DependsOn self.now instance known.now }
+    /// An instance that this one waits for, which isn't committed; none where all that it reaches is committed.
+    fn obstacle(&self, instance: InstanceId) -> Result<Option<InstanceId>, AllocError>
+        ensures { IfOk result (λ found. IfSome found (IsBlockedBy self.now instance)) }
     {
-        let Some(decree) = self.committed(instance) else {
-            return false;
-        };
-        match known {
-            Some(known) => has(decree.attrs.deps.as_slice(), *known),
-            None => false,
+        let known = self.known_obstacle(instance);
+        if known.is_some() {
+            return Ok(known);
         }
+        self.missing(instance)
     }
 
-    /// Executes an instance, if it is pending and waits for none. Otherwise the replica is left as it was. One that depends on what is known to
-    /// wait is not looked at any further.
-    fn try_execute(&mut self, instance: InstanceId, known: &Option<InstanceId>) -> Tried
-        requires { IfSome known.now (IsWaiting self.old) }
+    /// What blocks an own instance that this one depends on, if that is known.
+    fn known_obstacle(&self, instance: InstanceId) -> Option<InstanceId>
+        ensures { IfSome result (IsBlockedBy self.now instance) }
+    {
+        let decree = self.committed(instance)?;
+        self.blocker_among(decree.attrs.deps.as_slice())
+    }
+
+    /// Executes an own instance, if it is pending and waits for none. Otherwise the replica is left as it was, and where it waits it isn't tried
+    /// again before what it waits for is committed.
+    fn try_execute(&mut self, instance: InstanceId) -> Tried
+        requires { leader_of instance ≡ self.old.me }
         ensures { Tries self.old instance result self.new }
     {
         if !self.is_pending(instance) {
+            self.set_aside(instance, None);
             return Tried::Passed;
         }
-        if self.depends_on(instance, known) {
-            return Tried::Passed;
-        }
-        match self.missing(instance) {
+        match self.obstacle(instance) {
             Ok(None) => self.execute(instance),
-            Ok(Some(_)) => Tried::Waits,
+            Ok(Some(blocker)) => {
+                self.set_aside(instance, Some(blocker));
+                Tried::Passed
+            }
             Err(_) => Tried::Refused,
         }
     }
@@ -135,13 +130,11 @@ impl Replica {
     pub fn execute_next(&mut self) -> bool
         ensures { ExecutesNext self.old result self.new }
     {
-        let mut known = None;
-        for number in 1..1001 {
-            let instance = instance_at(self.me(), number);
-            match self.try_execute(instance, &known) {
+        let mut number = self.next_due(1);
+        while number <= 1000 {
+            match self.try_execute(instance_at(self.me(), number)) {
                 Tried::Executed => return true,
-                Tried::Passed => {}
-                Tried::Waits => known = Some(instance),
+                Tried::Passed => number = self.next_due(number + 1),
                 Tried::Refused => return false,
             }
         }

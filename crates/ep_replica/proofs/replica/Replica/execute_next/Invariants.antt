@@ -1,12 +1,13 @@
-use Rattle.std.proofs.Common.{◌≡◌, ◌≤◌, IfSome}
-use Rattle.ep_replica.specs.Pending.{IsWaiting}
+use Rattle.std.proofs.Common.{◌+◌, ◌-◌, ◌≡◌, ◌≤◌}
 use Rattle.ep_replica.proofs.Trying.{AllWait}
 use Rattle.ep_replica.proofs.replica.Replica.execute_next.Given as goal
 
 abbrev pub invariant-loop-number : goal.invariant-loop-number
 invariant-loop-number l = record {
-  some : 1 ≤ l.number;
+  range : (1 ≤ l.number) × (l.number ≤ 1001);
   same : l.self ≡ l.fn.self;
   wait : AllWait l.fn.self l.number;
-  known : IfSome l.known (IsWaiting l.fn.self);
 }
+
+abbrev pub decreases-loop-number : goal.decreases-loop-number
+decreases-loop-number l = 1000 + 1 - l.number

@@ -1,0 +1,11 @@
+use Rattle.std.proofs.Common.{◌≡◌, ◌≢◌, ◌≤◌, ℕ, None, length}
+use Rattle.ep_replica.specs.Blockers.{blocker_of}
+use Rattle.ep_replica.specs.Spans.{IsWithin}
+use Rattle.ep_replica.proofs.blockers.Blockers.reserve.Given as goal
+
+abbrev pub invariant-loop : goal.invariant-loop
+invariant-loop l = record {
+  long : l.counter ≤ length l.self-inside.items.items;
+  same : (n : ℕ) → blocker_of l.self-inside.items.items n ≡ blocker_of l.fn.self n;
+  within : (n : ℕ) → blocker_of l.self-inside.items.items n ≢ None → IsWithin l.self-inside.span n × (n ≤ 1000);
+}

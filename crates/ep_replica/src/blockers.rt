@@ -1,0 +1,135 @@
+//! What blocks own instances.
+
+ghost use Rattle.std.specs.Prelude.{◌≡◌, ◌≢◌, ◌≤◌, ◌<◌, ℕ, [], None, true, length, OnOk, IsTrue, IsFalse};
+ghost use Rattle.ep_base.specs.Instances.{highest_number};
+ghost use Rattle.ep_replica.specs.Blockers.{is_due, blocker_of, Wakes};
+ghost use Rattle.ep_replica.specs.Spans.{IsWithin};
+
+use crate::due::Due;
+use crate::span::Span;
+use ep_base::InstanceId;
+use std::alloc::{AllocError, Global};
+use std::marker::Model;
+
+/// What the instance blocks at this number is due. Answers whether the number has another blocker.
+fn wake_one(
+    items: &mut Vec<Option<InstanceId>>,
+    number: u16,
+    instance: InstanceId,
+    due: &mut Due,
+) -> bool
+    requires room { (highest_number < length items.old.items) × (highest_number < length due.old) }
+    requires low { number ≤ highest_number }
+    ensures here { Wakes instance (blocker_of items.old.items number) (blocker_of items.new.items number) (is_due due.new number) }
+    ensures others { (n : ℕ) → n ≢ number → blocker_of items.new.items n ≡ blocker_of items.old.items n }
+    ensures left { IsFalse result → blocker_of items.new.items number ≡ None }
+    ensures more { (n : ℕ) → is_due due.old n ≡ true → is_due due.new n ≡ true }
+    ensures room { (length items.new.items ≡ length items.old.items) × (length due.new ≡ length due.old) }
+{
+    let Some(blocker) = items[number as usize] else {
+        return false;
+    };
+    if blocker != instance {
+        return true;
+    }
+    items[number as usize] = None;
+    due.add(number);
+    false
+}
+
+/// What the instance blocks at these numbers is due. Answers where other blockers are left.
+fn wake_within(
+    items: &mut Vec<Option<InstanceId>>,
+    span: Span,
+    instance: InstanceId,
+    due: &mut Due,
+) -> Span
+    requires room { (highest_number < length items.old.items) × (highest_number < length due.old) }
+    ensures each { (n : ℕ) → IsWithin span n → n ≤ 1000 → Wakes instance (blocker_of items.old.items n) (blocker_of items.new.items n) (is_due due.new n) × (blocker_of items.new.items n ≢ None → IsWithin result n) }
+    ensures others { (n : ℕ) → ¬ (IsWithin span n × (n ≤ 1000)) → blocker_of items.new.items n ≡ blocker_of items.old.items n }
+    ensures more { (n : ℕ) → is_due due.old n ≡ true → is_due due.new n ≡ true }
+    ensures room { length due.new ≡ length due.old }
+{
+    let mut left = Span::new();
+    for number in span.first..span.end.min(1001) {
+        if wake_one(items, number, instance, due) {
+            left = left.with(number);
+        }
+    }
+    left
+}
+
+/// For each number of an own instance, one that it waits for, if that is known. It has places for all numbers or for none.
+#[derive(Drop)]
+pub(crate) struct Blockers {
+    items: Vec<Option<InstanceId>>,
+    /// No other number has a blocker.
+    span: Span,
+}
+
+impl Model for Blockers {
+    ghost use Rattle.std.specs.Prelude.{◌≡◌, ◌≢◌, ◌≤◌, ℕ, Option, None, List};
+    ghost use Rattle.ep_replica.specs.Blockers.{blocker_of};
+    ghost use Rattle.ep_replica.specs.Spans.{IsWithin};
+
+    ghost Value = { List (Option ℕ) };
+
+    ghost view = { λ b. b.items.items };
+
+    ghost invariant = { λ b. (n : ℕ) → blocker_of b.items.items n ≢ None → IsWithin b.span n × (n ≤ 1000) };
+}
+
+impl Blockers {
+    /// No blockers.
+    pub(crate) fn new(alloc: Global) -> Blockers
+        ensures { result ≡ [] }
+    {
+        Blockers {
+            items: Vec::new(alloc),
+            span: Span::new(),
+        }
+    }
+
+    /// Makes a place for each number.
+    pub(crate) fn reserve(&mut self) -> Result<(), AllocError>
+        ensures room { OnOk result (highest_number < length self.new) }
+        ensures same { (n : ℕ) → blocker_of self.new n ≡ blocker_of self.old n }
+    {
+        for _ in self.items.len()..1001 {
+            self.items.push(None)?;
+        }
+        Ok(())
+    }
+
+    /// What blocks the own instance of this number, if that is known.
+    pub(crate) fn get(&self, number: u16) -> Option<InstanceId>
+        ensures { result ≡ blocker_of self.now number }
+    {
+        *self.items.get(number as usize)?
+    }
+
+    /// Sets what blocks the own instance of this number, where it has a place, and answers whether it has one.
+    pub(crate) fn set(&mut self, number: u16, blocker: Option<InstanceId>) -> bool
+        requires { number ≤ highest_number }
+        ensures here { IsTrue result → blocker_of self.new number ≡ blocker }
+        ensures others { (n : ℕ) → n ≢ number → blocker_of self.new n ≡ blocker_of self.old n }
+        ensures unset { IsFalse result → self.new ≡ self.old }
+    {
+        if number as usize >= self.items.len() {
+            return false;
+        }
+        self.items[number as usize] = blocker;
+        self.span = self.span.with(number);
+        true
+    }
+
+    /// What this instance blocked is due.
+    pub(crate) fn wake(&mut self, instance: InstanceId, due: &mut Due)
+        requires room { (highest_number < length self.old) × (highest_number < length due.old) }
+        ensures each { (n : ℕ) → Wakes instance (blocker_of self.old n) (blocker_of self.new n) (is_due due.new n) }
+        ensures more { (n : ℕ) → is_due due.old n ≡ true → is_due due.new n ≡ true }
+        ensures room { length due.new ≡ length due.old }
+    {
+        self.span = wake_within(&mut self.items, self.span, instance, due);
+    }
+}

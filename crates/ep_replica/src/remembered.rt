@@ -1,0 +1,93 @@
+//! What a replica remembers of its own instances that it hasn't executed yet.
+
+ghost use Rattle.std.specs.Prelude.{◌≡◌, ◌≤◌, ◌<◌, ℕ, [], Some, None, length, OnOk};
+ghost use Rattle.ep_base.specs.Instances.{highest_number, instance_of};
+ghost use Rattle.ep_journal.specs.Events.{event_of};
+ghost use Rattle.ep_journal.specs.Leaving.{standing};
+ghost use Rattle.ep_rules.specs.States.{committed_in};
+ghost use Rattle.ep_replica.specs.Blockers.{is_due, blocker_of, about, Grows, Remembers, MayBeSetAside};
+ghost use Rattle.ep_replica.specs.Kept.{Kept, kept_of};
+
+use crate::blockers::Blockers;
+use crate::due::Due;
+use ep_base::InstanceId;
+use ep_journal::{Event, Journal};
+use std::alloc::{AllocError, Global};
+
+/// The instance that the event is about, unless it is committed: the event may commit it, and no other.
+pub(crate) fn open_in(journal: &Journal, event: &Event) -> Option<InstanceId>
+    ensures { (i : ℕ) → about (event_of event.now) ≡ Some i → committed_in (standing journal.now).state.records i ≡ None → result ≡ Some i }
+{
+    let instance = match event {
+        Event::Handle(frame) => frame.instance(),
+        Event::GiveUp(instance) | Event::Recover(instance) => *instance,
+        Event::Propose {
+            client: _,
+            request: _,
+            command: _,
+            seen: _,
+        }
+        | Event::Execute(_) => return None,
+    };
+    if journal.committed(instance).is_some() {
+        return None;
+    }
+    Some(instance)
+}
+
+/// Which own instances are due to be tried, and what blocks the others.
+#[derive(Drop)]
+pub(crate) struct Remembered {
+    pub due: Due,
+    pub blockers: Blockers,
+}
+
+impl Remembered {
+    /// Nothing.
+    pub(crate) fn new(alloc: Global) -> Remembered
+        ensures due { result.due ≡ [] }
+        ensures blockers { result.blockers ≡ [] }
+    {
+        Remembered {
+            due: Due::new(alloc),
+            blockers: Blockers::new(alloc),
+        }
+    }
+
+    /// Makes a place for each own instance.
+    pub(crate) fn reserve(&mut self) -> Result<(), AllocError>
+        ensures room { OnOk result ((highest_number < length self.new.due) × (highest_number < length self.new.blockers)) }
+        ensures due { (n : ℕ) → is_due self.new.due n ≡ is_due self.old.due n }
+        ensures blockers { (n : ℕ) → blocker_of self.new.blockers n ≡ blocker_of self.old.blockers n }
+    {
+        self.due.reserve()?;
+        self.blockers.reserve()
+    }
+
+    /// Notes that the instance was committed, if it was: it is due where it is the replica's own, and so is what it blocked.
+    pub(crate) fn note(&mut self, journal: &Journal, subject: Option<InstanceId>)
+        requires room { (highest_number < length self.old.due) × (highest_number < length self.old.blockers) }
+        ensures { (k : Kept) → Grows k (kept_of journal.now) subject → Remembers k self.old.due self.old.blockers → Remembers (kept_of journal.now) self.new.due self.new.blockers }
+    {
+        let Some(instance) = subject else {
+            return;
+        };
+        if journal.committed(instance).is_none() {
+            return;
+        }
+        self.blockers.wake(instance, &mut self.due);
+        if instance.replica() == journal.me() {
+            self.due.add(instance.number());
+        }
+    }
+
+    /// The own instance of this number isn't tried again before what blocks it is committed; not at all, where nothing is said to.
+    pub(crate) fn set_aside(&mut self, number: u16, blocker: Option<InstanceId>)
+        requires { number ≤ highest_number }
+        ensures { (k : Kept) → MayBeSetAside k (instance_of k.me number) blocker → Remembers k self.old.due self.old.blockers → Remembers k self.new.due self.new.blockers }
+    {
+        if self.blockers.set(number, blocker) {
+            self.due.remove(number);
+        }
+    }
+}
