@@ -1,5 +1,5 @@
 -- Flags, and numbers whose blocker was committed, one after the other.
-use Rattle.std.proofs.Common.{◌≡◌, ◌≢◌, inl, inr, ℕ, ◌+◌, ◌≤◌, ◌<◌, Bool, true, false, Option, Some, None, List, length, set, IsFalse, refl, sym, subst, ◌∙◌, arith}
+use Rattle.std.proofs.Common.{◌≡◌, ◌≢◌, inl, inr, ℕ, ◌+◌, ◌≤◌, ◌<◌, Bool, true, false, Option, Some, None, List, [], ◌∷◌, ◌++◌, zero, suc, length, set, IsFalse, refl, sym, subst, ◌∙◌, arith}
 use Rattle.std.proofs.lemmas.Bool.{cases_eq}
 use Rattle.std.proofs.lemmas.List.{get_or-set_same, get_or-set_other}
 use Rattle.ep_replica.specs.Blockers.{is_due, blocker_of, Wakes}
@@ -51,3 +51,10 @@ other_flag flags m n low is = elim (cases_eq n m) [
       cc)
   | inr ne ↦ (ne, sym (get_or-set_other flags m n false false ne) ∙ is)
 ]
+
+-- a place more, without a blocker
+pub pushed_none : (xs : List (Option ℕ)) (n : ℕ) → blocker_of (xs ++ None ∷ []) n ≡ blocker_of xs n
+pushed_none [] zero = refl
+pushed_none [] (suc n) = refl
+pushed_none (x ∷ xs) zero = refl
+pushed_none (x ∷ xs) (suc n) = pushed_none xs n

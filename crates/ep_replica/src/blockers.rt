@@ -1,8 +1,8 @@
 //! What blocks own instances.
 
-ghost use Rattle.std.specs.Prelude.{◌≡◌, ◌≢◌, ◌≤◌, ◌<◌, ℕ, [], None, true, length, OnOk, IsTrue, IsFalse};
+ghost use Rattle.std.specs.Prelude.{◌≡◌, ◌≢◌, ◌≤◌, ◌<◌, ℕ, [], None, true, false, length, slice_index_or, OnOk, IfSome, IsTrue, IsFalse};
 ghost use Rattle.ep_base.specs.Instances.{highest_number};
-ghost use Rattle.ep_replica.specs.Blockers.{is_due, blocker_of, Wakes};
+ghost use Rattle.ep_replica.specs.Blockers.{is_due, blocker_of, is_flagged, slot, Wakes};
 ghost use Rattle.ep_replica.specs.Spans.{IsWithin};
 
 use crate::due::Due;
@@ -10,6 +10,42 @@ use crate::span::Span;
 use ep_base::InstanceId;
 use std::alloc::{AllocError, Global};
 use std::marker::Model;
+
+/// Where the instance's flag is.
+fn slot_of(instance: InstanceId) -> usize
+    ensures value { result ≡ slot instance }
+    ensures small { result < 8008 }
+{
+    usize::from(instance.number()) * 8 + usize::from(instance.replica().index())
+}
+
+/// Makes so many flags. What is set stays so.
+fn widen(awaited: &mut Vec<bool>, count: usize) -> Result<(), AllocError>
+    ensures { (place : ℕ) → slice_index_or awaited.new.items place false ≡ slice_index_or awaited.old.items place false }
+{
+    if count <= awaited.len() {
+        return Ok(());
+    }
+    awaited.resize(count, false)
+}
+
+/// Whether the instance was ever a blocker.
+fn is_awaited(awaited: &[bool], instance: InstanceId) -> bool
+    ensures { result ≡ is_flagged awaited.now instance }
+{
+    awaited.get(slot_of(instance)).copied().unwrap_or(false)
+}
+
+/// The instance, if there is one, is a blocker.
+fn await_it(awaited: &mut Vec<bool>, blocker: &Option<InstanceId>)
+    requires { 8008 ≤ length awaited.old.items }
+    ensures here { IfSome blocker.now (λ i. is_flagged awaited.new.items i ≡ true) }
+    ensures more { (i : ℕ) → is_flagged awaited.old.items i ≡ true → is_flagged awaited.new.items i ≡ true }
+{
+    if let Some(instance) = blocker {
+        awaited[slot_of(*instance)] = true;
+    }
+}
 
 /// What the instance blocks at this number is due. Answers whether the number has another blocker.
 fn wake_one(
@@ -65,18 +101,20 @@ pub(crate) struct Blockers {
     items: Vec<Option<InstanceId>>,
     /// No other number has a blocker.
     span: Span,
+    /// Whether an instance was ever a blocker, each where its number and its leader say.
+    awaited: Vec<bool>,
 }
 
 impl Model for Blockers {
-    ghost use Rattle.std.specs.Prelude.{◌≡◌, ◌≢◌, ◌≤◌, ℕ, Option, None, List};
-    ghost use Rattle.ep_replica.specs.Blockers.{blocker_of};
+    ghost use Rattle.std.specs.Prelude.{◌≡◌, ◌≢◌, ◌≤◌, ℕ, Option, None, IfSome, true, List};
+    ghost use Rattle.ep_replica.specs.Blockers.{blocker_of, is_flagged};
     ghost use Rattle.ep_replica.specs.Spans.{IsWithin};
 
     ghost Value = { List (Option ℕ) };
 
     ghost view = { λ b. b.items.items };
 
-    ghost invariant = { λ b. (n : ℕ) → blocker_of b.items.items n ≢ None → IsWithin b.span n × (n ≤ 1000) };
+    ghost invariant = { λ b. ((n : ℕ) → blocker_of b.items.items n ≢ None → IsWithin b.span n × (n ≤ 1000)) × ((n : ℕ) → IfSome (blocker_of b.items.items n) (λ i. is_flagged b.awaited.items i ≡ true)) };
 }
 
 impl Blockers {
@@ -87,6 +125,7 @@ impl Blockers {
         Blockers {
             items: Vec::new(alloc),
             span: Span::new(),
+            awaited: Vec::new(alloc),
         }
     }
 
@@ -98,7 +137,7 @@ impl Blockers {
         for _ in self.items.len()..1001 {
             self.items.push(None)?;
         }
-        Ok(())
+        widen(&mut self.awaited, 8008)
     }
 
     /// What blocks the own instance of this number, if that is known.
@@ -115,9 +154,10 @@ impl Blockers {
         ensures others { (n : ℕ) → n ≢ number → blocker_of self.new n ≡ blocker_of self.old n }
         ensures unset { IsFalse result → self.new ≡ self.old }
     {
-        if number as usize >= self.items.len() {
+        if number as usize >= self.items.len() || self.awaited.len() < 8008 {
             return false;
         }
+        await_it(&mut self.awaited, &blocker);
         self.items[number as usize] = blocker;
         self.span = self.span.with(number);
         true
@@ -130,6 +170,9 @@ impl Blockers {
         ensures more { (n : ℕ) → is_due due.old n ≡ true → is_due due.new n ≡ true }
         ensures room { length due.new ≡ length due.old }
     {
+        if !is_awaited(self.awaited.as_slice(), instance) {
+            return;
+        }
         self.span = wake_within(&mut self.items, self.span, instance, due);
     }
 }

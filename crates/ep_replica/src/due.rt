@@ -94,12 +94,17 @@ impl Due {
     }
 
     /// The least due number that isn't below this one; 1,001 where there is none.
-    pub(crate) fn next(&self, from: u16) -> u16
+    pub(crate) fn next(&mut self, from: u16) -> u16
         requires { from ≤ 1001 }
         ensures range { (from ≤ result) × (result ≤ 1001) }
-        ensures least { (n : ℕ) → from ≤ n → n < result → is_due self.now n ≢ true }
+        ensures least { (n : ℕ) → from ≤ n → n < result → is_due self.old n ≢ true }
+        ensures same { self.new ≡ self.old }
     {
         let first = from.max(self.span.first).min(1001);
-        first_set(self.flags.as_slice(), first, self.span.end)
+        let found = first_set(self.flags.as_slice(), first, self.span.end);
+        if from <= self.span.first {
+            self.span.first = found;
+        }
+        found
     }
 }

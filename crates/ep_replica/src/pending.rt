@@ -89,11 +89,23 @@ impl Replica {
     fn obstacle(&self, instance: InstanceId) -> Result<Option<InstanceId>, AllocError>
         ensures { IfOk result (λ found. IfSome found (IsBlockedBy self.now instance)) }
     {
+        if self.is_ready(instance) {
+            return Ok(None);
+        }
         let known = self.known_obstacle(instance);
         if known.is_some() {
             return Ok(known);
         }
         self.missing(instance)
+    }
+
+    /// Whether the instance is committed, and all that it depends on was executed.
+    fn is_ready(&self, instance: InstanceId) -> bool {
+        let Some(decree) = self.committed(instance) else {
+            return false;
+        };
+        let deps = decree.attrs.deps.as_slice();
+        deps.iter().all(|dep| self.has_executed(*dep))
     }
 
     /// What blocks an own instance that this one depends on, if that is known.

@@ -25,7 +25,7 @@ loop-number-preserved c =
     let i : c.instance_at.result ≡ instance_of c.loop-number.self.me c.loop-number.number = c.instance_at.ensures ∙ ap (λ (m : ℕ). instance_of m c.loop-number.number) c.me.ensures in
     record {
       range = (let some = h.range in omega arith, bounds.1);
-      same = c.in-Passed.ensures.1 ∙ h.same;
+      same = next.ensures.same ∙ c.in-Passed.ensures.1 ∙ h.same;
       wait = passed_next c.args.self.now s n next.result c.instance_at.result h.same i h.wait c.in-Passed.ensures.0
           (subst (λ (z : Kept). (l : ℕ) → n + 1 ≤ l → l < next.result → IsPending z (instance_of z.me l) → IsWaiting z (instance_of z.me l)) c.in-Passed.ensures.1 next.ensures.wait);
     }
