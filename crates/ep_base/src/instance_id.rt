@@ -5,8 +5,6 @@ ghost use Rattle.ep_base.specs.Instances.{instance_of, leader_of, number_of, hig
 
 use crate::out_of_range::OutOfRange;
 use crate::replica_id::ReplicaId;
-use std::alloc::Global;
-use std::default::MadeWith;
 use std::marker::Model;
 
 /// The instance of a number from 1 to 1,000 that a replica leads, in the order of replica and then number.
@@ -54,17 +52,5 @@ impl InstanceId {
         ensures in_range { IsInstance self }
     {
         self.number
-    }
-}
-
-/// What a place of a short list holds before it is used: the first instance of replica 0.
-impl MadeWith<Global> for InstanceId {
-    fn made_with(_alloc: Global) -> InstanceId
-        ensures { result ≡ instance_of 0 1 }
-    {
-        InstanceId {
-            replica: ReplicaId::first(),
-            number: 1,
-        }
     }
 }

@@ -1,10 +1,10 @@
 -- Dependencies in order, from left to right.
 use Rattle.std.proofs.lemmas.List.{take_all, length-drop}
-use Rattle.std.proofs.Common.{◌≡◌, ℕ, ◌-◌, ◌+◌, ◌*◌, ◌≤◌, refl, sym, ap, ◌∙◌, slice_index_or, length, take, drop, arith, List, [], ◌∷◌, ◌++◌, Bool, true, Option, Some, None}
+use Rattle.std.proofs.Common.{◌≡◌, ℕ, ◌-◌, ◌+◌, ◌*◌, ◌≤◌, ◌<◌, refl, sym, ap, ◌∙◌, slice_index_or, length, take, drop, arith, List, [], ◌∷◌, ◌++◌, Bool, true, Option, Some, None}
 use Rattle.std.specs.Prelude.{◌&&◌}
 use Rattle.std.proofs.lemmas.Bool.{and_parts}
 use Rattle.ep_base.specs.Instances.{instance_of}
-use Rattle.ep_base.specs.Deps.{IsRising}
+use Rattle.ep_base.specs.Deps.{IsRising, IsDeps}
 use Rattle.ep_frame.specs.Fields.{deps_in}
 use Rattle.ep_frame.specs.Faults.{are_deps, is_instance, precedes_first}
 use Rattle.ep_frame.proofs.Found.{rising_found}
@@ -48,3 +48,21 @@ next_is_dep xs bs all e d h = is_dep xs (dep_at_front bs) (deps_in (drop 3 bs)) 
 
 pub next_is_above : (xs bs all : List ℕ) → xs ++ deps_in bs ≡ deps_in all → are_deps (deps_in all) ≡ true → 3 ≤ length bs → IsRising (xs ++ (dep_at_front bs ∷ []))
 next_is_above xs bs all e d h = is_above xs (dep_at_front bs) (deps_in (drop 3 bs)) (ap (λ (ys : List ℕ). are_deps (xs ++ ys)) (sym (first_dep bs h)) ∙ ap are_deps e ∙ d)
+
+-- what is too short has no dependency
+short_deps : (bs : List ℕ) → length bs < 3 → deps_in bs ≡ []
+short_deps [] h = refl
+short_deps (r ∷ []) h = refl
+short_deps (r ∷ a ∷ []) h = refl
+short_deps (r ∷ a ∷ b ∷ rest) h = absurd (omega (arith, h))
+
+with_none : (xs : List ℕ) → xs ≡ xs ++ []
+with_none [] = refl
+with_none (x ∷ xs) = ap (λ ys. x ∷ ys) (with_none xs)
+
+-- those that were read are all, where no more bytes are left
+pub are_all : (xs bs all : List ℕ) → xs ++ deps_in bs ≡ deps_in all → are_deps (deps_in all) ≡ true → length bs < 3 → IsDeps xs
+are_all xs bs all e d h =
+    let same : xs ≡ deps_in all = with_none xs ∙ ap (λ ys. xs ++ ys) (sym (short_deps bs h)) ∙ e in
+    let r = rising_found xs (ap are_deps same ∙ d) in
+    record { rising = r.0; instances = r.1 }

@@ -81,19 +81,17 @@ fn made_deps(alloc: Global, bytes: &[u8]) -> Result<Deps, AllocError>
     requires { are_deps (deps_in bytes.now) ≡ true }
     ensures { IfOk result (λ d. d ≡ deps_in bytes.now) }
 {
-    let mut deps = Deps::with_capacity(alloc, bytes.len() / 3)?;
+    let mut deps = Vec::with_capacity(alloc, bytes.len() / 3)?;
     let mut rest = bytes;
     while let [replica, high, low, after @ ..] = rest {
         let number = u16::from_be_bytes([*high, *low]);
         let Some(dep) = dep_of(*replica, number) else {
             unreachable!();
         };
-        if !deps.push_last(dep)? {
-            unreachable!();
-        }
+        deps.push_reserved(dep);
         rest = after;
     }
-    Ok(deps)
+    Ok(Deps::of_rising(deps))
 }
 
 impl<'a> Sections<'a> {

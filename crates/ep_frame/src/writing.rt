@@ -71,11 +71,12 @@ fn put_header(out: &mut BytesMut, header: &Header) -> Result<(), AllocError>
     put_body(out, header)
 }
 
+#[tactic(auto, unfolding(crate::specs::Fields::number_bytes))]
 fn put_dep(out: &mut BytesMut, dep: InstanceId) -> Result<(), AllocError>
     ensures { OnOk result (out.new.items ≡ out.old.items ++ dep_bytes dep) }
 {
-    put_u8(out, dep.replica().index())?;
-    put_u16(out, dep.number())
+    let [high, low] = dep.number().to_be_bytes();
+    out.extend_from_slice(&[dep.replica().index(), high, low])
 }
 
 fn put_deps(out: &mut BytesMut, deps: &[InstanceId]) -> Result<(), AllocError>
