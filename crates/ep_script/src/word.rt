@@ -48,13 +48,17 @@ fn push_byte(text: &mut Vec<u8>, byte: u8) -> Result<(), AllocError>
 fn is_plain_byte(byte: u8) -> bool
     ensures { result ≡ is_plain byte }
 {
-    byte >= 0x21 && byte <= 0x7e && byte != b'%'
+    (byte >= 0x21) & (byte <= 0x7e) & (byte != b'%')
 }
 
 fn are_plain(bytes: &[u8]) -> bool
     ensures { result ≡ list_all is_plain bytes.now }
 {
-    bytes.iter().all(|byte| is_plain_byte(*byte))
+    let mut plain = true;
+    for byte in bytes {
+        plain &= is_plain_byte(*byte);
+    }
+    plain
 }
 
 /// Whether the bytes are their own word: there is one, and each of them stands for itself.
