@@ -1,5 +1,5 @@
 -- What a call on a host tells. A lock hides which state a replica is in, so it is said of some replica's journal.
-use Rattle.std.specs.Prelude.{◌≡◌, ℕ, ◌<◌, ◌≤◌, List, Some}
+use Rattle.std.specs.Prelude.{◌≡◌, ℕ, ◌<◌, ◌≤◌, Bool, true, false, List, Option, Some}
 use Rattle.ep_base.specs.Instances.{leader_of}
 use Rattle.ep_base.specs.Quorums.{size}
 use Rattle.ep_journal.specs.Entries.{entries_of, IsJournal}
@@ -12,8 +12,12 @@ use Rattle.ep_replica.specs.Pending.{Submits}
 use Rattle.ep_replica.specs.Receipts.{outcome_of, receipts_after}
 use Rattle.ep_rules.specs.Verdicts.{IsOwn}
 use Rattle.ep_rules.specs.declared.receipt.Receipt.{Receipt}
+use Rattle.ep_host.specs.Tending.{Tends}
 use Rattle.ep_host.specs.declared.host_fault.HostFault.{HostFault}
 use Rattle.ep_host.specs.declared.host_fault.HostFault.TheVariants.{Memory, OutOfRange, Replica}
+use Rattle.ep_host.specs.declared.tended.Tended.{Tended}
+use Rattle.ep_host.specs.declared.turn.Turn.{Turn}
+use Rattle.ep_host.specs.declared.turn.Turn.TheVariants.{Moved, Idle}
 
 -- a replica's journal
 abbrev pub IsKept : Kept → Type 0
@@ -33,6 +37,21 @@ pub record IsSubmitted (event : Event) (i : ℕ) : Type 0 where
   pub new : Kept
   pub run : IsKept old
   pub submits : Submits old event i new
+
+-- what came of a pump
+abbrev pub turn_of : Bool → Turn
+turn_of true = Moved
+turn_of false = Idle
+
+-- some replica was tended
+pub record IsPumped (turn : Turn) : Type 0 where
+  pub old : Kept
+  pub new : Kept
+  pub run : IsKept old
+  pub given : Option (List ℕ)
+  pub tended : Tended
+  pub tends : Tends given old new tended
+  pub told : turn ≡ turn_of tended.moved
 
 -- some replica declined the event for this reason
 pub record IsDeclinedThere (event : Event) (fault : StepFault) : Type 0 where

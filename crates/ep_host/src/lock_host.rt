@@ -3,7 +3,7 @@
 ghost use Rattle.std.specs.Prelude.{◌≡◌, ◌≤◌, IfOk, IfSome, IfErr, OnOk, vec_len};
 ghost use Rattle.ep_base.specs.Quorums.{size};
 ghost use Rattle.ep_journal.specs.declared.event.Event.TheVariants.{Propose};
-ghost use Rattle.ep_host.specs.Asking.{AreTold, IsTaken, IsSubmitted, IsDeclinedThere, IsOutcome};
+ghost use Rattle.ep_host.specs.Asking.{AreTold, IsTaken, IsSubmitted, IsDeclinedThere, IsPumped, IsOutcome, turn_of};
 
 use crate::act::Act;
 use crate::finished::Finished;
@@ -15,6 +15,7 @@ use crate::tended::Tended;
 use crate::tending::tend;
 use crate::turn::Turn;
 use ep_base::{Command, InstanceId, ReplicaId, Size};
+use ep_frame::Frame;
 use ep_journal::{Event, Journal, StepFault};
 use ep_replica::Replica;
 use ep_rules::Receipt;
@@ -78,6 +79,14 @@ fn direct(alloc: Global, replica: &mut Replica, event: Event) -> Result<Sending,
     Ok(sent_last(alloc, replica.journal().entries()))
 }
 
+/// The replica is tended.
+fn pump(alloc: Global, replica: &mut Replica, frame: Option<Frame>) -> Tended
+    ensures { IsPumped (turn_of result.moved) }
+{
+    let _run = replica.journal().entries();
+    tend(alloc, replica, frame)
+}
+
 /// The journals of the replicas.
 fn journals_of(alloc: Global, seats: Vec<Seat>) -> Result<Vec<Journal>, AllocError>
     ensures { IfOk result (λ journals. vec_len journals ≡ vec_len seats) }
@@ -95,10 +104,10 @@ fn journals_of(alloc: Global, seats: Vec<Seat>) -> Result<Vec<Journal>, AllocErr
 }
 
 impl LockHost {
-    ghost use Rattle.std.specs.Prelude.{◌≡◌, ◌≤◌, ◌<◌, ◌↔◌, IsOk, IfOk, IfErr, IfSome, OnOk};
+    ghost use Rattle.std.specs.Prelude.{◌≡◌, ◌≤◌, ◌<◌, IfOk, IfErr, IfSome, OnOk};
     ghost use Rattle.ep_base.specs.Quorums.{size};
     ghost use Rattle.ep_journal.specs.declared.event.Event.TheVariants.{Propose};
-    ghost use Rattle.ep_host.specs.Asking.{IsTaken, IsSubmitted, IsRefused, IsUntold, AreTold, IsOutcomeIn};
+    ghost use Rattle.ep_host.specs.Asking.{IsTaken, IsSubmitted, IsPumped, IsRefused, IsUntold, AreTold, IsOutcomeIn};
     ghost use Rattle.ep_host.specs.Finishing.{IsFinished};
     ghost use Rattle.ep_host.specs.Tending.{event_of};
     ghost use Rattle.ep_host.specs.declared.host_fault.HostFault.TheVariants.{OutOfRange};
@@ -178,8 +187,8 @@ impl LockHost {
     /// Takes at most one frame from the replica's inbox, tends the replica under its lock, and then sends what that answers.
     /// `OutOfRange` where there is no such replica, and no other fault.
     pub fn pump<R: Wait>(&self, rt: &R, replica: ReplicaId) -> Result<Turn, HostFault>
-        ensures ok { IsOk result ↔ (replica < size self.now.cluster) }
-        ensures err { IfErr result (λ fault. fault ≡ OutOfRange) }
+        ensures ok { IfOk result (λ turn. (replica < size self.now.cluster) × IsPumped turn) }
+        ensures none { IfErr result (λ fault. (fault ≡ OutOfRange) × (size self.now.cluster ≤ replica)) }
     {
         let seat = self.seat(replica)?;
         let frame = seat.inbox.pop(rt);
@@ -189,10 +198,10 @@ impl LockHost {
             lost,
         } = {
             let mut replica = seat.cell.lock(rt);
-            tend(self.alloc, &mut replica, frame)
+            pump(self.alloc, &mut replica, frame)
         };
         send(rt, &self.seats, seat, Sending { frames, lost });
-        Ok(if moved { Turn::Moved } else { Turn::Idle })
+        Ok(Turn::of(moved))
     }
 
     /// The receipt of the instance's first execution by the replica that leads it; none where that isn't one of the cluster's.
