@@ -1,3 +1,4 @@
 pub mod Sent
 pub mod Tending
 pub mod Finishing
+pub mod Asking

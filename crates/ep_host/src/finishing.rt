@@ -1,6 +1,7 @@
 //! The audit of a host's journals.
 
-ghost use Rattle.std.specs.Prelude.{IfOk};
+ghost use Rattle.std.specs.Prelude.{◌≡◌, IfOk, vec_len};
+ghost use Rattle.ep_base.specs.Quorums.{size};
 ghost use Rattle.ep_host.specs.Finishing.{IsFinished};
 
 use crate::finished::Finished;
@@ -11,7 +12,8 @@ use std::alloc::{AllocError, Global};
 
 /// The audit of these journals with the receipts.
 fn audited(alloc: Global, journals: Journals, receipts: &[Receipt]) -> Result<Finished, AllocError>
-    ensures { IfOk result (IsFinished receipts.now) }
+    ensures audited { IfOk result (IsFinished receipts.now) }
+    ensures size { IfOk result (λ f. f.journals.faults ≡ journals.faults) }
 {
     match audit(alloc, &journals, receipts) {
         Ok(verdict) => Ok(Finished {
@@ -32,7 +34,8 @@ pub fn finished(
     journals: Vec<Journal>,
     receipts: &[Receipt],
 ) -> Result<Finished, AllocError>
-    ensures { IfOk result (IsFinished receipts.now) }
+    ensures audited { IfOk result (IsFinished receipts.now) }
+    ensures size { IfOk result (λ f. size f.journals.faults ≡ vec_len journals) }
 {
     match Journals::new(journals) {
         Ok(journals) => audited(alloc, journals, receipts),

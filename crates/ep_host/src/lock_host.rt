@@ -1,8 +1,9 @@
 //! Replicas behind locks.
 
-ghost use Rattle.std.specs.Prelude.{◌≡◌, ◌≤◌, IfOk};
-ghost use Rattle.ep_journal.specs.Entries.{entries_of};
-ghost use Rattle.ep_replica.specs.Receipts.{outcome_of};
+ghost use Rattle.std.specs.Prelude.{◌≡◌, ◌≤◌, IfOk, IfSome, IfErr, OnOk, vec_len};
+ghost use Rattle.ep_base.specs.Quorums.{size};
+ghost use Rattle.ep_journal.specs.declared.event.Event.TheVariants.{Propose};
+ghost use Rattle.ep_host.specs.Asking.{AreTold, IsTaken, IsSubmitted, IsDeclinedThere, IsPumped, IsOutcome, turn_of};
 
 use crate::act::Act;
 use crate::finished::Finished;
@@ -14,17 +15,20 @@ use crate::tended::Tended;
 use crate::tending::tend;
 use crate::turn::Turn;
 use ep_base::{Command, InstanceId, ReplicaId, Size};
+use ep_frame::Frame;
 use ep_journal::{Event, Journal, StepFault};
 use ep_replica::Replica;
 use ep_rules::Receipt;
 use std::alloc::{AllocError, Global};
 use std::sync::Wait;
 
-/// Replicas of one cluster, which any thread may call.
+/// Replicas of one cluster, one for each of its numbers, which any thread may call.
 #[derive(Drop)]
 pub struct LockHost {
+    cluster: Size,
     seats: Vec<Seat>,
     alloc: Global,
+    ghost seated: { vec_len seats ≡ size cluster },
 }
 
 /// The receipt of the instance's outcome here.
@@ -33,22 +37,60 @@ fn receipt_at(
     replica: &Replica,
     instance: InstanceId,
 ) -> Result<Option<Receipt>, AllocError>
-    ensures { IfOk result (λ o. o ≡ outcome_of replica.now.me (entries_of replica.now.entries) instance) }
+    ensures { IfOk result (λ o. IfSome o (IsOutcome instance)) }
 {
+    let _run = replica.journal().entries();
     match replica.outcome(instance) {
         Some(view) => Ok(Some(view.to_receipt(alloc)?)),
         None => Ok(None),
     }
 }
 
+/// The receipts that the entries after this one give.
+fn receipts_at(alloc: Global, replica: &Replica, entry: u32) -> Result<Vec<Receipt>, AllocError>
+    ensures { IfOk result (λ receipts. AreTold entry receipts.items) }
+{
+    let _run = replica.journal().entries();
+    replica.receipts_after(alloc, entry)
+}
+
+/// The replica takes a proposal. Answers the instance that it is proposed as.
+fn submit(
+    replica: &mut Replica,
+    client: u32,
+    request: u32,
+    command: Command,
+    seen: u64,
+) -> Result<InstanceId, StepFault>
+    ensures ok { IfOk result (IsSubmitted (Propose client request command seen)) }
+    ensures declined { IfErr result (IsDeclinedThere (Propose client request command seen)) }
+{
+    let _run = replica.journal().entries();
+    replica.submit(client, request, command, seen)
+}
+
 /// The replica takes the event, and what its entry sends is to be sent.
-fn direct(alloc: Global, replica: &mut Replica, event: Event) -> Result<Sending, StepFault> {
+fn direct(alloc: Global, replica: &mut Replica, event: Event) -> Result<Sending, StepFault>
+    ensures ok { OnOk result (IsTaken event) }
+    ensures declined { IfErr result (IsDeclinedThere event) }
+{
+    let _run = replica.journal().entries();
     replica.take(event)?;
     Ok(sent_last(alloc, replica.journal().entries()))
 }
 
+/// The replica is tended.
+fn pump(alloc: Global, replica: &mut Replica, frame: Option<Frame>) -> Tended
+    ensures { IsPumped (turn_of result.moved) }
+{
+    let _run = replica.journal().entries();
+    tend(alloc, replica, frame)
+}
+
 /// The journals of the replicas.
-fn journals_of(alloc: Global, seats: Vec<Seat>) -> Result<Vec<Journal>, AllocError> {
+fn journals_of(alloc: Global, seats: Vec<Seat>) -> Result<Vec<Journal>, AllocError>
+    ensures { IfOk result (λ journals. vec_len journals ≡ vec_len seats) }
+{
     let mut journals = Vec::new(alloc);
     for seat in seats {
         let Seat {
@@ -62,23 +104,43 @@ fn journals_of(alloc: Global, seats: Vec<Seat>) -> Result<Vec<Journal>, AllocErr
 }
 
 impl LockHost {
-    ghost use Rattle.std.specs.Prelude.{◌≤◌, IfOk};
+    ghost use Rattle.std.specs.Prelude.{◌≡◌, ◌≤◌, ◌<◌, IfOk, IfErr, IfSome, OnOk};
+    ghost use Rattle.ep_base.specs.Quorums.{size};
+    ghost use Rattle.ep_journal.specs.declared.event.Event.TheVariants.{Propose};
+    ghost use Rattle.ep_host.specs.Asking.{IsTaken, IsSubmitted, IsPumped, IsRefused, IsUntold, AreTold, IsOutcomeIn};
     ghost use Rattle.ep_host.specs.Finishing.{IsFinished};
+    ghost use Rattle.ep_host.specs.Tending.{event_of};
+    ghost use Rattle.ep_host.specs.declared.host_fault.HostFault.TheVariants.{OutOfRange};
 
     /// The replicas of a cluster of this size, before any event, each with an inbox for so many frames.
     pub fn new(alloc: Global, cluster: Size, capacity: usize) -> Result<LockHost, AllocError>
         requires { (1 ≤ capacity) × (capacity ≤ 4096) }
+        ensures { IfOk result (λ host. host.cluster ≡ cluster) }
     {
         let mut seats = Vec::new(alloc);
         for index in 0..cluster.count() {
             let me = ReplicaId::new(index).unwrap();
             seats.push(Seat::new(alloc, cluster, me, capacity)?)?;
         }
-        Ok(LockHost { seats, alloc })
+        Ok(LockHost {
+            cluster,
+            seats,
+            alloc,
+        })
+    }
+
+    /// The cluster's size.
+    pub fn size(&self) -> Size
+        ensures { result ≡ self.now.cluster }
+    {
+        self.cluster
     }
 
     /// The seat of the replica.
-    fn seat(&self, replica: ReplicaId) -> Result<&Seat, HostFault> {
+    fn seat(&self, replica: ReplicaId) -> Result<&Seat, HostFault>
+        ensures ok { OnOk result (replica < size self.now.cluster) }
+        ensures err { IfErr result (λ fault. (fault ≡ OutOfRange) × (size self.now.cluster ≤ replica)) }
+    {
         match self.seats.get(replica.index() as usize) {
             Some(seat) => Ok(seat),
             None => Err(HostFault::OutOfRange),
@@ -94,11 +156,14 @@ impl LockHost {
         request: u32,
         command: Command,
         seen: u64,
-    ) -> Result<InstanceId, HostFault> {
+    ) -> Result<InstanceId, HostFault>
+        ensures ok { IfOk result (λ i. (replica < size self.now.cluster) × IsSubmitted (Propose client request command seen) i) }
+        ensures refused { IfErr result (IsRefused self.now.cluster replica (Propose client request command seen)) }
+    {
         let seat = self.seat(replica)?;
         let (instance, sending) = {
             let mut replica = seat.cell.lock(rt);
-            let instance = replica.submit(client, request, command, seen)?;
+            let instance = submit(&mut replica, client, request, command, seen)?;
             (instance, sent_last(self.alloc, replica.journal().entries()))
         };
         send(rt, &self.seats, seat, sending);
@@ -106,7 +171,10 @@ impl LockHost {
     }
 
     /// Tells the replica what to do with an instance, and sends the entry's frames.
-    pub fn direct<R: Wait>(&self, rt: &R, replica: ReplicaId, act: Act) -> Result<(), HostFault> {
+    pub fn direct<R: Wait>(&self, rt: &R, replica: ReplicaId, act: Act) -> Result<(), HostFault>
+        ensures ok { OnOk result ((replica < size self.now.cluster) × IsTaken (event_of act)) }
+        ensures refused { IfErr result (IsRefused self.now.cluster replica (event_of act)) }
+    {
         let seat = self.seat(replica)?;
         let sending = {
             let mut replica = seat.cell.lock(rt);
@@ -118,7 +186,10 @@ impl LockHost {
 
     /// Takes at most one frame from the replica's inbox, tends the replica under its lock, and then sends what that answers.
     /// `OutOfRange` where there is no such replica, and no other fault.
-    pub fn pump<R: Wait>(&self, rt: &R, replica: ReplicaId) -> Result<Turn, HostFault> {
+    pub fn pump<R: Wait>(&self, rt: &R, replica: ReplicaId) -> Result<Turn, HostFault>
+        ensures ok { IfOk result (λ turn. (replica < size self.now.cluster) × IsPumped turn) }
+        ensures none { IfErr result (λ fault. (fault ≡ OutOfRange) × (size self.now.cluster ≤ replica)) }
+    {
         let seat = self.seat(replica)?;
         let frame = seat.inbox.pop(rt);
         let Tended {
@@ -127,10 +198,10 @@ impl LockHost {
             lost,
         } = {
             let mut replica = seat.cell.lock(rt);
-            tend(self.alloc, &mut replica, frame)
+            pump(self.alloc, &mut replica, frame)
         };
         send(rt, &self.seats, seat, Sending { frames, lost });
-        Ok(if moved { Turn::Moved } else { Turn::Idle })
+        Ok(Turn::of(moved))
     }
 
     /// The receipt of the instance's first execution by the replica that leads it; none where that isn't one of the cluster's.
@@ -138,7 +209,9 @@ impl LockHost {
         &self,
         rt: &R,
         instance: InstanceId,
-    ) -> Result<Option<Receipt>, AllocError> {
+    ) -> Result<Option<Receipt>, AllocError>
+        ensures { IfOk result (λ o. IfSome o (IsOutcomeIn self.now.cluster instance)) }
+    {
         match self.seat(instance.replica()) {
             Ok(seat) => receipt_at(self.alloc, &seat.cell.lock(rt), instance),
             Err(_) => Ok(None),
@@ -151,9 +224,12 @@ impl LockHost {
         rt: &R,
         replica: ReplicaId,
         entry: u32,
-    ) -> Result<Vec<Receipt>, HostFault> {
+    ) -> Result<Vec<Receipt>, HostFault>
+        ensures ok { IfOk result (λ receipts. (replica < size self.now.cluster) × AreTold entry receipts.items) }
+        ensures untold { IfErr result (IsUntold self.now.cluster replica) }
+    {
         let seat = self.seat(replica)?;
-        let receipts = seat.cell.lock(rt).receipts_after(self.alloc, entry)?;
+        let receipts = receipts_at(self.alloc, &seat.cell.lock(rt), entry)?;
         Ok(receipts)
     }
 
@@ -168,9 +244,14 @@ impl LockHost {
 
     /// The journals that the replicas leave, and what the audit says of them with these receipts. Want of memory drops the host.
     pub fn finish(self, receipts: &[Receipt]) -> Result<Finished, AllocError>
-        ensures { IfOk result (IsFinished receipts.now) }
+        ensures audited { IfOk result (IsFinished receipts.now) }
+        ensures size { IfOk result (λ f. f.journals.faults ≡ self.cluster) }
     {
-        let LockHost { seats, alloc } = self;
+        let LockHost {
+            cluster: _,
+            seats,
+            alloc,
+        } = self;
         let journals = journals_of(alloc, seats)?;
         finished(alloc, journals, receipts)
     }

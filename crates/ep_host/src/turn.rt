@@ -1,5 +1,8 @@
 //! What came of a pump.
 
+ghost use Rattle.std.specs.Prelude.{◌≡◌};
+ghost use Rattle.ep_host.specs.Asking.{turn_of};
+
 /// What came of a pump.
 #[derive(Clone, Copy, Debug, PartialEq, Eq)]
 pub enum Turn {
@@ -7,4 +10,13 @@ pub enum Turn {
     Moved,
     /// The inbox was empty, and nothing was executed.
     Idle,
+}
+
+impl Turn {
+    /// The turn that moved, or didn't.
+    pub(crate) fn of(moved: bool) -> Turn
+        ensures { result ≡ turn_of moved }
+    {
+        if moved { Turn::Moved } else { Turn::Idle }
+    }
 }

@@ -21,3 +21,6 @@ pub use limits::Limits;
 pub use ran::Ran;
 pub use run_fault::RunFault;
 pub use runner::run;
+
+#[cfg(test)]
+mod tests;

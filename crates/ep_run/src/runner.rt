@@ -1,7 +1,10 @@
 //! Runs.
 
-ghost use Rattle.std.specs.Prelude.{IfOk};
+ghost use Rattle.std.specs.Prelude.{ℕ, List, IfOk, OnOk};
 ghost use Rattle.ep_host.specs.Finishing.{IsFinished};
+ghost use Rattle.ep_replay.specs.Tables.{AreCounted};
+ghost use Rattle.ep_rules.specs.declared.receipt.Receipt.{Receipt as Told};
+ghost use Rattle.ep_run.specs.Asking.{AreTasks, proposers_of};
 
 use crate::lane::{lanes, run_lanes};
 use crate::limits::Limits;
@@ -46,7 +49,10 @@ fn tasks_of(
     alloc: Global,
     clients: &mut Clients,
     section: &Section,
-) -> Result<Vec<Task>, AllocError> {
+) -> Result<Vec<Task>, AllocError>
+    ensures tasks { IfOk result (λ tasks. (ps : List ℕ) (ts : List Told) → AreCounted clients.old ps ts → AreTasks ps ts section.now tasks.items) }
+    ensures counted { OnOk result ((ps : List ℕ) (ts : List Told) → AreCounted clients.old ps ts → AreCounted clients.new (proposers_of ps section.now) ts) }
+{
     let mut tasks = Vec::new(alloc);
     for (line, asked) in section.lines() {
         tasks.push(Task::new(alloc, clients, *line, asked)?)?;

@@ -1,5 +1,12 @@
 //! What a line of a section has its replica do.
 
+ghost use Rattle.std.specs.Prelude.{◌≡◌, ◌+◌, ◌++◌, ◌∷◌, [], ℕ, List, IfOk, OnOk};
+ghost use Rattle.ep_replay.specs.Clients.{times, greatest};
+ghost use Rattle.ep_replay.specs.Tables.{AreCounted};
+ghost use Rattle.ep_rules.specs.declared.receipt.Receipt.{Receipt};
+ghost use Rattle.ep_run.specs.Asking.{asked_of, proposers_after, IsTask};
+ghost use Rattle.ep_run.specs.declared.task.Asked.TheVariants.{Proposal};
+
 use ep_base::{Command, ReplicaId};
 use ep_host::{Act, HostFault, LockHost};
 use ep_replay::{Clients, step_cause};
@@ -35,13 +42,21 @@ pub(crate) struct Task {
 }
 
 impl Task {
+    ghost use Rattle.std.specs.Prelude.{◌≡◌, ℕ, List, IfOk, OnOk};
+    ghost use Rattle.ep_replay.specs.Tables.{AreCounted};
+    ghost use Rattle.ep_rules.specs.declared.receipt.Receipt.{Receipt};
+    ghost use Rattle.ep_run.specs.Asking.{proposers_after, IsTask};
+
     /// What the line asks for. A proposal counts as one request more of its client.
     pub(crate) fn new(
         alloc: Global,
         clients: &mut Clients,
         line: u32,
         asked: &AgendaLine,
-    ) -> Result<Task, AllocError> {
+    ) -> Result<Task, AllocError>
+        ensures task { IfOk result (λ t. (ps : List ℕ) (ts : List Receipt) → AreCounted clients.old ps ts → IsTask ps ts (line, asked.now) t) }
+        ensures counted { OnOk result ((ps : List ℕ) (ts : List Receipt) → AreCounted clients.old ps ts → AreCounted clients.new (proposers_after ps asked.now) ts) }
+    {
         let (replica, asked) = asked_by(alloc, clients, asked)?;
         Ok(Task {
             line,
@@ -85,7 +100,10 @@ fn asked_by(
     alloc: Global,
     clients: &mut Clients,
     asked: &AgendaLine,
-) -> Result<(ReplicaId, Asked), AllocError> {
+) -> Result<(ReplicaId, Asked), AllocError>
+    ensures asked { IfOk result (λ p. (ps : List ℕ) (ts : List Receipt) → AreCounted clients.old ps ts → p ≡ asked_of ps ts asked.now) }
+    ensures counted { OnOk result ((ps : List ℕ) (ts : List Receipt) → AreCounted clients.old ps ts → AreCounted clients.new (proposers_after ps asked.now) ts) }
+{
     match asked {
         AgendaLine::Propose {
             replica,
@@ -110,7 +128,10 @@ fn proposal(
     clients: &mut Clients,
     client: u32,
     command: &Command,
-) -> Result<Asked, AllocError> {
+) -> Result<Asked, AllocError>
+    ensures asked { IfOk result (λ a. (ps : List ℕ) (ts : List Receipt) → AreCounted clients.old ps ts → a ≡ Proposal client (times client ps + 1) (greatest client ts) command.now) }
+    ensures counted { OnOk result ((ps : List ℕ) (ts : List Receipt) → AreCounted clients.old ps ts → AreCounted clients.new (ps ++ client ∷ []) ts) }
+{
     let command = command.copy(alloc)?;
     let known = clients.count(client)?;
     Ok(Asked::Proposal {

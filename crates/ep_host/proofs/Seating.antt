@@ -1,0 +1,8 @@
+-- The journals of a cluster are as many as its replicas.
+use Rattle.std.proofs.Common.{◌≡◌, ℕ, suc, ◌+◌, List, [], ◌∷◌, length, arith}
+use Rattle.ep_base.specs.Quorums.{size}
+use Rattle.ep_journal.specs.Entries.{Log, AreInOrder}
+
+pub counted : (f r : ℕ) (ls : List Log) → AreInOrder f r ls → r + length ls ≡ size f
+counted f r [] h = let e : r ≡ size f = h in omega arith
+counted f r (l ∷ ls) h = let e : suc r + length ls ≡ size f = counted f (suc r) ls h.1 in omega arith

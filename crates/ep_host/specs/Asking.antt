@@ -1,0 +1,90 @@
+-- What a call on a host tells. A lock hides which state a replica is in, so it is said of some replica's journal.
+use Rattle.std.specs.Prelude.{◌≡◌, ℕ, ◌<◌, ◌≤◌, Bool, true, false, List, Option, Some}
+use Rattle.ep_base.specs.Instances.{leader_of}
+use Rattle.ep_base.specs.Quorums.{size}
+use Rattle.ep_journal.specs.Entries.{entries_of, IsJournal}
+use Rattle.ep_journal.specs.declared.entry.Entry.{Entry}
+use Rattle.ep_journal.specs.declared.event.Event.{Event}
+use Rattle.ep_journal.specs.declared.step_fault.StepFault.{StepFault}
+use Rattle.ep_replica.specs.Applied.{Applied, IsDeclined}
+use Rattle.ep_replica.specs.Kept.{Kept}
+use Rattle.ep_replica.specs.Pending.{Submits}
+use Rattle.ep_replica.specs.Receipts.{outcome_of, receipts_after}
+use Rattle.ep_rules.specs.Verdicts.{IsOwn}
+use Rattle.ep_rules.specs.declared.receipt.Receipt.{Receipt}
+use Rattle.ep_host.specs.Tending.{Tends}
+use Rattle.ep_host.specs.declared.host_fault.HostFault.{HostFault}
+use Rattle.ep_host.specs.declared.host_fault.HostFault.TheVariants.{Memory, OutOfRange, Replica}
+use Rattle.ep_host.specs.declared.tended.Tended.{Tended}
+use Rattle.ep_host.specs.declared.turn.Turn.{Turn}
+use Rattle.ep_host.specs.declared.turn.Turn.TheVariants.{Moved, Idle}
+
+-- a replica's journal
+abbrev pub IsKept : Kept → Type 0
+IsKept k = IsJournal k.faults k.me k.entries
+
+-- some replica took the event
+pub record IsTaken (event : Event) : Type 0 where
+  pub old : Kept
+  pub new : Kept
+  pub run : IsKept old
+  pub entry : Entry
+  pub applied : Applied old event entry new
+
+-- some replica took the event, and its entry proposes this instance
+pub record IsSubmitted (event : Event) (i : ℕ) : Type 0 where
+  pub old : Kept
+  pub new : Kept
+  pub run : IsKept old
+  pub submits : Submits old event i new
+
+-- what came of a pump
+abbrev pub turn_of : Bool → Turn
+turn_of true = Moved
+turn_of false = Idle
+
+-- some replica was tended
+pub record IsPumped (turn : Turn) : Type 0 where
+  pub old : Kept
+  pub new : Kept
+  pub run : IsKept old
+  pub given : Option (List ℕ)
+  pub tended : Tended
+  pub tends : Tends given old new tended
+  pub told : turn ≡ turn_of tended.moved
+
+-- some replica declined the event for this reason
+pub record IsDeclinedThere (event : Event) (fault : StepFault) : Type 0 where
+  pub kept : Kept
+  pub run : IsKept kept
+  pub declined : IsDeclined kept event fault
+
+-- why an event was not taken: there is no such replica in the cluster; or there is, and it declined the event
+abbrev pub IsRefused : ℕ → ℕ → Event → HostFault → Type 0
+IsRefused f r event Memory = ⊥
+IsRefused f r event OutOfRange = size f ≤ r
+IsRefused f r event (Replica fault) = (r < size f) × IsDeclinedThere event fault
+
+-- why no receipts are told: want of memory, or there is no such replica in the cluster
+abbrev pub IsUntold : ℕ → ℕ → HostFault → Type 0
+IsUntold f r Memory = r < size f
+IsUntold f r OutOfRange = size f ≤ r
+IsUntold f r (Replica fault) = ⊥
+
+-- the receipts that some replica's journal gives after the entry
+pub record AreTold (entry : ℕ) (receipts : List Receipt) : Type 0 where
+  pub kept : Kept
+  pub run : IsKept kept
+  pub exact : receipts ≡ receipts_after kept.me entry (entries_of kept.entries)
+
+-- the receipt of the instance's first execution by the replica that leads it, which also proposed it
+pub record IsOutcome (i : ℕ) (t : Receipt) : Type 0 where
+  pub kept : Kept
+  pub run : IsKept kept
+  pub instance : t.instance ≡ i
+  pub own : IsOwn kept.faults kept.me (entries_of kept.entries) t
+  pub first : outcome_of kept.me (entries_of kept.entries) i ≡ Some t
+
+-- the same, of an instance that a replica of the cluster leads
+abbrev pub IsOutcomeIn : ℕ → ℕ → Receipt → Type 0
+IsOutcomeIn f i t = (leader_of i < size f) × IsOutcome i t
