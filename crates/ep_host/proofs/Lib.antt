@@ -1,2 +1,9 @@
 pub mod Copying
 pub mod Pumping
+pub mod Places
+pub mod Fated
+pub mod Booking
+pub mod Following
+pub mod Looking
+pub mod Hosts
+pub mod Turning
