@@ -317,8 +317,8 @@ turn_idles rounds a b t = record {
 pub settles_more : (n : ℕ) (a b c : Node) → Settles n a b → Settles 1 b c → Settles (n + 1) a c
 settles_more n a b c h k = record { follows = follows_follows a b c h.follows k.follows; agenda = (let x = h.agenda in let y = k.agenda in omega (arith, x, y)) }
 
-pub settles_all : (n m : ℕ) (a b c : Node) → Settles n a b → Settles m b c → n ≤ m → Settles m a c
-settles_all n m a b c h k low = record { follows = follows_follows a b c h.follows k.follows; agenda = (let x = h.agenda in let y = k.agenda in omega (arith, x, y)) }
+pub settles_all : (n m : ℕ) (a b c : Node) → Settles n a b → Settles m b c → Settles m a c
+settles_all n m a b c h k = record { follows = follows_follows a b c h.follows k.follows; agenda = (let x = h.agenda in let y = k.agenda in omega (arith, x, y)) }
 
 pub settles_none : (a : Node) → Settles 0 a a
 settles_none a = record { follows = follows_self a; agenda = omega arith }

@@ -7,3 +7,4 @@ pub mod Following
 pub mod Looking
 pub mod Hosts
 pub mod Turning
+pub mod Hosting
