@@ -1,11 +1,9 @@
 -- Events keep the account of the rings.
-use Rattle.std.proofs.Common.{◌≡◌, ℕ, zero, suc, ◌<◌, ◌≤◌, ◌+◌, ◌-◌, List, [], ◌∷◌, ◌++◌, length, length-append, get_or, set, refl, arith, inl, inr, subst, sym, ap, ◌∙◌, rules, ⊎_elim, ◌⊎◌, append_assoc, Contains, All, Any, Bool, true, false, Option, Some, None, option_to_list}
+use Rattle.std.proofs.Common.{◌≡◌, ℕ, ◌<◌, ◌≤◌, ◌-◌, List, [], ◌∷◌, ◌++◌, length, length-append, get_or, refl, arith, inl, inr, subst, sym, ap, ◌∙◌, ⊎_elim, append_assoc, Contains, All, Bool, true, false, Option, Some, option_to_list}
 use Rattle.std.proofs.lemmas.List.{append-nil, get_or_default, get_or_append_left, get_or-append_right}
 use Rattle.std.proofs.lemmas.Bool.{cases_lt}
 use Rattle.std.proofs.lemmas.List.Elements.{Contains-append_left, Contains-append_right, All-append, All-weaker, All-nil, All-push, All-same}
 use Rattle.std.proofs.lemmas.List.Quantifiers.{any-set}
-use mathlib.Core.List.{IsPrefix}
-use Rattle.ep_frame.specs.Meaning.{origin_at}
 use Rattle.rtrb.specs.Ring.{sent, received}
 use Rattle.ep_journal.specs.declared.entry.Entry.{Entry}
 use Rattle.ep_journal.specs.declared.event.Event.{Event}
@@ -13,7 +11,7 @@ use Rattle.ep_journal.specs.declared.event.Event.TheVariants.{Handle, Execute}
 use Rattle.ep_replica.specs.Applied.{Applied}
 use Rattle.ep_replica.specs.Kept.{Kept}
 use Rattle.ep_replica.specs.Pending.{ExecutesNext}
-use Rattle.ep_host.specs.Acts.{Made, IsIdle, IsHandled}
+use Rattle.ep_host.specs.Acts.{Made, IsHandled}
 use Rattle.ep_host.specs.Fates.{Fate, frames_in, put_for, Sends, Carries}
 use Rattle.ep_host.specs.Pointwise.{Each}
 use Rattle.ep_host.specs.Rings.{KeepsLink, PopsAt, ArePeers, IsOut, IsTaken, IsBooked, IsFreshLink, handled_by, frames_handled, peer_at}
@@ -46,9 +44,13 @@ taken_link fates a b f s c = subst (λ (l : List (List ℕ)). Contains l f) s.ta
 
 pub taken_still : (fates : List Fate) (before after : List Link) (f : List ℕ) → Each (Carries fates) before after → IsTaken before f → IsTaken after f
 taken_still fates before after f h t =
-    let low : t.0 < length after = let l = t.2 in omega (arith, h.len) in
-    (t.0, get_or after t.0 t.1, low, get_or_default after t.0 (get_or after t.0 t.1) t.1 low,
-    taken_link fates (get_or before t.0 t.1) (get_or after t.0 t.1) f (h.at t.0 t.1 t.2) (subst (λ (l : Link). Contains (received l.from) f) (sym t.3) t.4))
+    let low : t.0 < length after = let l = t.2 in omega (arith, h.len) in (
+      t.0,
+      get_or after t.0 t.1,
+      low,
+      get_or_default after t.0 (get_or after t.0 t.1) t.1 low,
+      taken_link fates (get_or before t.0 t.1) (get_or after t.0 t.1) f (h.at t.0 t.1 t.2) (subst (λ (l : Link). Contains (received l.from) f) (sym t.3) t.4),
+    )
 
 pub peers_still : (me : ℕ) (fates : List Fate) (before after : List Link) → Each (Carries fates) before after → ArePeers me before → ArePeers me after
 peers_still me fates before after h was = λ k d low. let low' : k < length before = omega (arith, h.len) in (h.at k d low').keeps.peer ∙ was k d low'
@@ -61,7 +63,7 @@ carries_books me es more fates before after h is handled was = record {
   peers = peers_still me fates before after h was.peers;
   put = λ k d low. let low' : k < length before = omega (arith, h.len) in puts_more es more fates (get_or before k d) (get_or after k d) is (h.at k d low') (was.put k d low');
   taken = rw (frames_handled-append es more) (All-append (IsTaken after) (frames_handled es) (frames_handled more)
-  (All-weaker (IsTaken before) (IsTaken after) (λ f t. taken_still fates before after f h t) (frames_handled es) was.taken) handled);
+      (All-weaker (IsTaken before) (IsTaken after) (λ f t. taken_still fates before after f h t) (frames_handled es) was.taken) handled);
 }
 
 -- the same, where no entry was made
@@ -125,9 +127,9 @@ pub peers_more : (me : ℕ) (xs : List Link) (y : Link) → y.peer ≡ peer_at m
 peers_more me xs y is was = λ k d low. ⊎_elim
     (λ (l : k < length xs). ap (λ (z : Link). z.peer) (get_or_append_left xs (y ∷ []) d k l) ∙ was k d l)
     (λ (l : length xs ≤ k).
-        let at : k ≡ length xs = omega (arith, length-append xs (y ∷ [])) in
-        let none : k - length xs ≡ 0 = omega arith in
-        ap (λ (z : Link). z.peer) (get_or-append_right xs (y ∷ []) (length xs) k d refl l ∙ ap (λ n. get_or (y ∷ []) n d) none) ∙ is ∙ ap (peer_at me) (sym at))
+    let at : k ≡ length xs = omega (arith, length-append xs (y ∷ [])) in
+    let none : k - length xs ≡ 0 = omega arith in
+    ap (λ (z : Link). z.peer) (get_or-append_right xs (y ∷ []) (length xs) k d refl l ∙ ap (λ n. get_or (y ∷ []) n d) none) ∙ is ∙ ap (peer_at me) (sym at))
     (cases_lt k (length xs))
 
 pub link_books : (me : ℕ) (es : List Entry) (xs : List Link) (y : Link) → IsFreshLink me xs y → IsBooked me es xs → IsBooked me es (xs ++ y ∷ [])

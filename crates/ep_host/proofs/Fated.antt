@@ -1,15 +1,14 @@
 -- What became of frames out, and of more of them.
-use Rattle.std.proofs.Common.{◌≡◌, ◌≢◌, ℕ, zero, suc, ◌<◌, ◌+◌, ◌&&◌, eqb, Bool, true, false, cond, List, [], ◌∷◌, ◌++◌, length, get_or, refl, arith, subst, sym, ap, ◌∙◌, append_assoc, Contains, All, ⊎_elim}
+use Rattle.std.proofs.Common.{◌≡◌, ℕ, zero, suc, ◌+◌, ◌&&◌, eqb, Bool, true, false, cond, List, [], ◌∷◌, ◌++◌, refl, arith, sym, ap, ◌∙◌, append_assoc, Contains, All, ⊎_elim}
 use Rattle.std.proofs.lemmas.List.{append-nil}
 use Rattle.std.proofs.lemmas.Bool.Decides.{eqb_tells}
-use Rattle.std.proofs.lemmas.List.Elements.{Contains-append_left, Contains-append_right, Contains-push, All-append, All-weaker, All-nil, All-push}
+use Rattle.std.proofs.lemmas.List.Elements.{Contains-append_right, All-append, All-weaker, All-nil, All-push}
 use mathlib.Core.List.{IsPrefix}
 use Rattle.ep_frame.specs.Meaning.{origin_at}
 use Rattle.rtrb.specs.Ring.{sent, received}
-use Rattle.ep_host.specs.Pointwise.{Each}
 use Rattle.ep_host.specs.Rings.{KeepsLink}
 use Rattle.ep_host.specs.Tasks.{next}
-use Rattle.ep_host.specs.Fates.{Fate, fate, frames_in, put_for, lost_in, Sends, Carries, lost_after}
+use Rattle.ep_host.specs.Fates.{Fate, frames_in, put_for, lost_in, Sends, Carries, lost_after}
 use Rattle.ep_host.specs.declared.link.Link.{Link}
 
 pub frames_in-append : (xs ys : List Fate) → frames_in (xs ++ ys) ≡ frames_in xs ++ frames_in ys

@@ -1,5 +1,5 @@
 -- What turns leave of a node.
-use Rattle.std.proofs.Common.{◌≡◌, ◌⊎◌, ℕ, zero, suc, ◌<◌, ◌≤◌, ◌+◌, ◌-◌, ◌||◌, is_some, List, [], ◌∷◌, ◌++◌, length, length-append, get_or, refl, arith, inl, inr, subst, sym, ap, ◌∙◌, append_assoc, Bool, true, false, Option, Some, None, min, ltb, cond}
+use Rattle.std.proofs.Common.{◌≡◌, ℕ, zero, suc, ◌<◌, ◌≤◌, ◌+◌, ◌-◌, ◌||◌, List, [], ◌∷◌, ◌++◌, length, refl, arith, inl, inr, subst, sym, ap, ◌∙◌, append_assoc, Bool, true, false, Option, Some, None, min, cond}
 use Rattle.std.proofs.lemmas.List.{append-nil}
 use Rattle.ep_journal.specs.declared.entry.Entry.{Entry}
 use Rattle.ep_journal.specs.declared.event.Event.{Event}
@@ -7,17 +7,15 @@ use Rattle.ep_journal.specs.declared.event.Event.TheVariants as event
 use Rattle.ep_journal.specs.declared.step_fault.StepFault.{StepFault}
 use Rattle.ep_replica.specs.Applied.{Applied}
 use Rattle.ep_replica.specs.Kept.{Kept}
-use Rattle.ep_replica.specs.Pending.{ExecutesNext}
-use Rattle.ep_host.specs.Acts.{Made, IsIdle, IsHandled}
-use Rattle.ep_host.specs.Fates.{Fate, frames_in, lost_in, Sends, Carries, lost_after}
+use Rattle.ep_host.specs.Acts.{Made}
+use Rattle.ep_host.specs.Fates.{frames_in, lost_in, Sends, Carries, lost_after}
 use Rattle.ep_host.specs.Follows.{Follows, Runs, Settles, Rounds}
 use Rattle.ep_host.specs.Node.{Node}
 use Rattle.ep_host.specs.Pointwise.{Each}
 use Rattle.ep_host.specs.Rings.{PopsAt}
 use Rattle.ep_host.specs.Sent.{frames_of}
 use Rattle.ep_host.specs.Tasks.{Use, tasks_in, event_made, events_in, refusal_at, refusals_in, place_after, next_place, asked_by, asked_in, event_of}
-use Rattle.ep_host.specs.Tending.{lost_by}
-use Rattle.ep_host.specs.Turns.{with_links, TakesUp, TakesAt, Takes, UsesUp, BeginsTask, ExecutesOwn, IsTurn}
+use Rattle.ep_host.specs.Turns.{with_links, TakesUp, TakesAt, Takes, BeginsTask, ExecutesOwn, IsTurn}
 use Rattle.ep_host.specs.declared.link.Link.{Link}
 use Rattle.ep_host.specs.declared.task.Task.{Task}
 use Rattle.ep_host.specs.declared.task.Task.TheVariants.{Propose, GiveUp, Recover}

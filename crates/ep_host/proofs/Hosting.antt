@@ -1,11 +1,10 @@
 -- How the nodes of a host are made, one after another, each joined to those before it.
 use Rattle.std.proofs.Common.{◌≡◌, ◌≢◌, ℕ, ◌<◌, ◌≤◌, ◌+◌, ◌-◌, List, [], ◌∷◌, ◌++◌, length, length-append, get_or, set, get_or-set_same, get_or-set_other, refl, sym, ap, ◌∙◌, subst, arith, All, ⊎_elim}
 use Rattle.std.proofs.Math.ListN.{length-set}
-use Rattle.std.proofs.lemmas.List.{append-nil, get_or_default, get_or_append_left, get_or-append_right}
+use Rattle.std.proofs.lemmas.List.{append-nil, get_or_append_left, get_or-append_right}
 use Rattle.std.proofs.lemmas.Bool.{cases_lt}
 use Rattle.std.proofs.lemmas.Bool.Decides.{eqb_tells}
 use Rattle.ep_base.specs.Quorums.{size}
-use Rattle.rtrb.specs.Ring.{IsPair}
 use Rattle.ep_replica.specs.Kept.{Kept}
 use Rattle.ep_host.specs.Host.{IsHost, IsFresh, Paired}
 use Rattle.ep_host.specs.Joins.{Joins, CanJoin}
@@ -181,13 +180,13 @@ joined_more f k nodes node e a' b' h low j =
       next_paired = λ i d b below. let l : i < n = omega (arith, len) in ⊎_elim
           (λ (t : _). let is : i ≡ k = t.1 in rw (is, at d) (joins_paired a node a' b' can j))
           (λ (t : _). let other = t.1 in let below' : i < k = grind (arith, other, below) in
-              let p = h.next_paired i d l below' in
-              let x = get_or nodes i d in
-              let mx : x.replica.me ≡ i = h.me i d l in
-              let was = h.done i d l below' in let own = h.next_links in
-              let there : place x.replica.me node.replica.me < length x.links = rw (mx, h.next_me) (reaches i n (length x.links) l was) in
-              let here : place node.replica.me x.replica.me < length node.links = rw (mx, h.next_me, place_above i n l) (omega (arith, own)) in
-              (longer_paired x node (get_or ys i d) b' (all.at i d l) lb there here p.0, longer_paired node x b' (get_or ys i d) lb (all.at i d l) here there p.1))
+          let p = h.next_paired i d l below' in
+          let x = get_or nodes i d in
+          let mx : x.replica.me ≡ i = h.me i d l in
+          let was = h.done i d l below' in let own = h.next_links in
+          let there : place x.replica.me node.replica.me < length x.links = rw (mx, h.next_me) (reaches i n (length x.links) l was) in
+          let here : place node.replica.me x.replica.me < length node.links = rw (mx, h.next_me, place_above i n l) (omega (arith, own)) in
+          (longer_paired x node (get_or ys i d) b' (all.at i d l) lb there here p.0, longer_paired node x b' (get_or ys i d) lb (all.at i d l) here there p.1))
           (eqb_tells i k);
       next_fresh = fresh_still node b' j.here j.b_is h.next_fresh;
     }

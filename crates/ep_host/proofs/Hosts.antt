@@ -1,5 +1,5 @@
 -- The nodes of a host: their links, and that turns keep them a host.
-use Rattle.std.proofs.Common.{◌≡◌, ◌≢◌, ℕ, ◌<◌, ◌≤◌, ◌+◌, ◌-◌, ltb, cond, Bool, true, false, List, length, get_or, refl, sym, ap, ◌∙◌, subst, arith, rules, All, Contains, ⊎_elim, ◌++◌, length-append}
+use Rattle.std.proofs.Common.{◌≡◌, ◌≢◌, ℕ, ◌<◌, ◌≤◌, ◌+◌, ◌-◌, List, length, get_or, sym, ap, ◌∙◌, subst, arith, All, Contains, ⊎_elim, ◌++◌, length-append}
 use Rattle.std.proofs.lemmas.List.{get_or_default, get_or_append_left, get_or-append_right}
 use Rattle.std.proofs.lemmas.List.Elements.{Contains-append_left, All-contains}
 use Rattle.std.proofs.lemmas.Bool.{cases_lt}

@@ -8,3 +8,4 @@ pub mod Looking
 pub mod Hosts
 pub mod Turning
 pub mod Hosting
+pub mod Accepting

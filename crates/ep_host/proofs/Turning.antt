@@ -1,12 +1,12 @@
 -- What the parts of a turn do, of what they call.
-use Rattle.std.proofs.Common.{◌≡◌, ℕ, ◌+◌, List, [], ◌∷◌, ◌++◌, Bool, true, false, Option, Some, None, refl, sym, ap, ◌∙◌, subst, arith, inl, inr, All}
+use Rattle.std.proofs.Common.{◌≡◌, ℕ, ◌+◌, List, [], ◌∷◌, ◌++◌, Bool, true, false, Some, None, refl, ap, ◌∙◌, subst, arith, inl, inr, All}
 use Rattle.std.proofs.lemmas.List.Elements.{All-nil}
 use Rattle.ep_journal.specs.declared.event.Event.{Event}
 use Rattle.ep_journal.specs.declared.step_fault.StepFault.{StepFault}
 use Rattle.ep_replica.specs.Applied.{IsDeclined}
 use Rattle.ep_replica.specs.Kept.{Kept}
-use Rattle.ep_host.specs.Acts.{Made, IsIdle, IsHandled}
-use Rattle.ep_host.specs.Fates.{Fate, fate, frames_in, lost_in, Sends, IsSent, lost_after}
+use Rattle.ep_host.specs.Acts.{Made, IsHandled}
+use Rattle.ep_host.specs.Fates.{fate, lost_in, Sends, IsSent, lost_after}
 use Rattle.ep_host.specs.Node.{Node}
 use Rattle.ep_host.specs.Pointwise.{Each}
 use Rattle.ep_host.specs.Rings.{PopsAt, IsTaken, handled_by}

@@ -69,6 +69,7 @@ pub record Knows (n : Node) : Type 0 where
   pub booked : IsBooked n.replica.me n.replica.entries n.links
   pub journal : IsJournal n.replica.faults n.replica.me n.replica.entries
   pub clocked : AreClocked 0 (entries_of n.replica.entries)
+  pub some : 0 < n.replica.faults
 
 -- each frame that a node has handled is a frame out of a node's journal
 abbrev pub AllSent : List Node → Type 0

@@ -1,5 +1,5 @@
 -- What joining two nodes by rings does.
-use Rattle.std.specs.Prelude.{◌≡◌, ◌<◌, ℕ, length, List, [], ◌∷◌, ◌++◌}
+use Rattle.std.specs.Prelude.{◌≡◌, ◌<◌, length}
 use Rattle.rtrb.specs.Ring.{IsPair}
 use Rattle.ep_host.specs.Node.{Node, with_link}
 use Rattle.ep_host.specs.Rings.{place}

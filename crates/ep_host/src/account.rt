@@ -73,6 +73,7 @@ fn know(node: &RingNode)
     ensures { Knows node.now }
 {
     let _run = node.replica.journal().entries();
+    let _faults = node.replica.size().faults();
 }
 
 /// What each node knows by itself.

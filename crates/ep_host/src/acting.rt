@@ -23,11 +23,7 @@ fn last_frames(replica: &Replica) -> &[Frame]
 }
 
 /// Takes the event, and puts the frames of its entry into their rings. Answers how many of them are lost.
-pub fn act(
-    replica: &mut Replica,
-    links: &mut Vec<Link>,
-    event: Event,
-) -> Result<u64, StepFault>
+pub fn act(replica: &mut Replica, links: &mut Vec<Link>, event: Event) -> Result<u64, StepFault>
     requires { ArePeers replica.old.me links.old.items }
     ensures ok { IfOk result (λ lost. Made event lost replica.old replica.new links.old.items links.new.items) }
     ensures refused { IfErr result (λ fault. IsDeclined replica.old event fault) }

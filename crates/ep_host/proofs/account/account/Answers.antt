@@ -1,8 +1,5 @@
-use Rattle.std.proofs.Common.{rules, arith, ◌≡◌, ◌<◌, ℕ, length, get_or, below_more, subst, sym}
-use Rattle.std.proofs.Math.Nat.{eq-or-lt_of_le}
-use Rattle.std.proofs.Common.{⊎_elim}
-use Rattle.ep_host.specs.Node.{Node}
-use Rattle.ep_host.specs.Host.{Looked, BeginsBoth}
+use Rattle.std.proofs.Common.{arith, ◌<◌, ℕ, length, get_or, below_more}
+use Rattle.ep_host.specs.Host.{BeginsBoth}
 use Rattle.ep_host.proofs.Looking.{begins_both_back, looked_both, looked_each}
 use Rattle.ep_host.proofs.Hosts.{host_both}
 use Rattle.ep_host.proofs.account.account.Goals as goal

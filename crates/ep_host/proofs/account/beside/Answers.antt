@@ -1,6 +1,4 @@
-use Rattle.std.proofs.Common.{rules, arith, ◌≡◌, ◌<◌, length, refl, sym, ap, ◌∙◌}
-use Rattle.ep_host.specs.Host.{Quiet, Looked}
-use Rattle.ep_host.specs.Pointwise.{Each}
+use Rattle.std.proofs.Common.{rules, refl}
 use Rattle.ep_host.proofs.Looking.{looks_at, looks_keep}
 use Rattle.ep_host.proofs.account.beside.Goals as goal
 

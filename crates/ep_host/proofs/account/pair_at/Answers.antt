@@ -1,6 +1,5 @@
-use Rattle.std.proofs.Common.{rules, arith, ◌≡◌, ◌<◌, length, refl, sym, ap, ◌∙◌, get_or, subst}
-use Rattle.ep_host.specs.Node.{Node}
-use Rattle.ep_host.specs.Host.{Looked, PairedBoth, BeginsBoth}
+use Rattle.std.proofs.Common.{rules}
+use Rattle.ep_host.specs.Host.{Looked}
 use Rattle.ep_host.proofs.Looking.{looked_self}
 use Rattle.ep_host.proofs.Places.{each_set, each_append}
 use Rattle.ep_host.proofs.Hosts.{front_at, back_at}

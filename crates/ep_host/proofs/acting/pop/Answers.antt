@@ -1,7 +1,7 @@
-use Rattle.std.proofs.Common.{◌≡◌, ap, subst, ◌∙◌, refl, ◌++◌, option_to_list}
+use Rattle.std.proofs.Common.{ap, subst, ◌∙◌, refl, ◌++◌, option_to_list}
 use Rattle.std.proofs.lemmas.List.{get_or_default}
 use Rattle.rtrb.specs.Ring.{sent, received}
-use Rattle.ep_host.specs.Rings.{KeepsLink, PopsAt}
+use Rattle.ep_host.specs.Rings.{KeepsLink}
 use Rattle.ep_host.specs.declared.link.Link.{Link}
 use Rattle.ep_host.proofs.acting.pop.Goals as goal
 

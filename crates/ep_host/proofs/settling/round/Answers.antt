@@ -1,4 +1,4 @@
-use Rattle.std.proofs.Common.{arith, ◌≡◌, ◌<◌, ◌||◌, false, length, refl, get_or}
+use Rattle.std.proofs.Common.{arith, ◌<◌, ◌||◌, false, length, refl, get_or}
 use Rattle.std.proofs.lemmas.List.{get_or_default}
 use Rattle.ep_host.specs.Follows.{Rounds}
 use Rattle.ep_host.proofs.Following.{rounds_before, rounds_now}

@@ -1,8 +1,8 @@
-use Rattle.std.proofs.Common.{rules, arith, ◌≡◌, ◌∙◌, ◌∷◌, ◌++◌, [], length, length-append, subst, sym, ap, get_or}
+use Rattle.std.proofs.Common.{rules, arith, ◌≡◌, ◌∙◌, ◌∷◌, [], length, length-append, subst, sym, get_or}
 use Rattle.std.proofs.Math.ListN.{length-set}
 use Rattle.ep_host.specs.Joins.{CanJoin, Joins}
 use Rattle.ep_host.specs.Node.{Node}
-use Rattle.ep_host.proofs.Hosting.{AreLinked, AreJoined, linked_none, joined_none, can_join, joined_more, linked_more, linked_host, linked_fresh}
+use Rattle.ep_host.proofs.Hosting.{linked_none, joined_none, can_join, joined_more, linked_more, linked_host, linked_fresh}
 use Rattle.ep_host.proofs.ring_host.RingHost.new.Goals as goal
 
 pub loop-index-init : goal.loop-index-init

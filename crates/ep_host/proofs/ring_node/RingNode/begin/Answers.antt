@@ -5,9 +5,10 @@ use Rattle.ep_host.proofs.Turning.{node, task_taken, begins_made, begins_refused
 use Rattle.ep_host.proofs.ring_node.RingNode.begin.Goals as goal
 
 pub invariant_of-self-in-Ok : goal.invariant_of-self-in-Ok
-invariant_of-self-in-Ok c = let i = c.self.inside in
-    (made_books c.into_event.result c.in-Ok.lost i.replica c.act.new.replica i.links.items c.act.new.links.items c.in-Ok.ensures.ok (task_taken c.in-Some.task c.into_event.result i.links.items c.into_event.ensures) c.self.invariant.0,
-    omega (arith, c.in-Some.ensures.cases, c.self.invariant.1))
+invariant_of-self-in-Ok c = let i = c.self.inside in (
+  made_books c.into_event.result c.in-Ok.lost i.replica c.act.new.replica i.links.items c.act.new.links.items c.in-Ok.ensures.ok (task_taken c.in-Some.task c.into_event.result i.links.items c.into_event.ensures) c.self.invariant.0,
+  omega (arith, c.in-Some.ensures.cases, c.self.invariant.1),
+)
 
 pub returns-in-Ok : goal.returns-in-Ok
 returns-in-Ok c = let i = c.self.inside in rw (← c.self.view_is)

@@ -1,9 +1,8 @@
-use Rattle.std.proofs.Common.{◌≡◌, ◌<◌, ◌∙◌, length, subst, sym, arith, Some, None}
-use Rattle.ep_host.specs.Fates.{lost_after}
+use Rattle.std.proofs.Common.{◌<◌, ◌∙◌, length, subst, sym, arith, Some}
 use Rattle.ep_host.specs.Node.{Node}
 use Rattle.ep_host.proofs.Booking.{handled_books, pops_books, pops_taken}
 use Rattle.ep_host.proofs.Following.{counts}
-use Rattle.ep_host.proofs.Turning.{node, takes_none, takes_frame}
+use Rattle.ep_host.proofs.Turning.{node, takes_frame}
 use Rattle.ep_host.proofs.ring_node.RingNode.take.Goals as goal
 
 pub invariant_of-self : goal.invariant_of-self
@@ -13,9 +12,11 @@ invariant_of-self c = let i = c.self.inside in
 
 pub invariant_of-self-2 : goal.invariant_of-self-2
 invariant_of-self-2 c = let i = c.self.inside in let xs = i.links.items in let ys = c.pop.new.links.items in
-    let low : c.args.place < length xs = subst (λ (n : Node). c.args.place < length n.links) (sym c.self.view_is) c.requires in
-    (handled_books c.in-Some.frame c.handle-lost.result i.replica c.handle-lost.new.replica ys c.handle-lost.new.links.items c.handle-lost.ensures
-    (pops_taken c.args.place c.in-Some.frame xs ys low c.in-Some.ensures) (pops_books i.replica.me i.replica.entries c.args.place (Some c.in-Some.frame) xs ys low c.in-Some.ensures c.self.invariant.0), c.self.invariant.1)
+    let low : c.args.place < length xs = subst (λ (n : Node). c.args.place < length n.links) (sym c.self.view_is) c.requires in (
+      handled_books c.in-Some.frame c.handle-lost.result i.replica c.handle-lost.new.replica ys c.handle-lost.new.links.items c.handle-lost.ensures
+          (pops_taken c.args.place c.in-Some.frame xs ys low c.in-Some.ensures) (pops_books i.replica.me i.replica.entries c.args.place (Some c.in-Some.frame) xs ys low c.in-Some.ensures c.self.invariant.0),
+      c.self.invariant.1,
+    )
 
 pub returns : goal.returns
 returns c = let i = c.self.inside in rw (← c.self.view_is)

@@ -1,4 +1,4 @@
-use Rattle.std.proofs.Common.{rules, arith, ◌≡◌, ◌<◌, ◌≤◌, subst, ap, length, refl, add-one, ℕ}
+use Rattle.std.proofs.Common.{rules, arith, ◌≡◌, ◌≤◌, subst, ap, length, refl, add-one, ℕ}
 use Rattle.ep_host.specs.Node.{Node}
 use Rattle.ep_host.specs.Turns.{Takes}
 use Rattle.ep_host.proofs.Following.{takes_follows}
