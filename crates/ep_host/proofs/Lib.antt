@@ -1,3 +1,12 @@
 pub mod Copying
 pub mod Pumping
 pub mod Seating
+pub mod Places
+pub mod Fated
+pub mod Booking
+pub mod Following
+pub mod Looking
+pub mod Hosts
+pub mod Turning
+pub mod Hosting
+pub mod Accepting

@@ -26,7 +26,7 @@ both_added : (old between new : Kept) (xs ys : List Entry) → Grows old xs betw
 both_added old between new xs ys a b =
     b ∙ ap (λ (k : Kept). record k { entries = k.entries ++ ys }) a ∙ ap (λ (es : List Entry). record old { entries = es }) (append_assoc old.entries xs ys)
 
-frames_both : (xs ys : List Entry) → frames_of (xs ++ ys) ≡ frames_of xs ++ frames_of ys
+pub frames_both : (xs ys : List Entry) → frames_of (xs ++ ys) ≡ frames_of xs ++ frames_of ys
 frames_both [] ys = refl
 frames_both (x ∷ xs) ys = ap (λ (z : List (List ℕ)). x.frames ++ z) (frames_both xs ys) ∙ sym (append_assoc x.frames (frames_of xs) (frames_of ys))
 
@@ -35,7 +35,7 @@ no_messages : (fs : List (List ℕ)) → messages_of (frames_at fs) ≡ [] → f
 no_messages [] e = refl
 no_messages (b ∷ bs) e = absurd (cc)
 
-no_frames : (k k' : Kept) (i : ℕ) (e : Entry) → Applied k (Execute i) e k' → e.frames ≡ []
+pub no_frames : (k k' : Kept) (i : ℕ) (e : Entry) → Applied k (Execute i) e k' → e.frames ≡ []
 no_frames k k' i e a = no_messages e.frames (a.step.sent ∙ ap (λ (v : Event). sends k.faults k.me (state_left k.faults k.me k.entries) v) (ap event_of a.event))
 
 -- what the frame left

@@ -2,3 +2,14 @@ pub mod Sent
 pub mod Tending
 pub mod Finishing
 pub mod Asking
+pub mod Pointwise
+pub mod Tasks
+pub mod Rings
+pub mod Fates
+pub mod Node
+pub mod Acts
+pub mod Turns
+pub mod Follows
+pub mod Host
+pub mod Joins
+pub mod RingFinishing

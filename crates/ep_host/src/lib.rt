@@ -11,24 +11,46 @@
 //! knows: `finish` asks the audit. No clause says that a thread gets on.
 #![tactic(auto)]
 
+mod account;
 mod act;
+mod acting;
 mod finished;
 mod finishing;
+mod gate;
+mod gate_unpassed;
 mod host_fault;
+mod link;
 mod lock_host;
+mod putting;
+mod ring_finishing;
+mod ring_host;
+mod ring_node;
+mod running;
 mod seat;
+pub mod sections;
 mod sending;
+mod settling;
+mod task;
 mod tended;
 mod tending;
+mod threads;
 mod turn;
 
 pub use act::Act;
 pub use finished::Finished;
+pub use gate::Gate;
+pub use gate_unpassed::GateUnpassed;
 pub use host_fault::HostFault;
 pub use lock_host::LockHost;
+pub use ring_finishing::finish;
+pub use ring_host::RingHost;
+pub use ring_node::RingNode;
 pub use seat::ReplicaCell;
+pub use settling::settle;
+pub use task::Task;
 pub use tended::Tended;
 pub use tending::tend;
+pub use threads::section;
 pub use turn::Turn;
 
 #[cfg(test)]

@@ -11,7 +11,7 @@ use ep_replica::Replica;
 use std::alloc::Global;
 
 /// How many frames are lost by a frame's refusal: the frame itself, where there was no memory for it.
-fn lost_by(fault: &StepFault) -> u64
+pub fn lost_by(fault: &StepFault) -> u64
     ensures { result ≡ lost_by fault.now }
 {
     match fault {

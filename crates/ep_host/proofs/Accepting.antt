@@ -1,0 +1,294 @@
+-- A host's journals and receipts are accepted.
+use Rattle.std.proofs.Common.{◌≡◌, ℕ, zero, suc, ◌+◌, ◌<◌, ◌≤◌, List, [], ◌∷◌, ◌++◌, ◌⊎◌, inl, inr, Some, Result, Ok, Err, length, get_or, slice_get, refl, sym, ap, subst, ◌∙◌, arith, Contains, All, append_assoc, ⊎_elim, IfOk}
+use Rattle.std.proofs.lemmas.List.{append-nil}
+use Rattle.std.proofs.lemmas.List.Elements.{Contains-append_cases, Contains-push_cases, Contains-push, Contains-append_left, Contains-append_right}
+use Rattle.std.proofs.lemmas.Bool.{cases_lt}
+use Rattle.std.specs.declared.alloc.AllocError.{AllocError}
+use Rattle.ep_audit.specs.Audited.{IsAudited}
+use Rattle.ep_base.specs.Quorums.{size}
+use Rattle.ep_base.specs.declared.message.Message.{Message}
+use Rattle.ep_rules.specs.Audits.{IsAccepted}
+use Rattle.ep_rules.specs.Cells.{Change, Refusal}
+use Rattle.ep_rules.specs.States.{State, fresh_state}
+use Rattle.ep_rules.specs.Steps.{Frame, Sent, acts, sent_from, sent_by, leaves, Handle as Handles}
+use Rattle.ep_rules.specs.Worlds.{In}
+use Rattle.ep_rules.specs.Journals as rules
+use Rattle.ep_rules.specs.Journals.{IsEntry, AreSteps, AreMarked, AreNumbered, AreClocked, WasSent, Journals, messages_of}
+use Rattle.ep_rules.specs.Verdicts.{IsOwn}
+use Rattle.ep_rules.specs.declared.receipt.Receipt.{Receipt}
+use Rattle.ep_rules.proofs.Merged.{in_at, in_messages}
+use Rattle.ep_rules.proofs.OwnReceipts.{clocked_match_lem, own_receipts_agree_lem}
+use Rattle.ep_journal.specs.Entries.{entry_of, entries_of, frames_at, IsJournal, IsOf, AreInOrder, Log, all_entries, Collected, journals_of}
+use Rattle.ep_journal.specs.Events.{event_of, frame_at}
+use Rattle.ep_journal.specs.declared.entry.Entry.{Entry}
+use Rattle.ep_journal.specs.declared.event.Event.{Event as Happening}
+use Rattle.ep_journal.specs.declared.event.Event.TheVariants as taken
+use Rattle.ep_replica.specs.Kept.{Kept}
+use Rattle.ep_replica.specs.Receipts.{receipts_after}
+use Rattle.ep_replica.proofs.Own.{receipts_are_own}
+use Rattle.ep_verdict.specs.declared.verdict.Verdict.{Verdict}
+use Rattle.ep_host.specs.Host.{IsHost, Looked, Knows, AllSent}
+use Rattle.ep_host.specs.Node.{Node, fresh_node}
+use Rattle.ep_host.specs.Pointwise.{Each}
+use Rattle.ep_host.specs.RingFinishing.{replicas_in, log_of, logs_of, entries_in, their_journals, their_receipts}
+use Rattle.ep_host.specs.Rings.{handled_by, frames_handled}
+use Rattle.ep_host.specs.Sent.{frames_of}
+
+-- A frame out of an entry of a local run was sent.
+
+-- a replica's frames are from it
+from_by : (r : ℕ) (out : List (ℕ × Message)) (s : Sent) → In s (sent_from r out) → s.from ≡ r
+from_by r [] s h = absurd h
+from_by r (e ∷ es) s (inl is) = sym (ap (λ (z : Sent). z.from) is)
+from_by r (e ∷ es) s (inr h) = from_by r es s h
+
+from_acts : (r : ℕ) (o : Result (ℕ × Change) Refusal) (s : Sent) → In s (sent_by r o) → s.from ≡ r
+from_acts r (Ok p) s h = from_by r p.1.out s h
+from_acts r (Err e) s h = absurd h
+
+from_entry : (f r : ℕ) (s : State) (e : rules.Entry) (m : Frame) → IsEntry f r s e → In m e.out → m.sent.from ≡ r
+from_entry f r s e m h k = from_acts r (acts f r s e.event) m.sent (subst (λ (ms : List Sent). In m.sent ms) h.sent (in_messages m e.out k))
+
+-- each entry of a local run is a step from some state
+step_of : (f r : ℕ) (s : State) (es : List rules.Entry) (e : rules.Entry) → AreSteps f r s es → In e es → (t : State) × IsEntry f r t e
+step_of f r s [] e h k = absurd k
+step_of f r s (x ∷ es) e h (inl is) = (s, subst (λ (z : rules.Entry). IsEntry f r s z) is h.0)
+step_of f r s (x ∷ es) e h (inr k) = step_of f r (leaves f r s x.event x.done) es e h.1 k
+
+marks_of : (n last : ℕ) (es : List rules.Entry) (e : rules.Entry) → AreNumbered n last es → In e es → AreMarked e 0 e.out
+marks_of n last [] e h k = absurd k
+marks_of n last (x ∷ es) e h (inl is) = subst (λ (z : rules.Entry). AreMarked z 0 z.out) is h.2
+marks_of n last (x ∷ es) e h (inr k) = marks_of (suc n) x.stamp es e h.3 k
+
+-- what the frame at a place of an entry is marked with
+marked_at : (e : rules.Entry) (k : ℕ) (ms : List Frame) (j : ℕ) (m : Frame) → AreMarked e k ms → slice_get ms j ≡ Some m → (m.entry ≡ e.number) × (m.place ≡ k + j)
+marked_at e k [] j m h is = absurd (cc)
+marked_at e k (x ∷ ms) zero m h is =
+    let same : x ≡ m = (let s : Some x ≡ Some m = is in cc) in
+    subst (λ (z : Frame). (z.entry ≡ e.number) × (z.place ≡ k + 0)) same (h.0, (let q = h.1 in omega arith))
+marked_at e k (x ∷ ms) (suc j) m h is = let q = marked_at e (suc k) ms j m h.3 is in (q.0, omega arith)
+
+-- a frame out of an entry of a local run was sent
+was_sent : (f : ℕ) (J : Journals) (r : ℕ) (e : rules.Entry) (m : Frame) → AreNumbered 1 0 (J r) → AreSteps f r fresh_state (J r) → In e (J r) → In m e.out → WasSent J m
+was_sent f J r e m numbered steps stands out =
+    let s = step_of f r fresh_state (J r) e steps stands in
+    let from : m.sent.from ≡ r = from_entry f r s.0 e m s.1 out in
+    let at = in_at e.out m out in
+    let mark = marked_at e 0 e.out at.0 m (marks_of 1 0 (J r) e numbered stands) at.1 in
+    let place : at.0 ≡ m.place = (let q = mark.1 in omega arith) in
+    record {
+      entry = e;
+      stands = subst (λ q. In e (J q)) (sym from) stands;
+      number = sym mark.0;
+      frame = subst (λ j. slice_get e.out j ≡ Some m) place at.1;
+    }
+
+-- From the code's lists.
+
+none_in : (x : List ℕ) → Contains [] x → ⊥
+none_in x c = let low = c.1 in absurd (omega arith)
+
+in_cons : (y x : List ℕ) (ys : List (List ℕ)) → Contains (y ∷ ys) x → (y ≡ x) ⊎ Contains ys x
+in_cons y x ys c = elim (Contains-append_cases (y ∷ []) ys x c) [
+  | inl h ↦ elim (Contains-push_cases [] y x h) [ inl z ↦ absurd (none_in x z) | inr e ↦ inl e ]
+  | inr h ↦ inr h
+]
+
+frame_in : (fs : List (List ℕ)) (b : List ℕ) → Contains fs b → In (frame_at b) (frames_at fs)
+frame_in [] b c = absurd (none_in b c)
+frame_in (y ∷ fs) b c = elim (in_cons y b fs c) [ inl e ↦ inl (ap frame_at e) | inr h ↦ inr (frame_in fs b h) ]
+
+-- the entry that sent it
+sent_in : (es : List Entry) (b : List ℕ) → Contains (frames_of es) b → (e : rules.Entry) × In e (entries_of es) × In (frame_at b) e.out
+sent_in [] b c = absurd (none_in b c)
+sent_in (x ∷ es) b c = elim (Contains-append_cases x.frames (frames_of es) b c) [
+  | inl h ↦ (entry_of x, inl refl, frame_in x.frames b h)
+  | inr h ↦ let t = sent_in es b h in (t.0, inr t.1, t.2)
+]
+
+-- the bytes that an event handles
+by_event : (v : Happening) (m : Frame) → event_of v ≡ Handles m → (b : List ℕ) × Contains (handled_by v) b × (frame_at b ≡ m)
+by_event (taken.Propose client request command seen) m e = absurd (cc)
+by_event (taken.Handle b) m e = (b, Contains-push [] b, (let s : Handles (frame_at b) ≡ Handles m = e in cc))
+by_event (taken.GiveUp i) m e = absurd (cc)
+by_event (taken.Recover i) m e = absurd (cc)
+by_event (taken.Execute i) m e = absurd (cc)
+
+handled_at : (es : List Entry) (e : rules.Entry) (m : Frame) → In e (entries_of es) → e.event ≡ Handles m → (b : List ℕ) × Contains (frames_handled es) b × (frame_at b ≡ m)
+handled_at [] e m h is = absurd h
+handled_at (x ∷ es) e m (inl same) is =
+    let t = by_event x.event m (ap (λ (z : rules.Entry). z.event) same ∙ is) in
+    (t.0, Contains-append_left (handled_by x.event) (frames_handled es) t.0 t.1, t.2)
+handled_at (x ∷ es) e m (inr h) is = let t = handled_at es e m h is in (t.0, Contains-append_right (handled_by x.event) (frames_handled es) t.0 t.1, t.2)
+
+-- The nodes' journals.
+
+-- a node that there isn't
+abbrev blank : Node
+blank = fresh_node (record { faults = 0; me = 0; entries = [] })
+
+entries_is : (nodes : List Node) (r : ℕ) → get_or (entries_in (replicas_in nodes)) r [] ≡ (get_or nodes r blank).replica.entries
+entries_is [] r = refl
+entries_is (n ∷ ns) zero = refl
+entries_is (n ∷ ns) (suc r) = entries_is ns r
+
+none_after : (nodes : List Node) (r : ℕ) → length nodes ≤ r → get_or (entries_in (replicas_in nodes)) r [] ≡ []
+none_after [] r low = refl
+none_after (n ∷ ns) zero low = absurd (omega arith)
+none_after (n ∷ ns) (suc r) low = none_after ns r (omega arith)
+
+module _ (f : ℕ) (nodes : List Node) (host : IsHost f nodes) (know : All Knows nodes) where
+  J : Journals
+  J = their_journals (replicas_in nodes)
+
+  journal_is : (r : ℕ) → their_journals (replicas_in nodes) r ≡ entries_of (get_or nodes r blank).replica.entries
+  journal_is r = ap entries_of (entries_is nodes r)
+
+  runs_at : (r : ℕ) → r < length nodes → IsJournal f r (get_or nodes r blank).replica.entries
+  runs_at r low = let j = (know r blank low).journal in
+      subst (λ (q : ℕ). IsJournal f q (get_or nodes r blank).replica.entries) (host.me r blank low)
+      (subst (λ (q : ℕ). IsJournal q (get_or nodes r blank).replica.me (get_or nodes r blank).replica.entries) (host.faults r blank low) j)
+
+  clocked_at : (r : ℕ) → AreClocked 0 (their_journals (replicas_in nodes) r)
+  clocked_at r = ⊎_elim
+      (λ (low : r < length nodes). subst (λ (es : List rules.Entry). AreClocked 0 es) (sym (journal_is r)) (know r blank low).clocked)
+      (λ (ge : length nodes ≤ r). subst (λ (es : List Entry). AreClocked 0 (entries_of es)) (sym (none_after nodes r ge)) tt)
+      (cases_lt r (length nodes))
+
+  sent_at : AllSent nodes → (r : ℕ) (e : rules.Entry) (m : Frame) → In e (their_journals (replicas_in nodes) r) → e.event ≡ Handles m → WasSent (their_journals (replicas_in nodes)) m
+  sent_at sent r e m stands is = ⊎_elim
+      (λ (low : r < length nodes).
+      let t = handled_at (get_or nodes r blank).replica.entries e m (subst (λ (es : List rules.Entry). In e es) (journal_is r) stands) is in
+      let u = sent r blank t.0 low t.1 in
+      let o = sent_in (get_or nodes u.0 blank).replica.entries t.0 u.2 in
+      let q = subst (λ (es : List rules.Entry). AreNumbered 1 0 es × AreSteps f u.0 fresh_state es) (sym (journal_is u.0)) (runs_at u.0 u.1).run in
+      subst (λ (z : Frame). WasSent (their_journals (replicas_in nodes)) z) t.2
+      (was_sent f (their_journals (replicas_in nodes)) u.0 o.0 (frame_at t.0) q.0 q.1 (subst (λ (es : List rules.Entry). In o.0 es) (sym (journal_is u.0)) o.1) o.2))
+      (λ (ge : length nodes ≤ r). absurd (subst (λ (es : List Entry). In e (entries_of es)) (none_after nodes r ge) stands))
+      (cases_lt r (length nodes))
+
+in_append : (t : Receipt) (xs ys : List Receipt) → In t (xs ++ ys) → In t xs ⊎ In t ys
+in_append t [] ys h = inr h
+in_append t (x ∷ xs) ys (inl e) = inl (inl e)
+in_append t (x ∷ xs) ys (inr h) = elim (in_append t xs ys h) [ inl l ↦ inl (inr l) | inr r ↦ inr r ]
+
+-- the node whose receipt it is
+receipt_at : (nodes : List Node) (t : Receipt) → In t (their_receipts (replicas_in nodes)) → (i : ℕ) × (i < length nodes) × In t (receipts_after (get_or nodes i blank).replica.me 0 (entries_of (get_or nodes i blank).replica.entries))
+receipt_at [] t h = absurd h
+receipt_at (n ∷ ns) t h = elim (in_append t (receipts_after n.replica.me 0 (entries_of n.replica.entries)) (their_receipts (replicas_in ns)) h) [
+  | inl l ↦ (0, omega arith, l)
+  | inr r ↦ let u = receipt_at ns t r in (suc u.0, omega (arith, u.1), u.2)
+]
+
+-- no audit of them finds a fault
+pub host_accepted : (f : ℕ) (nodes : List Node) → IsHost f nodes → All Knows nodes → AllSent nodes → IsAccepted f (their_journals (replicas_in nodes)) (their_receipts (replicas_in nodes))
+host_accepted f nodes host know sent = record {
+  matched = clocked_match_lem (their_journals (replicas_in nodes)) (clocked_at f nodes host know) (sent_at f nodes host know sent);
+  agree = λ t h.
+      let u = receipt_at nodes t h in
+      let n = get_or nodes u.0 blank in
+      let k = know u.0 blank u.1 in
+      let own : IsOwn n.replica.faults n.replica.me (entries_of n.replica.entries) t = receipts_are_own n.replica.faults n.replica.me 0 (entries_of n.replica.entries) k.some k.journal.run.1 t u.2 in
+      let own' : IsOwn f u.0 (their_journals (replicas_in nodes) u.0) t =
+      subst (λ (es : List rules.Entry). IsOwn f u.0 es t) (sym (journal_is f nodes host know u.0))
+      (subst (λ (q : ℕ). IsOwn f q (entries_of n.replica.entries) t) (host.me u.0 blank u.1) (subst (λ (q : ℕ). IsOwn q n.replica.me (entries_of n.replica.entries) t) (host.faults u.0 blank u.1) own)) in
+      own_receipts_agree_lem f (their_journals (replicas_in nodes)) (clocked_at f nodes host know) u.0 t own';
+}
+
+-- Lists of nodes.
+
+pub looked_replicas : (xs ys : List Node) → Each Looked xs ys → replicas_in ys ≡ replicas_in xs
+looked_replicas [] [] h = refl
+looked_replicas [] (y ∷ ys) h = let e = h.len in absurd (omega (arith, e))
+looked_replicas (x ∷ xs) [] h = let e = h.len in absurd (omega (arith, e))
+looked_replicas (x ∷ xs) (y ∷ ys) h =
+    let first : y.replica ≡ x.replica = (h.at 0 x (omega arith)).replica in
+    let rest : Each Looked xs ys = record { len = (let e = h.len in omega (arith, e)); at = λ i d low. h.at (suc i) d (omega arith) } in
+    ap (λ (k : Kept). k ∷ replicas_in ys) first ∙ ap (λ (ks : List Kept). x.replica ∷ ks) (looked_replicas xs ys rest)
+
+pub replicas_both : (xs ys : List Node) → replicas_in (xs ++ ys) ≡ replicas_in xs ++ replicas_in ys
+replicas_both [] ys = refl
+replicas_both (x ∷ xs) ys = ap (λ (ks : List Kept). x.replica ∷ ks) (replicas_both xs ys)
+
+pub receipts_both : (xs ys : List Kept) → their_receipts (xs ++ ys) ≡ their_receipts xs ++ their_receipts ys
+receipts_both [] ys = refl
+receipts_both (k ∷ ks) ys = ap (λ (l : List Receipt). receipts_after k.me 0 (entries_of k.entries) ++ l) (receipts_both ks ys) ∙ sym (append_assoc (receipts_after k.me 0 (entries_of k.entries)) (their_receipts ks) (their_receipts ys))
+
+logs_both : (xs ys : List Kept) → logs_of (xs ++ ys) ≡ logs_of xs ++ logs_of ys
+logs_both [] ys = refl
+logs_both (k ∷ ks) ys = ap (λ (l : List Log). log_of k ∷ l) (logs_both ks ys)
+
+-- the receipts of one node more
+pub receipts_more : (nodes : List Node) (n : Node) (receipts more : List Receipt) → receipts ≡ their_receipts (replicas_in nodes) → more ≡ receipts ++ receipts_after n.replica.me 0 (entries_of n.replica.entries) → more ≡ their_receipts (replicas_in (nodes ++ n ∷ []))
+receipts_more nodes n receipts more was is =
+    let own = receipts_after n.replica.me 0 (entries_of n.replica.entries) in
+    is ∙ ap (λ (l : List Receipt). l ++ own) was ∙ ap (λ (l : List Receipt). their_receipts (replicas_in nodes) ++ l) (sym (append-nil own)) ∙ sym (receipts_both (replicas_in nodes) (n.replica ∷ [])) ∙ ap their_receipts (sym (replicas_both nodes (n ∷ [])))
+
+-- the journal of one node more
+pub logs_more : (nodes : List Node) (n : Node) (l : Log) (logs more : List Log) → logs ≡ logs_of (replicas_in nodes) → l.faults ≡ n.replica.faults → l.me ≡ n.replica.me → l.entries ≡ n.replica.entries → more ≡ logs ++ l ∷ [] → more ≡ logs_of (replicas_in (nodes ++ n ∷ []))
+logs_more nodes n l logs more was faults me entries is =
+    let same : l ≡ log_of n.replica = (λ t. record { faults = faults t; me = me t; entries = entries t }) in
+    is ∙ ap (λ (ls : List Log). ls ++ l ∷ []) was ∙ ap (λ (x : Log). logs_of (replicas_in nodes) ++ x ∷ []) same ∙ sym (logs_both (replicas_in nodes) (n.replica ∷ [])) ∙ ap logs_of (sym (replicas_both nodes (n ∷ [])))
+
+in_order : (f r : ℕ) (nodes : List Node) → ((i : ℕ) → i < length nodes → IsOf f (r + i) (log_of (get_or nodes i blank).replica)) → r + length nodes ≡ size f → AreInOrder f r (logs_of (replicas_in nodes))
+in_order f r [] h count = (let z : r + 0 ≡ r = omega arith in sym z ∙ count)
+in_order f r (n ∷ ns) h count =
+    let z : r + 0 ≡ r = omega arith in (
+      subst (λ (q : ℕ). IsOf f q (log_of n.replica)) z (h 0 (omega arith)),
+      in_order f (suc r) ns (λ i low. let e : r + suc i ≡ suc r + i = omega arith in subst (λ (q : ℕ). IsOf f q (log_of (get_or ns i blank).replica)) e (h (suc i) (omega arith)))
+          (let s : suc r + length ns ≡ r + length (n ∷ ns) = omega arith in s ∙ count),
+    )
+
+-- they are the journals of a cluster, in order
+pub host_in_order : (f : ℕ) (nodes : List Node) → IsHost f nodes → All Knows nodes → AreInOrder f 0 (logs_of (replicas_in nodes))
+host_in_order f nodes host know = in_order f 0 nodes
+    (λ i low. let e : 0 + i ≡ i = omega arith in rw e record { faults = host.faults i blank low; me = host.me i blank low; journal = runs_at f nodes host know i low })
+    (let z : 0 + length nodes ≡ length nodes = omega arith in z ∙ host.count)
+
+entries_each : (ks : List Kept) → all_entries (logs_of ks) ≡ entries_in ks
+entries_each [] = refl
+entries_each (k ∷ ks) = ap (λ (l : List (List Entry)). k.entries ∷ l) (entries_each ks)
+
+first_faults : (f g : ℕ) (nodes : List Node) → length nodes ≡ size f → IsHost f nodes → AreInOrder g 0 (logs_of (replicas_in nodes)) → g ≡ f
+first_faults f g [] count host h = absurd (omega arith)
+first_faults f g (n ∷ ns) count host h = sym h.0.faults ∙ host.faults 0 blank (omega arith)
+
+-- what is collected is theirs
+pub collected_is : (f g : ℕ) (nodes : List Node) (entries : List (List Entry)) (ls : List Log) → IsHost f nodes → ls ≡ logs_of (replicas_in nodes) → AreInOrder g 0 ls → entries ≡ all_entries ls →
+    (g ≡ f) × ((λ r. entries_of (get_or entries r [])) ≡ their_journals (replicas_in nodes))
+collected_is f g nodes entries ls host is h e = (
+  first_faults f g nodes host.count host (subst (λ (l : List Log). AreInOrder g 0 l) is h),
+  ap (λ (es : List (List Entry)). λ (r : ℕ). entries_of (get_or es r [])) (e ∙ ap all_entries is ∙ entries_each (replicas_in nodes)),
+)
+
+-- What is left at the end of a host: its nodes' journals, collected, and their receipts.
+pub record IsEnd (f : ℕ) (nodes : List Node) (j : Collected) (receipts : List Receipt) : Type 0 where
+  pub faults : j.faults ≡ f
+  pub journals : journals_of j ≡ their_journals (replicas_in nodes)
+  pub told : receipts ≡ their_receipts (replicas_in nodes)
+
+pub is_end :
+    (f : ℕ) (nodes after : List Node) (j : Collected) (ls : List Log) (receipts : List Receipt) → IsHost f nodes → Each Looked nodes after → ls ≡ logs_of (replicas_in after) → AreInOrder j.faults 0 ls →
+    j.entries ≡ all_entries ls → receipts ≡ their_receipts (replicas_in after) → IsEnd f nodes j receipts
+is_end f nodes after j ls receipts host looked logs order entries are =
+    let same = looked_replicas nodes after looked in
+    let both = collected_is f j.faults nodes j.entries ls host (logs ∙ ap logs_of same) order entries in
+    record { faults = both.0; journals = both.1; told = are ∙ ap their_receipts same }
+
+pub end_in_order : (f : ℕ) (nodes after : List Node) (ls : List Log) → IsHost f nodes → All Knows nodes → Each Looked nodes after → ls ≡ logs_of (replicas_in after) → AreInOrder f 0 ls
+end_in_order f nodes after ls host know looked logs = subst (λ (l : List Log). AreInOrder f 0 l) (sym (logs ∙ ap logs_of (looked_replicas nodes after looked))) (host_in_order f nodes host know)
+
+pub end_accepted : (f : ℕ) (nodes : List Node) (j : Collected) (receipts : List Receipt) → IsHost f nodes → All Knows nodes → AllSent nodes → IsEnd f nodes j receipts → IsAccepted j.faults (journals_of j) receipts
+end_accepted f nodes j receipts host know sent e =
+    subst (λ (g : ℕ). IsAccepted g (journals_of j) receipts) (sym e.faults)
+    (subst (λ (J : Journals). IsAccepted f J receipts) (sym e.journals)
+    (subst (λ (l : List Receipt). IsAccepted f (their_journals (replicas_in nodes)) l) (sym e.told) (host_accepted f nodes host know sent)))
+
+pub end_audited :
+    (f : ℕ) (nodes : List Node) (j : Collected) (receipts : List Receipt) → IsEnd f nodes j receipts → (r : Result Verdict AllocError) → IfOk r (λ v. IsAudited j.faults (journals_of j) receipts v) →
+    IfOk r (λ v. IsAudited f (their_journals (replicas_in nodes)) (their_receipts (replicas_in nodes)) v)
+end_audited f nodes j receipts e (Err x) h = tt
+end_audited f nodes j receipts e (Ok v) h =
+    subst (λ (l : List Receipt). IsAudited f (their_journals (replicas_in nodes)) l v) e.told
+    (subst (λ (J : Journals). IsAudited f J receipts v) e.journals
+    (subst (λ (g : ℕ). IsAudited g (journals_of j) receipts v) e.faults h))

@@ -1,0 +1,104 @@
+-- The nodes of a host: their links, and that turns keep them a host.
+use Rattle.std.proofs.Common.{◌≡◌, ◌≢◌, ℕ, ◌<◌, ◌≤◌, ◌+◌, ◌-◌, List, length, get_or, sym, ap, ◌∙◌, subst, arith, All, Contains, ⊎_elim, ◌++◌, length-append}
+use Rattle.std.proofs.lemmas.List.{get_or_default, get_or_append_left, get_or-append_right}
+use Rattle.std.proofs.lemmas.List.Elements.{Contains-append_left, All-contains}
+use Rattle.std.proofs.lemmas.Bool.{cases_lt}
+use Rattle.rtrb.specs.Ring.{sent, received, IsPair}
+use Rattle.ep_host.specs.Follows.{Follows}
+use Rattle.ep_host.specs.Host.{IsHost, Paired, PairedBoth, HasLink, Begins, AllBegin, Knows, AllSent}
+use Rattle.ep_host.specs.Node.{Node}
+use Rattle.ep_host.specs.Pointwise.{Each}
+use Rattle.ep_host.specs.Rings.{KeepsLink, IsTaken, IsOut, place, peer_at, frames_handled}
+use Rattle.ep_host.specs.Sent.{frames_of}
+use Rattle.ep_host.specs.declared.link.Link.{Link}
+use Rattle.ep_host.proofs.Booking.{peers_still}
+
+-- numbers of nodes and places of links
+
+pub place_low : (i j n l : ℕ) → i < n → j < n → i ≢ j → n ≤ l + 1 → place i j < l
+place_low i j n l a b other e = grind (arith, other)
+
+pub peer_place : (i j : ℕ) → i ≢ j → peer_at i (place i j) ≡ j
+peer_place i j other = grind (arith, other)
+
+peer_low : (i k n l : ℕ) → i < n → k < l → l + 1 ≡ n → peer_at i k < n
+peer_low i k n l a b e = grind (arith)
+
+peer_other : (i k : ℕ) → peer_at i k ≢ i
+peer_other i k = λ e. grind (arith, e)
+
+place_peer : (i k : ℕ) → place i (peer_at i k) ≡ k
+place_peer i k = grind (arith)
+
+pub has_link : (f : ℕ) (nodes : List Node) (i j : ℕ) (d : Node) → IsHost f nodes → i < length nodes → j < length nodes → i ≢ j → HasLink (get_or nodes i d) (get_or nodes j d).replica.me
+has_link f nodes i j d host li lj other =
+    let low : place i j < length (get_or nodes i d).links = place_low i j (length nodes) (length (get_or nodes i d).links) li lj other (let e = host.links i d li in omega (arith, e)) in
+    rw (host.me i d li, host.me j d lj) (low, λ e. host.peers i d li (place i j) e low ∙ peer_place i j other)
+
+pub host_both : (f : ℕ) (nodes : List Node) (i j : ℕ) (d : Node) → IsHost f nodes → j < i → i < length nodes → PairedBoth (get_or nodes j d) (get_or nodes i d)
+host_both f nodes i j d host less low =
+    let p = host.paired i j d less low in
+    let lj : j < length nodes = omega arith in
+    (p.0, p.1, has_link f nodes j i d host lj low (λ e. absurd (omega (arith, e))), has_link f nodes i j d host low lj (λ e. absurd (omega (arith, e))))
+
+-- turns
+
+kept_pair : (a b a' b' : Link) → KeepsLink a a' → KeepsLink b b' → IsPair a.to b.from → IsPair a'.to b'.from
+kept_pair a b a' b' q r p = let s = q.to.0 in let t = r.from.0 in
+    (t.0 ∙ p.0 ∙ sym s.0, t.1 ∙ p.1 ∙ sym s.1, t.2 ∙ p.2 ∙ sym s.2, t.3 ∙ p.3 ∙ sym s.3)
+
+kept_paired : (a b a' b' : Node) → Follows a a' → Follows b b' → HasLink a b.replica.me → HasLink b a.replica.me → Paired a b → Paired a' b'
+kept_paired a b a' b' la lb ha hb p = λ e. rw (la.me, lb.me) (kept_pair _ _ _ _ (la.rings.at (place a.replica.me b.replica.me) e ha.0).keeps (lb.rings.at (place b.replica.me a.replica.me) e hb.0).keeps (p e))
+
+pub host_still : (f : ℕ) (xs ys : List Node) → Each Follows xs ys → IsHost f xs → IsHost f ys
+host_still f xs ys h host = record {
+  count = h.len ∙ host.count;
+  faults = λ i d low. let l : i < length xs = omega (arith, h.len) in (h.at i d l).faults ∙ host.faults i d l;
+  me = λ i d low. let l : i < length xs = omega (arith, h.len) in (h.at i d l).me ∙ host.me i d l;
+  links = λ i d low. let l : i < length xs = omega (arith, h.len) in let n = (h.at i d l).rings.len in let m = host.links i d l in omega (arith, h.len, n, m);
+  peers = λ i d low. let l : i < length xs = omega (arith, h.len) in peers_still i (h.at i d l).fates (get_or xs i d).links (get_or ys i d).links (h.at i d l).rings (host.peers i d l);
+  paired = λ i j d less low. let l : i < length xs = omega (arith, h.len) in let m : j < length xs = omega arith in
+      let p = host_both f xs i j d host less l in
+      let fj = h.at j d m in let fi = h.at i d l in
+      (kept_paired (get_or xs j d) (get_or xs i d) (get_or ys j d) (get_or ys i d) fj fi p.2 p.3 p.0, kept_paired (get_or xs i d) (get_or xs j d) (get_or ys i d) (get_or ys j d) fi fj p.3 p.2 p.1);
+}
+
+-- what was taken was sent
+
+-- what b has taken from a, a has put
+from_to :
+    (a b : Node) (f : List ℕ) (e : Link) → Knows a → HasLink a b.replica.me → Begins a b →
+    Contains (received (get_or b.links (place b.replica.me a.replica.me) e).from) f → Contains (frames_of a.replica.entries) f
+from_to a b f e know has begins c =
+    let l = get_or a.links (place a.replica.me b.replica.me) e in let p = begins e in
+    let put : Contains (sent l.to) f = subst (λ (xs : List (List ℕ)). Contains xs f) p.1 (Contains-append_left (received (get_or b.links (place b.replica.me a.replica.me) e).from) p.0 f c) in
+    (All-contains (IsOut a.replica.entries l.peer) (sent l.to) f (know.booked.put (place a.replica.me b.replica.me) e has.0) put).0
+
+pub all_sent : (f : ℕ) (nodes : List Node) → IsHost f nodes → All Knows nodes → AllBegin nodes → AllSent nodes
+all_sent f nodes host know begins = λ j d b low c.
+    let me = get_or nodes j d in
+    let t = All-contains (IsTaken me.links) (frames_handled me.replica.entries) b (know j d low).booked.taken c in
+    let i = peer_at j t.0 in
+    let li : i < length nodes = peer_low j t.0 (length nodes) (length me.links) low t.2 (host.links j d low) in
+    let a = get_or nodes i d in
+    let e = t.1 in
+    let at : place me.replica.me a.replica.me ≡ t.0 = ap (λ n. place n a.replica.me) (host.me j d low) ∙ ap (place j) (host.me i d li) ∙ place_peer j t.0 in
+    let here : Contains (received (get_or me.links (place me.replica.me a.replica.me) e).from) b =
+    subst (λ (l : Link). Contains (received l.from) b) (sym t.3 ∙ ap (λ n. get_or me.links n e) (sym at)) t.4 in
+    let end : HasLink a me.replica.me × Begins a me → Contains (frames_of a.replica.entries) b = λ (p : HasLink a me.replica.me × Begins a me). from_to a me b e (know i d li) p.0 p.1 here in (
+      i,
+      li,
+      ⊎_elim
+          (λ (less : i < j). end ((host_both f nodes j i d host less low).2, (begins j i d less low).0))
+          (λ (more : j ≤ i). let other = peer_other j t.0 in let less : j < i = grind (arith, other, more) in end ((host_both f nodes i j d host less li).3, (begins i j d less li).1))
+          (cases_lt i j),
+    )
+
+pub front_at : (xs front back : List Node) (low high : ℕ) (d e : Node) → xs ≡ front ++ back → length front ≡ high → low < high → get_or front low e ≡ get_or xs low d
+front_at xs front back low high d e is len l = let l' : low < length front = omega arith in get_or_default front low e d l' ∙ sym (get_or_append_left front back d low l') ∙ ap (λ z. get_or z low d) (sym is)
+
+pub back_at : (xs front back : List Node) (high : ℕ) (d e : Node) → xs ≡ front ++ back → length front ≡ high → high < length xs → get_or back 0 e ≡ get_or xs high d
+back_at xs front back high d e is len l =
+    let some : 0 < length back = omega (arith, length-append front back, ap (length {A = Node}) is) in
+    let zero_is : high - high ≡ 0 = omega arith in
+    get_or_default back 0 e d some ∙ ap (λ n. get_or back n d) (sym zero_is) ∙ sym (get_or-append_right front back high high d len (omega arith)) ∙ ap (λ z. get_or z high d) (sym is)

@@ -1,0 +1,65 @@
+-- Looks keep the account.
+use Rattle.std.proofs.Common.{◌≡◌, ℕ, ◌<◌, List, [], ◌++◌, length, arith, get_or, set, refl, sym, ap, ◌∙◌, subst}
+use Rattle.std.proofs.lemmas.List.{append-nil}
+use mathlib.Core.List.{IsPrefix}
+use Rattle.rtrb.specs.Ring.{sent, received, IsPair}
+use Rattle.ep_journal.specs.declared.entry.Entry.{Entry}
+use Rattle.ep_replica.specs.Kept.{Kept}
+use Rattle.ep_host.specs.Fates.{Carries}
+use Rattle.ep_host.specs.Host.{Quiet, Looked, Paired, Begins, HasLink, PairedBoth, BeginsBoth}
+use Rattle.ep_host.specs.Node.{Node}
+use Rattle.ep_host.specs.Pointwise.{Each}
+use Rattle.ep_host.specs.Rings.{IsBooked, place}
+use Rattle.ep_host.specs.declared.link.Link.{Link}
+use Rattle.ep_host.proofs.Booking.{carries_still}
+use Rattle.ep_host.proofs.Fated.{keeps_self, keeps_keeps}
+use Rattle.ep_host.proofs.Places.{each_set, each_self, each_weaker, each_each}
+
+pub quiet_self : (a : Link) → Quiet a a
+quiet_self a = record { keeps = keeps_self a; put = refl; taken = refl }
+
+quiet_quiet : (a b c : Link) → Quiet a b → Quiet b c → Quiet a c
+quiet_quiet a b c h k = record { keeps = keeps_keeps a b c h.keeps k.keeps; put = k.put ∙ h.put; taken = k.taken ∙ h.taken }
+
+pub looks_at : (xs : List Link) (i : ℕ) (y was : Link) → was ≡ get_or xs i was → i < length xs → Quiet was y → Each Quiet xs (set xs i y)
+looks_at xs i y was is low q = each_set Quiet xs i y was quiet_self low (subst (λ (a : Link). Quiet a y) is q)
+
+quiet_carries : (a b : Link) → Quiet a b → Carries [] a b
+quiet_carries a b q = record { keeps = q.keeps; put = q.put ∙ sym (append-nil (sent a.to)); taken = ([], append-nil (received a.from) ∙ sym q.taken) }
+
+pub looks_keep : (me : ℕ) (es : List Entry) (before after : List Link) → Each Quiet before after → IsBooked me es before → IsBooked me es after
+looks_keep me es before after h was = carries_still me es before after (each_weaker Quiet (Carries []) quiet_carries before after h) was
+
+begins_link : (a b a' b' : Link) → Quiet a a' → Quiet b b' → IsPrefix (received b'.from) (sent a'.to) → IsPrefix (received b.from) (sent a.to)
+begins_link a b a' b' q r p = (p.0, ap (λ (l : List (List ℕ)). l ++ p.0) (sym r.taken) ∙ p.1 ∙ q.put)
+
+me_is : (a b : Node) → Looked a b → b.replica.me ≡ a.replica.me
+me_is a b l = ap (λ (k : Kept). k.me) l.replica
+
+pub begins_back : (a b a' b' : Node) → Looked a a' → Looked b b' → HasLink a b.replica.me → HasLink b a.replica.me → Begins a' b' → Begins a b
+begins_back a b a' b' la lb ha hb p = λ e. begins_link _ _ _ _ (la.links.at (place a.replica.me b.replica.me) e ha.0) (lb.links.at (place b.replica.me a.replica.me) e hb.0) (rw (← me_is a a' la, ← me_is b b' lb) (p e))
+
+pub looked_self : (a : Node) → Looked a a
+looked_self a = record { replica = refl; links = each_self Quiet a.links quiet_self }
+
+looked_looked : (a b c : Node) → Looked a b → Looked b c → Looked a c
+looked_looked a b c h k = record { replica = k.replica ∙ h.replica; links = each_each Quiet Quiet Quiet quiet_quiet a.links b.links c.links h.links k.links }
+
+pub begins_both_back : (a b a' b' : Node) → Looked a a' → Looked b b' → PairedBoth a b → BeginsBoth a' b' → BeginsBoth a b
+begins_both_back a b a' b' la lb p h = (begins_back a b a' b' la lb p.2 p.3 h.0, begins_back b a b' a' lb la p.3 p.2 h.1)
+
+pub looked_each : (xs ys zs : List Node) → Each Looked xs ys → Each Looked ys zs → Each Looked xs zs
+looked_each xs ys zs h k = each_each Looked Looked Looked looked_looked xs ys zs h k
+
+same_ring : (a b a' b' : Link) → Quiet a a' → Quiet b b' → IsPair a.to b.from → IsPair a'.to b'.from
+same_ring a b a' b' q r p = let s = q.keeps.to.0 in let t = r.keeps.from.0 in
+    (t.0 ∙ p.0 ∙ sym s.0, t.1 ∙ p.1 ∙ sym s.1, t.2 ∙ p.2 ∙ sym s.2, t.3 ∙ p.3 ∙ sym s.3)
+
+looked_paired : (a b a' b' : Node) → Looked a a' → Looked b b' → HasLink a b.replica.me → HasLink b a.replica.me → Paired a b → Paired a' b'
+looked_paired a b a' b' la lb ha hb p = λ e. rw (me_is a a' la, me_is b b' lb) (same_ring _ _ _ _ (la.links.at (place a.replica.me b.replica.me) e ha.0) (lb.links.at (place b.replica.me a.replica.me) e hb.0) (p e))
+
+looked_link : (a b a' b' : Node) → Looked a a' → Looked b b' → HasLink a b.replica.me → HasLink a' b'.replica.me
+looked_link a b a' b' la lb h = rw (me_is a a' la, me_is b b' lb) ((omega (arith, la.links.len, h.0)), λ e. (la.links.at (place a.replica.me b.replica.me) e h.0).keeps.peer ∙ h.1 e)
+
+pub looked_both : (a b a' b' : Node) → Looked a a' → Looked b b' → PairedBoth a b → PairedBoth a' b'
+looked_both a b a' b' la lb p = (looked_paired a b a' b' la lb p.2 p.3 p.0, looked_paired b a b' a' lb la p.3 p.2 p.1, looked_link a b a' b' la lb p.2, looked_link b a b' a' lb la p.3)

@@ -1,0 +1,5 @@
+use Rattle.ep_host.proofs.Hosts.{all_sent}
+use Rattle.ep_host.proofs.account.taken_was_sent.Goals as goal
+
+pub returns-clause-sent : goal.returns-clause-sent
+returns-clause-sent c = all_sent c.requires.0 c.args.nodes.now c.requires.1 c.know_all.ensures c.account.ensures.begins

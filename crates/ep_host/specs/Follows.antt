@@ -1,0 +1,46 @@
+-- What turns leave of a node.
+use Rattle.std.specs.Prelude.{◌≡◌, ℕ, ◌+◌, ◌-◌, ◌≤◌, Bool, true, false, List, [], ◌++◌, length}
+use Rattle.ep_journal.specs.declared.entry.Entry.{Entry}
+use Rattle.ep_host.specs.Fates.{Fate, frames_in, lost_in, Carries, lost_after}
+use Rattle.ep_host.specs.Node.{Node}
+use Rattle.ep_host.specs.Pointwise.{Each}
+use Rattle.ep_host.specs.Sent.{frames_of}
+use Rattle.ep_host.specs.Tasks.{Use, tasks_in, events_in, refusals_in, place_after, asked_in}
+
+-- the same node with more entries
+pub record Follows (a b : Node) : Type 0 where
+  pub faults : b.replica.faults ≡ a.replica.faults
+  pub me : b.replica.me ≡ a.replica.me
+  pub entries : List Entry
+  pub journal : b.replica.entries ≡ a.replica.entries ++ entries
+  -- each frame out of them, in order, was put into its ring or is lost
+  pub fates : List Fate
+  pub frames : frames_in fates ≡ frames_of entries
+  pub rings : Each (Carries fates) a.links b.links
+  -- so many frames that were taken are lost, for want of memory
+  pub dropped : ℕ
+  pub lost : b.lost ≡ lost_after a.lost (lost_in fates + dropped)
+  -- tasks from the agenda's head on are used up: each made its entry or was refused, in order
+  pub used : List Use
+  pub agenda : a.agenda ≡ tasks_in used ++ b.agenda
+  pub asked : asked_in entries ≡ events_in used
+  pub refused : b.refused ≡ a.refused ++ refusals_in a.used used
+  pub place : b.used ≡ place_after a.used used
+
+abbrev pub HasEnded : Node → Type 0
+HasEnded n = n.agenda ≡ []
+
+-- what turns of a section leave: a node that has ended has an empty agenda
+pub record Runs (a b : Node) : Type 0 where
+  pub follows : Follows a b
+  pub ended : b.ended ≡ true → HasEnded b
+
+-- what rounds leave: the agenda has lost as many tasks as there were rounds at least, or all
+pub record Settles (rounds : ℕ) (a b : Node) : Type 0 where
+  pub follows : Follows a b
+  pub agenda : length b.agenda ≤ length a.agenda - rounds
+
+-- a round with one turn of the node: where nothing moved, its agenda was empty
+pub record Rounds (moved : Bool) (a b : Node) : Type 0 where
+  pub turn : Settles 1 a b
+  pub idle : moved ≡ false → (rounds : ℕ) → Settles rounds a b

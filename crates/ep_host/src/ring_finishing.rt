@@ -1,0 +1,61 @@
+//! The audit of the nodes of a host.
+
+ghost use Rattle.std.specs.Prelude.{◌≡◌, ◌++◌, [], ℕ, IfOk, OnOk};
+ghost use Rattle.ep_rules.specs.Audits.{IsAccepted};
+ghost use Rattle.ep_journal.specs.Entries.{journals_of};
+ghost use Rattle.ep_audit.specs.Audited.{IsAudited};
+ghost use Rattle.ep_host.specs.Host.{IsHost};
+ghost use Rattle.ep_host.specs.RingFinishing.{replicas_in, their_journals, their_receipts, logs_of};
+
+use crate::account::taken_was_sent;
+use crate::ring_node::RingNode;
+use ep_audit::{Refusal, Verdict, audit};
+use ep_journal::{Journal, Journals};
+use ep_rules::Receipt;
+use std::alloc::{AllocError, Global};
+
+/// The receipts of all nodes, in their order.
+fn receipts_of(alloc: Global, nodes: &[RingNode]) -> Result<Vec<Receipt>, AllocError>
+    ensures { IfOk result (λ receipts. receipts.items ≡ their_receipts (replicas_in nodes.now)) }
+{
+    let mut receipts = Vec::new(alloc);
+    for node in nodes {
+        node.add_receipts(alloc, &mut receipts)?;
+    }
+    Ok(receipts)
+}
+
+/// The journals of the nodes, in their order.
+fn collected(alloc: Global, nodes: Vec<RingNode>) -> Result<Vec<Journal>, AllocError>
+    ensures { IfOk result (λ journals. journals.items ≡ logs_of (replicas_in nodes.items)) }
+{
+    let mut journals = Vec::new(alloc);
+    for node in nodes {
+        journals.push(node.into_journal())?;
+    }
+    Ok(journals)
+}
+
+/// The audit of journals with receipts that it accepts.
+fn accepted(alloc: Global, journals: &Journals, receipts: &[Receipt]) -> Result<Verdict, AllocError>
+    requires { IsAccepted journals.now.faults (journals_of journals.now) receipts.now }
+    ensures { IfOk result (λ v. IsAudited journals.now.faults (journals_of journals.now) receipts.now v) }
+{
+    match audit(alloc, journals, receipts) {
+        Ok(verdict) => Ok(verdict),
+        Err(Refusal::Memory) => Err(AllocError),
+        Err(Refusal::Fault(_)) => unreachable!(),
+    }
+}
+
+/// The audit of the nodes of one host, with all their receipts. It never finds a fault. Want of memory drops the nodes.
+pub fn finish(alloc: Global, mut nodes: Vec<RingNode>) -> Result<Verdict, AllocError>
+    requires { (f : ℕ) × IsHost f nodes.items }
+    ensures { (f : ℕ) → IsHost f nodes.items → IfOk result (λ v. IsAudited f (their_journals (replicas_in nodes.items)) (their_receipts (replicas_in nodes.items)) v) }
+{
+    taken_was_sent(nodes.as_mut_slice());
+    let receipts = receipts_of(alloc, &nodes)?;
+    let journals = collected(alloc, nodes)?;
+    let journals = Journals::new(journals).unwrap();
+    accepted(alloc, &journals, &receipts)
+}

@@ -1,0 +1,64 @@
+//! How the nodes of a host are made.
+
+ghost use Rattle.std.specs.Prelude.{◌≡◌, ◌≤◌, ◌<◌, IfOk, OnOk};
+ghost use Rattle.ep_base.specs.Quorums.{size};
+ghost use Rattle.ep_host.specs.Joins.{Joins, CanJoin};
+
+use crate::link::Link;
+use crate::ring_node::RingNode;
+use ep_base::{ReplicaId, Size};
+use ep_replica::Replica;
+use rtrb::RingBuffer;
+use std::alloc::{AllocError, Global};
+
+/// Makes the two rings between two nodes.
+fn join_nodes(
+    alloc: Global,
+    a: &mut RingNode,
+    b: &mut RingNode,
+    capacity: usize,
+) -> Result<(), AllocError>
+    requires { CanJoin a.old b.old }
+    ensures { OnOk result (Joins a.old b.old a.new b.new) }
+{
+    let (a_to_b, b_from_a) = RingBuffer::new(alloc, capacity)?;
+    let (b_to_a, a_from_b) = RingBuffer::new(alloc, capacity)?;
+    let (a_me, b_me) = (a.me(), b.me());
+    a.add_link(Link {
+        peer: b_me,
+        to: a_to_b,
+        from: a_from_b,
+    })?;
+    b.add_link(Link {
+        peer: a_me,
+        to: b_to_a,
+        from: b_from_a,
+    })?;
+    Ok(())
+}
+
+/// Nodes, each with its replica, that hand frames to one another through rings: one for each ordered pair.
+pub struct RingHost;
+
+impl RingHost {
+    ghost use Rattle.std.specs.Prelude.{◌≤◌, IfOk, All};
+    ghost use Rattle.ep_host.specs.Host.{IsHost, IsFresh};
+
+    /// The nodes of a cluster of this size, before any event and without tasks. Each ring has room for so many frames.
+    pub fn new(alloc: Global, cluster: Size, capacity: usize) -> Result<Vec<RingNode>, AllocError>
+        requires { (1 ≤ capacity) × (capacity ≤ 4096) }
+        ensures host { IfOk result (λ nodes. IsHost cluster nodes.items) }
+        ensures fresh { IfOk result (λ nodes. All IsFresh nodes.items) }
+    {
+        let mut nodes = Vec::new(alloc);
+        for index in 0..cluster.count() {
+            let me = ReplicaId::new(index).unwrap();
+            let mut node = RingNode::new(alloc, Replica::new(alloc, cluster, me).unwrap());
+            for place in 0..nodes.len() {
+                join_nodes(alloc, &mut nodes[place], &mut node, capacity)?;
+            }
+            nodes.push(node)?;
+        }
+        Ok(nodes)
+    }
+}

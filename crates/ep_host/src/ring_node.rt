@@ -1,0 +1,215 @@
+//! A node of a ring host.
+
+ghost use Rattle.std.specs.Prelude.{◌≡◌};
+
+use crate::acting::{act, handle, pop};
+use crate::link::Link;
+use crate::task::Task;
+use crate::turn::Turn;
+use ep_base::ReplicaId;
+use ep_journal::{Journal, StepFault};
+use ep_replica::Replica;
+use ep_rules::Receipt;
+use std::alloc::{AllocError, Global};
+use std::collections::VecDeque;
+use std::marker::Model;
+
+/// A replica with its tasks and the ends of its rings.
+///
+/// What it put into a ring is a frame out of an entry of its journal, and each frame that it handled was taken from one of its rings, at any time
+/// and whatever the other nodes do.
+#[derive(Drop)]
+pub struct RingNode {
+    pub(crate) replica: Replica,
+    pub(crate) links: Vec<Link>,
+    pub(crate) agenda: VecDeque<Task>,
+    refused: Vec<(u32, StepFault)>,
+    // How many tasks were used up.
+    used: u32,
+    lost: u64,
+    // Whether it ended in the last section.
+    pub(crate) ended: bool,
+}
+
+impl Model for RingNode {
+    ghost use Rattle.std.specs.Prelude.{◌+◌, ◌≤◌, vec_len, vec_capacity};
+    ghost use Rattle.std.specs.VecDeque.{deque_len};
+    ghost use Rattle.ep_host.specs.Node.{Node};
+    ghost use Rattle.ep_host.specs.Rings.{IsBooked};
+
+    ghost Value = { Node };
+
+    ghost view = { λ n. record { replica = n.replica; links = n.links.items; agenda = n.agenda.items; refused = n.refused.items; used = n.used; lost = n.lost; ended = n.ended } };
+
+    ghost invariant = { λ n. IsBooked n.replica.me n.replica.entries n.links.items × (vec_len n.refused + deque_len n.agenda ≤ vec_capacity n.refused) };
+}
+
+impl RingNode {
+    ghost use Rattle.std.specs.Prelude.{◌≡◌, ◌<◌, ◌++◌, ◌∷◌, [], false, length, IfOk, OnOk, OnErr};
+    ghost use Rattle.ep_journal.specs.Entries.{entries_of};
+    ghost use Rattle.ep_replica.specs.Receipts.{receipts_after};
+    ghost use Rattle.ep_host.specs.Node.{fresh_node, with_link};
+    ghost use Rattle.ep_host.specs.Rings.{IsBooked, IsFreshLink};
+    ghost use Rattle.ep_host.specs.Turns.{Assigns, TakesAt, Takes, BeginsTask, ExecutesOwn, IsTurn, has_moved};
+    ghost use Rattle.ep_host.specs.Follows.{Follows};
+
+    /// A node without rings and tasks.
+    pub(crate) fn new(alloc: Global, replica: Replica) -> RingNode
+        requires { replica.entries ≡ [] }
+        ensures { result ≡ fresh_node replica }
+    {
+        RingNode {
+            replica,
+            links: Vec::new(alloc),
+            agenda: VecDeque::new(alloc),
+            refused: Vec::new(alloc),
+            used: 0,
+            lost: 0,
+            ended: false,
+        }
+    }
+
+    /// The replica.
+    pub fn replica(&self) -> &Replica
+        ensures { result.now ≡ self.now.replica }
+    {
+        &self.replica
+    }
+
+    /// The replica's number.
+    pub(crate) fn me(&self) -> ReplicaId
+        ensures { result ≡ self.now.replica.me }
+    {
+        self.replica.me()
+    }
+
+    /// How many frames it lost: frames out, where a ring was full or there was no memory for them, and frames that it took and that were refused
+    /// for want of memory. Counted up to 2^64 - 1.
+    pub fn lost(&self) -> u64
+        ensures { result ≡ self.now.lost }
+    {
+        self.lost
+    }
+
+    /// The tasks that were refused, each with its place from 0 among all that were assigned, and why. A place past 4,294,967,295 is told as that number.
+    pub fn refused(&self) -> &[(u32, StepFault)]
+        ensures { result.now ≡ self.now.refused }
+    {
+        self.refused.as_slice()
+    }
+
+    /// The journal alone.
+    pub fn into_journal(self) -> Journal
+        ensures entries { result.entries ≡ self.replica.entries }
+        ensures faults { result.faults ≡ self.replica.faults }
+        ensures me { result.me ≡ self.replica.me }
+    {
+        let RingNode {
+            replica,
+            links: _,
+            agenda: _,
+            refused: _,
+            used: _,
+            lost: _,
+            ended: _,
+        } = self;
+        replica.into_journal()
+    }
+
+    /// Puts a task last on the agenda, and makes the place for its refusal.
+    pub fn assign(&mut self, task: Task) -> Result<(), AllocError>
+        ensures ok { OnOk result (Assigns self.old task self.new) }
+        ensures err { OnErr result (self.new ≡ self.old) }
+    {
+        self.refused.reserve(self.agenda.len().saturating_add(1))?;
+        self.agenda.push_back(task)?;
+        Ok(())
+    }
+
+    /// One link more, whose rings nothing has gone through.
+    pub(crate) fn add_link(&mut self, link: Link) -> Result<(), AllocError>
+        requires { IsFreshLink self.old.replica.me self.old.links link }
+        ensures { OnOk result (self.new ≡ with_link self.old link) }
+    {
+        self.links.push(link)?;
+        Ok(())
+    }
+
+    /// Takes a frame from the ring of the peer at this place, if it holds one, and handles it.
+    fn take(&mut self, place: usize) -> bool
+        requires { place < length self.old.links }
+        ensures { TakesAt place result self.old self.new }
+    {
+        let Some(frame) = pop(&mut self.links, place) else {
+            return false;
+        };
+        let lost = handle(&mut self.replica, &mut self.links, frame);
+        self.lost = self.lost.saturating_add(lost);
+        true
+    }
+
+    /// Takes at most one frame of each peer, in rising order.
+    fn take_all(&mut self) -> bool
+        ensures { Takes (length self.old.links) result self.old self.new }
+    {
+        let mut moved = false;
+        for place in 0..self.links.len() {
+            let now = self.take(place);
+            moved = moved | now;
+        }
+        moved
+    }
+
+    /// Uses up the agenda's head, if there is one.
+    fn begin(&mut self) -> bool
+        ensures { BeginsTask result self.old self.new }
+    {
+        let Some(task) = self.agenda.pop_front() else {
+            return false;
+        };
+        let place = self.used;
+        self.used = place.saturating_add(1);
+        match act(&mut self.replica, &mut self.links, task.into_event()) {
+            Ok(lost) => self.lost = self.lost.saturating_add(lost),
+            Err(fault) => self.refused.push_reserved((place, fault)),
+        }
+        true
+    }
+
+    /// Executes the next ready instance of the replica's own, if there is one.
+    fn execute(&mut self) -> bool
+        ensures { ExecutesOwn result self.old self.new }
+    {
+        self.replica.execute_next()
+    }
+
+    /// One turn: at most one frame of each peer, by rising number, then the agenda's head, then at most one execution.
+    ///
+    /// `Moved` where a frame was taken, a task was used up or an instance was executed.
+    pub fn turn(&mut self) -> Turn
+        ensures turns { IsTurn (has_moved result) self.old self.new }
+        ensures follows { Follows self.old self.new }
+    {
+        let taken = self.take_all();
+        let begun = self.begin();
+        let executed = self.execute();
+        if taken | begun | executed {
+            Turn::Moved
+        } else {
+            Turn::Idle
+        }
+    }
+
+    /// Adds the receipts of what was proposed and executed here.
+    pub(crate) fn add_receipts(
+        &self,
+        alloc: Global,
+        receipts: &mut Vec<Receipt>,
+    ) -> Result<(), AllocError>
+        ensures { OnOk result (receipts.new.items ≡ receipts.old.items ++ receipts_after self.now.replica.me 0 (entries_of self.now.replica.entries)) }
+    {
+        let mut more = self.replica.receipts_after(alloc, 0)?;
+        receipts.append(&mut more)?;
+        Ok(())
+    }
+}

@@ -1,0 +1,50 @@
+//! A section: each node in a thread of its own.
+
+ghost use Rattle.std.specs.Prelude.{◌≡◌, ℕ, All, OnOk};
+ghost use Rattle.ep_host.specs.Pointwise.{Each};
+ghost use Rattle.ep_host.specs.Follows.{Follows, Runs, HasEnded};
+ghost use Rattle.ep_host.specs.Host.{IsHost};
+
+use crate::gate::Gate;
+use crate::gate_unpassed::GateUnpassed;
+use crate::ring_node::RingNode;
+use crate::sections::Section;
+use std::marker::Sync;
+use std::thread;
+use std::thread::Threads;
+
+/// The turns of each node, in a thread of its own.
+fn run_each<R: Threads + Sync, G: Gate>(rt: &R, nodes: &mut [RingNode], gate: &G, turns: u32)
+    ensures { Each Runs nodes.old nodes.new }
+{
+    let count = nodes.len();
+    if count == 0 {
+        return;
+    }
+    thread::for_each_mut(
+        rt,
+        nodes,
+        count,
+        &|number, node| { node.run(number, gate, turns) },
+    );
+}
+
+/// Gives each node so many turns, in a thread of its own, or on this one where none can be started, until its agenda is empty and the gate lets
+/// it end. All nodes come back, in order.
+pub fn section<R: Threads + Sync, G: Gate>(
+    rt: &R,
+    mut nodes: Vec<RingNode>,
+    gate: &G,
+    turns: u32,
+) -> Section
+    ensures nodes { Each Follows nodes.items result.nodes.items }
+    ensures host { (f : ℕ) → IsHost f nodes.items → IsHost f result.nodes.items }
+    ensures ended { OnOk result.result (All HasEnded result.nodes.items) }
+{
+    run_each(rt, nodes.as_mut_slice(), gate, turns);
+    let result = match nodes.iter().position(|node| !node.ended) {
+        Some(node) => Err(GateUnpassed { node, turns }),
+        None => Ok(()),
+    };
+    Section { nodes, result }
+}
