@@ -47,13 +47,11 @@ fn word_length(line: &[u8]) -> usize
     ensures bound { result ≤ length line.now }
 {
     let mut count = 0usize;
-    let mut rest = line;
-    while let [first, after @ ..] = rest {
-        if is_blank_byte(*first) {
+    for byte in line {
+        if is_blank_byte(*byte) {
             return count;
         }
         count += 1;
-        rest = after;
     }
     count
 }
