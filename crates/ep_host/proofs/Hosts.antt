@@ -1,5 +1,5 @@
 -- The nodes of a host: their links, and that turns keep them a host.
-use Rattle.std.proofs.Common.{◌≡◌, ◌≢◌, ℕ, ◌<◌, ◌≤◌, ◌+◌, ◌-◌, List, length, get_or, sym, ap, ◌∙◌, subst, arith, All, Contains, ⊎_elim, ◌++◌, length-append}
+use Rattle.std.proofs.Common.{Result, Ok, Err, OnOk, OnErr, ◌≡◌, ◌≢◌, ℕ, ◌<◌, ◌≤◌, ◌+◌, ◌-◌, List, [], length, get_or, set, refl, sym, ap, ◌∙◌, subst, arith, All, Contains, ⊎_elim, ◌++◌, length-append}
 use Rattle.std.proofs.lemmas.List.{get_or_default, get_or_append_left, get_or-append_right}
 use Rattle.std.proofs.lemmas.List.Elements.{Contains-append_left, All-contains}
 use Rattle.std.proofs.lemmas.Bool.{cases_lt}
@@ -11,7 +11,12 @@ use Rattle.ep_host.specs.Pointwise.{Each}
 use Rattle.ep_host.specs.Rings.{KeepsLink, IsTaken, IsOut, place, peer_at, frames_handled}
 use Rattle.ep_host.specs.Sent.{frames_of}
 use Rattle.ep_host.specs.declared.link.Link.{Link}
+use Rattle.ep_host.specs.Fates.{Fate, Carries}
+use Rattle.ep_host.specs.Turns.{Assigns}
+use Rattle.ep_host.specs.declared.task.Task.{Task}
 use Rattle.ep_host.proofs.Booking.{peers_still}
+use Rattle.ep_host.proofs.Fated.{carries_none}
+use Rattle.ep_host.proofs.Places.{each_self, each_set, each_weaker}
 
 -- numbers of nodes and places of links
 
@@ -47,11 +52,27 @@ kept_pair : (a b a' b' : Link) → KeepsLink a a' → KeepsLink b b' → IsPair 
 kept_pair a b a' b' q r p = let s = q.to.0 in let t = r.from.0 in
     (t.0 ∙ p.0 ∙ sym s.0, t.1 ∙ p.1 ∙ sym s.1, t.2 ∙ p.2 ∙ sym s.2, t.3 ∙ p.3 ∙ sym s.3)
 
-kept_paired : (a b a' b' : Node) → Follows a a' → Follows b b' → HasLink a b.replica.me → HasLink b a.replica.me → Paired a b → Paired a' b'
+-- the same node with the same ends of rings, through which more may have gone
+pub record Stays (a b : Node) : Type 0 where
+  pub faults : b.replica.faults ≡ a.replica.faults
+  pub me : b.replica.me ≡ a.replica.me
+  pub fates : List Fate
+  pub rings : Each (Carries fates) a.links b.links
+
+pub stays_after : (a b : Node) → Follows a b → Stays a b
+stays_after a b h = record { faults = h.faults; me = h.me; fates = h.fates; rings = h.rings }
+
+pub stays_self : (a : Node) → Stays a a
+stays_self a = record { faults = refl; me = refl; fates = []; rings = each_self (Carries []) a.links carries_none }
+
+pub stays_assigned : (a b : Node) (task : Task) → Assigns a task b → Stays a b
+stays_assigned a b task is = subst (λ (n : Node). Stays a n) (sym is) record { faults = refl; me = refl; fates = []; rings = each_self (Carries []) a.links carries_none }
+
+kept_paired : (a b a' b' : Node) → Stays a a' → Stays b b' → HasLink a b.replica.me → HasLink b a.replica.me → Paired a b → Paired a' b'
 kept_paired a b a' b' la lb ha hb p = λ e. rw (la.me, lb.me) (kept_pair _ _ _ _ (la.rings.at (place a.replica.me b.replica.me) e ha.0).keeps (lb.rings.at (place b.replica.me a.replica.me) e hb.0).keeps (p e))
 
-pub host_still : (f : ℕ) (xs ys : List Node) → Each Follows xs ys → IsHost f xs → IsHost f ys
-host_still f xs ys h host = record {
+pub host_stays : (f : ℕ) (xs ys : List Node) → Each Stays xs ys → IsHost f xs → IsHost f ys
+host_stays f xs ys h host = record {
   count = h.len ∙ host.count;
   faults = λ i d low. let l : i < length xs = omega (arith, h.len) in (h.at i d l).faults ∙ host.faults i d l;
   me = λ i d low. let l : i < length xs = omega (arith, h.len) in (h.at i d l).me ∙ host.me i d l;
@@ -62,6 +83,19 @@ host_still f xs ys h host = record {
       let fj = h.at j d m in let fi = h.at i d l in
       (kept_paired (get_or xs j d) (get_or xs i d) (get_or ys j d) (get_or ys i d) fj fi p.2 p.3 p.0, kept_paired (get_or xs i d) (get_or xs j d) (get_or ys i d) (get_or ys j d) fi fj p.3 p.2 p.1);
 }
+
+pub host_still : (f : ℕ) (xs ys : List Node) → Each Follows xs ys → IsHost f xs → IsHost f ys
+host_still f xs ys h host = host_stays f xs ys (each_weaker Follows Stays stays_after xs ys h) host
+
+pub host_assigned : (f : ℕ) (xs : List Node) (k : ℕ) (b d : Node) (task : Task) → k < length xs → Assigns (get_or xs k d) task b → IsHost f xs → IsHost f (set xs k b)
+host_assigned f xs k b d task low is host = host_stays f xs (set xs k b) (each_set Stays xs k b d stays_self low (stays_assigned (get_or xs k d) b task is)) host
+
+pub host_same : (f : ℕ) (xs : List Node) (k : ℕ) (b d : Node) → k < length xs → b ≡ get_or xs k d → IsHost f xs → IsHost f (set xs k b)
+host_same f xs k b d low is host = host_stays f xs (set xs k b) (each_set Stays xs k b d stays_self low (subst (λ (n : Node). Stays (get_or xs k d) n) (sym is) (stays_self (get_or xs k d)))) host
+
+pub host_told : {T E : Type 0} (r : Result T E) (f : ℕ) (xs : List Node) (k : ℕ) (b d : Node) (task : Task) → k < length xs → OnOk r (Assigns (get_or xs k d) task b) → OnErr r (b ≡ get_or xs k d) → IsHost f xs → IsHost f (set xs k b)
+host_told (Ok t) f xs k b d task low ok err host = host_assigned f xs k b d task low ok host
+host_told (Err e) f xs k b d task low ok err host = host_same f xs k b d low err host
 
 -- what was taken was sent
 

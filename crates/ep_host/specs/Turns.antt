@@ -1,5 +1,5 @@
 -- What a turn does to a node.
-use Rattle.std.specs.Prelude.{◌≡◌, ◌⊎◌, ℕ, Bool, true, false, ◌||◌, is_some, zero, suc, length, List, [], ◌∷◌, ◌++◌, Option, Some, None, MatchBool}
+use Rattle.std.specs.Prelude.{◌≡◌, ◌⊎◌, ℕ, Bool, true, false, ◌||◌, is_some, zero, suc, length, List, [], ◌∷◌, ◌++◌, Option, Some, None, MatchBool, slice_set, slice_index_or}
 use Rattle.ep_journal.specs.declared.step_fault.StepFault.{StepFault}
 use Rattle.ep_replica.specs.Pending.{ExecutesNext}
 use Rattle.ep_host.specs.Acts.{Made, IsIdle, IsHandled}
@@ -18,6 +18,12 @@ has_moved Idle = false
 
 abbrev pub Assigns : Node → Task → Node → Type 0
 Assigns a task b = b ≡ record a { agenda = a.agenda ++ task ∷ [] }
+
+-- the same of the node at a place, and no other changed
+pub record AssignsAt (place : ℕ) (task : Task) (xs ys : List Node) : Type 0 where
+  pub node : Node
+  pub is : ys ≡ slice_set xs place node
+  pub assigned : (d : Node) → Assigns (slice_index_or xs place d) task node
 
 abbrev pub with_links : Node → List Link → Node
 with_links a links = record a { links = links }

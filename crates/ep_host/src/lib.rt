@@ -1,14 +1,19 @@
-//! A host whose replicas stand behind locks, each with an inbox of frames.
+//! Hosts: replicas that several threads run. There are two, and both leave journals that the audit judges.
 //!
-//! A program that calls replicas from several threads holds a `LockHost`: `submit` and `direct` ask a replica for an event, `pump`
+//! In a `LockHost` the replicas stand behind locks, each with an inbox of frames. `submit` and `direct` ask a replica for an event, `pump`
 //! hands it a frame of its inbox and lets it execute, `outcome` and `receipts_after` tell what came of it, and `finish` audits what
-//! the threads left.
-//!
-//! Start with specs/Tending.antt and `tending.rt`, which say exactly what one pump does to a replica, then `lock_host.rt`.
-//!
-//! It keeps to this: a `Replica` behind a lock is what its journal leaves, by its type, whatever threads do, and an inbox holds frames
+//! the threads left. Start with specs/Tending.antt and `tending.rt`, which say exactly what one pump does to a replica, then `lock_host.rt`.
+//! A `Replica` behind a lock is what its journal leaves, by its type, whatever threads do, and an inbox holds frames
 //! alone, by the type of its items. No lock of a replica is held while frames are sent. Whether the journals fit together no lock
-//! knows: `finish` asks the audit. No clause says that a thread gets on.
+//! knows: `finish` asks the audit.
+//!
+//! The nodes of a ring host own their replicas and the ends of their rings; there is no lock, and no turn waits. `RingHost::new` makes the nodes,
+//! `section` gives each of them its turns in a thread of its own, `settle` gives turns in rounds, and `finish` audits the nodes. Start with
+//! specs/Turns.antt (one turn, exactly), specs/Follows.antt (what any turns leave) and specs/Host.antt (the nodes of one host), then
+//! `ring_node.rt`. What a node put into a ring is a frame out of an entry of its journal, and what it handled it took from one of its rings,
+//! by its type. Both ends of all rings together then say that all that was handled was sent, so `finish` never finds a fault.
+//!
+//! No clause says that a thread gets on.
 #![tactic(auto)]
 
 mod account;
@@ -53,5 +58,7 @@ pub use tending::tend;
 pub use threads::section;
 pub use turn::Turn;
 
+#[cfg(test)]
+mod ring_tests;
 #[cfg(test)]
 mod tests;

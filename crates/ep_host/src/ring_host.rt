@@ -6,6 +6,7 @@ ghost use Rattle.ep_host.specs.Joins.{Joins, CanJoin};
 
 use crate::link::Link;
 use crate::ring_node::RingNode;
+use crate::task::Task;
 use ep_base::{ReplicaId, Size};
 use ep_replica::Replica;
 use rtrb::RingBuffer;
@@ -41,8 +42,9 @@ fn join_nodes(
 pub struct RingHost;
 
 impl RingHost {
-    ghost use Rattle.std.specs.Prelude.{◌≤◌, IfOk, All};
+    ghost use Rattle.std.specs.Prelude.{◌≤◌, ◌<◌, ℕ, length, IfOk, OnOk, All};
     ghost use Rattle.ep_host.specs.Host.{IsHost, IsFresh};
+    ghost use Rattle.ep_host.specs.Turns.{AssignsAt};
 
     /// The nodes of a cluster of this size, before any event and without tasks. Each ring has room for so many frames.
     pub fn new(alloc: Global, cluster: Size, capacity: usize) -> Result<Vec<RingNode>, AllocError>
@@ -60,5 +62,14 @@ impl RingHost {
             nodes.push(node)?;
         }
         Ok(nodes)
+    }
+
+    /// Assigns a task to one of the nodes of a host, which stays one. At want of memory the node is as it was.
+    pub fn assign(nodes: &mut [RingNode], node: usize, task: Task) -> Result<(), AllocError>
+        requires { node < length nodes.old }
+        ensures ok { OnOk result (AssignsAt node task nodes.old nodes.new) }
+        ensures host { (f : ℕ) → IsHost f nodes.old → IsHost f nodes.new }
+    {
+        nodes[node].assign(task)
     }
 }

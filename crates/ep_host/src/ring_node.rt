@@ -83,6 +83,13 @@ impl RingNode {
         self.replica.me()
     }
 
+    /// What it put and handled: a law, which costs nothing to call.
+    pub fn is_booked(&self)
+        ensures { IsBooked self.now.replica.me self.now.replica.entries self.now.links }
+    {
+        let _ = &self.links;
+    }
+
     /// How many frames it lost: frames out, where a ring was full or there was no memory for them, and frames that it took and that were refused
     /// for want of memory. Counted up to 2^64 - 1.
     pub fn lost(&self) -> u64

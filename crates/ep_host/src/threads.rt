@@ -1,6 +1,6 @@
 //! A section: each node in a thread of its own.
 
-ghost use Rattle.std.specs.Prelude.{◌≡◌, ℕ, All, OnOk};
+ghost use Rattle.std.specs.Prelude.{◌≡◌, ◌<◌, ℕ, length, All, OnOk, IfErr};
 ghost use Rattle.ep_host.specs.Pointwise.{Each};
 ghost use Rattle.ep_host.specs.Follows.{Follows, Runs, HasEnded};
 ghost use Rattle.ep_host.specs.Host.{IsHost};
@@ -39,6 +39,7 @@ pub fn section<R: Threads + Sync, G: Gate>(
 ) -> Section
     ensures nodes { Each Follows nodes.items result.nodes.items }
     ensures host { (f : ℕ) → IsHost f nodes.items → IsHost f result.nodes.items }
+    ensures unpassed { IfErr result.result (λ e. (e.node < length nodes.items) × (e.turns ≡ turns)) }
     ensures ended { OnOk result.result (All HasEnded result.nodes.items) }
 {
     run_each(rt, nodes.as_mut_slice(), gate, turns);

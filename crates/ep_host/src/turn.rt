@@ -1,14 +1,14 @@
-//! What came of a pump.
+//! What came of a pump, or of a turn.
 
 ghost use Rattle.std.specs.Prelude.{◌≡◌};
 ghost use Rattle.ep_host.specs.Asking.{turn_of};
 
-/// What came of a pump.
+/// What came of a pump, or of a turn.
 #[derive(Clone, Copy, Debug, PartialEq, Eq)]
 pub enum Turn {
-    /// A frame was taken from the inbox, or an instance was executed.
+    /// A frame was taken, a task was used up, or an instance was executed.
     Moved,
-    /// The inbox was empty, and nothing was executed.
+    /// There was no frame and no task, and nothing was executed.
     Idle,
 }
 
