@@ -2,7 +2,8 @@
 //!
 //! In a `LockHost` the replicas stand behind locks, each with an inbox of frames. `submit` and `direct` ask a replica for an event, `pump`
 //! hands it a frame of its inbox and lets it execute, `outcome` and `receipts_after` tell what came of it, and `finish` audits what
-//! the threads left. Start with specs/Tending.antt and `tending.rt`, which say exactly what one pump does to a replica, then `lock_host.rt`.
+//! the threads left. Start with specs/Tending.antt and `tending.rt`, which say exactly what one pump does to a replica, then
+//! specs/Asking.antt, which says what a call tells, and `lock_host.rt`.
 //! A `Replica` behind a lock is what its journal leaves, by its type, whatever threads do, and an inbox holds frames
 //! alone, by the type of its items. No lock of a replica is held while frames are sent. Whether the journals fit together no lock
 //! knows: `finish` asks the audit.

@@ -39,6 +39,7 @@ fn receipt_at(
 ) -> Result<Option<Receipt>, AllocError>
     ensures { IfOk result (λ o. IfSome o (IsOutcome instance)) }
 {
+    // Nothing is done with the entries, here and below: that they are a journal is known by asking for them.
     let _run = replica.journal().entries();
     match replica.outcome(instance) {
         Some(view) => Ok(Some(view.to_receipt(alloc)?)),

@@ -5,7 +5,7 @@
 //! script's order; what a client has seen is the greatest stamp of its receipts before the section. What the threads leave is
 //! audited: the verdict, or the first fault, is in the contract of `run`, and of what the threads do nothing else is.
 //!
-//! Start with `runner.rt`, then `lane.rt` (a replica's two threads) and `task.rt`.
+//! Start with `runner.rt`, then specs/Asking.antt and `task.rt` (what a line asks for), and `lane.rt` (a replica's two threads).
 //!
 //! What a line means is told by docs/FORMATS.md, section 4; the threads' calls are those of `ep_host`.
 #![tactic(auto)]
