@@ -15,9 +15,6 @@ pub frames_in-append : (xs ys : List Fate) → frames_in (xs ++ ys) ≡ frames_i
 frames_in-append [] ys = refl
 frames_in-append (x ∷ xs) ys = ap (λ (l : List (List ℕ)). x.frame ∷ l) (frames_in-append xs ys)
 
-here : ℕ → Fate → List (List ℕ)
-here p x = cond (x.put && eqb (origin_at x.frame).to p) (x.frame ∷ []) []
-
 pub put_for-append : (p : ℕ) (xs ys : List Fate) → put_for p (xs ++ ys) ≡ put_for p xs ++ put_for p ys
 put_for-append p [] ys = refl
 put_for-append p (x ∷ xs) ys = ap (λ (l : List (List ℕ)). cond (x.put && eqb (origin_at x.frame).to p) (x.frame ∷ []) [] ++ l) (put_for-append p xs ys)

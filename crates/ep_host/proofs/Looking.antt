@@ -6,7 +6,8 @@ use Rattle.rtrb.specs.Ring.{sent, received, IsPair}
 use Rattle.ep_journal.specs.declared.entry.Entry.{Entry}
 use Rattle.ep_replica.specs.Kept.{Kept}
 use Rattle.ep_host.specs.Fates.{Carries}
-use Rattle.ep_host.specs.Host.{Quiet, Looked, Paired, Begins, HasLink, PairedBoth, BeginsBoth}
+use Rattle.ep_host.proofs.Hosts.{Stays, host_stays}
+use Rattle.ep_host.specs.Host.{IsHost, Quiet, Looked, Paired, Begins, HasLink, PairedBoth, BeginsBoth}
 use Rattle.ep_host.specs.Node.{Node}
 use Rattle.ep_host.specs.Pointwise.{Each}
 use Rattle.ep_host.specs.Rings.{IsBooked, place}
@@ -63,3 +64,9 @@ looked_link a b a' b' la lb h = rw (me_is a a' la, me_is b b' lb) ((omega (arith
 
 pub looked_both : (a b a' b' : Node) → Looked a a' → Looked b b' → PairedBoth a b → PairedBoth a' b'
 looked_both a b a' b' la lb p = (looked_paired a b a' b' la lb p.2 p.3 p.0, looked_paired b a b' a' lb la p.3 p.2 p.1, looked_link a b a' b' la lb p.2, looked_link b a b' a' lb la p.3)
+
+looked_stays : (a b : Node) → Looked a b → Stays a b
+looked_stays a b l = record { faults = ap (λ (k : Kept). k.faults) l.replica; me = me_is a b l; fates = []; rings = each_weaker Quiet (Carries []) quiet_carries a.links b.links l.links }
+
+pub host_looked : (f : ℕ) (xs ys : List Node) → Each Looked xs ys → IsHost f xs → IsHost f ys
+host_looked f xs ys h host = host_stays f xs ys (each_weaker Looked Stays looked_stays xs ys h) host

@@ -6,6 +6,8 @@ ghost use Rattle.rtrb.specs.Ring.{sent, received, IsPair};
 ghost use Rattle.ep_host.specs.Pointwise.{Each};
 ghost use Rattle.ep_host.specs.Host.{Quiet, Looked, Paired, Begins, HasLink, PairedBoth, BeginsBoth, IsHost, AllBegin, AllSent, Knows};
 ghost use Rattle.ep_host.specs.Node.{Node};
+ghost use Rattle.ep_host.specs.RingFinishing.{replicas_in, their_journals, their_receipts};
+ghost use Rattle.ep_rules.specs.Audits.{IsAccepted};
 
 use crate::link::Link;
 use crate::putting::place;
@@ -94,4 +96,15 @@ pub fn taken_was_sent(nodes: &mut [RingNode])
 {
     know_all(nodes);
     account(nodes);
+}
+
+/// The journals of the nodes of one host, with all their receipts, are accepted by the audit: a law, for which both ends of every ring are
+/// looked at.
+pub fn are_accepted(nodes: &mut [RingNode])
+    requires { (f : ℕ) × IsHost f nodes.old }
+    ensures accepted { (f : ℕ) → IsHost f nodes.old → IsAccepted f (their_journals (replicas_in nodes.old)) (their_receipts (replicas_in nodes.old)) }
+    ensures host { (f : ℕ) → IsHost f nodes.old → IsHost f nodes.new }
+    ensures replicas { replicas_in nodes.new ≡ replicas_in nodes.old }
+{
+    taken_was_sent(nodes);
 }

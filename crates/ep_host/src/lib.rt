@@ -42,6 +42,7 @@ mod tending;
 mod threads;
 mod turn;
 
+pub use account::are_accepted;
 pub use act::Act;
 pub use finished::Finished;
 pub use gate::Gate;
