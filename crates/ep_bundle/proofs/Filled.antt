@@ -10,7 +10,7 @@ use Rattle.ep_bundle.specs.Filling.{Fills}
 abbrev pub Consumed : List ℕ → List ℕ → Option (List ℕ) → Type 0
 Consumed zs bs left = (ys : List ℕ) × (left ≡ Some ys) × (zs ≡ bs ++ ys)
 
--- what a pull gave comes behind
+-- what a pull gave comes after
 pub more : (zs bs cs : List ℕ) (left left' : Option (List ℕ)) → Consumed zs bs left → Consumes left left' cs → Consumed zs (bs ++ cs) left'
 more zs bs cs left left' h k = go left' (subst (λ l. Consumes l left' cs) h.1 k)
   where

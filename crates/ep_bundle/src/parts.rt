@@ -56,7 +56,7 @@ fn read_value<S: Source>(
     Value::new(alloc, &bytes).map_err(|_| BundleFault::Memory)
 }
 
-/// What stands behind an answer's code.
+/// What stands after an answer's code.
 fn read_reply<S: Source>(
     alloc: Global,
     source: &mut S,

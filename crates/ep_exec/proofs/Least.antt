@@ -43,7 +43,3 @@ least_skip_at P xs n d best lt h not = rw (take_more xs n d lt) (least_skip P (t
 
 pub least_take_at : (P : ℕ → Type 0) (xs : List ℕ) (n : ℕ) (d : ℕ) (best : Option ℕ) (i : ℕ) → n < length xs → IsLeast P (take n xs) best → P (get_or xs n d) → IsLesser best (get_or xs n d) i → IsLeast P (take (n + 1) xs) (Some i)
 least_take_at P xs n d best i lt h p e = rw (take_more xs n d lt) (least_take P (take n xs) (get_or xs n d) best i h p e)
-
--- what holds of each so far, and of the next
-pub each_more : (Q : ℕ → Type 0) (xs : List ℕ) (n : ℕ) (d : ℕ) → n < length xs → ((j : ℕ) → Has (take n xs) j → Q j) → Q (get_or xs n d) → (j : ℕ) → Has (take (n + 1) xs) j → Q j
-each_more Q xs n d lt h q j k = elim (has_split (take n xs) (get_or xs n d ∷ []) j (subst (λ ys. Has ys j) (take_more xs n d lt) k)) [ inl a ↦ h j a | inr a ↦ subst Q (has_single (get_or xs n d) j a) q ]

@@ -6,18 +6,16 @@ use Rattle.std.proofs.lemmas.Bool.{cases_lt}
 use Rattle.std.specs.declared.alloc.AllocError.{AllocError}
 use Rattle.ep_audit.specs.Audited.{IsAudited}
 use Rattle.ep_base.specs.Quorums.{size}
-use Rattle.ep_base.specs.declared.message.Message.{Message}
 use Rattle.ep_rules.specs.Audits.{IsAccepted}
-use Rattle.ep_rules.specs.Cells.{Change, Refusal}
-use Rattle.ep_rules.specs.States.{State, fresh_state}
-use Rattle.ep_rules.specs.Steps.{Frame, Sent, acts, sent_from, sent_by, leaves, Handle as Handles}
+use Rattle.ep_rules.specs.Steps.{Frame, Handle as Handles}
 use Rattle.ep_rules.specs.Worlds.{In}
 use Rattle.ep_rules.specs.Journals as rules
-use Rattle.ep_rules.specs.Journals.{IsEntry, AreSteps, AreMarked, AreNumbered, AreClocked, WasSent, Journals, messages_of}
-use Rattle.ep_rules.specs.Verdicts.{IsOwn}
+use Rattle.ep_rules.specs.Journals.{IsLocalRun, AreClocked, WasSent, Journals}
+use Rattle.ep_rules.specs.Verdicts.{IsOwn, AreOwn}
 use Rattle.ep_rules.specs.declared.receipt.Receipt.{Receipt}
-use Rattle.ep_rules.proofs.Merged.{in_at, in_messages}
-use Rattle.ep_rules.proofs.OwnReceipts.{clocked_match_lem, own_receipts_agree_lem}
+use Rattle.ep_rules.proofs.OwnReceipts.{clocked_accepted_lem}
+use Rattle.ep_rules.proofs.Merged.{in_split}
+use Rattle.ep_rules.proofs.Played.{frames_were_sent_lem}
 use Rattle.ep_journal.specs.Entries.{entry_of, entries_of, frames_at, IsJournal, IsOf, AreInOrder, Log, all_entries, Collected, journals_of}
 use Rattle.ep_journal.specs.Events.{event_of, frame_at}
 use Rattle.ep_journal.specs.declared.entry.Entry.{Entry}
@@ -33,55 +31,6 @@ use Rattle.ep_host.specs.Pointwise.{Each}
 use Rattle.ep_host.specs.RingFinishing.{replicas_in, log_of, logs_of, entries_in, their_journals, their_receipts}
 use Rattle.ep_host.specs.Rings.{handled_by, frames_handled}
 use Rattle.ep_host.specs.Sent.{frames_of}
-
--- A frame out of an entry of a local run was sent.
-
--- a replica's frames are from it
-from_by : (r : ℕ) (out : List (ℕ × Message)) (s : Sent) → In s (sent_from r out) → s.from ≡ r
-from_by r [] s h = absurd h
-from_by r (e ∷ es) s (inl is) = sym (ap (λ (z : Sent). z.from) is)
-from_by r (e ∷ es) s (inr h) = from_by r es s h
-
-from_acts : (r : ℕ) (o : Result (ℕ × Change) Refusal) (s : Sent) → In s (sent_by r o) → s.from ≡ r
-from_acts r (Ok p) s h = from_by r p.1.out s h
-from_acts r (Err e) s h = absurd h
-
-from_entry : (f r : ℕ) (s : State) (e : rules.Entry) (m : Frame) → IsEntry f r s e → In m e.out → m.sent.from ≡ r
-from_entry f r s e m h k = from_acts r (acts f r s e.event) m.sent (subst (λ (ms : List Sent). In m.sent ms) h.sent (in_messages m e.out k))
-
--- each entry of a local run is a step from some state
-step_of : (f r : ℕ) (s : State) (es : List rules.Entry) (e : rules.Entry) → AreSteps f r s es → In e es → (t : State) × IsEntry f r t e
-step_of f r s [] e h k = absurd k
-step_of f r s (x ∷ es) e h (inl is) = (s, subst (λ (z : rules.Entry). IsEntry f r s z) is h.0)
-step_of f r s (x ∷ es) e h (inr k) = step_of f r (leaves f r s x.event x.done) es e h.1 k
-
-marks_of : (n last : ℕ) (es : List rules.Entry) (e : rules.Entry) → AreNumbered n last es → In e es → AreMarked e 0 e.out
-marks_of n last [] e h k = absurd k
-marks_of n last (x ∷ es) e h (inl is) = subst (λ (z : rules.Entry). AreMarked z 0 z.out) is h.2
-marks_of n last (x ∷ es) e h (inr k) = marks_of (suc n) x.stamp es e h.3 k
-
--- what the frame at a place of an entry is marked with
-marked_at : (e : rules.Entry) (k : ℕ) (ms : List Frame) (j : ℕ) (m : Frame) → AreMarked e k ms → slice_get ms j ≡ Some m → (m.entry ≡ e.number) × (m.place ≡ k + j)
-marked_at e k [] j m h is = absurd (cc)
-marked_at e k (x ∷ ms) zero m h is =
-    let same : x ≡ m = (let s : Some x ≡ Some m = is in cc) in
-    subst (λ (z : Frame). (z.entry ≡ e.number) × (z.place ≡ k + 0)) same (h.0, (let q = h.1 in omega arith))
-marked_at e k (x ∷ ms) (suc j) m h is = let q = marked_at e (suc k) ms j m h.3 is in (q.0, omega arith)
-
--- a frame out of an entry of a local run was sent
-was_sent : (f : ℕ) (J : Journals) (r : ℕ) (e : rules.Entry) (m : Frame) → AreNumbered 1 0 (J r) → AreSteps f r fresh_state (J r) → In e (J r) → In m e.out → WasSent J m
-was_sent f J r e m numbered steps stands out =
-    let s = step_of f r fresh_state (J r) e steps stands in
-    let from : m.sent.from ≡ r = from_entry f r s.0 e m s.1 out in
-    let at = in_at e.out m out in
-    let mark = marked_at e 0 e.out at.0 m (marks_of 1 0 (J r) e numbered stands) at.1 in
-    let place : at.0 ≡ m.place = (let q = mark.1 in omega arith) in
-    record {
-      entry = e;
-      stands = subst (λ q. In e (J q)) (sym from) stands;
-      number = sym mark.0;
-      frame = subst (λ j. slice_get e.out j ≡ Some m) place at.1;
-    }
 
 -- From the code's lists.
 
@@ -138,9 +87,6 @@ none_after (n ∷ ns) zero low = absurd (omega arith)
 none_after (n ∷ ns) (suc r) low = none_after ns r (omega arith)
 
 module _ (f : ℕ) (nodes : List Node) (host : IsHost f nodes) (know : All Knows nodes) where
-  J : Journals
-  J = their_journals (replicas_in nodes)
-
   journal_is : (r : ℕ) → their_journals (replicas_in nodes) r ≡ entries_of (get_or nodes r blank).replica.entries
   journal_is r = ap entries_of (entries_is nodes r)
 
@@ -161,39 +107,37 @@ module _ (f : ℕ) (nodes : List Node) (host : IsHost f nodes) (know : All Knows
       let t = handled_at (get_or nodes r blank).replica.entries e m (subst (λ (es : List rules.Entry). In e es) (journal_is r) stands) is in
       let u = sent r blank t.0 low t.1 in
       let o = sent_in (get_or nodes u.0 blank).replica.entries t.0 u.2 in
-      let q = subst (λ (es : List rules.Entry). AreNumbered 1 0 es × AreSteps f u.0 fresh_state es) (sym (journal_is u.0)) (runs_at u.0 u.1).run in
+      let run = subst (λ (es : List rules.Entry). IsLocalRun f u.0 es) (sym (journal_is u.0)) (runs_at u.0 u.1).run in
       subst (λ (z : Frame). WasSent (their_journals (replicas_in nodes)) z) t.2
-      (was_sent f (their_journals (replicas_in nodes)) u.0 o.0 (frame_at t.0) q.0 q.1 (subst (λ (es : List rules.Entry). In o.0 es) (sym (journal_is u.0)) o.1) o.2))
+      (frames_were_sent_lem f (their_journals (replicas_in nodes)) u.0 o.0 (frame_at t.0) run (subst (λ (es : List rules.Entry). In o.0 es) (sym (journal_is u.0)) o.1) o.2).1)
       (λ (ge : length nodes ≤ r). absurd (subst (λ (es : List Entry). In e (entries_of es)) (none_after nodes r ge) stands))
       (cases_lt r (length nodes))
-
-in_append : (t : Receipt) (xs ys : List Receipt) → In t (xs ++ ys) → In t xs ⊎ In t ys
-in_append t [] ys h = inr h
-in_append t (x ∷ xs) ys (inl e) = inl (inl e)
-in_append t (x ∷ xs) ys (inr h) = elim (in_append t xs ys h) [ inl l ↦ inl (inr l) | inr r ↦ inr r ]
 
 -- the node whose receipt it is
 receipt_at : (nodes : List Node) (t : Receipt) → In t (their_receipts (replicas_in nodes)) → (i : ℕ) × (i < length nodes) × In t (receipts_after (get_or nodes i blank).replica.me 0 (entries_of (get_or nodes i blank).replica.entries))
 receipt_at [] t h = absurd h
-receipt_at (n ∷ ns) t h = elim (in_append t (receipts_after n.replica.me 0 (entries_of n.replica.entries)) (their_receipts (replicas_in ns)) h) [
+receipt_at (n ∷ ns) t h = elim (in_split t (receipts_after n.replica.me 0 (entries_of n.replica.entries)) (their_receipts (replicas_in ns)) h) [
   | inl l ↦ (0, omega arith, l)
   | inr r ↦ let u = receipt_at ns t r in (suc u.0, omega (arith, u.1), u.2)
 ]
 
--- no audit of them finds a fault
-pub host_accepted : (f : ℕ) (nodes : List Node) → IsHost f nodes → All Knows nodes → AllSent nodes → IsAccepted f (their_journals (replicas_in nodes)) (their_receipts (replicas_in nodes))
-host_accepted f nodes host know sent = record {
-  matched = clocked_match_lem (their_journals (replicas_in nodes)) (clocked_at f nodes host know) (sent_at f nodes host know sent);
-  agree = λ t h.
-      let u = receipt_at nodes t h in
-      let n = get_or nodes u.0 blank in
-      let k = know u.0 blank u.1 in
-      let own : IsOwn n.replica.faults n.replica.me (entries_of n.replica.entries) t = receipts_are_own n.replica.faults n.replica.me 0 (entries_of n.replica.entries) k.some k.journal.run.1 t u.2 in
-      let own' : IsOwn f u.0 (their_journals (replicas_in nodes) u.0) t =
+-- all their receipts are their own
+pub receipts_own : (f : ℕ) (nodes : List Node) → IsHost f nodes → All Knows nodes → AreOwn f (their_journals (replicas_in nodes)) (their_receipts (replicas_in nodes))
+receipts_own f nodes host know t h =
+    let u = receipt_at nodes t h in
+    let n = get_or nodes u.0 blank in
+    let k = know u.0 blank u.1 in
+    let own : IsOwn n.replica.faults n.replica.me (entries_of n.replica.entries) t = receipts_are_own n.replica.faults n.replica.me 0 (entries_of n.replica.entries) k.some k.journal.run.1 t u.2 in (
+      u.0,
       subst (λ (es : List rules.Entry). IsOwn f u.0 es t) (sym (journal_is f nodes host know u.0))
-      (subst (λ (q : ℕ). IsOwn f q (entries_of n.replica.entries) t) (host.me u.0 blank u.1) (subst (λ (q : ℕ). IsOwn q n.replica.me (entries_of n.replica.entries) t) (host.faults u.0 blank u.1) own)) in
-      own_receipts_agree_lem f (their_journals (replicas_in nodes)) (clocked_at f nodes host know) u.0 t own';
-}
+          (subst (λ (q : ℕ). IsOwn f q (entries_of n.replica.entries) t) (host.me u.0 blank u.1) (subst (λ (q : ℕ). IsOwn q n.replica.me (entries_of n.replica.entries) t) (host.faults u.0 blank u.1) own)),
+    )
+
+-- no audit of them with receipts of their own finds a fault
+pub host_accepted :
+    (f : ℕ) (nodes : List Node) (receipts : List Receipt) → IsHost f nodes → All Knows nodes → AllSent nodes → AreOwn f (their_journals (replicas_in nodes)) receipts → IsAccepted f (their_journals (replicas_in nodes)) receipts
+host_accepted f nodes receipts host know sent own =
+    clocked_accepted_lem f (their_journals (replicas_in nodes)) (clocked_at f nodes host know) (sent_at f nodes host know sent) receipts own
 
 -- Lists of nodes.
 
@@ -282,7 +226,7 @@ pub end_accepted : (f : ℕ) (nodes : List Node) (j : Collected) (receipts : Lis
 end_accepted f nodes j receipts host know sent e =
     subst (λ (g : ℕ). IsAccepted g (journals_of j) receipts) (sym e.faults)
     (subst (λ (J : Journals). IsAccepted f J receipts) (sym e.journals)
-    (subst (λ (l : List Receipt). IsAccepted f (their_journals (replicas_in nodes)) l) (sym e.told) (host_accepted f nodes host know sent)))
+    (subst (λ (l : List Receipt). IsAccepted f (their_journals (replicas_in nodes)) l) (sym e.told) (host_accepted f nodes (their_receipts (replicas_in nodes)) host know sent (receipts_own f nodes host know))))
 
 pub end_audited :
     (f : ℕ) (nodes : List Node) (j : Collected) (receipts : List Receipt) → IsEnd f nodes j receipts → (r : Result Verdict AllocError) → IfOk r (λ v. IsAudited j.faults (journals_of j) receipts v) →
@@ -292,3 +236,21 @@ end_audited f nodes j receipts e (Ok v) h =
     subst (λ (l : List Receipt). IsAudited f (their_journals (replicas_in nodes)) l v) e.told
     (subst (λ (J : Journals). IsAudited f J receipts v) e.journals
     (subst (λ (g : ℕ). IsAudited g (journals_of j) receipts v) e.faults h))
+
+-- the journals at the end of a host, with receipts of its nodes' own
+pub ended :
+    (f : ℕ) (nodes after : List Node) (j : Collected) (ls : List Log) → IsHost f nodes → Each Looked nodes after → ls ≡ logs_of (replicas_in after) → AreInOrder j.faults 0 ls → j.entries ≡ all_entries ls →
+    (j.faults ≡ f) × (j.entries ≡ entries_in (replicas_in nodes))
+ended f nodes after j ls host looked logs order entries =
+    let same = looked_replicas nodes after looked in
+    let is = logs ∙ ap logs_of same in (
+      first_faults f j.faults nodes host.count host (subst (λ (l : List Log). AreInOrder j.faults 0 l) is order),
+      entries ∙ ap all_entries is ∙ entries_each (replicas_in nodes),
+    )
+
+pub ended_accepted :
+    (f : ℕ) (nodes : List Node) (j : Collected) (ts : List Receipt) → IsHost f nodes → All Knows nodes → AllSent nodes → (j.faults ≡ f) × (j.entries ≡ entries_in (replicas_in nodes)) →
+    AreOwn f (their_journals (replicas_in nodes)) ts → IsAccepted j.faults (journals_of j) ts
+ended_accepted f nodes j ts host know sent is own =
+    let same : journals_of j ≡ their_journals (replicas_in nodes) = ap (λ (es : List (List Entry)). λ (r : ℕ). entries_of (get_or es r [])) is.1 in
+    subst (λ (g : ℕ). IsAccepted g (journals_of j) ts) (sym is.0) (subst (λ (J : Journals). IsAccepted f J ts) (sym same) (host_accepted f nodes ts host know sent own))

@@ -1,6 +1,12 @@
 -- What turns leave of a node.
 use Rattle.std.proofs.Common.{◌≡◌, ℕ, zero, suc, ◌<◌, ◌≤◌, ◌+◌, ◌-◌, ◌||◌, List, [], ◌∷◌, ◌++◌, length, refl, arith, inl, inr, subst, sym, ap, ◌∙◌, append_assoc, Bool, true, false, Option, Some, None, min, cond}
 use Rattle.std.proofs.lemmas.List.{append-nil}
+use Rattle.ep_rules.specs.Steps as rules
+use Rattle.ep_rules.specs.Journals as book
+use Rattle.ep_rules.specs.Journals.{asked_by, asked_in}
+use Rattle.ep_rules.proofs.JournalsGrow.{asked_grows_lem}
+use Rattle.ep_journal.specs.Entries.{entry_of, entries_of}
+use Rattle.ep_journal.specs.Events as journal
 use Rattle.ep_journal.specs.declared.entry.Entry.{Entry}
 use Rattle.ep_journal.specs.declared.event.Event.{Event}
 use Rattle.ep_journal.specs.declared.event.Event.TheVariants as event
@@ -14,7 +20,7 @@ use Rattle.ep_host.specs.Node.{Node}
 use Rattle.ep_host.specs.Pointwise.{Each}
 use Rattle.ep_host.specs.Rings.{PopsAt}
 use Rattle.ep_host.specs.Sent.{frames_of}
-use Rattle.ep_host.specs.Tasks.{Use, tasks_in, event_made, events_in, refusal_at, refusals_in, place_after, next_place, asked_by, asked_in, event_of}
+use Rattle.ep_host.specs.Tasks.{Use, tasks_in, event_made, events_in, refusal_at, refusals_in, place_after, next_place, event_of}
 use Rattle.ep_host.specs.Turns.{with_links, TakesUp, TakesAt, Takes, BeginsTask, ExecutesOwn, IsTurn}
 use Rattle.ep_host.specs.declared.link.Link.{Link}
 use Rattle.ep_host.specs.declared.task.Task.{Task}
@@ -26,23 +32,30 @@ use Rattle.ep_host.proofs.Pumping.{frames_both, no_frames}
 
 -- tasks, and more of them
 
-tasks_both : (xs ys : List Use) → tasks_in (xs ++ ys) ≡ tasks_in xs ++ tasks_in ys
+pub tasks_both : (xs ys : List Use) → tasks_in (xs ++ ys) ≡ tasks_in xs ++ tasks_in ys
 tasks_both [] ys = refl
 tasks_both (x ∷ xs) ys = ap (λ (l : List Task). x.task ∷ l) (tasks_both xs ys)
 
-events_both : (xs ys : List Use) → events_in (xs ++ ys) ≡ events_in xs ++ events_in ys
+pub events_both : (xs ys : List Use) → events_in (xs ++ ys) ≡ events_in xs ++ events_in ys
 events_both [] ys = refl
-events_both (x ∷ xs) ys = ap (λ (l : List Event). event_made x.task x.refusal ++ l) (events_both xs ys) ∙ sym (append_assoc (event_made x.task x.refusal) (events_in xs) (events_in ys))
+events_both (x ∷ xs) ys = ap (λ (l : List rules.Event). event_made x.task x.refusal ++ l) (events_both xs ys) ∙ sym (append_assoc (event_made x.task x.refusal) (events_in xs) (events_in ys))
 
-asked_both : (xs ys : List Entry) → asked_in (xs ++ ys) ≡ asked_in xs ++ asked_in ys
-asked_both [] ys = refl
-asked_both (x ∷ xs) ys = ap (λ (l : List Event). asked_by x.event ++ l) (asked_both xs ys) ∙ sym (append_assoc (asked_by x.event) (asked_in xs) (asked_in ys))
+-- what an event is asked as
+abbrev asked_of : Event → List rules.Event
+asked_of event = asked_by (journal.event_of event)
 
-refusals_both : (n : ℕ) (xs ys : List Use) → refusals_in n (xs ++ ys) ≡ refusals_in n xs ++ refusals_in (place_after n xs) ys
+pub entries_both : (xs ys : List Entry) → entries_of (xs ++ ys) ≡ entries_of xs ++ entries_of ys
+entries_both [] ys = refl
+entries_both (x ∷ xs) ys = ap (λ (es : List book.Entry). entry_of x ∷ es) (entries_both xs ys)
+
+pub asked_both : (xs ys : List Entry) → asked_in (entries_of (xs ++ ys)) ≡ asked_in (entries_of xs) ++ asked_in (entries_of ys)
+asked_both xs ys = ap asked_in (entries_both xs ys) ∙ asked_grows_lem (entries_of xs) (entries_of ys)
+
+pub refusals_both : (n : ℕ) (xs ys : List Use) → refusals_in n (xs ++ ys) ≡ refusals_in n xs ++ refusals_in (place_after n xs) ys
 refusals_both n [] ys = refl
 refusals_both n (x ∷ xs) ys = ap (λ (l : List (ℕ × StepFault)). refusal_at n x.refusal ++ l) (refusals_both (next_place n) xs ys) ∙ sym (append_assoc (refusal_at n x.refusal) (refusals_in (next_place n) xs) (refusals_in (place_after (next_place n) xs) ys))
 
-places_both : (n : ℕ) (xs ys : List Use) → place_after n (xs ++ ys) ≡ place_after (place_after n xs) ys
+pub places_both : (n : ℕ) (xs ys : List Use) → place_after n (xs ++ ys) ≡ place_after (place_after n xs) ys
 places_both n [] ys = refl
 places_both n (x ∷ xs) ys = places_both (next_place n) xs ys
 
@@ -79,7 +92,7 @@ follows_follows a b c h k = record {
       k.lost ∙ ap (λ (n : ℕ). lost_after n (lost_in k.fates + k.dropped)) h.lost ∙ lost_lost a.lost (lost_in h.fates + h.dropped) (lost_in k.fates + k.dropped) ∙ ap (lost_after a.lost) (sym sum);
   used = h.used ++ k.used;
   agenda = h.agenda ∙ ap (λ (l : List Task). tasks_in h.used ++ l) k.agenda ∙ sym (append_assoc (tasks_in h.used) (tasks_in k.used) c.agenda) ∙ ap (λ (l : List Task). l ++ c.agenda) (sym (tasks_both h.used k.used));
-  asked = asked_both h.entries k.entries ∙ ap (λ (l : List Event). l ++ asked_in k.entries) h.asked ∙ ap (λ (l : List Event). events_in h.used ++ l) k.asked ∙ sym (events_both h.used k.used);
+  asked = asked_both h.entries k.entries ∙ ap (λ (l : List rules.Event). l ++ asked_in (entries_of k.entries)) h.asked ∙ ap (λ (l : List rules.Event). events_in h.used ++ l) k.asked ∙ sym (events_both h.used k.used);
   refused = k.refused ∙ ap (λ (l : List (ℕ × StepFault)). l ++ refusals_in b.used k.used) h.refused ∙ ap (λ (n : ℕ). a.refused ++ refusals_in a.used h.used ++ refusals_in n k.used) h.place
       ∙ append_assoc a.refused (refusals_in a.used h.used) (refusals_in (place_after a.used h.used) k.used) ∙ ap (λ (l : List (ℕ × StepFault)). a.refused ++ l) (sym (refusals_both a.used h.used k.used));
   place = k.place ∙ ap (λ (n : ℕ). place_after n k.used) h.place ∙ sym (places_both a.used h.used k.used);
@@ -89,7 +102,7 @@ follows_follows a b c h k = record {
 record Tasked (event : Event) (made : Bool) (a b : Node) : Type 0 where
   pub used : List Use
   pub agenda : a.agenda ≡ tasks_in used ++ b.agenda
-  pub asked : cond made (asked_by event) [] ≡ events_in used
+  pub asked : cond made (asked_of event) [] ≡ events_in used
   pub refused : b.refused ≡ a.refused ++ refusals_in a.used used
   pub place : b.used ≡ place_after a.used used
 
@@ -109,7 +122,7 @@ made_follows event lost a b m is t =
       lost = (let s : lost ≡ lost_in fates + 0 = (let l = m.sent.lost in omega arith) in is ∙ ap (lost_after a.lost) s);
       used = t.used;
       agenda = t.agenda;
-      asked = append-nil (asked_by e.event) ∙ ap asked_by m.applied.event ∙ t.asked;
+      asked = append-nil (asked_of e.event) ∙ ap asked_of m.applied.event ∙ t.asked;
       refused = t.refused;
       place = t.place;
     }
@@ -132,7 +145,7 @@ idle_follows event dropped a b k l is t = record {
   place = t.place;
 }
 
-no_tasks : (event : Event) (made : Bool) (a b : Node) → asked_by event ≡ [] → b.agenda ≡ a.agenda → b.refused ≡ a.refused → b.used ≡ a.used → Tasked event made a b
+no_tasks : (event : Event) (made : Bool) (a b : Node) → asked_of event ≡ [] → b.agenda ≡ a.agenda → b.refused ≡ a.refused → b.used ≡ a.used → Tasked event made a b
 no_tasks event made a b none agenda refused used = record {
   used = [];
   agenda = sym agenda;
@@ -141,7 +154,7 @@ no_tasks event made a b none agenda refused used = record {
   place = used;
 }
   where
-    go : (made : Bool) → cond made (asked_by event) [] ≡ []
+    go : (made : Bool) → cond made (asked_of event) [] ≡ []
     go true = none
     go false = refl
 
@@ -181,7 +194,7 @@ takes_follows (suc k) moved a b low t =
     let here : k < length c.links = omega (arith, first.rings.len) in
     follows_follows a c b first (takes_at_follows k t.2 c b here t.5)
 
-asked_task : (t : Task) → asked_by (event_of t) ≡ event_of t ∷ []
+asked_task : (t : Task) → asked_of (event_of t) ≡ journal.event_of (event_of t) ∷ []
 asked_task (Propose client request command seen) = refl
 asked_task (GiveUp i) = refl
 asked_task (Recover i) = refl
@@ -221,7 +234,7 @@ executes_follows true a b h =
       lost = ap (λ (n : Node). n.lost) is;
       used = [];
       agenda = sym (ap (λ (n : Node). n.agenda) is);
-      asked = append-nil (asked_by e.event) ∙ ap asked_by p.event;
+      asked = append-nil (asked_of e.event) ∙ ap asked_of p.event;
       refused = ap (λ (n : Node). n.refused) is ∙ sym (append-nil a.refused);
       place = ap (λ (n : Node). n.used) is;
     }

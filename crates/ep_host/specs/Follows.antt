@@ -1,11 +1,13 @@
 -- What turns leave of a node.
-use Rattle.std.specs.Prelude.{◌≡◌, ℕ, ◌+◌, ◌-◌, ◌≤◌, Bool, true, false, List, [], ◌++◌, length}
+use Rattle.std.specs.Prelude.{◌≡◌, ℕ, ◌+◌, ◌-◌, ◌<◌, ◌≤◌, Bool, true, false, List, [], ◌++◌, length, slice_index_or}
+use Rattle.ep_rules.specs.Journals.{asked_in}
+use Rattle.ep_journal.specs.Entries.{entries_of}
 use Rattle.ep_journal.specs.declared.entry.Entry.{Entry}
 use Rattle.ep_host.specs.Fates.{Fate, frames_in, lost_in, Carries, lost_after}
 use Rattle.ep_host.specs.Node.{Node}
 use Rattle.ep_host.specs.Pointwise.{Each}
 use Rattle.ep_host.specs.Sent.{frames_of}
-use Rattle.ep_host.specs.Tasks.{Use, tasks_in, events_in, refusals_in, place_after, asked_in}
+use Rattle.ep_host.specs.Tasks.{Use, tasks_in, events_in, refusals_in, place_after}
 
 -- the same node with more entries
 pub record Follows (a b : Node) : Type 0 where
@@ -23,7 +25,7 @@ pub record Follows (a b : Node) : Type 0 where
   -- tasks from the agenda's head on are used up: each made its entry or was refused, in order
   pub used : List Use
   pub agenda : a.agenda ≡ tasks_in used ++ b.agenda
-  pub asked : asked_in entries ≡ events_in used
+  pub asked : asked_in (entries_of entries) ≡ events_in used
   pub refused : b.refused ≡ a.refused ++ refusals_in a.used used
   pub place : b.used ≡ place_after a.used used
 
@@ -34,6 +36,12 @@ HasEnded n = n.agenda ≡ []
 pub record Runs (a b : Node) : Type 0 where
   pub follows : Follows a b
   pub ended : b.ended ≡ true → HasEnded b
+
+-- the node at this place is the first that hasn't ended: those before it have, with empty agendas
+pub record IsFirstLeft (nodes : List Node) (place : ℕ) : Type 0 where
+  pub left : (d : Node) → (slice_index_or nodes place d).ended ≡ false
+  pub ended : (i : ℕ) (d : Node) → i < place → (slice_index_or nodes i d).ended ≡ true
+  pub empty : (i : ℕ) (d : Node) → i < place → HasEnded (slice_index_or nodes i d)
 
 -- what rounds leave: the agenda has lost as many tasks as there were rounds at least, or all
 pub record Settles (rounds : ℕ) (a b : Node) : Type 0 where

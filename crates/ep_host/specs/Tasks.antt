@@ -1,6 +1,7 @@
 -- Tasks: the events that they are, and what became of them.
 use Rattle.std.specs.Prelude.{ℕ, ◌^◌, ◌-◌, ltb, suc, cond, List, [], ◌∷◌, ◌++◌, Option, None, Some}
-use Rattle.ep_journal.specs.declared.entry.Entry.{Entry}
+use Rattle.ep_rules.specs.Steps as rules
+use Rattle.ep_journal.specs.Events as journal
 use Rattle.ep_journal.specs.declared.event.Event.{Event}
 use Rattle.ep_journal.specs.declared.event.Event.TheVariants as event
 use Rattle.ep_journal.specs.declared.step_fault.StepFault.{StepFault}
@@ -29,12 +30,12 @@ abbrev pub tasks_in : List Use → List Task
 tasks_in [] = []
 tasks_in (u ∷ us) = u.task ∷ tasks_in us
 
-abbrev pub event_made : Task → Option StepFault → List Event
-event_made task None = event_of task ∷ []
+abbrev pub event_made : Task → Option StepFault → List rules.Event
+event_made task None = journal.event_of (event_of task) ∷ []
 event_made task (Some fault) = []
 
--- the events of those that made entries, in order
-abbrev pub events_in : List Use → List Event
+-- the events of those that made entries, in order, as the rule book sees them
+abbrev pub events_in : List Use → List rules.Event
 events_in [] = []
 events_in (u ∷ us) = event_made u.task u.refusal ++ events_in us
 
@@ -51,15 +52,3 @@ refusals_in place (u ∷ us) = refusal_at place u.refusal ++ refusals_in (next_p
 abbrev pub place_after : ℕ → List Use → ℕ
 place_after place [] = place
 place_after place (u ∷ us) = place_after (next_place place) us
-
-abbrev pub asked_by : Event → List Event
-asked_by (event.Propose client request command seen) = event.Propose client request command seen ∷ []
-asked_by (event.Handle b) = []
-asked_by (event.GiveUp i) = event.GiveUp i ∷ []
-asked_by (event.Recover i) = event.Recover i ∷ []
-asked_by (event.Execute i) = []
-
--- what was asked: the events of entries that neither handle nor execute
-abbrev pub asked_in : List Entry → List Event
-asked_in [] = []
-asked_in (e ∷ es) = asked_by e.event ++ asked_in es

@@ -1,6 +1,6 @@
 //! What both ends of the rings say together: what was taken was sent.
 
-ghost use Rattle.std.specs.Prelude.{◌≡◌, ℕ, ◌<◌, length, slice_index_or, All};
+ghost use Rattle.std.specs.Prelude.{◌≡◌, ℕ, ◌<◌, List, length, slice_index_or, All};
 ghost use mathlib.Core.List.{IsPrefix};
 ghost use Rattle.rtrb.specs.Ring.{sent, received, IsPair};
 ghost use Rattle.ep_host.specs.Pointwise.{Each};
@@ -8,6 +8,8 @@ ghost use Rattle.ep_host.specs.Host.{Quiet, Looked, Paired, Begins, HasLink, Pai
 ghost use Rattle.ep_host.specs.Node.{Node};
 ghost use Rattle.ep_host.specs.RingFinishing.{replicas_in, their_journals, their_receipts};
 ghost use Rattle.ep_rules.specs.Audits.{IsAccepted};
+ghost use Rattle.ep_rules.specs.Verdicts.{AreOwn};
+ghost use Rattle.ep_rules.specs.declared.receipt.Receipt.{Receipt};
 
 use crate::link::Link;
 use crate::putting::place;
@@ -98,11 +100,12 @@ pub fn taken_was_sent(nodes: &mut [RingNode])
     account(nodes);
 }
 
-/// The journals of the nodes of one host, with all their receipts, are accepted by the audit: a law, for which both ends of every ring are
-/// looked at.
+/// The journals of the nodes of one host are accepted by the audit, with any receipts of which each is some node's own, as all that the nodes give
+/// are: a law, for which both ends of every ring are looked at.
 pub fn are_accepted(nodes: &mut [RingNode])
     requires { (f : ℕ) × IsHost f nodes.old }
-    ensures accepted { (f : ℕ) → IsHost f nodes.old → IsAccepted f (their_journals (replicas_in nodes.old)) (their_receipts (replicas_in nodes.old)) }
+    ensures accepted { (f : ℕ) (receipts : List Receipt) → IsHost f nodes.old → AreOwn f (their_journals (replicas_in nodes.old)) receipts → IsAccepted f (their_journals (replicas_in nodes.old)) receipts }
+    ensures own { (f : ℕ) → IsHost f nodes.old → AreOwn f (their_journals (replicas_in nodes.old)) (their_receipts (replicas_in nodes.old)) }
     ensures host { (f : ℕ) → IsHost f nodes.old → IsHost f nodes.new }
     ensures replicas { replicas_in nodes.new ≡ replicas_in nodes.old }
 {

@@ -49,7 +49,7 @@ pub use gate::Gate;
 pub use gate_unpassed::GateUnpassed;
 pub use host_fault::HostFault;
 pub use lock_host::LockHost;
-pub use ring_finishing::finish;
+pub use ring_finishing::{finish, finish_with};
 pub use ring_host::RingHost;
 pub use ring_node::RingNode;
 pub use seat::ReplicaCell;

@@ -1,13 +1,16 @@
 //! The audit of the nodes of a host.
 
-ghost use Rattle.std.specs.Prelude.{◌≡◌, ◌++◌, [], ℕ, IfOk, OnOk};
+ghost use Rattle.std.specs.Prelude.{◌≡◌, ◌++◌, [], ℕ, IfOk, IsOk, OnOk};
 ghost use Rattle.ep_rules.specs.Audits.{IsAccepted};
 ghost use Rattle.ep_journal.specs.Entries.{journals_of};
 ghost use Rattle.ep_audit.specs.Audited.{IsAudited};
+ghost use Rattle.ep_host.specs.Finishing.{IsFinished};
 ghost use Rattle.ep_host.specs.Host.{IsHost};
-ghost use Rattle.ep_host.specs.RingFinishing.{replicas_in, their_journals, their_receipts, logs_of};
+ghost use Rattle.ep_host.specs.RingFinishing.{replicas_in, entries_in, their_journals, their_receipts, logs_of};
+ghost use Rattle.ep_rules.specs.Verdicts.{AreOwn};
 
 use crate::account::taken_was_sent;
+use crate::finished::Finished;
 use crate::ring_node::RingNode;
 use ep_audit::{Refusal, Verdict, audit};
 use ep_journal::{Journal, Journals};
@@ -58,4 +61,26 @@ pub fn finish(alloc: Global, mut nodes: Vec<RingNode>) -> Result<Verdict, AllocE
     let journals = collected(alloc, nodes)?;
     let journals = Journals::new(journals).unwrap();
     accepted(alloc, &journals, &receipts)
+}
+
+/// The journals of the nodes of one host, and their audit with receipts of which each is one of a node's own. It never finds a fault. Want of
+/// memory drops the nodes.
+pub fn finish_with(
+    alloc: Global,
+    mut nodes: Vec<RingNode>,
+    receipts: &[Receipt],
+) -> Result<Finished, AllocError>
+    requires { (f : ℕ) × IsHost f nodes.items × AreOwn f (their_journals (replicas_in nodes.items)) receipts.now }
+    ensures finished { IfOk result (IsFinished receipts.now) }
+    ensures accepted { IfOk result (λ r. IsOk r.verdict) }
+    ensures journals { (f : ℕ) → IsHost f nodes.items → IfOk result (λ r. (r.journals.faults ≡ f) × (r.journals.entries ≡ entries_in (replicas_in nodes.items))) }
+{
+    taken_was_sent(nodes.as_mut_slice());
+    let journals = collected(alloc, nodes)?;
+    let journals = Journals::new(journals).unwrap();
+    let verdict = accepted(alloc, &journals, receipts)?;
+    Ok(Finished {
+        journals,
+        verdict: Ok(verdict),
+    })
 }

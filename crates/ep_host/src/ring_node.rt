@@ -48,6 +48,9 @@ impl RingNode {
     ghost use Rattle.std.specs.Prelude.{◌≡◌, ◌<◌, ◌++◌, ◌∷◌, [], false, length, IfOk, OnOk, OnErr};
     ghost use Rattle.ep_journal.specs.Entries.{entries_of};
     ghost use Rattle.ep_replica.specs.Receipts.{receipts_after};
+    ghost use Rattle.ep_rules.specs.Verdicts.{IsOwn};
+    ghost use Rattle.ep_rules.specs.Worlds.{In};
+    ghost use Rattle.ep_rules.specs.declared.receipt.Receipt.{Receipt as Told};
     ghost use Rattle.ep_host.specs.Node.{fresh_node, with_link};
     ghost use Rattle.ep_host.specs.Rings.{IsBooked, IsFreshLink};
     ghost use Rattle.ep_host.specs.Turns.{Assigns, TakesAt, Takes, BeginsTask, ExecutesOwn, IsTurn, has_moved};
@@ -205,6 +208,18 @@ impl RingNode {
         } else {
             Turn::Idle
         }
+    }
+
+    /// The receipts that the replica gave after this entry, in order: of what was proposed and executed here.
+    pub fn receipts_after(&self, alloc: Global, entry: u32) -> Result<Vec<Receipt>, AllocError>
+        ensures told { IfOk result (λ ts. ts.items ≡ receipts_after self.now.replica.me entry (entries_of self.now.replica.entries)) }
+        ensures own { IfOk result (λ ts. (t : Told) → In t ts.items → IsOwn self.now.replica.faults self.now.replica.me (entries_of self.now.replica.entries) t) }
+    {
+        // Nothing is done with these: that the entries are a run, and that some replica may fail, is known by asking.
+        let _run = self.replica.journal().entries();
+        let _faults = self.replica.size().faults();
+        let told = self.replica.receipts_after(alloc, entry)?;
+        Ok(told)
     }
 
     /// Adds the receipts of what was proposed and executed here.

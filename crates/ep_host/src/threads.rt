@@ -2,7 +2,7 @@
 
 ghost use Rattle.std.specs.Prelude.{◌≡◌, ◌<◌, ℕ, length, All, OnOk, IfErr};
 ghost use Rattle.ep_host.specs.Pointwise.{Each};
-ghost use Rattle.ep_host.specs.Follows.{Follows, Runs, HasEnded};
+ghost use Rattle.ep_host.specs.Follows.{Follows, Runs, HasEnded, IsFirstLeft};
 ghost use Rattle.ep_host.specs.Host.{IsHost};
 
 use crate::gate::Gate;
@@ -30,7 +30,7 @@ fn run_each<R: Threads + Sync, G: Gate>(rt: &R, nodes: &mut [RingNode], gate: &G
 }
 
 /// Gives each node so many turns, in a thread of its own, or on this one where none can be started, until its agenda is empty and the gate lets
-/// it end. All nodes come back, in order.
+/// it end. All nodes come back, in order. At an `Err` the node told is the least that hadn't ended.
 pub fn section<R: Threads + Sync, G: Gate>(
     rt: &R,
     mut nodes: Vec<RingNode>,
@@ -40,6 +40,7 @@ pub fn section<R: Threads + Sync, G: Gate>(
     ensures nodes { Each Follows nodes.items result.nodes.items }
     ensures host { (f : ℕ) → IsHost f nodes.items → IsHost f result.nodes.items }
     ensures unpassed { IfErr result.result (λ e. (e.node < length nodes.items) × (e.turns ≡ turns)) }
+    ensures first { IfErr result.result (λ e. IsFirstLeft result.nodes.items e.node) }
     ensures ended { OnOk result.result (All HasEnded result.nodes.items) }
 {
     run_each(rt, nodes.as_mut_slice(), gate, turns);

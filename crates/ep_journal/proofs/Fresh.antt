@@ -15,9 +15,9 @@ fresh_append : (done xs ys : List ℕ) → AreFresh done xs → AreFresh (done +
 fresh_append done [] ys p q = subst (λ d. AreFresh d ys) (append-nil done) q
 fresh_append done (x ∷ xs) ys p q = (p.0, fresh_append (done ++ (x ∷ [])) xs ys p.1 (subst (λ d. AreFresh d ys) (sym (append_assoc done (x ∷ []) xs)) q))
 
--- what is behind i is not i
-behind : (g : Graph) (done : List ℕ) (i : ℕ) (is : List ℕ) → ((j : ℕ) → Has (i ∷ is) j → ¬ Has done j) → ((j : ℕ) → Has is j → Ranks g i j) → (j : ℕ) → Has is j → ¬ Has (done ++ (i ∷ [])) j
-behind g done i is left ranks j h k =
+-- what is after i is not i
+after : (g : Graph) (done : List ℕ) (i : ℕ) (is : List ℕ) → ((j : ℕ) → Has (i ∷ is) j → ¬ Has done j) → ((j : ℕ) → Has is j → Ranks g i j) → (j : ℕ) → Has is j → ¬ Has (done ++ (i ∷ [])) j
+after g done i is left ranks j h k =
     elim (has_split done (i ∷ []) j k) [
       | inl d ↦ left j (has_tail i j is h) d
       | inr o ↦ elim (has_cons i j [] o) [ inl e ↦ ranks_apart g i (subst (λ n. Ranks g i n) (sym e) (ranks j h)) | inr n ↦ absurd (omega arith) ]
@@ -28,7 +28,7 @@ head_of i is = omega (arith, place_head i is)
 
 fresh_block : (g : Graph) (done block : List ℕ) → ((j : ℕ) → Has block j → ¬ Has done j) → Rises g block → AreFresh done block
 fresh_block g done [] left rises = tt
-fresh_block g done (i ∷ is) left rises = (left i (head_of i is), fresh_block g (done ++ (i ∷ [])) is (behind g done i is left rises.0) rises.1)
+fresh_block g done (i ∷ is) left rises = (left i (head_of i is), fresh_block g (done ++ (i ∷ [])) is (after g done i is left rises.0) rises.1)
 
 fresh_blocks : (g : Graph) (done : List ℕ) (root : ℕ) (blocks : List (List ℕ)) → InBlocks g done root blocks → AreFresh done (flat_map (λ b. b) blocks)
 fresh_blocks g done root [] h = tt

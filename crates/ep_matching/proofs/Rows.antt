@@ -53,7 +53,7 @@ length_set [] i v = refl
 length_set (x ∷ xs) zero v = refl
 length_set (x ∷ xs) (suc i) v = ap suc (length_set xs i v)
 
--- one entry more, from behind
+-- one entry more, at the end
 pub row_more : (r k : ℕ) (es : List Entry) (e : Entry) (row : List ℕ) → slice_get es k ≡ Some e → IsRowFrom r (suc k) es row → IsRowFrom r k es (marked r (proposed e.event e.frames) k row)
 row_more r k es e row at h = go (proposed e.event e.frames) refl
   where

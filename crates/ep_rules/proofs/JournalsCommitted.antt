@@ -65,7 +65,7 @@ module _ (f : ℕ) (journal : Journals) (schedule : List Scheduled) (given : Mer
   pub is_run : IsRun f opening (acts_of schedule)
   is_run = merged_is_a_run_lem f journal schedule given.local given.matched given.scheduled
 
-  -- and the same with nothing behind
+  -- and the same with nothing after
   pub is_run_nil : IsRun f opening (acts_of schedule ++ [])
   is_run_nil = subst (IsRun f opening) (sym (append-nil (acts_of schedule))) is_run
 
@@ -136,22 +136,22 @@ act_head x y xs ys e = cc
 act_tail : (x y : Act) (xs ys : List Act) → x ∷ xs ≡ y ∷ ys → xs ≡ ys
 act_tail x y xs ys e = cc
 
-act_in : (before : List Act) (a : Act) (behind : List Act) (schedule : List Scheduled) → before ++ (a ∷ behind) ≡ acts_of schedule → ActIn before a schedule
-act_in [] a behind [] e = absurd (cc)
-act_in (x ∷ before) a behind [] e = absurd (cc)
-act_in [] a behind (s ∷ schedule) e = record { early = []; at = s; late = schedule; whole = refl; before_is = refl; act_is = sym (act_head a (act_of s) behind (acts_of schedule) e) }
-act_in (x ∷ before) a behind (s ∷ schedule) e =
-    let t = act_in before a behind schedule (act_tail x (act_of s) (before ++ (a ∷ behind)) (acts_of schedule) e) in
+act_in : (before : List Act) (a : Act) (after : List Act) (schedule : List Scheduled) → before ++ (a ∷ after) ≡ acts_of schedule → ActIn before a schedule
+act_in [] a after [] e = absurd (cc)
+act_in (x ∷ before) a after [] e = absurd (cc)
+act_in [] a after (s ∷ schedule) e = record { early = []; at = s; late = schedule; whole = refl; before_is = refl; act_is = sym (act_head a (act_of s) after (acts_of schedule) e) }
+act_in (x ∷ before) a after (s ∷ schedule) e =
+    let t = act_in before a after schedule (act_tail x (act_of s) (before ++ (a ∷ after)) (acts_of schedule) e) in
     record {
       early = s ∷ t.early;
       at = t.at;
       late = t.late;
       whole = ap (λ z. s ∷ z) t.whole;
-      before_is = ap (λ z. z ∷ acts_of t.early) (sym (act_head x (act_of s) (before ++ (a ∷ behind)) (acts_of schedule) e)) ∙ ap (λ z. x ∷ z) t.before_is;
+      before_is = ap (λ z. z ∷ acts_of t.early) (sym (act_head x (act_of s) (before ++ (a ∷ after)) (acts_of schedule) e)) ∙ ap (λ z. x ∷ z) t.before_is;
       act_is = t.act_is;
     }
 
--- the entries of its replica before it and behind it
+-- the entries of its replica before it and after it
 split_of : (l : ℕ) (early : List Scheduled) (at : Scheduled) (late schedule : List Scheduled) (es : List Entry) → early ++ (at ∷ late) ≡ schedule → at.replica ≡ l → of l schedule ≡ es → of l early ++ (at.entry ∷ of l late) ≡ es
 split_of l early at late schedule es whole mine own =
     let here : of l (at ∷ late) ≡ at.entry ∷ of l late = ap (λ b. cond b (at.entry ∷ of l late) (of l late)) (eq-eqb at.replica l mine) in
@@ -165,7 +165,7 @@ free_then f l early before n is free =
 pub journals_propose_lem : JournalsPropose
 journals_propose_lem f journal schedule given r i x e real =
     let t = validity_holds f given.some given.few (acts_of schedule) (is_run f journal schedule given) i r x (commits_end f journal schedule given r i x e) real in
-    let p = act_in t.before t.proposal t.behind schedule t.stands in
+    let p = act_in t.before t.proposal t.after schedule t.stands in
     let mine : p.at.replica ≡ leader_of i = ap (λ (z : Act). z.replica) p.act_is ∙ t.replica in (
       t.client,
       t.request,

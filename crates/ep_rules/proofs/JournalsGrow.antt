@@ -1,10 +1,10 @@
--- Journals, clocks and what a world plays with one entry more; entries by their number.
+-- Journals, clocks, what was asked and what a world plays with more entries; entries by their number.
 use Rattle.std.proofs.Common.{◌≡◌, ℕ, zero, suc, ◌+◌, ◌<◌, max, length, Bool, true, false, cond, eqb, Some, List, [], ◌∷◌, ◌++◌, slice_get, refl, sym, ap, subst, ◌∙◌, arith, append-nil, append_assoc}
 use Rattle.ep_rules.specs.States.{State, fresh_state}
 use Rattle.ep_rules.specs.Steps.{Frame, Sent, leaves, sends}
 use Rattle.ep_rules.specs.Worlds.{World, opening, In, moved, ends}
-use Rattle.ep_rules.specs.Journals.{Entry, messages_of, of, IsEntry, AreSteps, left, AreMarked, AreNumbered, stamp_after, heard, AreClocked, Scheduled, act_of, acts_of, Plays, ArePlayed, frames_of}
-use Rattle.ep_rules.specs.Merging.{LocalRunsGrow, ClocksGrow, PlayedGrows, PlayedSends, OwnEntriesLeave, NumbersArePlaces}
+use Rattle.ep_rules.specs.Journals.{Entry, messages_of, of, IsEntry, AreSteps, left, AreMarked, AreNumbered, stamp_after, heard, AreClocked, asked_by, asked_in, Scheduled, act_of, acts_of, Plays, ArePlayed, frames_of}
+use Rattle.ep_rules.specs.Merging.{AskedGrows, LocalRunsGrow, ClocksGrow, PlayedGrows, PlayedSends, OwnEntriesLeave, NumbersArePlaces}
 use Rattle.ep_rules.proofs.Merged.{at_in, in_at}
 use Rattle.ep_rules.proofs.Played.{messages_both}
 use Rattle.ep_rules.proofs.JournalsCommitted.{ends_left, of_both}
@@ -51,6 +51,10 @@ local_runs_grow_lem f me es e h k number stamp marked = (numbered_grow 1 0 es e 
 
 pub clocks_grow_lem : ClocksGrow
 clocks_grow_lem es e h is = clocked_grow 0 es e h is
+
+pub asked_grows_lem : AskedGrows
+asked_grows_lem [] more = refl
+asked_grows_lem (e ∷ es) more = ap (λ l. asked_by e.event ++ l) (asked_grows_lem es more) ∙ sym (append_assoc (asked_by e.event) (asked_in es) (asked_in more))
 
 pub played_grows_lem : PlayedGrows
 played_grows_lem f schedule a h k = played_on f opening [] schedule a h k

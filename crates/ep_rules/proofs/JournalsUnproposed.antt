@@ -31,13 +31,13 @@ module _ (f : ℕ) where
   recorded these i c run p =
       let l : ℕ = leader_of i in
       let w : World = ends f opening p.before in
-      let runs = run_parts f p.before (p.proposal ∷ p.behind) opening (subst (IsRun f opening) (sym p.stands) run) in
+      let runs = run_parts f p.before (p.proposal ∷ p.after) opening (subst (IsRun f opening) (sym p.stands) run) in
       let taken : IsTaken (acts f l (w.states l) p.proposal.event) = subst (λ q. IsTaken (acts f q (w.states q) p.proposal.event)) p.replica runs.1.0.step.taken in
       let then : HasRecord (leaves f l (w.states l) p.proposal.event p.proposal.done) i =
       subst (λ j. HasRecord (leaves f l (w.states l) p.proposal.event p.proposal.done) j) p.instance (taken_record f l (w.states l) p.proposal.event p.proposal.done c p.client p.request p.seen p.number p.event p.free taken) in
       let here : HasRecord ((moved f w p.proposal).states l) i = subst (λ b. HasRecord (cond b (leaves f l (w.states l) p.proposal.event p.proposal.done) (w.states l)) i) (sym (eq-eqb p.proposal.replica l p.replica)) then in
-      let whole : ends f opening these ≡ ends f (moved f w p.proposal) p.behind = ap (λ z. ends f opening z) (sym p.stands) ∙ ends_both f p.before (p.proposal ∷ p.behind) opening in
-      subst (λ (z : World). HasRecord (z.states l) i) (sym whole) (ends_keeps (moved f w p.proposal) p.behind l i here)
+      let whole : ends f opening these ≡ ends f (moved f w p.proposal) p.after = ap (λ z. ends f opening z) (sym p.stands) ∙ ends_both f p.before (p.proposal ∷ p.after) opening in
+      subst (λ (z : World). HasRecord (z.states l) i) (sym whole) (ends_keeps (moved f w p.proposal) p.after l i here)
 
 -- where the leader of an instance has no record of it, only a no-op is committed there
 abbrev pub Unproposed : Type 0

@@ -2,14 +2,13 @@
 use Rattle.std.proofs.Common.{◌≡◌, ℕ, inl, inr, List, [], ◌∷◌, ◌++◌, sym, subst, arith, append-nil, append_assoc}
 use Rattle.std.specs.List.{flat_map}
 use Rattle.ep_base.specs.declared.reply.Answer.{Answer}
-use Rattle.ep_base.specs.Places.{Has}
 use Rattle.ep_rules.specs.Counts.{AreOnce, ExecutedOnce}
 use Rattle.ep_rules.specs.Graph.{Graph}
 use Rattle.ep_rules.specs.Journals.{Entry, AreSteps, left}
 use Rattle.ep_rules.specs.Order.{Ranks, Rises, InBlocks, IsPlan}
 use Rattle.ep_rules.specs.States.{State, fresh_state, graph_in}
 use Rattle.ep_rules.specs.Steps.{Event, Propose, Handle, GiveUp, Recover, Execute, Executes, order_of, leaves}
-use Rattle.ep_rules.proofs.Places.{Once, once-append, has_right}
+use Rattle.ep_rules.proofs.Places.{Once, once-append}
 
 -- the law's word for it, and the proofs'
 pub as_once : (is : List ℕ) → Once is → AreOnce is

@@ -10,21 +10,20 @@ use Rattle.ep_rules.specs.Audits.{IsAccepted, Fault, UnsentFrame, ChangedFrame, 
 use Rattle.ep_rules.specs.Merging.{PlayedAccepted, FaultsAreFirst}
 use Rattle.ep_rules.proofs.Merged.{in_right}
 use Rattle.ep_rules.proofs.Played.{played_match_lem}
-use Rattle.ep_rules.proofs.OwnReceipts.{own_receipts_agree_lem}
-use Rattle.ep_rules.proofs.OneProposal.{same, behind, before, placed}
+use Rattle.ep_rules.proofs.OwnReceipts.{clocked_accepted_lem}
+use Rattle.ep_rules.proofs.OneProposal.{same, after, before, placed}
 
 pub played_accepted_lem : PlayedAccepted
-played_accepted_lem f journal schedule played own numbered clocked receipts are_own = record {
-  matched = (played_match_lem f journal schedule played own numbered clocked).1;
-  agree = λ t h. let o = are_own t h in own_receipts_agree_lem f journal clocked o.0 t o.1;
-}
+played_accepted_lem f journal schedule played own numbered clocked receipts are_own =
+    let matched = (played_match_lem f journal schedule played own numbered clocked).1 in
+    clocked_accepted_lem f journal clocked (λ r e m h is. (matched r e m h is).0) receipts are_own
 
 -- in the middle of a list
 in_middle : {X : Type 0} (xs : List X) (x : X) (ys whole : List X) → xs ++ (x ∷ ys) ≡ whole → In x whole
 in_middle xs x ys whole is = subst (λ l. In x l) is (in_right x xs (x ∷ ys) (inl refl))
 
-in_behind : {X : Type 0} (xs : List X) (x : X) (more whole : List X) → whole ≡ xs ++ (x ∷ more) → In x whole
-in_behind xs x more whole is = in_middle xs x more whole (sym is)
+in_after : {X : Type 0} (xs : List X) (x : X) (more whole : List X) → whole ≡ xs ++ (x ∷ more) → In x whole
+in_after xs x more whole is = in_middle xs x more whole (sym is)
 
 handled_same : (m n : Frame) → Handle m ≡ Handle n → m ≡ n
 handled_same m n e = cc
@@ -106,8 +105,8 @@ module _ (f : ℕ) (journal : Journals) (receipts : List Receipt) where
       | same d e ↦ (
           let at : a.m ≡ b.m = handled_same a.m b.m (sym a.first.handles ∙ ap (λ (z : Entry). z.event) e ∙ b.first.handles) in
           kind_same b.r b.e b.m x y (subst (λ r. IsKind r b.e b.m x) is (subst (λ z. IsKind a.r z b.m x) e (subst (λ m. IsKind a.r a.e m x) at a.kind))) b.kind)
-      | behind more d ↦ absurd (not_fine x a (b.first.fine.earlier a.e (in_behind a.first.before a.e more b.first.before d)))
-      | before more d ↦ absurd (not_fine y b (a.first.fine.earlier b.e (in_behind b.first.before b.e more a.first.before d)))
+      | after more d ↦ absurd (not_fine x a (b.first.fine.earlier a.e (in_after a.first.before a.e more b.first.before d)))
+      | before more d ↦ absurd (not_fine y b (a.first.fine.earlier b.e (in_after b.first.before b.e more a.first.before d)))
     ])
     | inr (inl lt) ↦ absurd (not_lower x y a b lt)
     | inr (inr gt) ↦ absurd (not_lower y x b a gt)
@@ -118,8 +117,8 @@ module _ (f : ℕ) (journal : Journals) (receipts : List Receipt) where
     | same d e ↦ (
         let at : a.place ≡ b.place = a.first.counted ∙ ap (λ l. length l + 1) d ∙ sym b.first.counted in
         receipt_same b.place b.t x y (subst (λ p. IsReceiptKind p b.t x) at (subst (λ z. IsReceiptKind a.place z x) e a.kind)) b.kind)
-    | behind more d ↦ absurd (receipt_bad a.place a.t x a.kind (b.first.agree a.t (in_behind a.first.before a.t more b.first.before d)))
-    | before more d ↦ absurd (receipt_bad b.place b.t y b.kind (a.first.agree b.t (in_behind b.first.before b.t more a.first.before d)))
+    | after more d ↦ absurd (receipt_bad a.place a.t x a.kind (b.first.agree a.t (in_after a.first.before a.t more b.first.before d)))
+    | before more d ↦ absurd (receipt_bad b.place b.t y b.kind (a.first.agree b.t (in_after b.first.before b.t more a.first.before d)))
   ]
 
   no_fault : IsAccepted f journal receipts → (x : Fault) → IsFault f journal receipts x → ⊥

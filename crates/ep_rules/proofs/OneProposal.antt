@@ -58,20 +58,20 @@ heads x y xs ys e = cc
 tails : {X : Type 0} (x y : X) (xs ys : List X) → x ∷ xs ≡ y ∷ ys → xs ≡ ys
 tails x y xs ys e = cc
 
--- of two places in a list one is the other, or stands behind it
+-- of two places in a list one is the other, or stands after it
 pub data Placed {X : Type 0} (a : List X) (x : X) (b : List X) (y : X) : Type 0 where
   same : a ≡ b → x ≡ y → Placed a x b y
-  behind : (more : List X) → b ≡ a ++ (x ∷ more) → Placed a x b y
+  after : (more : List X) → b ≡ a ++ (x ∷ more) → Placed a x b y
   before : (more : List X) → a ≡ b ++ (y ∷ more) → Placed a x b y
 
 placed_next : {X : Type 0} (z : X) (a : List X) (x : X) (b : List X) (y : X) → Placed a x b y → Placed (z ∷ a) x (z ∷ b) y
 placed_next z a x b y (same d e) = same (ap (λ l. z ∷ l) d) e
-placed_next z a x b y (behind more e) = behind more (ap (λ l. z ∷ l) e)
+placed_next z a x b y (after more e) = after more (ap (λ l. z ∷ l) e)
 placed_next z a x b y (before more e) = before more (ap (λ l. z ∷ l) e)
 
 pub placed : {X : Type 0} (a : List X) (x : X) (xs b : List X) (y : X) (ys : List X) → a ++ (x ∷ xs) ≡ b ++ (y ∷ ys) → Placed a x b y
 placed [] x xs [] y ys e = same refl (heads x y xs ys e)
-placed [] x xs (w ∷ b) y ys e = behind b (ap (λ z. z ∷ b) (sym (heads x w xs (b ++ (y ∷ ys)) e)))
+placed [] x xs (w ∷ b) y ys e = after b (ap (λ z. z ∷ b) (sym (heads x w xs (b ++ (y ∷ ys)) e)))
 placed (z ∷ a) x xs [] y ys e = before a (ap (λ w. w ∷ a) (heads z y (a ++ (x ∷ xs)) ys e))
 placed (z ∷ a) x xs (w ∷ b) y ys e =
     let is : z ≡ w = heads z w (a ++ (x ∷ xs)) (b ++ (y ∷ ys)) e in
@@ -141,7 +141,7 @@ pub one_proposal_lem : OneProposal
 one_proposal_lem f me es steps i client request other_client other_request p q =
     elim (placed p.before p.proposal p.rest q.before q.proposal q.rest (p.split ∙ sym q.split)) [
       | same d e ↦ e
-      | behind more e ↦ absurd (never_again f me es steps i client request other_client other_request p q more e)
+      | after more e ↦ absurd (never_again f me es steps i client request other_client other_request p q more e)
       | before more e ↦ absurd (never_again f me es steps i other_client other_request client request q p more e)
     ]
 

@@ -18,9 +18,9 @@ heads x y xs ys e = cc
 tails : (x y : Entry) (xs ys : List Entry) → x ∷ xs ≡ y ∷ ys → xs ≡ ys
 tails x y xs ys e = cc
 
--- the other list's first act stands behind one of another replica
-behind : (a b : Scheduled) (xs ys : List Scheduled) → (eqb a.replica b.replica ≡ false) → ((r : ℕ) → of r (a ∷ xs) ≡ of r (b ∷ ys)) → In b xs
-behind a b xs ys ne same =
+-- the other list's first act stands after one of another replica
+after : (a b : Scheduled) (xs ys : List Scheduled) → (eqb a.replica b.replica ≡ false) → ((r : ℕ) → of r (a ∷ xs) ≡ of r (b ∷ ys)) → In b xs
+after a b xs ys ne same =
     let e : of b.replica xs ≡ b.entry ∷ of b.replica ys = ap (λ t. cond t (a.entry ∷ of b.replica xs) (of b.replica xs)) (sym ne) ∙ same b.replica ∙ first_here b ys in
     let t = of_in b.replica b.entry xs (subst (λ es. In b.entry es) (sym e) (inl refl)) in
     subst (λ z. In z xs) (λ k. record { replica = t.2 k; entry = t.3 k }) t.1
@@ -50,7 +50,7 @@ one (a ∷ xs) (b ∷ ys) rx ry same = go (eqb a.replica b.replica) refl (one xs
         ap (λ z. z ∷ xs) is ∙ ap (λ zs. b ∷ zs) (rec (rest_same a b xs ys is same))
     go false q rec =
         let other : eqb b.replica a.replica ≡ false = ne_eqb b.replica a.replica (λ s. false≢true (sym q ∙ eq-eqb a.replica b.replica (sym s))) in
-        absurd (not_both a b (rx.0 b (behind a b xs ys q same)) (ry.0 a (behind b a ys xs other (λ r. sym (same r)))))
+        absurd (not_both a b (rx.0 b (after a b xs ys q same)) (ry.0 a (after b a ys xs other (λ r. sym (same r)))))
 
 pub one_schedule_lem : OneSchedule
 one_schedule_lem journal xs ys hx hy = one xs ys hx.1 hy.1 (λ r. hx.0 r ∙ sym (hy.0 r))

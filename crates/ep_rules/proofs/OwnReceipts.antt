@@ -1,11 +1,11 @@
--- Receipts of a replica's own commands agree with clocked journals, and stay its own; what was sent stays so.
+-- Receipts of a replica's own commands agree with clocked journals, which are accepted with them, and stay its own; what was sent stays so.
 use Rattle.std.proofs.Common.{◌≡◌, ℕ, ◌<◌, inl, List, ◌∷◌, ◌++◌, sym, ap, subst, ◌∙◌, refl, append_assoc}
 use Rattle.ep_base.specs.Instances.{leader_of}
 use Rattle.ep_rules.specs.Steps.{Event}
 use Rattle.ep_rules.specs.Worlds.{In}
 use Rattle.ep_rules.specs.Journals.{Entry, heard}
 use Rattle.ep_rules.specs.Verdicts.{Proposes, HasDone, Agrees}
-use Rattle.ep_rules.specs.Merging.{OwnReceiptsAgree, ClockedMatch, SentStays, OwnStays}
+use Rattle.ep_rules.specs.Merging.{OwnReceiptsAgree, ClockedMatch, ClockedAccepted, SentStays, OwnStays}
 use Rattle.ep_rules.proofs.Merged.{in_left, in_right}
 use Rattle.ep_rules.proofs.Played.{clocked_later}
 
@@ -20,6 +20,12 @@ own_receipts_agree_lem f journal clocked r t own =
 
 pub clocked_match_lem : ClockedMatch
 clocked_match_lem journal clocked sent r e m h is = (sent r e m h is, subst (λ v. heard v < e.stamp) is (clocked_later 0 (journal r) e (clocked r) h))
+
+pub clocked_accepted_lem : ClockedAccepted
+clocked_accepted_lem f journal clocked sent receipts are_own = record {
+  matched = clocked_match_lem journal clocked sent;
+  agree = λ t h. let o = are_own t h in own_receipts_agree_lem f journal clocked o.0 t o.1;
+}
 
 pub sent_stays_lem : SentStays
 sent_stays_lem journal more m w = record { entry = w.entry; stands = in_left w.entry (journal m.sent.from) (more m.sent.from) w.stands; number = w.number; frame = w.frame }

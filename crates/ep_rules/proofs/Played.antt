@@ -1,4 +1,4 @@
--- What a world plays is a run, whose journals match.
+-- What a world plays is a run, whose journals match; a frame out of an entry of a local run was sent.
 use Rattle.std.proofs.Common.{◌≡◌, ℕ, suc, ◌+◌, ◌<◌, ◌≤◌, Bool, true, false, cond, eqb, inl, inr, Some, List, [], ◌∷◌, ◌++◌, slice_get, refl, sym, ap, subst, ◌∙◌, arith}
 use Rattle.std.proofs.lemmas.Bool.{eqb-true, ne_eqb}
 use Rattle.std.specs.Prelude.{Ok, Err, Result}
@@ -8,8 +8,8 @@ use Rattle.ep_rules.specs.Cells.{Change, Refusal}
 use Rattle.ep_rules.specs.States.{State, fresh_state}
 use Rattle.ep_rules.specs.Steps.{Frame, Event, Propose, Handle, GiveUp, Recover, Execute, Sent, acts, leaves, sent_from, sent_by, sends}
 use Rattle.ep_rules.specs.Worlds.{World, opening, In, IsThere, moved, IsRun}
-use Rattle.ep_rules.specs.Journals.{Entry, messages_of, IsEntry, AreSteps, AreMarked, AreNumbered, heard, AreClocked, Scheduled, of, act_of, acts_of, IsAmong, ArePlayed}
-use Rattle.ep_rules.specs.Merging.{PlayedIsARun, PlayedMatch}
+use Rattle.ep_rules.specs.Journals.{Entry, messages_of, IsEntry, AreSteps, AreMarked, AreNumbered, heard, AreClocked, AreLocalRuns, Scheduled, of, act_of, acts_of, IsAmong, ArePlayed}
+use Rattle.ep_rules.specs.Merging.{FramesWereSent, PlayedIsARun, PlayedMatch}
 use Rattle.ep_rules.proofs.Merged.{in_split, in_messages, of_in, in_of}
 
 module _ (f : ℕ) where
@@ -57,7 +57,7 @@ module _ (f : ℕ) where
   from_acts r (Ok p) s h = from_by r p.1.out s h
   from_acts r (Err e) s h = absurd h
 
-  from_entry : (r : ℕ) (s : State) (e : Entry) (m : Frame) → IsEntry f r s e → In m e.out → m.sent.from ≡ r
+  pub from_entry : (r : ℕ) (s : State) (e : Entry) (m : Frame) → IsEntry f r s e → In m e.out → m.sent.from ≡ r
   from_entry r s e m h k = from_acts r (acts f r s e.event) m.sent (subst (λ z. In m.sent z) h.sent (in_messages m e.out k))
 
   -- a frame that is among those sent was sent by an act
@@ -85,14 +85,14 @@ module _ (f : ℕ) where
 pub record Marked (e : Entry) (k : ℕ) (ms : List Frame) (m : Frame) : Type 0 where
   pub number : m.entry ≡ e.number
   pub stamp : m.stamp ≡ e.stamp
-  pub behind : ℕ
-  pub place : m.place ≡ k + behind
-  pub frame : slice_get ms behind ≡ Some m
+  pub after : ℕ
+  pub place : m.place ≡ k + after
+  pub frame : slice_get ms after ≡ Some m
 
 marked : (e : Entry) (k : ℕ) (ms : List Frame) (m : Frame) → AreMarked e k ms → In m ms → Marked e k ms m
 marked e k [] m a h = absurd h
-marked e k (x ∷ ms) m a (inl is) = record { number = subst (λ z. z.entry ≡ e.number) is a.0; stamp = subst (λ z. z.stamp ≡ e.stamp) is a.2; behind = 0; place = subst (λ z. z.place ≡ k) is a.1 ∙ omega arith; frame = ap Some is }
-marked e k (x ∷ ms) m a (inr h) = let t = marked e (suc k) ms m a.3 h in record { number = t.number; stamp = t.stamp; behind = suc t.behind; place = (let p = t.place in omega arith); frame = t.frame }
+marked e k (x ∷ ms) m a (inl is) = record { number = subst (λ z. z.entry ≡ e.number) is a.0; stamp = subst (λ z. z.stamp ≡ e.stamp) is a.2; after = 0; place = subst (λ z. z.place ≡ k) is a.1 ∙ omega arith; frame = ap Some is }
+marked e k (x ∷ ms) m a (inr h) = let t = marked e (suc k) ms m a.3 h in record { number = t.number; stamp = t.stamp; after = suc t.after; place = (let p = t.place in omega arith); frame = t.frame }
 
 at_place : (ms : List Frame) (m : Frame) (k p : ℕ) → k ≡ p → slice_get ms k ≡ Some m → slice_get ms p ≡ Some m
 at_place ms m k p is e = subst (λ q. slice_get ms q ≡ Some m) is e
@@ -107,22 +107,38 @@ clocked_later last [] e a h = absurd h
 clocked_later last (x ∷ es) e a (inl is) = subst (λ z. heard z.event < z.stamp) is (let t = a.0 in omega arith)
 clocked_later last (x ∷ es) e a (inr h) = clocked_later x.stamp es e a.1 h
 
+-- each entry of a local run is a step from some state
+step_of : (f r : ℕ) (s : State) (es : List Entry) (e : Entry) → AreSteps f r s es → In e es → (t : State) × IsEntry f r t e
+step_of f r s [] e a h = absurd h
+step_of f r s (x ∷ es) e a (inl is) = (s, subst (λ z. IsEntry f r s z) is a.0)
+step_of f r s (x ∷ es) e a (inr h) = step_of f r (leaves f r s x.event x.done) es e a.1 h
+
+pub frames_were_sent_lem : FramesWereSent
+frames_were_sent_lem f journal r e m run stands out =
+    let step = step_of f r fresh_state (journal r) e run.1 stands in
+    let from : m.sent.from ≡ r = from_entry f r step.0 e m step.1 out in
+    let t = marked e 0 e.out m (numbered_marks 1 0 (journal r) e run.0 stands) out in
+    let p : t.after ≡ m.place = (let q = t.place in omega arith) in
+    let there = at_place e.out m t.after m.place p t.frame in (
+      record { sender = from; number = t.number; stamp = t.stamp; place = there },
+      record { entry = e; stands = subst (λ q. In e (journal q)) (sym from) stands; number = sym t.number; frame = there },
+    )
+
 pub played_is_a_run_lem : PlayedIsARun
 played_is_a_run_lem f these h = played_run f these opening [] refl h
 
 pub played_match_lem : PlayedMatch
-played_match_lem f journal these h own numbered clocked = (
-  record {
-    local = λ r. (numbered r, subst (λ es. AreSteps f r fresh_state es) (own r) (steps_of f these opening [] h r));
-    others = λ r ge. sym (own r) ∙ none_of f these opening [] h r ge;
-  },
-  λ r e m stands is.
-      let at = of_in r e these (subst (λ es. In e es) (sym (own r)) stands) in
-      let s = sender_of f these these opening [] (λ b k. k) (λ z k. absurd k) h at.0 m at.1 (ap (λ (z : Entry). z.event) at.3 ∙ is) in
-      let home : In s.act.entry (journal s.act.replica) = subst (λ es. In s.act.entry es) (own s.act.replica) (in_of s.act these s.stands) in
-      let t = marked s.act.entry 0 s.act.entry.out m (numbered_marks 1 0 (journal s.act.replica) s.act.entry (numbered s.act.replica) home) s.out in
-      let p : t.behind ≡ m.place = (let q = t.place in omega arith) in (
-        record { entry = s.act.entry; stands = subst (λ q. In s.act.entry (journal q)) (sym s.from) home; number = sym t.number; frame = at_place s.act.entry.out m t.behind m.place p t.frame },
-        subst (λ v. heard v < e.stamp) is (clocked_later 0 (journal r) e (clocked r) stands),
-      ),
-)
+played_match_lem f journal these h own numbered clocked =
+    let local : AreLocalRuns f journal = record {
+      local = λ r. (numbered r, subst (λ es. AreSteps f r fresh_state es) (own r) (steps_of f these opening [] h r));
+      others = λ r ge. sym (own r) ∙ none_of f these opening [] h r ge;
+    } in (
+      local,
+      λ r e m stands is.
+          let at = of_in r e these (subst (λ es. In e es) (sym (own r)) stands) in
+          let s = sender_of f these these opening [] (λ b k. k) (λ z k. absurd k) h at.0 m at.1 (ap (λ (z : Entry). z.event) at.3 ∙ is) in
+          let home : In s.act.entry (journal s.act.replica) = subst (λ es. In s.act.entry es) (own s.act.replica) (in_of s.act these s.stands) in (
+            (frames_were_sent_lem f journal s.act.replica s.act.entry m (local.local s.act.replica) home s.out).1,
+            subst (λ v. heard v < e.stamp) is (clocked_later 0 (journal r) e (clocked r) stands),
+          ),
+    )

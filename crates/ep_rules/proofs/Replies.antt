@@ -52,11 +52,11 @@ module _ (c : ℕ → Command) where
   past m d [] h = refl
   past m d (y ∷ ys) h = ap (λ n. after_all c n ys) (commutes m d (c y) (h y (head_has y ys))) ∙ past (after m (c y)) d ys (λ z k. h z (has_tail y z ys k))
 
-  -- x interferes neither with i nor with what is kept behind it
+  -- x interferes neither with i nor with what is kept after it
   abbrev IsIdle : (ℕ → Bool) → ℕ → List ℕ → ℕ → Type 0
   IsIdle keep i xs x = (interfere (c x) (c i) ≡ false) × ((y : ℕ) → Has xs y → keep y ≡ true → place xs x < place xs y → interfere (c x) (c y) ≡ false)
 
-  -- what interferes with nothing kept behind it can be taken out
+  -- what interferes with nothing kept after it can be taken out
   taken_out : (keep : ℕ → Bool) (i : ℕ) (m : Contents) (xs : List ℕ) → Once xs → ((x : ℕ) → Has xs x → keep x ≡ false → IsIdle keep i xs x) → reply (after_all c m xs) (c i) ≡ reply (after_all c m (filter keep xs)) (c i)
   taken_out keep i m [] o h = refl
   taken_out keep i m (x ∷ xs) o h = go (keep x) refl (taken_out keep i (after m (c x)) xs o.1 rest)
@@ -90,9 +90,9 @@ module _ (c : ℕ → Command) where
 
       later : (x ≡ y → ⊥) → (Has ys x → ((u : ℕ) → place ys u < place ys x → interfere (c u) (c x) ≡ false) → after_all c (after m (c y)) ys ≡ after_all c (after (after m (c y)) (c x)) (filter (other_than x) ys)) → after_all c (after m (c y)) ys ≡ after_all c (after m (c x)) (filter (other_than x) (y ∷ ys))
       later n r =
-          let behind : place (y ∷ ys) x ≡ suc (place ys x) = elim (place_cons y x ys) [ inl p ↦ absurd (n (sym p.0)) | inr p ↦ p ] in
+          let later_place : place (y ∷ ys) x ≡ suc (place ys x) = elim (place_cons y x ys) [ inl p ↦ absurd (n (sym p.0)) | inr p ↦ p ] in
           r (omega arith) (λ u lt. idle u (let q = place_cons y u ys in omega arith))
-          ∙ ap (λ k. after_all c k (filter (other_than x) ys)) (commutes m (c y) (c x) (idle y (omega (arith, place_head y ys, behind))))
+          ∙ ap (λ k. after_all c k (filter (other_than x) ys)) (commutes m (c y) (c x) (idle y (omega (arith, place_head y ys, later_place))))
           ∙ ap (λ zs. after_all c (after m (c x)) zs) (sym (head_kept (other_than x) y ys (other_yes x y n)))
 
   -- interfering commands that stand in both lists have one order in both

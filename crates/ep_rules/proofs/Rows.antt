@@ -29,14 +29,14 @@ put_x = Put (120 ∷ []) (49 ∷ [])
 abbrev alone : Attrs
 alone = record { seq = 1; deps = [] }
 
-abbrev behind : Attrs
-behind = record { seq = 2; deps = instance_of 1 1 ∷ [] }
+abbrev after : Attrs
+after = record { seq = 2; deps = instance_of 1 1 ∷ [] }
 
 abbrev put_alone : Decree
 put_alone = record { command = put_x; attrs = alone }
 
-abbrev put_behind : Decree
-put_behind = record { command = put_x; attrs = behind }
+abbrev put_after : Decree
+put_after = record { command = put_x; attrs = after }
 
 -- The choice.
 
@@ -51,7 +51,7 @@ committed_chosen : chosen 2 ((4, None) ∷ (1, vote PreAccepted (ballot_of 0 0) 
 committed_chosen = refl
 
 -- accepted, but below the greatest ballot: the command that was pre-accepted at the greatest one
-accepted_too_low : chosen 2 ((1, vote Accepted (ballot_of 1 1) put_alone) ∷ (2, vote PreAccepted (ballot_of 2 2) put_behind) ∷ (3, None) ∷ []) ≡ ProposeIt put_x
+accepted_too_low : chosen 2 ((1, vote Accepted (ballot_of 1 1) put_alone) ∷ (2, vote PreAccepted (ballot_of 2 2) put_after) ∷ (3, None) ∷ []) ≡ ProposeIt put_x
 accepted_too_low = refl
 
 -- as many equal answers as replicas may fail: the fast path may have committed them
@@ -67,11 +67,11 @@ noop_chosen : chosen 2 ((1, None) ∷ (3, None) ∷ (4, None) ∷ []) ≡ Propos
 noop_chosen = refl
 
 -- among three replicas one answer is enough
-one_of_three : chosen 1 ((1, vote PreAccepted (ballot_of 0 0) put_behind) ∷ (2, None) ∷ []) ≡ AcceptFast put_behind
+one_of_three : chosen 1 ((1, vote PreAccepted (ballot_of 0 0) put_after) ∷ (2, None) ∷ []) ≡ AcceptFast put_after
 one_of_three = refl
 
 -- of two such answers that of the least replica
-least_of_two : chosen 1 ((1, vote PreAccepted (ballot_of 0 0) put_alone) ∷ (2, vote PreAccepted (ballot_of 0 0) put_behind) ∷ []) ≡ AcceptFast put_alone
+least_of_two : chosen 1 ((1, vote PreAccepted (ballot_of 0 0) put_alone) ∷ (2, vote PreAccepted (ballot_of 0 0) put_after) ∷ []) ≡ AcceptFast put_alone
 least_of_two = refl
 
 -- Phase 1 among five replicas; the default ballot is (0, 0).
@@ -81,12 +81,12 @@ abbrev joined : Record
 joined = record { promised = ballot_of 1 4; vote = None }
 
 -- a replica that knows of 1.1 votes with it as a dependency
-votes_behind : on_pre_accept i 0 (ballot_of 0 0) put_alone behind (fresh_record i)
-    ≡ Ok (record { entry = Some (voted (ballot_of 0 0) PreAccepted put_behind); led = None; told = None; out = (0, PreAcceptOk i (ballot_of 0 0) behind) ∷ [] })
-votes_behind = refl
+votes_after : on_pre_accept i 0 (ballot_of 0 0) put_alone after (fresh_record i)
+    ≡ Ok (record { entry = Some (voted (ballot_of 0 0) PreAccepted put_after); led = None; told = None; out = (0, PreAcceptOk i (ballot_of 0 0) after) ∷ [] })
+votes_after = refl
 
 -- and not again
-votes_once : on_pre_accept i 0 (ballot_of 0 0) put_alone behind (voted (ballot_of 0 0) PreAccepted put_behind) ≡ Ok nothing
+votes_once : on_pre_accept i 0 (ballot_of 0 0) put_alone after (voted (ballot_of 0 0) PreAccepted put_after) ≡ Ok nothing
 votes_once = refl
 
 -- a replica that has promised more refuses, and says what
@@ -106,22 +106,22 @@ abbrev leads : Answers Attrs → Option Led
 leads answers = Some (Proposing (ballot_of 0 0) answers)
 
 -- answers that differ: the accept phase with all of them joined
-slow_path : on_pre_accept_ok 2 i 0 3 (ballot_of 0 0) alone own (leads ((2, behind) ∷ (1, alone) ∷ []))
+slow_path : on_pre_accept_ok 2 i 0 3 (ballot_of 0 0) alone own (leads ((2, after) ∷ (1, alone) ∷ []))
     ≡ record {
-      entry = Some (voted (ballot_of 0 0) Accepted put_behind);
+      entry = Some (voted (ballot_of 0 0) Accepted put_after);
       led = Some (Some (Accepting (ballot_of 0 0) []));
       told = None;
-      out = (1, Accept i (ballot_of 0 0) put_behind) ∷ (2, Accept i (ballot_of 0 0) put_behind) ∷ (3, Accept i (ballot_of 0 0) put_behind) ∷ (4, Accept i (ballot_of 0 0) put_behind) ∷ [];
+      out = (1, Accept i (ballot_of 0 0) put_after) ∷ (2, Accept i (ballot_of 0 0) put_after) ∷ (3, Accept i (ballot_of 0 0) put_after) ∷ (4, Accept i (ballot_of 0 0) put_after) ∷ [];
     }
 slow_path = refl
 
 -- equal answers: committed, though the leader's own attributes are others
-fast_path : on_pre_accept_ok 2 i 0 3 (ballot_of 0 0) behind own (leads ((2, behind) ∷ (1, behind) ∷ []))
+fast_path : on_pre_accept_ok 2 i 0 3 (ballot_of 0 0) after own (leads ((2, after) ∷ (1, after) ∷ []))
     ≡ record {
-      entry = Some (voted (ballot_of 0 0) Committed put_behind);
+      entry = Some (voted (ballot_of 0 0) Committed put_after);
       led = Some None;
       told = None;
-      out = (1, Commit i put_behind) ∷ (2, Commit i put_behind) ∷ (3, Commit i put_behind) ∷ (4, Commit i put_behind) ∷ [];
+      out = (1, Commit i put_after) ∷ (2, Commit i put_after) ∷ (3, Commit i put_after) ∷ (4, Commit i put_after) ∷ [];
     }
 fast_path = refl
 
@@ -130,11 +130,11 @@ too_few_to_give_up : give_up 2 i 0 own (leads ((1, alone) ∷ [])) ≡ Err TooFe
 too_few_to_give_up = refl
 
 -- a leader that has promised a higher ballot has nothing to give up
-no_longer_leading : give_up 2 i 0 own_joined (leads ((2, behind) ∷ (1, alone) ∷ [])) ≡ Err NotLeading
+no_longer_leading : give_up 2 i 0 own_joined (leads ((2, after) ∷ (1, alone) ∷ [])) ≡ Err NotLeading
 no_longer_leading = refl
 
 -- and uses no answer at the lower one
-uses_no_answer : on_pre_accept_ok 2 i 0 3 (ballot_of 0 0) alone own_joined (leads ((2, behind) ∷ (1, alone) ∷ [])) ≡ nothing
+uses_no_answer : on_pre_accept_ok 2 i 0 3 (ballot_of 0 0) alone own_joined (leads ((2, after) ∷ (1, alone) ∷ [])) ≡ nothing
 uses_no_answer = refl
 
 -- equal answers at a recovery ballot: the accept phase all the same

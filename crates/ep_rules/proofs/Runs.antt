@@ -341,15 +341,15 @@ module _ (f : ℕ) (two : 0 < f) (few : size f ≤ 256) where
   record ProposedIn (w : World) (late : List Act) (i : ℕ) (c : Command) : Type 0 where
     before : List Act
     proposal : Act
-    behind : List Act
-    stands : before ++ (proposal ∷ behind) ≡ late
+    after : List Act
+    stands : before ++ (proposal ∷ after) ≡ late
     is : IsProposal (ends f w before) proposal i c
 
   proposed_first : (w : World) (a : Act) (late : List Act) (i : ℕ) (c : Command) → IsProposal w a i c → ProposedIn w (a ∷ late) i c
-  proposed_first w a late i c p = record { before = []; proposal = a; behind = late; stands = refl; is = p }
+  proposed_first w a late i c p = record { before = []; proposal = a; after = late; stands = refl; is = p }
 
   proposed_later : (w : World) (a : Act) (late : List Act) (i : ℕ) (c : Command) → ProposedIn (moved f w a) late i c → ProposedIn w (a ∷ late) i c
-  proposed_later w a late i c p = record { before = a ∷ p.before; proposal = p.proposal; behind = p.behind; stands = ap (λ others. a ∷ others) p.stands; is = p.is }
+  proposed_later w a late i c p = record { before = a ∷ p.before; proposal = p.proposal; after = p.after; stands = ap (λ others. a ∷ others) p.stands; is = p.is }
 
   run_keeps : (i : ℕ) (late : List Act) (w : World) (v : Invariant f i w) → IsRun f w late → Later f i (ProposedIn w late i) w (ends f w late) v
   run_keeps i [] w v run = record { next = v; kept = λ x d. d; proposed = λ x e. inl e }
@@ -384,7 +384,7 @@ module _ (f : ℕ) (two : 0 < f) (few : size f ≤ 256) where
         | inr t ↦ (let p = t.is in record {
           before = t.before;
           proposal = t.proposal;
-          behind = t.behind;
+          after = t.after;
           stands = t.stands;
           replica = p.replica;
           client = p.client;

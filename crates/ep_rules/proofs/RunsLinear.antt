@@ -34,7 +34,7 @@ use Rattle.ep_rules.proofs.JournalsReplies.{real, here, all_rest}
 use Rattle.ep_rules.proofs.JournalsUnproposed.{unproposed_lem}
 use Rattle.ep_rules.proofs.Merged.{in_at}
 use Rattle.ep_rules.proofs.OneProposal.{none_of}
-use Rattle.ep_rules.proofs.Places.{Once, once_filter, has_cons, has_filter, filter_back}
+use Rattle.ep_rules.proofs.Places.{once_filter, has_cons, has_filter, filter_back}
 use Rattle.ep_rules.proofs.RunCommits.{decrees, graph_of, told_in, all_known, dependent, answered, wells}
 use Rattle.ep_rules.proofs.RunHistories.{AreOf, commands_are, command_is, instance_in, IsHistory, history_is}
 use Rattle.ep_rules.proofs.Runs.{validity_holds}
@@ -165,7 +165,7 @@ module _ (f : ℕ) (some : 0 < f) (few : size f ≤ 256) (acts : List Act) (run 
   real_time : (i j : ℕ) → Has (instances_of (history_of f acts)) i → Has (instances_of (history_of f acts)) j → Precedes f acts i j → place (instances_of (history_of f acts)) i < place (instances_of (history_of f acts)) j
   real_time i j hi hj p =
       let before : List Act = p.proposed.before in
-      let rest : List Act = p.proposed.proposal ∷ p.proposed.behind in
+      let rest : List Act = p.proposed.proposal ∷ p.proposed.after in
       let whole : before ++ rest ≡ acts = p.proposed.stands in
       let ri : is_noop (told_in f acts i) ≡ false = not_noop (is_noop (told_in f acts i)) (in_history i hi).1 in
       let rj : is_noop (told_in f acts j) ≡ false = not_noop (is_noop (told_in f acts j)) (in_history j hj).1 in

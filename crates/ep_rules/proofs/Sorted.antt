@@ -154,7 +154,7 @@ some_schedule_lem n journal rest numbered = (
   ),
 )
 
--- a rising list with one more behind it
+-- a rising list with one more after it
 pub rises_grow : (xs : List Scheduled) (a : Scheduled) → Rises xs → ((b : Scheduled) → In b xs → Precedes b a) → Rises (xs ++ (a ∷ []))
 rises_grow [] a rs h = ((λ b k. absurd k), tt)
 rises_grow (x ∷ xs) a rs h = (

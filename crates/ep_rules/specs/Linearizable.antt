@@ -3,7 +3,7 @@
 -- An operation is invoked where its instance's leader proposes it. Each execution of it, at whatever replica, is a response.
 -- It has its place in the history by its first execution, also where its own replica hasn't executed it yet.
 -- What was proposed and is executed nowhere yet is pending, and has no place. Nor has an instance in which a no-op was committed: it answers lost.
-use Rattle.std.specs.Prelude.{◌≡◌, ◌⊎◌, ◌↔◌, ℕ, ◌<◌, ◌≤◌, true, List, [], ◌∷◌, ◌++◌, slice_index_or as get_or}
+use Rattle.std.specs.Prelude.{◌≡◌, ◌⊎◌, ◌↔◌, ℕ, ◌<◌, ◌≤◌, true, List, ◌∷◌, ◌++◌, slice_index_or as get_or}
 use Rattle.ep_base.specs.Interference.{interfere}
 use Rattle.ep_base.specs.Places.{place, Has}
 use Rattle.ep_base.specs.Quorums.{size}

@@ -12,9 +12,9 @@ use Rattle.ep_base.specs.Places.{place, Has}
 use Rattle.ep_rules.specs.States.{State, fresh_state, free_number, committed_in}
 use Rattle.ep_rules.specs.Steps.{Propose, Handle, Frame}
 use Rattle.ep_rules.specs.Worlds.{opening, In, IsRun, ends}
-use Rattle.ep_rules.specs.Journals.{Entry, messages_of, IsEntry, AreSteps, left, AreMarked, AreNumbered, IsLocalRun, last_stamp, heard, AreClocked, Journals, AreLocalRuns, WasSent, IsMatched, Scheduled, of, IsSchedule, acts_of, Plays, ArePlayed, frames_of}
+use Rattle.ep_rules.specs.Journals.{Entry, messages_of, IsEntry, AreSteps, left, AreMarked, AreNumbered, IsLocalRun, last_stamp, heard, AreClocked, asked_in, Journals, AreLocalRuns, WasSent, IsMatched, Scheduled, of, IsSchedule, acts_of, Plays, ArePlayed, frames_of}
 use Rattle.ep_rules.specs.Audits.{HasOrigin, IsAccepted, Fault, IsFault}
-use Rattle.ep_rules.specs.Verdicts.{committed_by, agreed, command_at, IsTable, history_of, IsReply, Proposes, TellsOf, HasDone, IsKnown, Agrees, IsOwn}
+use Rattle.ep_rules.specs.Verdicts.{committed_by, agreed, command_at, IsTable, history_of, IsReply, Proposes, TellsOf, HasDone, IsKnown, Agrees, IsOwn, AreOwn}
 use Rattle.ep_rules.specs.declared.receipt.Receipt.{Receipt}
 
 -- Journals that match are one run.
@@ -122,7 +122,7 @@ abbrev pub PlayedAccepted : Type 0
 PlayedAccepted =
     (f : ℕ) (journal : Journals) (schedule : List Scheduled) → ArePlayed f opening [] schedule → ((r : ℕ) → of r schedule ≡ journal r) →
     ((r : ℕ) → AreNumbered 1 0 (journal r)) → ((r : ℕ) → AreClocked 0 (journal r)) →
-    (receipts : List Receipt) → ((t : Receipt) → In t receipts → (r : ℕ) × IsOwn f r (journal r) t) → IsAccepted f journal receipts
+    (receipts : List Receipt) → AreOwn f journal receipts → IsAccepted f journal receipts
 
 -- Proposals.
 
@@ -170,6 +170,22 @@ PlayedGrows =
     (f : ℕ) (schedule : List Scheduled) (a : Scheduled) → ArePlayed f opening [] schedule → Plays f (ends f opening (acts_of schedule)) (frames_of schedule) a →
     ArePlayed f opening [] (schedule ++ (a ∷ []))
 
+-- What was asked in entries and then in more is what was asked in the ones, and then in the others.
+abbrev pub AskedGrows : Type 0
+AskedGrows = (es more : List Entry) → asked_in (es ++ more) ≡ asked_in es ++ asked_in more
+
+-- the frame names its sender, its entry there with that entry's stamp, and its place among the entry's frames
+pub record NamesOrigin (r : ℕ) (e : Entry) (m : Frame) : Type 0 where
+  pub sender : m.sent.from ≡ r
+  pub number : m.entry ≡ e.number
+  pub stamp : m.stamp ≡ e.stamp
+  pub place : slice_get e.out m.place ≡ Some m
+
+-- A frame out of an entry of a local run names where it stands, and so was sent.
+abbrev pub FramesWereSent : Type 0
+FramesWereSent =
+    (f : ℕ) (journal : Journals) (r : ℕ) (e : Entry) (m : Frame) → IsLocalRun f r (journal r) → In e (journal r) → In m e.out → NamesOrigin r e m × WasSent journal m
+
 -- What was sent stays so while journals grow.
 abbrev pub SentStays : Type 0
 SentStays = (journal more : Journals) (m : Frame) → WasSent journal m → WasSent (λ r. journal r ++ more r) m
@@ -189,6 +205,12 @@ abbrev pub ClockedMatch : Type 0
 ClockedMatch =
     (journal : Journals) → ((r : ℕ) → AreClocked 0 (journal r)) → ((r : ℕ) (e : Entry) (m : Frame) → In e (journal r) → e.event ≡ Handle m → WasSent journal m) →
     IsMatched journal
+
+-- Clocked journals where each handled frame was sent are accepted, with receipts of which each is some replica's own.
+abbrev pub ClockedAccepted : Type 0
+ClockedAccepted =
+    (f : ℕ) (journal : Journals) → ((r : ℕ) → AreClocked 0 (journal r)) → ((r : ℕ) (e : Entry) (m : Frame) → In e (journal r) → e.event ≡ Handle m → WasSent journal m) →
+    (receipts : List Receipt) → AreOwn f journal receipts → IsAccepted f journal receipts
 
 -- What is accepted has no fault, and there is one first fault at most.
 pub record OneFault (f : ℕ) (journal : Journals) (receipts : List Receipt) : Type 0 where

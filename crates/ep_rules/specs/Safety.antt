@@ -25,8 +25,8 @@ Permanence = (f : ℕ) (w : World) (late : List Act) → IsRun f w late → (i r
 pub record WasProposed (f : ℕ) (acts : List Act) (i : ℕ) (c : Command) : Type 0 where
   pub before : List Act
   pub proposal : Act
-  pub behind : List Act
-  pub stands : before ++ (proposal ∷ behind) ≡ acts
+  pub after : List Act
+  pub stands : before ++ (proposal ∷ after) ≡ acts
   pub replica : proposal.replica ≡ leader_of i
   pub client : ℕ
   pub request : ℕ

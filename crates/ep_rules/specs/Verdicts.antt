@@ -115,3 +115,7 @@ pub record IsOwn (f me : ℕ) (es : List Entry) (t : Receipt) : Type 0 where
   pub proposed : Proposes f me es t.instance t.client t.request
   pub seen : proposed.seen ≡ t.seen
   pub executed : HasDone es t.entry t.stamp t.instance t.answer
+
+-- each receipt is some replica's own
+abbrev pub AreOwn : ℕ → Journals → List Receipt → Type 0
+AreOwn f journal receipts = (t : Receipt) → In t receipts → (r : ℕ) × IsOwn f r (journal r) t

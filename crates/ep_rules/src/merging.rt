@@ -1,6 +1,6 @@
 //! Laws of journals: where they match, they are one run of a world, and what a world plays are journals that match.
 
-ghost use Rattle.ep_rules.specs.Merging.{AgreedIs, AgreesByStamp, CallerOrder, ClockedMatch, ClocksGrow, DoneByPlace, EachReply, FaultsAreFirst, JournalsAgree, JournalsDepend, JournalsKeep, JournalsOrder, JournalsPropose, LocalRunsGrow, MergedIsARun, NumbersArePlaces, OneProposal, OneSchedule, OneTable, OriginByPlace, OwnEntriesLeave, OwnReceiptsAgree, OwnStays, PlayedAccepted, PlayedGrows, PlayedIsARun, PlayedMatch, PlayedSends, ProposalsName, ProposalsTell, SentByPlace, SentStays, SomeSchedule};
+ghost use Rattle.ep_rules.specs.Merging.{AgreedIs, AgreesByStamp, AskedGrows, CallerOrder, ClockedAccepted, ClockedMatch, ClocksGrow, DoneByPlace, EachReply, FaultsAreFirst, FramesWereSent, JournalsAgree, JournalsDepend, JournalsKeep, JournalsOrder, JournalsPropose, LocalRunsGrow, MergedIsARun, NumbersArePlaces, OneProposal, OneSchedule, OneTable, OriginByPlace, OwnEntriesLeave, OwnReceiptsAgree, OwnStays, PlayedAccepted, PlayedGrows, PlayedIsARun, PlayedMatch, PlayedSends, ProposalsName, ProposalsTell, SentByPlace, SentStays, SomeSchedule};
 
 /// Matched journals, merged in the order of stamps, are a run of the world, whose replicas' own runs they are.
 pub fn merged_is_a_run()
@@ -117,6 +117,16 @@ pub fn played_grows()
     ensures { PlayedGrows }
 {}
 
+/// What was asked in entries and then in more is what was asked in the ones, and then in the others.
+pub fn asked_grows()
+    ensures { AskedGrows }
+{}
+
+/// A frame out of an entry of a local run names its sender, its entry and stamp, and its place there: it was sent.
+pub fn frames_were_sent()
+    ensures { FramesWereSent }
+{}
+
 /// What was sent stays so while journals grow.
 pub fn sent_stays()
     ensures { SentStays }
@@ -135,6 +145,11 @@ pub fn own_receipts_agree()
 /// Clocked journals match where each handled frame was sent.
 pub fn clocked_match()
     ensures { ClockedMatch }
+{}
+
+/// Clocked journals where each handled frame was sent are accepted, with receipts of which each is some replica's own.
+pub fn clocked_accepted()
+    ensures { ClockedAccepted }
 {}
 
 /// What the audit accepts has no fault, and what it refuses has one first fault at most.

@@ -40,7 +40,7 @@ impl Outgoing {
         Ok(out)
     }
 
-    /// These messages, and this one behind them.
+    /// These messages, and this one after them.
     pub fn add(self, to: ReplicaId, message: Message) -> Result<Outgoing, AllocError>
         ensures { IfOk result (λ o. o ≡ self ++ (to, message) ∷ []) }
     {

@@ -72,7 +72,7 @@ module _ (g : ℕ → Option Decree) where
             first = l.first.first;
             rest = l.first.rest;
             split = ap (λ z. a ∷ z) l.first.split;
-            new = behind l;
+            new = after l;
             done = l.first.done;
           };
           told = l.told;
@@ -87,9 +87,9 @@ module _ (g : ℕ → Option Decree) where
           let unseen : ¬ Has seen h.instance = λ old. l.unseen (has_left seen new h.instance old) in
           l.unseen (has_right seen new h.instance (filter_has (is_new seen) (order_of a.entry.done) h.instance (new_true seen h.instance unseen) there))
 
-      behind : (l : Later (seen ++ new) s h) (b : Scheduled) → In b (a ∷ l.first.before) → ¬ Has (order_of b.entry.done) h.instance
-      behind l b (inl is) = subst (λ (z : Scheduled). ¬ Has (order_of z.entry.done) h.instance) is (here l)
-      behind l b (inr stands) = l.first.new b stands
+      after : (l : Later (seen ++ new) s h) (b : Scheduled) → In b (a ∷ l.first.before) → ¬ Has (order_of b.entry.done) h.instance
+      after l b (inl is) = subst (λ (z : Scheduled). ¬ Has (order_of z.entry.done) h.instance) is (here l)
+      after l b (inr stands) = l.first.new b stands
 
   pub each_told : (schedule : List Scheduled) (h : Happening) → In h (lines_in g [] schedule) → (answer : Answer) × AnswersFirst schedule h.instance answer × (told_by answer ≡ h.reply)
   each_told schedule h there = let l = later [] schedule h there in (l.answer, l.first, l.told)

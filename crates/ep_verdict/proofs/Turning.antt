@@ -86,7 +86,7 @@ least_is (suc n) journal = more n journal (least_turn n journal) (journal n) ref
 
 -- The schedule's next entry.
 
--- the journals go on behind the entry of this turn
+-- the journals go on after the entry of this turn
 pub record Goes (journal later : Journals) (t : Turn) : Type 0 where
   pub entry : Entry
   pub here : journal t.replica ≡ entry ∷ later t.replica
@@ -94,7 +94,7 @@ pub record Goes (journal later : Journals) (t : Turn) : Type 0 where
   pub stamp : entry.stamp ≡ t.stamp
   pub others : (q : ℕ) → q ≢ t.replica → later q ≡ journal q
 
--- what is left of a schedule behind the entry of this turn
+-- what is left of a schedule after the entry of this turn
 pub record Behind (later : Journals) (t : Turn) (schedule : List Scheduled) : Type 0 where
   pub rest : List Scheduled
   pub scheduled : IsSchedule later rest
@@ -157,7 +157,7 @@ pub none_left : (journal : Journals) → ((q : ℕ) → journal q ≡ []) → (s
 none_left journal none [] h = refl
 none_left journal none (a ∷ xs) h = absurd (nil_cons a.entry (of a.replica xs) (sym (none a.replica) ∙ sym (h.0 a.replica) ∙ of_here a a.replica xs refl))
 
--- What is left behind some entries.
+-- What is left after some entries.
 
 found : (r : ℕ) (t : Turn) (es : List Entry) → first_turn r es ≡ Some t → (e : Entry) × (rest : List Entry) × (es ≡ e ∷ rest) × (e.number ≡ t.number) × (e.stamp ≡ t.stamp)
 found r t [] h = absurd (none_first r t [] refl h)
@@ -217,7 +217,7 @@ left_falls (suc n) journal later t g lt = elim (cases_eq t.replica n) [
       )
 ]
 
--- The first entry behind some.
+-- The first entry after some.
 
 pub first_none : (r k : ℕ) (es : List Written) → length es ≤ k → first_turn r (drop k (entries_of es)) ≡ None
 first_none r zero [] h = refl

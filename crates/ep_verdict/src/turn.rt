@@ -16,7 +16,7 @@ pub(crate) struct Turn {
     pub stamp: Stamp,
 }
 
-/// The first entry of the replica's journal behind so many.
+/// The first entry of the replica's journal after so many.
 fn first(journals: &Journals, replica: ReplicaId, done: usize) -> Option<Turn>
     requires { replica < size journals.now.faults }
     ensures { result ≡ first_turn replica (drop done (journals_of journals.now replica)) }
@@ -45,7 +45,7 @@ fn earlier(best: Option<Turn>, turn: Option<Turn>) -> Option<Turn>
     }
 }
 
-/// The least, by stamp and replica, of the first entries behind those that are done, of which each replica has so many.
+/// The least, by stamp and replica, of the first entries after those that are done, of which each replica has so many.
 pub(crate) fn least(journals: &Journals, done: &[usize]) -> Option<Turn>
     requires { length done.now ≡ size journals.now.faults }
     ensures { result ≡ least_turn (size journals.now.faults) (rests (journals_of journals.now) done.now) }

@@ -9,6 +9,7 @@ use Rattle.ep_rules.specs.Journals as rules
 use Rattle.ep_rules.specs.Journals.{Scheduled, of, acts_of, left, messages_of, IsEntry, AreMarked, AreClocked, IsAmong, Plays, frames_of}
 use Rattle.ep_rules.proofs.FewOut.{sends_few}
 use Rattle.ep_rules.proofs.JournalsGrow.{of_grows, frames_grow, own_entries_leave_lem, played_grows_lem}
+use Rattle.ep_rules.proofs.Played.{from_entry}
 use Rattle.ep_journal.specs.Entries.{entry_of, entries_of, frames_at, IsJournal, AreJournals}
 use Rattle.ep_journal.specs.Events.{event_of}
 use Rattle.ep_journal.specs.declared.entry.Entry.{Entry}
@@ -21,7 +22,6 @@ use Rattle.ep_world.specs.Played.{Played, collected, journals_in, entries_in, re
 use Rattle.ep_world.specs.Playing.{with_entry, grown}
 use Rattle.ep_world.specs.Replicas.{places_up_to}
 use Rattle.ep_world.specs.declared.place.Place.{Place}
-use Rattle.ep_world.proofs.Sent.{from_entry}
 
 with_length : (ls : List (List Entry)) (r : ℕ) (e : Entry) → length (with_entry ls r e) ≡ length ls
 with_length [] r e = refl

@@ -9,8 +9,7 @@ use Rattle.ep_rules.specs.Journals as rules
 use Rattle.ep_rules.specs.Journals.{Scheduled, AreLocalRuns, IsMatched, IsSchedule, acts_of, left}
 use Rattle.ep_rules.specs.Merging.{Merges}
 use Rattle.ep_rules.specs.States.{fresh_state, committed_in}
-use Rattle.ep_rules.specs.Verdicts.{IsOwn}
-use Rattle.ep_rules.specs.Worlds.{In}
+use Rattle.ep_rules.specs.Verdicts.{AreOwn}
 use Rattle.ep_rules.specs.declared.receipt.Receipt.{Receipt}
 use Rattle.ep_rules.proofs.JournalsCommitted.{journals_agree_lem, journals_propose_lem, journals_depend_lem}
 use Rattle.ep_rules.proofs.JournalsGrow.{played_sends_lem}
@@ -43,7 +42,7 @@ is_played w h = record {
   sent = played_sends_lem w.faults h.schedule h.shows.played;
 }
 
-pub accepted : (w : Played) → IsWorld w → (receipts : List Receipt) → ((t : Receipt) → In t receipts → (r : ℕ) × IsOwn w.faults r (journals_in w r) t) → IsAccepted w.faults (journals_in w) receipts
+pub accepted : (w : Played) → IsWorld w → (receipts : List Receipt) → AreOwn w.faults (journals_in w) receipts → IsAccepted w.faults (journals_in w) receipts
 accepted w h receipts own = played_accepted_lem w.faults (journals_in w) h.schedule h.shows.played h.shows.journals (λ r. numbered_in (collected w) r h.journals) h.clocked receipts own
 
 -- the journals are one run

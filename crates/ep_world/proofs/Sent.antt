@@ -3,16 +3,12 @@ use Rattle.std.proofs.Common.{◌≡◌, ℕ, zero, suc, ◌+◌, ◌<◌, ◌�
 use Rattle.std.proofs.lemmas.Bool.{cases_lt}
 use Rattle.ep_base.specs.Quorums.{size}
 use Rattle.ep_frame.specs.Spelling.{IsFrame}
-use Rattle.std.specs.Prelude.{Result, Ok, Err}
-use Rattle.ep_base.specs.declared.message.Message.{Message}
-use Rattle.ep_rules.specs.Cells.{Change, Refusal}
-use Rattle.ep_rules.specs.States.{State}
-use Rattle.ep_rules.specs.Steps.{Frame, Sent, acts, sent_from, sent_by}
-use Rattle.ep_rules.specs.Worlds.{World, opening, In, moved}
+use Rattle.ep_rules.specs.Steps.{Frame}
+use Rattle.ep_rules.specs.Worlds.{In}
 use Rattle.ep_rules.specs.Journals as rules
-use Rattle.ep_rules.specs.Journals.{Scheduled, act_of, of, messages_of, IsEntry, AreMarked, AreNumbered, IsAmong, ArePlayed, frames_of}
-use Rattle.ep_rules.proofs.Merged.{in_split, in_at, in_messages, in_of}
-use Rattle.ep_rules.proofs.Played.{Sender}
+use Rattle.ep_rules.specs.Journals.{Scheduled, AreNumbered, IsLocalRun, AreLocalRuns, IsAmong, frames_of}
+use Rattle.ep_rules.proofs.Merged.{in_split, in_at, in_of}
+use Rattle.ep_rules.proofs.Played.{frames_were_sent_lem, played_match_lem}
 use Rattle.ep_rules.proofs.JournalsGrow.{numbers_are_places_lem}
 use Rattle.ep_journal.specs.Entries.{Collected, entry_of, entries_of, frames_at, entries_at, AreFrames, AreReadable, AreJournals}
 use Rattle.ep_journal.specs.Events.{event_of, frame_at}
@@ -28,39 +24,18 @@ use Rattle.ep_world.specs.declared.world_event.WorldEvent.TheVariants.{Propose, 
 abbrev pub place_of : Frame → Place
 place_of m = record { replica = m.sent.from; entry = m.entry; out = m.place }
 
--- a replica's frames are from it
-from_by : (r : ℕ) (out : List (ℕ × Message)) (s : Sent) → In s (sent_from r out) → s.from ≡ r
-from_by r [] s h = absurd h
-from_by r (e ∷ es) s (inl is) = sym (ap (λ (z : Sent). z.from) is)
-from_by r (e ∷ es) s (inr h) = from_by r es s h
+-- the entry that sent a frame of a schedule
+pub record Source (these : List Scheduled) (m : Frame) : Type 0 where
+  pub act : Scheduled
+  pub stands : In act these
+  pub out : In m act.entry.out
 
-from_acts : (r : ℕ) (o : Result (ℕ × Change) Refusal) (s : Sent) → In s (sent_by r o) → s.from ≡ r
-from_acts r (Ok p) s h = from_by r p.1.out s h
-from_acts r (Err e) s h = absurd h
-
-pub from_entry : (f r : ℕ) (s : State) (e : rules.Entry) (m : Frame) → IsEntry f r s e → In m e.out → m.sent.from ≡ r
-from_entry f r s e m h k = from_acts r (acts f r s e.event) m.sent (subst (λ (ms : List Sent). In m.sent ms) h.sent (in_messages m e.out k))
-
--- each frame of what is played was sent by an act
-all_sent : (f : ℕ) (all these : List Scheduled) (w : World) (frames : List Frame) → ArePlayed f w frames these → ((b : Scheduled) → In b these → In b all) → (m : Frame) → In m (frames_of these) → Sender f all m
-all_sent f all [] w frames h sub m k = absurd k
-all_sent f all (a ∷ these) w frames h sub m k = elim (in_split m a.entry.out (frames_of these) k) [
-  | inl here ↦ record { act = a; stands = sub a (inl refl); out = here; from = from_entry f a.replica (w.states a.replica) a.entry m h.0.entry here }
-  | inr later ↦ all_sent f all these (moved f w (act_of a)) (frames ++ a.entry.out) h.1 (λ b j. sub b (inr j)) m later
+source_of : (these : List Scheduled) (m : Frame) → In m (frames_of these) → Source these m
+source_of [] m k = absurd k
+source_of (a ∷ these) m k = elim (in_split m a.entry.out (frames_of these) k) [
+  | inl here ↦ record { act = a; stands = inl refl; out = here }
+  | inr later ↦ (let s = source_of these m later in record { act = s.act; stands = inr s.stands; out = s.out })
 ]
-
--- what the frame at a place of an entry is marked with
-pub marked_at : (e : rules.Entry) (k : ℕ) (ms : List Frame) (j : ℕ) (m : Frame) → AreMarked e k ms → slice_get ms j ≡ Some m → (m.entry ≡ e.number) × (m.place ≡ k + j)
-marked_at e k [] j m h is = absurd (cc)
-marked_at e k (x ∷ ms) zero m h is =
-    let same : x ≡ m = (let s : Some x ≡ Some m = is in cc) in
-    subst (λ (z : Frame). (z.entry ≡ e.number) × (z.place ≡ k + 0)) same (h.0, (let q = h.1 in omega arith))
-marked_at e k (x ∷ ms) (suc j) m h is = let q = marked_at e (suc k) ms j m h.3 is in (q.0, omega arith)
-
-marks_of : (n last : ℕ) (es : List rules.Entry) (e : rules.Entry) → AreNumbered n last es → In e es → AreMarked e 0 e.out
-marks_of n last [] e h k = absurd k
-marks_of n last (x ∷ es) e h (inl is) = subst (λ (z : rules.Entry). AreMarked z 0 z.out) is h.2
-marks_of n last (x ∷ es) e h (inr k) = marks_of (suc n) x.stamp es e h.3 k
 
 -- the code's entries and frames behind those of the rule book
 entry_behind : (es : List Entry) (k : ℕ) (e : rules.Entry) → slice_get (entries_of es) k ≡ Some e → (x : Entry) × (slice_get es k ≡ Some x) × (entry_of x ≡ e)
@@ -110,21 +85,23 @@ stands_at w m k x b number entry frame is readable = record {
   frame = readable;
 }
 
+-- each replica's entries are a local run
+pub local_in : (w : Played) → IsWorld w → AreLocalRuns w.faults (journals_in w)
+local_in w h = (played_match_lem w.faults (journals_in w) h.schedule h.shows.played h.shows.journals (λ r. numbered_in (collected w) r h.journals) h.clocked).0
+
 pub stands : (w : Played) (h : IsWorld w) (m : Frame) → In m (frames_of h.schedule) → Stands w m
 stands w h m k =
-    let s = all_sent w.faults h.schedule h.schedule opening [] h.shows.played (λ b j. j) m k in
+    let s = source_of h.schedule m k in
     let r : ℕ = s.act.replica in
-    let numbers : AreNumbered 1 0 (journals_in w r) = numbered_in (collected w) r h.journals in
+    let run : IsLocalRun w.faults r (journals_in w r) = (local_in w h).local r in
     let home : In s.act.entry (journals_in w r) = subst (λ (es : List rules.Entry). In s.act.entry es) (h.shows.journals r) (in_of s.act h.schedule s.stands) in
+    let named = (frames_were_sent_lem w.faults (journals_in w) r s.act.entry m run home s.out).0 in
     let at = in_at (journals_in w r) s.act.entry home in
-    let number : s.act.entry.number ≡ at.0 + 1 = ((numbers_are_places_lem (journals_in w r) numbers at.0 s.act.entry).0 at.1).1 in
-    let out = in_at s.act.entry.out m s.out in
-    let mark = marked_at s.act.entry 0 s.act.entry.out out.0 m (marks_of 1 0 (journals_in w r) s.act.entry numbers home) out.1 in
+    let number : s.act.entry.number ≡ at.0 + 1 = ((numbers_are_places_lem (journals_in w r) run.0 at.0 s.act.entry).0 at.1).1 in
     let entry = entry_behind (entries_in w r) at.0 s.act.entry at.1 in
-    let place : out.0 ≡ m.place = (let q = mark.1 in omega arith) in
-    let there : slice_get (frames_at entry.0.frames) m.place ≡ Some m = subst (λ (e : rules.Entry). slice_get e.out m.place ≡ Some m) (sym entry.2) (subst (λ j. slice_get s.act.entry.out j ≡ Some m) place out.1) in
+    let there : slice_get (frames_at entry.0.frames) m.place ≡ Some m = subst (λ (e : rules.Entry). slice_get e.out m.place ≡ Some m) (sym entry.2) named.place in
     let frame = frame_behind entry.0.frames m.place m there in
-    stands_at w m at.0 entry.0 frame.0 (let q = mark.0 in omega arith) (subst (λ q. slice_get (entries_in w q) at.0 ≡ Some entry.0) (sym s.from) entry.1) frame.1 frame.2
+    stands_at w m at.0 entry.0 frame.0 (let q = named.number in omega arith) (subst (λ q. slice_get (entries_in w q) at.0 ≡ Some entry.0) (sym named.sender) entry.1) frame.1 frame.2
     (readable_frame entry.0.frames m.place frame.0 (readable_entry (entries_in w r) at.0 entry.0 (readable_in (collected w) r h.journals) entry.1) frame.1)
 
 -- Messages by their numbers.

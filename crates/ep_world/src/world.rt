@@ -42,8 +42,7 @@ impl World {
     ghost use Rattle.std.specs.Prelude.{◌≡◌, ◌<◌, ◌≤◌, ◌⊎◌, ℕ, List, [], Some, None, length, option_copied, IsSome, IfSome, IfOk, IfErr, OnOk, OnErr};
     ghost use Rattle.ep_base.specs.Quorums.{size};
     ghost use Rattle.ep_rules.specs.Audits.{IsAccepted};
-    ghost use Rattle.ep_rules.specs.Verdicts.{IsOwn};
-    ghost use Rattle.ep_rules.specs.Worlds.{In};
+    ghost use Rattle.ep_rules.specs.Verdicts.{AreOwn};
     ghost use Rattle.ep_rules.specs.declared.receipt.Receipt.{Receipt};
     ghost use Rattle.ep_frame.specs.Spelling.{IsFrame};
     ghost use Rattle.ep_world.specs.Played.{collected, entries_in, replica_in, journals_in, message_in, IsPlayed};
@@ -229,9 +228,9 @@ impl World {
         let _faults = self.size.faults();
     }
 
-    /// The journals of a world, with receipts that its replicas give, are accepted by the audit: a law, which costs nothing to call.
+    /// The journals of a world, with any receipts of which each is some replica's own, are accepted by the audit: a law, which costs nothing to call.
     pub fn journals_are_accepted(&self)
-        ensures { (receipts : List Receipt) → ((t : Receipt) → In t receipts → (r : ℕ) × IsOwn self.now.faults r (journals_in self.now r) t) → IsAccepted self.now.faults (journals_in self.now) receipts }
+        ensures { (receipts : List Receipt) → AreOwn self.now.faults (journals_in self.now) receipts → IsAccepted self.now.faults (journals_in self.now) receipts }
     {
         let _size = self.size;
     }
