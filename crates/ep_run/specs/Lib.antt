@@ -1,1 +1,4 @@
 pub mod Asking
+pub mod Lines
+pub mod Rings
+pub mod Walks

@@ -1,7 +1,7 @@
 //! A replica's two threads.
 
 use crate::run_fault::RunFault;
-use crate::task::Task;
+use crate::submission::Submission;
 use ep_base::{ReplicaId, Size};
 use ep_host::{LockHost, Turn};
 use std::alloc::{AllocError, Global};
@@ -27,7 +27,7 @@ impl Lane {
     }
 
     /// Has the replica do its tasks, in order.
-    fn submit_all<R: Wait>(&self, rt: &R, alloc: Global, host: &LockHost, tasks: &[Task]) {
+    fn submit_all<R: Wait>(&self, rt: &R, alloc: Global, host: &LockHost, tasks: &[Submission]) {
         for task in tasks {
             if task.replica == self.replica {
                 task.run(rt, alloc, host);
@@ -65,7 +65,7 @@ pub(crate) fn run_lanes<R: Threads + Wait + Sync>(
     rt: &R,
     alloc: Global,
     host: &LockHost,
-    tasks: &[Task],
+    tasks: &[Submission],
     lanes: &[Lane],
     turns: u32,
 ) -> Result<(), RunFault> {

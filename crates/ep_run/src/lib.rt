@@ -10,15 +10,21 @@
 //! What a line means is told by docs/FORMATS.md, section 4; the threads' calls are those of `ep_host`.
 #![tactic(auto)]
 
+mod asking;
+mod cursor;
 mod lane;
 mod limits;
 mod ran;
+mod refusals;
+mod ring_run;
+mod rings;
 mod run_fault;
 mod runner;
-mod task;
+mod submission;
 
 pub use limits::Limits;
 pub use ran::Ran;
+pub use rings::run_rings;
 pub use run_fault::RunFault;
 pub use runner::run;
 

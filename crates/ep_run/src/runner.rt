@@ -4,13 +4,13 @@ ghost use Rattle.std.specs.Prelude.{ℕ, List, IfOk, OnOk};
 ghost use Rattle.ep_host.specs.Finishing.{IsFinished};
 ghost use Rattle.ep_replay.specs.Tables.{AreCounted};
 ghost use Rattle.ep_rules.specs.declared.receipt.Receipt.{Receipt as Told};
-ghost use Rattle.ep_run.specs.Asking.{AreTasks, proposers_of};
+ghost use Rattle.ep_run.specs.Asking.{AreSubmissions, proposers_of};
 
 use crate::lane::{lanes, run_lanes};
 use crate::limits::Limits;
 use crate::ran::Ran;
 use crate::run_fault::RunFault;
-use crate::task::Task;
+use crate::submission::Submission;
 use ep_base::{ReplicaId, Size};
 use ep_host::{HostFault, LockHost, Turn};
 use ep_replay::Clients;
@@ -45,17 +45,17 @@ fn none_collected(alloc: Global, cluster: Size) -> Result<Vec<u32>, AllocError> 
 }
 
 /// What the section's lines ask for, in order.
-fn tasks_of(
+fn submissions_of(
     alloc: Global,
     clients: &mut Clients,
     section: &Section,
-) -> Result<Vec<Task>, AllocError>
-    ensures tasks { IfOk result (λ tasks. (ps : List ℕ) (ts : List Told) → AreCounted clients.old ps ts → AreTasks ps ts section.now tasks.items) }
+) -> Result<Vec<Submission>, AllocError>
+    ensures tasks { IfOk result (λ tasks. (ps : List ℕ) (ts : List Told) → AreCounted clients.old ps ts → AreSubmissions ps ts section.now tasks.items) }
     ensures counted { OnOk result ((ps : List ℕ) (ts : List Told) → AreCounted clients.old ps ts → AreCounted clients.new (proposers_of ps section.now) ts) }
 {
     let mut tasks = Vec::new(alloc);
     for (line, asked) in section.lines() {
-        tasks.push(Task::new(alloc, clients, *line, asked)?)?;
+        tasks.push(Submission::new(alloc, clients, *line, asked)?)?;
     }
     Ok(tasks)
 }
@@ -89,7 +89,7 @@ impl Runner {
         section: &Section,
         turns: u32,
     ) -> Result<(), RunFault> {
-        let tasks = tasks_of(self.alloc, &mut self.clients, section)?;
+        let tasks = submissions_of(self.alloc, &mut self.clients, section)?;
         let lanes = lanes(self.alloc, self.cluster)?;
         run_lanes(rt, self.alloc, &self.host, &tasks, &lanes, turns)?;
         self.settle(rt, turns);
@@ -120,7 +120,7 @@ impl Runner {
     }
 
     /// Lists the tasks that were refused.
-    fn list<R: Wait>(&mut self, rt: &R, tasks: &[Task]) -> Result<(), AllocError> {
+    fn list<R: Wait>(&mut self, rt: &R, tasks: &[Submission]) -> Result<(), AllocError> {
         for task in tasks {
             if let Some(cause) = task.refusal(rt) {
                 self.refused.push((task.line, cause))?;

@@ -1,6 +1,6 @@
 //! Scripts that are run.
 
-use crate::{Limits, Ran, run};
+use crate::{Limits, Ran, run, run_rings};
 use ep_base::Noted;
 use ep_report::Cause;
 use ep_script::{RunScript, read_run};
@@ -27,6 +27,19 @@ fn ran<R: Threads + Wait + Sync + Abort>(
     let ran = run(rt, alloc, &script, limits);
     drop(script);
     ran.expect(rt, "memory and threads")
+}
+
+/// Runs a script over nodes with rings, with ample memory.
+fn ran_over_rings<R: Threads + Sync + Abort>(
+    rt: &R,
+    alloc: Global,
+    bytes: &[u8],
+    limits: &Limits,
+) -> Ran {
+    let script = script_of(rt, alloc, bytes);
+    let ran = run_rings(rt, alloc, &script, limits);
+    drop(script);
+    ran.expect(rt, "memory")
 }
 
 /// The request of the receipt at this place; 0 where there is none.
@@ -110,5 +123,18 @@ fn lost_frames_are_counted(rt: HostRuntime) {
     let ran = ran(&rt, rt.alloc(), script, &limits);
     // Of five frames for replica 1 one is pumped at most, and one waits, before all have been sent.
     assert!(rt; 3 <= ran.lost);
+    drop(ran);
+}
+
+#[test]
+fn refused_lines_over_rings_are_told_in_their_order(rt: HostRuntime) {
+    let limits = Limits {
+        capacity: 4096,
+        turns: 100_000,
+    };
+    let script =
+        b"replicas 5\ngiveup 4 0.1\npropose 0 1 put x 1\ngiveup 2 1.1\nsection\nrecover 0 0.1\n";
+    let ran = ran_over_rings(&rt, rt.alloc(), script, &limits);
+    assert!(rt; are_refused(&ran));
     drop(ran);
 }

@@ -1,0 +1,10 @@
+use Rattle.std.proofs.Common.{◌≡◌, length}
+use Rattle.ep_run.specs.Rings.{Collects}
+use Rattle.ep_run.proofs.ring_run.RingRun.collect_all.Given as goal
+
+abbrev pub invariant-loop-place : goal.invariant-loop-place
+invariant-loop-place l = record {
+  nodes : l.self.nodes ≡ l.fn.self.nodes;
+  receipts : Collects l.fn.self.nodes.items l.fn.self.clients l.fn.self.receipts.items l.self.clients l.self.receipts.items;
+  end : l.place-end ≡ length l.fn.self.nodes.items;
+}

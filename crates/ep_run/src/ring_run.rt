@@ -1,0 +1,228 @@
+//! A run over nodes with rings, section by section.
+
+ghost use Rattle.std.specs.Prelude.{◌≡◌, ◌++◌, ◌∷◌, [], ◌≤◌, length, ℕ, List, All, IfOk, OnOk, IsOk};
+ghost use Rattle.ep_host.specs.Finishing.{IsFinished};
+ghost use Rattle.ep_host.specs.Follows.{Settles};
+ghost use Rattle.ep_host.specs.Host.{IsHost};
+ghost use Rattle.ep_host.specs.Pointwise.{Each};
+ghost use Rattle.ep_replay.specs.Tables.{AreCounted};
+ghost use Rattle.ep_rules.specs.declared.receipt.Receipt.{Receipt as Told};
+ghost use Rattle.ep_script.specs.Fits.{FitsCluster};
+ghost use Rattle.ep_script.specs.declared.agenda_line.AgendaLine.{AgendaLine as Line};
+ghost use Rattle.ep_run.specs.Asking.{asked_by as asks_of, asked_of, proposers_after, proposers_of};
+ghost use Rattle.ep_run.specs.Rings.{AreAssigned, Collects, HasRun};
+ghost use Rattle.ep_run.specs.Lines.{AreDone};
+
+use crate::asking::asked_by;
+use crate::ran::Ran;
+use crate::refusals::refused_lines;
+use ep_base::Size;
+use ep_host::{Finished, Gate, RingHost, RingNode, finish_with, section as turn_all, settle};
+use ep_replay::Clients;
+use ep_rules::Receipt;
+use ep_script::{AgendaLine, Section};
+use std::alloc::{AllocError, Global};
+use std::marker::Sync;
+use std::mem;
+use std::thread::Threads;
+
+/// Lets each node end once its tasks are used up.
+struct Open;
+
+impl Gate for Open {
+    fn told(&self, _node: usize, _agenda_empty: bool) -> bool {
+        true
+    }
+}
+
+/// How far a run over nodes with rings has come.
+#[derive(Drop)]
+pub(crate) struct RingRun {
+    nodes: Vec<RingNode>,
+    clients: Clients,
+    receipts: Vec<Receipt>,
+    /// For each node the number of the last entry whose receipts were collected.
+    collected: Vec<u32>,
+    alloc: Global,
+}
+
+/// Puts what a line asks for on the agenda of its node.
+fn assign_line(
+    alloc: Global,
+    clients: &mut Clients,
+    nodes: &mut [RingNode],
+    line: &AgendaLine,
+) -> Result<(), AllocError>
+    requires fits { FitsCluster (length nodes.old) line.now }
+    requires counted { (ps : List ℕ) × (ts : List Told) × AreCounted clients.old ps ts }
+    ensures host { (f : ℕ) → IsHost f nodes.old → IsHost f nodes.new }
+    ensures assigned { OnOk result ((ps : List ℕ) (ts : List Told) (n : ℕ) → AreCounted clients.old ps ts → AreAssigned (asks_of ps ts ((n, line.now) ∷ [])) nodes.old nodes.new) }
+    ensures counted { OnOk result ((ps : List ℕ) (ts : List Told) → AreCounted clients.old ps ts → AreCounted clients.new (proposers_after ps line.now) ts) }
+{
+    let (replica, task) = asked_by(alloc, clients, line)?;
+    RingHost::assign(nodes, replica.index() as usize, task)?;
+    Ok(())
+}
+
+/// Puts what the lines ask for on the agendas of their nodes, in order.
+fn assign_all(
+    alloc: Global,
+    clients: &mut Clients,
+    nodes: &mut [RingNode],
+    lines: &[(u32, AgendaLine)],
+) -> Result<(), AllocError>
+    requires fit { All (λ (e : ℕ × Line). FitsCluster (length nodes.old) e.1) lines.now }
+    requires counted { (ps : List ℕ) × (ts : List Told) × AreCounted clients.old ps ts }
+    ensures host { (f : ℕ) → IsHost f nodes.old → IsHost f nodes.new }
+    ensures assigned { OnOk result ((ps : List ℕ) (ts : List Told) → AreCounted clients.old ps ts → AreAssigned (asks_of ps ts lines.now) nodes.old nodes.new) }
+    ensures counted { OnOk result ((ps : List ℕ) (ts : List Told) → AreCounted clients.old ps ts → AreCounted clients.new (proposers_of ps lines.now) ts) }
+{
+    for (_, line) in lines {
+        assign_line(alloc, clients, nodes, line)?;
+    }
+    Ok(())
+}
+
+/// So many turns of each node in a thread of its own, and then so many rounds.
+fn turned<R: Threads + Sync>(rt: &R, nodes: Vec<RingNode>, turns: u32) -> Vec<RingNode>
+    ensures settled { Each (Settles turns) nodes.items result.items }
+    ensures host { (f : ℕ) → IsHost f nodes.items → IsHost f result.items }
+{
+    let mut nodes = turn_all(rt, nodes, &Open, turns).nodes;
+    settle(nodes.as_mut_slice(), turns);
+    nodes
+}
+
+/// The last entry that gave one of the receipts, or this one where there are none.
+fn last_entry(receipts: &[Receipt], before: u32) -> u32 {
+    match receipts.last() {
+        None => before,
+        Some(receipt) => receipt.entry,
+    }
+}
+
+/// The receipts of the node at this place were collected up to this entry.
+fn note_last(collected: &mut [u32], place: usize, entry: u32) {
+    if let Some(last) = collected.get_mut(place) {
+        *last = entry;
+    }
+}
+
+/// No entry of any node.
+fn none_collected(alloc: Global, count: usize) -> Result<Vec<u32>, AllocError> {
+    let mut collected = Vec::new(alloc);
+    for _ in 0..count {
+        collected.push(0)?;
+    }
+    Ok(collected)
+}
+
+impl RingRun {
+    ghost use Rattle.std.specs.Prelude.{◌≡◌, ◌++◌, ◌∷◌, [], ◌≤◌, ◌<◌, length, ℕ, List, All, IfOk, OnOk, IsOk};
+    ghost use Rattle.ep_host.specs.Finishing.{IsFinished};
+    ghost use Rattle.ep_script.specs.Fits.{FitsCluster};
+    ghost use Rattle.ep_script.specs.declared.agenda_line.AgendaLine.{AgendaLine as Line};
+    ghost use Rattle.ep_run.specs.Lines.{AreDone};
+    ghost use Rattle.ep_run.specs.Rings.{Collects, HasRun};
+
+    /// A run before any section.
+    pub(crate) fn new(alloc: Global, cluster: Size, capacity: usize) -> Result<RingRun, AllocError>
+        requires { (1 ≤ capacity) × (capacity ≤ 4096) }
+        ensures { IfOk result (λ s. (turns : ℕ) → HasRun cluster turns [] s) }
+    {
+        let nodes = RingHost::new(alloc, cluster, capacity)?;
+        let collected = none_collected(alloc, nodes.len())?;
+        Ok(RingRun {
+            nodes,
+            clients: Clients::new(alloc),
+            receipts: Vec::new(alloc),
+            collected,
+            alloc,
+        })
+    }
+
+    /// Runs a section in threads, settles, and collects the receipts.
+    pub(crate) fn run<R: Threads + Sync>(
+        &mut self,
+        rt: &R,
+        section: &Section,
+        turns: u32,
+    ) -> Result<(), AllocError>
+        requires run { (f : ℕ) × (done : List (List (ℕ × Line))) × HasRun f turns done self.old }
+        requires fit { All (λ (e : ℕ × Line). FitsCluster (length self.old.nodes.items) e.1) section.now }
+        ensures { OnOk result ((f : ℕ) (done : List (List (ℕ × Line))) → HasRun f turns done self.old → HasRun f turns (done ++ section.now ∷ []) self.new) }
+    {
+        assign_all(
+            self.alloc,
+            &mut self.clients,
+            self.nodes.as_mut_slice(),
+            section.lines(),
+        )?;
+        let none = Vec::new(self.alloc);
+        let nodes = mem::replace(&mut self.nodes, none);
+        self.nodes = turned(rt, nodes, turns);
+        self.collect_all()?;
+        Ok(())
+    }
+
+    /// Collects the receipts that the nodes have given since the last section, by node.
+    fn collect_all(&mut self) -> Result<(), AllocError>
+        ensures nodes { self.new.nodes ≡ self.old.nodes }
+        ensures receipts { OnOk result (Collects self.old.nodes.items self.old.clients self.old.receipts.items self.new.clients self.new.receipts.items) }
+    {
+        for place in 0..self.nodes.len() {
+            self.collect(place)?;
+        }
+        Ok(())
+    }
+
+    /// Collects the receipts that the node at this place has given since the last section.
+    fn collect(&mut self, place: usize) -> Result<(), AllocError>
+        requires { place < length self.old.nodes.items }
+        ensures nodes { self.new.nodes ≡ self.old.nodes }
+        ensures receipts { OnOk result (Collects self.old.nodes.items self.old.clients self.old.receipts.items self.new.clients self.new.receipts.items) }
+    {
+        let before = self.collected.get(place).copied().unwrap_or(0);
+        let mut new = self.nodes[place].receipts_after(self.alloc, before)?;
+        note_last(
+            self.collected.as_mut_slice(),
+            place,
+            last_entry(&new, before),
+        );
+        self.clients.note_all(&new)?;
+        self.receipts.append(&mut new)?;
+        Ok(())
+    }
+
+    /// What the run leaves, of these sections.
+    pub(crate) fn end(self, sections: &[Section]) -> Result<Ran, AllocError>
+        requires { (f : ℕ) × (turns : ℕ) × HasRun f turns sections.now self }
+        ensures finished { IfOk result (λ r. IsFinished r.receipts.items r.finished) }
+        ensures accepted { IfOk result (λ r. IsOk r.finished.verdict) }
+        ensures lines { IfOk result (λ r. (f turns : ℕ) → HasRun f turns sections.now self → AreDone turns sections.now r) }
+    {
+        let RingRun {
+            nodes,
+            clients: _,
+            receipts,
+            collected: _,
+            alloc,
+        } = self;
+        let refused = refused_lines(alloc, sections, &nodes)?;
+        let lost = lost_of(&nodes);
+        let finished = finish_with(alloc, nodes, &receipts)?;
+        Ok(Ran {
+            finished,
+            receipts,
+            refused,
+            lost,
+        })
+    }
+}
+
+/// How many frames the nodes have lost, up to 2^64 - 1.
+fn lost_of(nodes: &[RingNode]) -> u64 {
+    nodes
+        .iter()
+        .fold(0, |lost: u64, node| lost.saturating_add(node.lost()))
+}

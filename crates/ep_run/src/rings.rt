@@ -1,0 +1,41 @@
+//! Runs over nodes with rings.
+
+ghost use Rattle.std.specs.Prelude.{IfOk, IsOk};
+ghost use Rattle.ep_host.specs.Finishing.{IsFinished};
+ghost use Rattle.ep_run.specs.Lines.{AreDone};
+
+use crate::limits::Limits;
+use crate::ran::Ran;
+use crate::ring_run::RingRun;
+use crate::run_fault::RunFault;
+use ep_script::RunScript;
+use std::alloc::Global;
+use std::marker::Sync;
+use std::thread::Threads;
+
+/// Runs the script in threads, over nodes with rings.
+///
+/// The sections are run one after another. In each, every node gets its lines, in the script's order, and turns in a thread of its own, until it
+/// has used them up, or for the limit of turns; then the nodes turn in rounds until none of them moves, or for as many rounds; then receipts
+/// are collected. Requests and what clients have seen are as in [`crate::run`]. A line that its node refuses, for want of memory too, is listed, and the
+/// run goes on; what the turns leave of a node's lines stays for the next section. Elsewhere want of memory ends the run. Where no thread can be
+/// started, the nodes turn on the calling one.
+///
+/// The audit accepts what a run leaves: no rings are needed to know it, and none of the journals.
+pub fn run_rings<R: Threads + Sync>(
+    rt: &R,
+    alloc: Global,
+    script: &RunScript,
+    limits: &Limits,
+) -> Result<Ran, RunFault>
+    ensures finished { IfOk result (λ r. IsFinished r.receipts.items r.finished) }
+    ensures accepted { IfOk result (λ r. IsOk r.finished.verdict) }
+    ensures lines { IfOk result (AreDone limits.now.turns script.now.sections) }
+{
+    let mut run = RingRun::new(alloc, script.size(), limits.capacity)?;
+    for section in script.sections() {
+        run.run(rt, section, limits.turns)?;
+    }
+    let ran = run.end(script.sections())?;
+    Ok(ran)
+}
