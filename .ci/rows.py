@@ -114,7 +114,8 @@ def written():
     for place, (script, report) in enumerate(re.findall(rb"\n```script-run\n(.*?)```\n```report\n(.*?)```\n", page, re.S)):
         # scripts with weather aren't read yet
         if b"drop " not in script:
-            yield Row(f"docs/FORMATS.md, script for a run {place + 1}", ["run", "--host", "lock"], script, report)
+            for host in ("lock", "ring"):
+                yield Row(f"docs/FORMATS.md, script for a run {place + 1}, by the {host} host", ["run", "--host", host], script, report)
     for folder in ("examples", ".ci/scripts"):
         for name in sorted(os.listdir(f"{TOP}/{folder}")):
             if name.endswith(".script"):

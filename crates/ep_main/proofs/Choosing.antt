@@ -1,31 +1,41 @@
 -- What the words after the options of a run ask for.
-use Rattle.std.proofs.Common.{◌≡◌, true, false, inl, inr, ℕ, Option, Some, None, Result, Ok, Err, IfOk, IsOk, OnOk, codes, refl, sym, ap, subst, ◌∙◌}
+use Rattle.std.proofs.Common.{◌≡◌, inl, inr, ℕ, Option, Some, None, Result, Ok, Err, IfOk, codes, refl, sym, subst, ◌∙◌}
 use Rattle.clap.specs.Walk.{Text}
 use Rattle.ep_script.specs.Grammar.{number_in}
 use Rattle.ep_main.specs.Options.{Options}
-use Rattle.ep_main.specs.Words.{Chooses, IsLock, RunWords, limit_in}
+use Rattle.ep_main.specs.Words.{Chooses, NamesHost, RunWords, limit_in}
 use Rattle.ep_main.specs.declared.asked.Emit.{Emit}
 use Rattle.ep_main.specs.declared.declined.Declined.{Declined}
+use Rattle.ep_main.specs.declared.host.Host.{Host}
+use Rattle.ep_main.specs.declared.host.Host.TheVariants.{Lock, Ring}
 
 pub ok_is : {A : Type 0} (x y : A) → ◌≡◌ {A = Result A Declined} (Ok x) (Ok y) → x ≡ y
 ok_is {A} x y same = cc
 
-pub no_ok : false ≡ true → ⊥
-no_ok bad = cc
-
 pub chosen_as : (words : RunWords) (a b : Options) → a ≡ b → Chooses words b → Chooses words a
 chosen_as words a b same chooses = subst (Chooses words) (sym same) chooses
 
-pub options_are : (e : Emit) (capacity turns : ℕ) (o : Options) → e ≡ o.emit → capacity ≡ o.capacity → turns ≡ o.turns → record { emit = e; capacity = capacity; turns = turns } ≡ o
-options_are e capacity turns o p q r = λ i. record { emit = p i; capacity = q i; turns = r i }
+pub options_are :
+    (h : Host) (e : Emit) (capacity turns : ℕ) (o : Options) → h ≡ o.host → e ≡ o.emit → capacity ≡ o.capacity → turns ≡ o.turns →
+    record { host = h; emit = e; capacity = capacity; turns = turns } ≡ o
+options_are h e capacity turns o p q r s = λ i. record { host = p i; emit = q i; capacity = r i; turns = s i }
 
-pub is_lock : (what : Text) (o : Option Text) → Some what ≡ o → IsLock o → what ≡ codes "lock"
+is_lock : (what : Text) (o : Option Text) → Some what ≡ o → NamesHost o Lock → what ≡ codes "lock"
 is_lock what o is (inl none) = let e : Some what ≡ None = is ∙ none in cc
 is_lock what o is (inr some) = let e : Some what ≡ Some (codes "lock") = is ∙ some in cc
 
-pub lock_is : (what : Text) (o : Option Text) (r : Result (Unit {0}) Declined) → Some what ≡ o → OnOk r (what ≡ codes "lock") → OnOk r (IsLock o)
-lock_is what o (Ok x) is named = inr (sym is ∙ ap (λ (z : Text). Some z) named)
-lock_is what o (Err d) is named = tt
+pub host_as :
+    (host : Host) (what : Text) (o : Option Text) (r : Result Host Declined) → Some what ≡ o → (what ≡ codes "lock" → r ≡ Ok Lock) → (what ≡ codes "ring" → r ≡ Ok Ring) →
+    NamesHost o host → r ≡ Ok host
+host_as Lock what o r is lock ring names = lock (is_lock what o is names)
+host_as Ring what o r is lock ring names = ring (let e : Some what ≡ Some (codes "ring") = is ∙ names in cc)
+
+none_hosts : (host : Host) (o : Option Text) → None ≡ o → NamesHost o host → Lock ≡ host
+none_hosts Lock o is names = refl
+none_hosts Ring o is names = let bad : None ≡ Some (codes "ring") = is ∙ names in cc
+
+pub no_host : (host : Host) (o : Option Text) (r : Result Host Declined) → r ≡ Ok Lock → None ≡ o → NamesHost o host → r ≡ Ok host
+no_host host o r locks is names = subst (λ h. r ≡ Ok h) (none_hosts host o is names) locks
 
 pub spelled_as :
     (most default : ℕ) (word : Text) (o : Option Text) (r : Result ℕ Declined) → Some word ≡ o → ((n : ℕ) → number_in 1 most word ≡ Some n → r ≡ Ok n) → (n : ℕ) →

@@ -15,9 +15,7 @@ use Rattle.ep_main.specs.declared.declined.Declined.{Declined}
 use Rattle.ep_main.specs.declared.declined.Declined.TheVariants as declined
 use Rattle.ep_main.specs.declared.asked.Emit.{Emit}
 use Rattle.ep_main.specs.declared.asked.Emit.TheVariants.{Report, Bundle}
-use Rattle.ep_main.specs.Audits.{SaysOfRun}
-use Rattle.ep_run.specs.declared.ran.Ran.{Ran}
-use Rattle.ep_main.proofs.Flags.{run_verdict}
+use Rattle.ep_main.specs.Options.{Options}
 use Rattle.ep_main.specs.declared.fault.Fault.{Fault}
 use Rattle.ep_main.specs.declared.fault.Fault.TheVariants.{Script, BadBundle, NotARun, Memory, Read, Write}
 use Rattle.ep_main.specs.declared.status.Status.{Status}
@@ -49,20 +47,20 @@ emits (Err Read) status zs reader out fault p t c = subst (λ s. Emits s zs read
 emits (Err Write) status zs reader out fault p t c = subst (λ s. Emits s zs reader out fault) (sym c.0) (inr ((t.read, t.written), c.1))
 
 runs :
-    (emit : Emit) (outcome : Result Status Fault) (status : Status) (zs : List ℕ) (reader : Input) (out fault : Output) → Runs emit outcome zs out → IsTold outcome reader out →
-    Concludes outcome status fault → RunsInThreads emit status zs reader out fault
-runs emit (Ok Accepted) status zs reader out fault p t c = subst (λ s. RunsInThreads emit s zs reader out fault) (sym c.0) (p, c.1)
-runs emit (Ok AuditRefused) status zs reader out fault p t c = subst (λ s. RunsInThreads emit s zs reader out fault) (sym c.0) (p, c.1)
-runs emit (Ok Refused) status zs reader out fault p t c = absurd (run_verdict emit p.ran Refused p.text p.says)
-runs emit (Ok OutOfMemory) status zs reader out fault p t c = absurd (run_verdict emit p.ran OutOfMemory p.text p.says)
-runs emit (Ok Failed) status zs reader out fault p t c = absurd (run_verdict emit p.ran Failed p.text p.says)
-runs emit (Err (Script line)) status zs reader out fault p t c =
-    subst (λ s. RunsInThreads emit s zs reader out fault) (sym c.0) (record { line = line; script = p.0; silent = p.1; told = c.1 })
-runs emit (Err (BadBundle offset)) status zs reader out fault p t c = absurd p
-runs emit (Err (NotARun replica entry)) status zs reader out fault p t c = absurd p
-runs emit (Err Memory) status zs reader out fault p t c = subst (λ s. RunsInThreads emit s zs reader out fault) (sym c.0) (record { silent = p; told = c.1 })
-runs emit (Err Read) status zs reader out fault p t c = subst (λ s. RunsInThreads emit s zs reader out fault) (sym c.0) (inl ((t.read, t.written), p, c.1))
-runs emit (Err Write) status zs reader out fault p t c = subst (λ s. RunsInThreads emit s zs reader out fault) (sym c.0) (inr ((t.read, t.written), c.1))
+    (options : Options) (outcome : Result Status Fault) (status : Status) (zs : List ℕ) (reader : Input) (out fault : Output) → Runs options outcome zs out → IsTold outcome reader out →
+    Concludes outcome status fault → RunsInThreads options status zs reader out fault
+runs options (Ok Accepted) status zs reader out fault p t c = subst (λ s. RunsInThreads options s zs reader out fault) (sym c.0) (p, c.1)
+runs options (Ok AuditRefused) status zs reader out fault p t c = subst (λ s. RunsInThreads options s zs reader out fault) (sym c.0) (p, c.1)
+runs options (Ok Refused) status zs reader out fault p t c = absurd p
+runs options (Ok OutOfMemory) status zs reader out fault p t c = absurd p
+runs options (Ok Failed) status zs reader out fault p t c = absurd p
+runs options (Err (Script line)) status zs reader out fault p t c =
+    subst (λ s. RunsInThreads options s zs reader out fault) (sym c.0) (record { line = line; script = p.0; silent = p.1; told = c.1 })
+runs options (Err (BadBundle offset)) status zs reader out fault p t c = absurd p
+runs options (Err (NotARun replica entry)) status zs reader out fault p t c = absurd p
+runs options (Err Memory) status zs reader out fault p t c = subst (λ s. RunsInThreads options s zs reader out fault) (sym c.0) (record { silent = p; told = c.1 })
+runs options (Err Read) status zs reader out fault p t c = subst (λ s. RunsInThreads options s zs reader out fault) (sym c.0) (inl ((t.read, t.written), p, c.1))
+runs options (Err Write) status zs reader out fault p t c = subst (λ s. RunsInThreads options s zs reader out fault) (sym c.0) (inr ((t.read, t.written), c.1))
 
 audits : (outcome : Result Status Fault) (status : Status) (zs : List ℕ) (reader : Input) (out fault : Output) → Finishes outcome zs out → IsTold outcome reader out → Concludes outcome status fault → Audits status zs reader out fault
 audits (Ok Accepted) status zs reader out fault p t c = subst (λ s. Audits s zs reader out fault) (sym c.0) (p, c.1)
@@ -102,7 +100,7 @@ pub performs :
     IsTold outcome reader out → Concludes outcome status fault → Performs asked status zs reader out fault
 performs (Replay Report) outcome status zs reader out fault d t c = replays outcome status zs reader out fault d t c
 performs (Replay Bundle) outcome status zs reader out fault d t c = emits outcome status zs reader out fault d t c
-performs (Run options) outcome status zs reader out fault d t c = runs options.emit outcome status zs reader out fault d t c
+performs (Run options) outcome status zs reader out fault d t c = runs options outcome status zs reader out fault d t c
 performs Audit outcome status zs reader out fault d t c = audits outcome status zs reader out fault d t c
 performs Version outcome status zs reader out fault d t c = versions outcome status out fault d t.written c
 performs (Help text) outcome status zs reader out fault d t c = helps outcome status (string_bytes text) out fault d t.written c

@@ -15,11 +15,13 @@ use Rattle.clap.specs.Kinds.{IsAmong}
 use Rattle.clap.specs.Takes.{takes}
 use Rattle.clap.proofs.OnLiterals.{clap_on_literals}
 use Rattle.ep_main.specs.Options.{Options, plain}
-use Rattle.ep_main.specs.Words.{AskFor, AskForHelp, Chooses, IsAsked, IsHelp, IsMet, IsShown, MetReplay, MetRun, MetAudit, Names, RunWords, epaxos, met, met_with, run_words}
+use Rattle.ep_main.specs.Words.{AskFor, AskForHelp, Chooses, IsAsked, IsHelp, IsMet, IsShown, MetReplay, MetRun, MetAudit, Names, NamesHost, RunWords, emit_word, epaxos, host_word, met, met_with, run_words}
 use Rattle.ep_main.specs.declared.asked.Asked.{Asked}
 use Rattle.ep_main.specs.declared.asked.Asked.TheVariants.{Replay, Run, Audit, Version, Help}
 use Rattle.ep_main.specs.declared.asked.Emit.TheVariants.{Report, Bundle}
 use Rattle.ep_main.specs.declared.asked.Emit.{Emit}
+use Rattle.ep_main.specs.declared.host.Host.{Host}
+use Rattle.ep_main.specs.declared.host.Host.TheVariants.{Lock, Ring}
 use Rattle.ep_main.specs.declared.declined.Declined.{Declined}
 use Rattle.ep_main.specs.declared.declined.Declined.TheVariants.{Memory}
 
@@ -79,17 +81,23 @@ takes_run : (name : Text) → takes epaxos (name ∷ codes "run" ∷ []) ≡ tru
 unfolding clap_on_literals
 takes_run name = refl
 
-takes_lock : (name : Text) → takes epaxos (name ∷ codes "run" ∷ codes "--host" ∷ codes "lock" ∷ []) ≡ true
+takes_host : (host : Host) (name : Text) → takes epaxos (name ∷ codes "run" ∷ codes "--host" ∷ host_word host ∷ []) ≡ true
 unfolding clap_on_literals
-takes_lock name = refl
+takes_host Lock name = refl
+takes_host Ring name = refl
 
-takes_run_report : (name : Text) → takes epaxos (name ∷ codes "run" ∷ codes "--emit" ∷ codes "report" ∷ []) ≡ true
+takes_emitting : (emit : Emit) (name : Text) → takes epaxos (name ∷ codes "run" ∷ codes "--emit" ∷ emit_word emit ∷ []) ≡ true
 unfolding clap_on_literals
-takes_run_report name = refl
+takes_emitting Report name = refl
+takes_emitting Bundle name = refl
 
-takes_run_bundle : (name : Text) → takes epaxos (name ∷ codes "run" ∷ codes "--emit" ∷ codes "bundle" ∷ []) ≡ true
+takes_both :
+    (host : Host) (emit : Emit) (name : Text) → takes epaxos (name ∷ codes "run" ∷ codes "--host" ∷ host_word host ∷ codes "--emit" ∷ emit_word emit ∷ []) ≡ true
 unfolding clap_on_literals
-takes_run_bundle name = refl
+takes_both Lock Report name = refl
+takes_both Lock Bundle name = refl
+takes_both Ring Report name = refl
+takes_both Ring Bundle name = refl
 
 -- the words after `--host` and `--emit`, and none after the others
 abbrev words_with : Option Text → Option Text → RunWords
@@ -99,21 +107,39 @@ met_run : (name : Text) → met_with (subcommand_of epaxos (name ∷ codes "run"
 unfolding clap_on_literals
 met_run name = refl
 
-met_lock : (name : Text) → met_with (subcommand_of epaxos (name ∷ codes "run" ∷ codes "--host" ∷ codes "lock" ∷ [])) ≡ Some (codes "run", words_with (Some (codes "lock")) None)
+met_host :
+    (host : Host) (name : Text) → met_with (subcommand_of epaxos (name ∷ codes "run" ∷ codes "--host" ∷ host_word host ∷ [])) ≡ Some (codes "run", words_with (Some (host_word host)) None)
 unfolding clap_on_literals
-met_lock name = refl
+met_host Lock name = refl
+met_host Ring name = refl
 
-met_run_report : (name : Text) → met_with (subcommand_of epaxos (name ∷ codes "run" ∷ codes "--emit" ∷ codes "report" ∷ [])) ≡ Some (codes "run", words_with None (Some (codes "report")))
+met_emitting :
+    (emit : Emit) (name : Text) → met_with (subcommand_of epaxos (name ∷ codes "run" ∷ codes "--emit" ∷ emit_word emit ∷ [])) ≡ Some (codes "run", words_with None (Some (emit_word emit)))
 unfolding clap_on_literals
-met_run_report name = refl
+met_emitting Report name = refl
+met_emitting Bundle name = refl
 
-met_run_bundle : (name : Text) → met_with (subcommand_of epaxos (name ∷ codes "run" ∷ codes "--emit" ∷ codes "bundle" ∷ [])) ≡ Some (codes "run", words_with None (Some (codes "bundle")))
+met_both :
+    (host : Host) (emit : Emit) (name : Text) →
+    met_with (subcommand_of epaxos (name ∷ codes "run" ∷ codes "--host" ∷ host_word host ∷ codes "--emit" ∷ emit_word emit ∷ []))
+    ≡ Some (codes "run", words_with (Some (host_word host)) (Some (emit_word emit)))
 unfolding clap_on_literals
-met_run_bundle name = refl
+met_both Lock Report name = refl
+met_both Lock Bundle name = refl
+met_both Ring Report name = refl
+met_both Ring Bundle name = refl
 
-run_met : (options : Options) (what : Emit) (words line : List Text) → options ≡ plain what → words ≡ line → MetRun (plain what) (subcommand_of epaxos line) → MetRun options (subcommand_of epaxos words)
-run_met options what words line same is found =
-    subst (λ o. MetRun o (subcommand_of epaxos words)) (sym same) (subst (λ (ws : List Text). MetRun (plain what) (subcommand_of epaxos ws)) (sym is) found)
+host_named : (host : Host) → NamesHost (Some (host_word host)) host
+host_named Lock = inr refl
+host_named Ring = refl
+
+emit_named : (emit : Emit) → Names (Some (emit_word emit)) emit
+emit_named Report = inr refl
+emit_named Bundle = refl
+
+run_met : (options o : Options) (words line : List Text) → options ≡ o → words ≡ line → MetRun o (subcommand_of epaxos line) → MetRun options (subcommand_of epaxos words)
+run_met options o words line same is found =
+    subst (λ p. MetRun p (subcommand_of epaxos words)) (sym same) (subst (λ (ws : List Text). MetRun o (subcommand_of epaxos ws)) (sym is) found)
 
 -- what is asked for by words that `clap` matches
 abbrev pub IsMatched : Asked → Type 0
@@ -130,9 +156,9 @@ taken (Replay Report) words matched (name, inr (inr is)) = subst (λ (ws : List 
 taken (Replay Bundle) words matched (name, inl is) = subst (λ (ws : List Text). takes epaxos ws ≡ true) (sym is) (takes_bundle name)
 taken (Replay Bundle) words matched (name, inr is) = subst (λ (ws : List Text). takes epaxos ws ≡ true) (sym is) (takes_bundle_equals name)
 taken (Run options) words matched (name, inl (same, is)) = subst (λ (ws : List Text). takes epaxos ws ≡ true) (sym is) (takes_run name)
-taken (Run options) words matched (name, inr (inl (same, is))) = subst (λ (ws : List Text). takes epaxos ws ≡ true) (sym is) (takes_lock name)
-taken (Run options) words matched (name, inr (inr (inl (same, is)))) = subst (λ (ws : List Text). takes epaxos ws ≡ true) (sym is) (takes_run_report name)
-taken (Run options) words matched (name, inr (inr (inr (same, is)))) = subst (λ (ws : List Text). takes epaxos ws ≡ true) (sym is) (takes_run_bundle name)
+taken (Run options) words matched (name, inr (inl (same, is))) = subst (λ (ws : List Text). takes epaxos ws ≡ true) (sym is) (takes_host options.host name)
+taken (Run options) words matched (name, inr (inr (inl (same, is)))) = subst (λ (ws : List Text). takes epaxos ws ≡ true) (sym is) (takes_emitting options.emit name)
+taken (Run options) words matched (name, inr (inr (inr (same, is)))) = subst (λ (ws : List Text). takes epaxos ws ≡ true) (sym is) (takes_both options.host options.emit name)
 taken Audit words matched (name, is) = subst (λ (ws : List Text). takes epaxos ws ≡ true) (sym is) (takes_audit name)
 taken Version words matched ask = absurd matched
 taken (Help text) words matched ask = absurd matched
@@ -144,17 +170,20 @@ is_met (Replay Report) words matched (name, inr (inr is)) = subst (λ (ws : List
 is_met (Replay Bundle) words matched (name, inl is) = subst (λ (ws : List Text). MetReplay Bundle (subcommand_of epaxos ws)) (sym is) (Some (codes "bundle"), met_bundle name, refl)
 is_met (Replay Bundle) words matched (name, inr is) = subst (λ (ws : List Text). MetReplay Bundle (subcommand_of epaxos ws)) (sym is) (Some (codes "bundle"), met_bundle_equals name, refl)
 is_met (Run options) words matched (name, inl (same, is)) =
-    run_met options Report words (name ∷ codes "run" ∷ []) same is
+    run_met options (plain Lock Report) words (name ∷ codes "run" ∷ []) same is
     (words_with None None, met_run name, record { host = inl refl; capacity = refl; turns = refl; emit = inl refl })
 is_met (Run options) words matched (name, inr (inl (same, is))) =
-    run_met options Report words (name ∷ codes "run" ∷ codes "--host" ∷ codes "lock" ∷ []) same is
-    (words_with (Some (codes "lock")) None, met_lock name, record { host = inr refl; capacity = refl; turns = refl; emit = inl refl })
+    run_met options (plain options.host Report) words (name ∷ codes "run" ∷ codes "--host" ∷ host_word options.host ∷ []) same is
+    (words_with (Some (host_word options.host)) None, met_host options.host name, record { host = host_named options.host; capacity = refl; turns = refl; emit = inl refl })
 is_met (Run options) words matched (name, inr (inr (inl (same, is)))) =
-    run_met options Report words (name ∷ codes "run" ∷ codes "--emit" ∷ codes "report" ∷ []) same is
-    (words_with None (Some (codes "report")), met_run_report name, record { host = inl refl; capacity = refl; turns = refl; emit = inr refl })
+    run_met options (plain Lock options.emit) words (name ∷ codes "run" ∷ codes "--emit" ∷ emit_word options.emit ∷ []) same is
+    (words_with None (Some (emit_word options.emit)), met_emitting options.emit name, record { host = inl refl; capacity = refl; turns = refl; emit = emit_named options.emit })
 is_met (Run options) words matched (name, inr (inr (inr (same, is)))) =
-    run_met options Bundle words (name ∷ codes "run" ∷ codes "--emit" ∷ codes "bundle" ∷ []) same is
-    (words_with None (Some (codes "bundle")), met_run_bundle name, record { host = inl refl; capacity = refl; turns = refl; emit = refl })
+    run_met options (plain options.host options.emit) words (name ∷ codes "run" ∷ codes "--host" ∷ host_word options.host ∷ codes "--emit" ∷ emit_word options.emit ∷ []) same is (
+      words_with (Some (host_word options.host)) (Some (emit_word options.emit)),
+      met_both options.host options.emit name,
+      record { host = host_named options.host; capacity = refl; turns = refl; emit = emit_named options.emit },
+    )
 is_met Audit words matched (name, is) = subst (λ (ws : List Text). MetAudit (subcommand_of epaxos ws)) (sym is) (met_audit name)
 is_met Version words matched ask = absurd matched
 is_met (Help text) words matched ask = absurd matched

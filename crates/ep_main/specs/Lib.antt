@@ -1,6 +1,7 @@
 pub mod Audits
 pub mod Bundled
 pub mod Faults
+pub mod Hosts
 pub mod Options
 pub mod Outputs
 pub mod Reported

@@ -6,14 +6,17 @@ use Rattle.ep_script.specs.Plan.{Plan, RunPlan, script_of, run_of}
 use Rattle.ep_main.specs.Audits.{IsAudit, SaysOfRun}
 use Rattle.ep_main.specs.Bundled.{IsBundled}
 use Rattle.ep_main.specs.Faults.{command_line_refused, script_refused, bad_bundle, not_a_run, out_of_memory, reading_failed, writing_failed, line_of, status_of}
+use Rattle.ep_main.specs.Hosts.{Promises}
+use Rattle.ep_main.specs.Options.{Options}
 use Rattle.ep_main.specs.Outputs.{Input, Output, Wrote, WroteNothing, Told, NoneFailed, InputFailed, OutputFailed}
 use Rattle.ep_main.specs.Reported.{IsReport}
 use Rattle.ep_main.specs.declared.asked.Asked.{Asked}
 use Rattle.ep_main.specs.declared.asked.Asked.TheVariants.{Replay, Run, Audit, Version, Help}
 use Rattle.ep_main.specs.declared.declined.Declined.{Declined}
 use Rattle.ep_main.specs.declared.declined.Declined.TheVariants as declined
-use Rattle.ep_main.specs.declared.asked.Emit.{Emit}
 use Rattle.ep_main.specs.declared.asked.Emit.TheVariants.{Report, Bundle}
+use Rattle.ep_main.specs.declared.host.Host.{Host}
+use Rattle.ep_main.specs.declared.host.Host.TheVariants.{Lock, Ring}
 use Rattle.ep_run.specs.declared.ran.Ran.{Ran}
 use Rattle.ep_main.specs.declared.fault.Fault.{Fault}
 use Rattle.ep_main.specs.declared.fault.Fault.TheVariants.{Script, BadBundle, NotARun, Memory, Read, Write}
@@ -28,14 +31,21 @@ pub record IsReplayed (zs : List ℕ) (out : Output) : Type 0 where
   pub report : IsReport plan text
   pub wrote : Wrote out text
 
--- The bytes are a script for threads, and what was written is what the audit says of the journals and receipts that they left.
-pub record IsRan (emit : Emit) (status : Status) (zs : List ℕ) (out : Output) : Type 0 where
+-- The bytes are a script for threads, and what was written is what the audit says of the journals and receipts that they left; of these the host keeps
+-- what it promises.
+pub record IsRan (options : Options) (status : Status) (zs : List ℕ) (out : Output) : Type 0 where
   pub plan : RunPlan
   pub script : run_of zs ≡ Ok plan
   pub ran : Ran
+  pub promised : Promises options.host options.turns plan.sections ran
   pub text : List ℕ
-  pub says : SaysOfRun emit ran status text
+  pub says : SaysOfRun options.emit ran status text
   pub wrote : Wrote out text
+
+-- the audit refuses what a run left, as it may behind locks alone
+abbrev pub IsRefusedRun : Host → Options → List ℕ → Output → Type 0
+IsRefusedRun Lock options zs out = IsRan options AuditRefused zs out
+IsRefusedRun Ring options zs out = ⊥
 
 -- The bytes are no script, as they are read here: their first line at fault is told, and nothing was written on the output.
 pub record IsScriptRefused {P : Type 0} (read : Result P ℕ) (out fault : Output) : Type 0 where
@@ -84,13 +94,13 @@ Emits Refused zs reader out fault = IsScriptRefused (script_of zs) out fault
 Emits OutOfMemory zs reader out fault = IsOutOfMemory out fault
 Emits Failed zs reader out fault = HasFailed reader out fault
 
--- a run in threads, of which this is asked for
-abbrev pub RunsInThreads : Emit → Status → List ℕ → Input → Output → Output → Type 0
-RunsInThreads emit Accepted zs reader out fault = IsRan emit Accepted zs out × WroteNothing fault
-RunsInThreads emit AuditRefused zs reader out fault = IsRan emit AuditRefused zs out × WroteNothing fault
-RunsInThreads emit Refused zs reader out fault = IsScriptRefused (run_of zs) out fault
-RunsInThreads emit OutOfMemory zs reader out fault = IsOutOfMemory out fault
-RunsInThreads emit Failed zs reader out fault = HasFailed reader out fault
+-- a run in threads, as it is asked for
+abbrev pub RunsInThreads : Options → Status → List ℕ → Input → Output → Output → Type 0
+RunsInThreads options Accepted zs reader out fault = IsRan options Accepted zs out × WroteNothing fault
+RunsInThreads options AuditRefused zs reader out fault = IsRefusedRun options.host options zs out × WroteNothing fault
+RunsInThreads options Refused zs reader out fault = IsScriptRefused (run_of zs) out fault
+RunsInThreads options OutOfMemory zs reader out fault = IsOutOfMemory out fault
+RunsInThreads options Failed zs reader out fault = HasFailed reader out fault
 
 -- an audit of a bundle
 abbrev pub Audits : Status → List ℕ → Input → Output → Output → Type 0
@@ -131,7 +141,7 @@ IsHelped Failed out fault = (out.failed ≡ true) × Told fault writing_failed
 abbrev pub Performs : Asked → Status → List ℕ → Input → Output → Output → Type 0
 Performs (Replay Report) status zs reader out fault = Replays status zs reader out fault
 Performs (Replay Bundle) status zs reader out fault = Emits status zs reader out fault
-Performs (Run options) status zs reader out fault = RunsInThreads options.emit status zs reader out fault
+Performs (Run options) status zs reader out fault = RunsInThreads options status zs reader out fault
 Performs Audit status zs reader out fault = Audits status zs reader out fault
 Performs Version status zs reader out fault = Versions status out fault
 Performs (Help text) status zs reader out fault = Helps status (string_bytes text) out fault
@@ -181,14 +191,18 @@ Leaves (Err Memory) zs out = WroteNothing out
 Leaves (Err Read) zs out = WroteNothing out
 Leaves (Err Write) zs out = Unit {0}
 
-abbrev pub Runs : Emit → Result Status Fault → List ℕ → Output → Type 0
-Runs emit (Ok status) zs out = IsRan emit status zs out
-Runs emit (Err (Script line)) zs out = (run_of zs ≡ Err line) × WroteNothing out
-Runs emit (Err (BadBundle offset)) zs out = ⊥
-Runs emit (Err (NotARun replica entry)) zs out = ⊥
-Runs emit (Err Memory) zs out = WroteNothing out
-Runs emit (Err Read) zs out = WroteNothing out
-Runs emit (Err Write) zs out = Unit {0}
+abbrev pub Runs : Options → Result Status Fault → List ℕ → Output → Type 0
+Runs options (Ok Accepted) zs out = IsRan options Accepted zs out
+Runs options (Ok AuditRefused) zs out = IsRefusedRun options.host options zs out
+Runs options (Ok Refused) zs out = ⊥
+Runs options (Ok OutOfMemory) zs out = ⊥
+Runs options (Ok Failed) zs out = ⊥
+Runs options (Err (Script line)) zs out = (run_of zs ≡ Err line) × WroteNothing out
+Runs options (Err (BadBundle offset)) zs out = ⊥
+Runs options (Err (NotARun replica entry)) zs out = ⊥
+Runs options (Err Memory) zs out = WroteNothing out
+Runs options (Err Read) zs out = WroteNothing out
+Runs options (Err Write) zs out = Unit {0}
 
 abbrev pub Finishes : Result Status Fault → List ℕ → Output → Type 0
 Finishes (Ok status) zs out = IsAudit status zs out
@@ -211,7 +225,7 @@ Prints (Err Write) text out = Unit {0}
 abbrev pub Does : Asked → Result Status Fault → List ℕ → Output → Type 0
 Does (Replay Report) outcome zs out = Plays outcome zs out
 Does (Replay Bundle) outcome zs out = Leaves outcome zs out
-Does (Run options) outcome zs out = Runs options.emit outcome zs out
+Does (Run options) outcome zs out = Runs options outcome zs out
 Does Audit outcome zs out = Finishes outcome zs out
 Does Version outcome zs out = Prints outcome version_line out
 Does (Help text) outcome zs out = Prints outcome (string_bytes text) out

@@ -10,13 +10,25 @@ use Rattle.ep_main.specs.declared.asked.Asked.TheVariants.{Replay, Run, Audit, V
 use Rattle.ep_script.specs.Grammar.{number_in}
 use Rattle.ep_main.specs.declared.asked.Emit.{Emit}
 use Rattle.ep_main.specs.declared.asked.Emit.TheVariants.{Report, Bundle}
+use Rattle.ep_main.specs.declared.host.Host.{Host}
+use Rattle.ep_main.specs.declared.host.Host.TheVariants.{Lock, Ring}
 use Rattle.clap.specs.declared.builder.action.ArgAction.TheVariants.{Set}
 use Rattle.clap.specs.declared.error.kind.ErrorKind.{ErrorKind}
 use Rattle.clap.specs.declared.error.kind.ErrorKind.TheVariants.{DisplayHelp, DisplayVersion}
 
+-- the word for a host
+abbrev pub host_word : Host → Text
+host_word Lock = codes "lock"
+host_word Ring = codes "ring"
+
+-- the word for what is printed
+abbrev pub emit_word : Emit → Text
+emit_word Report = codes "report"
+emit_word Bundle = codes "bundle"
+
 -- the words ask for this. The first one is the program's own name, and then: for a report `replay`, and perhaps `--emit report` or `--emit=report`;
--- for a bundle `replay`, and `--emit bundle` or `--emit=bundle`; for a run, with the limits that hold where none are given, `run`, and perhaps
--- `--host lock`, `--emit report` or `--emit bundle`; for an audit `audit`; for the version `--version` or `-V`
+-- for a bundle `replay`, and `--emit bundle` or `--emit=bundle`; for a run, with the limits that hold where none are given, `run`, perhaps `--host` and a
+-- host, and then perhaps `--emit` and what is printed; for an audit `audit`; for the version `--version` or `-V`
 abbrev pub AskFor : Asked → List Text → Type 0
 AskFor (Replay Report) words =
     (name : Text)
@@ -26,10 +38,11 @@ AskFor (Replay Bundle) words =
     (name : Text) × ((words ≡ name ∷ codes "replay" ∷ codes "--emit" ∷ codes "bundle" ∷ []) ⊎ (words ≡ name ∷ codes "replay" ∷ codes "--emit=bundle" ∷ []))
 AskFor (Run options) words =
     (name : Text)
-    × (((options ≡ plain Report) × (words ≡ name ∷ codes "run" ∷ []))
-    ⊎ (((options ≡ plain Report) × (words ≡ name ∷ codes "run" ∷ codes "--host" ∷ codes "lock" ∷ []))
-    ⊎ (((options ≡ plain Report) × (words ≡ name ∷ codes "run" ∷ codes "--emit" ∷ codes "report" ∷ []))
-    ⊎ ((options ≡ plain Bundle) × (words ≡ name ∷ codes "run" ∷ codes "--emit" ∷ codes "bundle" ∷ [])))))
+    × (((options ≡ plain Lock Report) × (words ≡ name ∷ codes "run" ∷ []))
+    ⊎ (((options ≡ plain options.host Report) × (words ≡ name ∷ codes "run" ∷ codes "--host" ∷ host_word options.host ∷ []))
+    ⊎ (((options ≡ plain Lock options.emit) × (words ≡ name ∷ codes "run" ∷ codes "--emit" ∷ emit_word options.emit ∷ []))
+    ⊎ ((options ≡ plain options.host options.emit)
+    × (words ≡ name ∷ codes "run" ∷ codes "--host" ∷ host_word options.host ∷ codes "--emit" ∷ emit_word options.emit ∷ [])))))
 AskFor Audit words = (name : Text) × (words ≡ name ∷ codes "audit" ∷ [])
 AskFor Version words = (name : Text) × ((words ≡ name ∷ codes "--version" ∷ []) ⊎ (words ≡ name ∷ codes "-V" ∷ []))
 AskFor (Help text) words = ⊥
@@ -87,9 +100,10 @@ Names what Bundle = what ≡ Some (codes "bundle")
 abbrev pub MetReplay : Emit → Option (Text × List Row) → Type 0
 MetReplay emit found = (what : Option Text) × (met found ≡ Some (codes "replay", what)) × Names what emit
 
--- `--host lock`, or nothing
-abbrev pub IsLock : Option Text → Type 0
-IsLock what = (what ≡ None) ⊎ (what ≡ Some (codes "lock"))
+-- `--host lock`, or nothing; or `--host ring`
+abbrev pub NamesHost : Option Text → Host → Type 0
+NamesHost what Lock = (what ≡ None) ⊎ (what ≡ Some (codes "lock"))
+NamesHost what Ring = what ≡ Some (codes "ring")
 
 -- the number from 1 to so much that this word spells, or this one where there is no word
 abbrev pub limit_in : ℕ → ℕ → Option Text → Option ℕ
@@ -113,7 +127,7 @@ run_words rows = record {
 
 -- these words ask for this
 pub record Chooses (words : RunWords) (options : Options) : Type 0 where
-  pub host : IsLock words.host
+  pub host : NamesHost words.host options.host
   pub capacity : limit_in 4096 64 words.capacity ≡ Some options.capacity
   pub turns : limit_in 10000000 100000 words.turns ≡ Some options.turns
   pub emit : Names words.emit options.emit

@@ -8,16 +8,19 @@ ghost use Rattle.clap.specs.Matches.{found_of};
 ghost use Rattle.clap.specs.Simple.{app_of, subcommand_rows_of};
 ghost use Rattle.clap.specs.declared.builder.command.Command.TheViews.{out-Command as fields_of};
 ghost use Rattle.ep_main.specs.Options.{Options};
-ghost use Rattle.ep_main.specs.Words.{AskFor, AskForHelp, Chooses, IsAsked, IsHelp, IsLock, IsMet, IsShown, MetReplay, MetRun, MetAudit, Names, audit as audit_app, bounded, emit as emit_rule, hosted, limit_in, replay as replay_app, replaying, run as run_app, run_words, epaxos, turned};
+ghost use Rattle.ep_main.specs.Words.{AskFor, AskForHelp, Chooses, IsAsked, IsHelp, IsMet, IsShown, MetReplay, MetRun, MetAudit, Names, NamesHost, audit as audit_app, bounded, emit as emit_rule, hosted, limit_in, replay as replay_app, replaying, run as run_app, run_words, epaxos, turned};
 ghost use Rattle.ep_main.specs.declared.asked.Asked.{Asked};
 ghost use Rattle.ep_main.specs.declared.asked.Asked.TheVariants.{Replay, Run, Audit, Version};
 ghost use Rattle.ep_main.specs.declared.declined.Declined.TheVariants.{Memory};
 ghost use Rattle.ep_main.specs.declared.asked.Emit.{Emit};
 ghost use Rattle.ep_main.specs.declared.asked.Emit.TheVariants.{Report, Bundle};
+ghost use Rattle.ep_main.specs.declared.host.Host.{Host};
+ghost use Rattle.ep_main.specs.declared.host.Host.TheVariants.{Lock, Ring};
 ghost use Rattle.ep_script.specs.Grammar.{number_in as number_between};
 
 use crate::asked::{Asked, Emit};
 use crate::declined::Declined;
+use crate::host::Host;
 use crate::run_options::RunOptions;
 use clap::error::ErrorKind;
 use clap::{Arg, ArgAction, ArgMatches, Command, Error};
@@ -46,17 +49,17 @@ Exit status:
 /// What the help of `run` says at its end.
 const AFTER_RUN: &str = "\
 Standard input, to its end, is a script: lines as in the example; docs/FORMATS.md, section 4, has all of them.
-In each section every replica has a thread that submits its lines, and one that hands on its frames.
-Nothing is printed before the end is read, and all threads have ended.
+In each section every replica has, with --host lock, a thread that submits its lines, and one that hands on its frames;
+with --host ring one thread for both. Nothing is printed before the end is read, and all threads have ended.
 
 Example:
   printf 'replicas 3\\npropose 0 1 put x 1\\nsection\\npropose 2 1 get x\\n' | epaxos run
 
 Exit status:
   0  the audit accepts what the threads left, and what was asked for is printed
-  1  the audit refuses: the verdict and the first fault are printed, or the bundle
+  1  the audit refuses, with --host lock alone: the verdict and the first fault are printed, or the bundle
   2  the command line or the script is refused; standard error says where
-  3  memory was refused, or no thread could be started
+  3  memory was refused, or, with --host lock, no thread could be started
   4  reading or writing failed";
 
 /// What the help of `audit` says at its end.
@@ -131,32 +134,35 @@ fn options_of(alloc: Global, options: &ArgMatches<'_>) -> Result<RunOptions, Dec
     ensures only { IfOk result (Chooses (run_words (rows_of (found_of options.now)))) }
 {
     let emit = emit_of(alloc, options)?;
-    check_host(alloc, options)?;
+    let host = host_of(alloc, options)?;
     let capacity = limit_of(alloc, options, "capacity", 4096, 64)?;
     let turns = limit_of(alloc, options, "turns", 10_000_000, 100_000)?;
-    Ok(RunOptions::new(emit, capacity, turns))
+    Ok(RunOptions::new(host, emit, capacity, turns))
 }
 
-/// Whether the host is one that there is.
-fn check_host(alloc: Global, options: &ArgMatches<'_>) -> Result<(), Declined>
-    ensures lock { IsLock (first_of (codes "host") (rows_of (found_of options.now))) → IsOk result }
-    ensures only { OnOk result (IsLock (first_of (codes "host") (rows_of (found_of options.now)))) }
+/// Which host is to have the replicas.
+fn host_of(alloc: Global, options: &ArgMatches<'_>) -> Result<Host, Declined>
+    ensures named { (host : Host) → NamesHost (first_of (codes "host") (rows_of (found_of options.now))) host → result ≡ Ok host }
+    ensures only { IfOk result (NamesHost (first_of (codes "host") (rows_of (found_of options.now)))) }
 {
     match options.get_str("host") {
-        Some(host) => check_lock(alloc, host),
-        None => Ok(()),
+        Some(name) => host_named(alloc, name),
+        None => Ok(Host::Lock),
     }
 }
 
-fn check_lock(alloc: Global, host: &str) -> Result<(), Declined>
-    ensures lock { host.now ≡ codes "lock" → IsOk result }
-    ensures only { OnOk result (host.now ≡ codes "lock") }
+fn host_named(alloc: Global, name: &str) -> Result<Host, Declined>
+    ensures lock { name.now ≡ codes "lock" → result ≡ Ok Lock }
+    ensures ring { name.now ≡ codes "ring" → result ≡ Ok Ring }
+    ensures only { IfOk result (NamesHost (Some name.now)) }
 {
-    if host == "lock" {
-        Ok(())
+    if name == "lock" {
+        Ok(Host::Lock)
+    } else if name == "ring" {
+        Ok(Host::Ring)
     } else {
         Err(Declined::Words(format!(in alloc;
-            "error: invalid value {host:?} for '--host <HOST>'\n  [possible values: lock]\n\nFor more information, try '--help'.\n"
+            "error: invalid value {name:?} for '--host <HOST>'\n  [possible values: lock, ring]\n\nFor more information, try '--help'.\n"
         )?))
     }
 }
@@ -285,7 +291,7 @@ fn hosted_command<'a>(alloc: Global) -> Result<Command<'a>, AllocError>
     let host = Arg::new(alloc, "host")
         .long("host")
         .value_name("HOST")
-        .help("Which host has the replicas: lock (the default)")
+        .help("Which host has the replicas: lock (the default) or ring")
         .action(ArgAction::Set);
     let command = Command::new(alloc, "run")
         .about(
@@ -303,7 +309,7 @@ fn bounded_command<'a>(alloc: Global, command: Command<'a>) -> Result<Command<'a
     let capacity = Arg::new(alloc, "capacity")
         .long("capacity")
         .value_name("K")
-        .help("How many frames an inbox holds: 1 to 4096 (64 is the default)")
+        .help("How many frames an inbox, or a ring, holds: 1 to 4096 (64 is the default)")
         .action(ArgAction::Set);
     command.arg(capacity)
 }

@@ -15,6 +15,7 @@ mod auditing;
 mod command_line;
 mod declined;
 mod fault;
+mod host;
 mod judged;
 mod program;
 mod replaying;

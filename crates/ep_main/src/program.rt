@@ -27,8 +27,9 @@ use std::thread::Threads;
 /// Does what the words ask for, of which the first is the program's own name, and answers how the program ends.
 ///
 /// `replay` reads a script to its end, plays it, audits what it leaves, and writes the report in one go, or, with `--emit
-/// bundle`, the bundle of that. `run` reads a script, runs it in threads, audits what they leave, and writes the report, or the
-/// bundle, in one go. `audit` reads a bundle to its end, audits it, and writes what the audit says in one go.
+/// bundle`, the bundle of that. `run` reads a script, runs it in threads, audits what they leave (with `--host ring` the audit
+/// never refuses it), and writes the report, or the bundle, in one go. `audit` reads a bundle to its end, audits it, and writes
+/// what the audit says in one go.
 /// What stops it (a refused script or bundle, want of memory, a reader or a writer that fails) is told by one line on the
 /// fault output; a refused command line by one, and what is wrong with it after that. Where telling fails, the status stays.
 pub fn engine<R: Threads + Wait + Sync, T: AsStr, S: Source, W: Sink, F: Sink>(

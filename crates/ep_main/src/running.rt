@@ -1,26 +1,29 @@
 //! Runs in threads.
 
-ghost use Rattle.std.specs.Prelude.{◌≡◌, ◌<◌, ◌^◌, ℕ, List, Some, length, IfOk, IfErr};
+ghost use Rattle.std.specs.Prelude.{◌≡◌, ◌<◌, ◌^◌, ℕ, List, Some, length, IfOk, IfErr, IsOk};
 ghost use Rattle.ep_base.specs.Devices.{FailsAsTold};
 ghost use Rattle.ep_bundle.specs.Bytes.{bundle_bytes};
 ghost use Rattle.ep_host.specs.Finishing.{IsFinished};
 ghost use Rattle.ep_main.specs.Audits.{SaysOfRun};
 ghost use Rattle.ep_main.specs.Faults.{is_read, is_write};
+ghost use Rattle.ep_main.specs.Hosts.{Promises};
 ghost use Rattle.ep_main.specs.Outputs.{output};
 ghost use Rattle.ep_main.specs.Runs.{IsVerdict, Runs};
 ghost use Rattle.ep_main.specs.declared.asked.Emit.TheVariants.{Report, Bundle};
 ghost use Rattle.ep_main.specs.declared.fault.Fault.TheVariants.{Memory};
+ghost use Rattle.ep_main.specs.declared.status.Status.TheVariants.{Accepted};
 
 use crate::asked::Emit;
 use crate::fault::Fault;
+use crate::host::Host;
 use crate::judged::Judged;
 use crate::run_options::RunOptions;
 use crate::status::Status;
 use ep_base::{Noted, Sink, Source};
 use ep_bundle::write_bundle;
 use ep_report::{Losses, refusal, run_report};
-use ep_run::{Ran, run};
-use ep_script::read_run;
+use ep_run::{Ran, RunFault, run, run_rings};
+use ep_script::{RunScript, read_run};
 use std::alloc::Global;
 use std::marker::Sync;
 use std::mem::forget;
@@ -35,14 +38,14 @@ pub(crate) fn print_run<R: Threads + Wait + Sync, S: Source, W: Sink>(
     reader: &mut S,
     writer: &mut W,
 ) -> Result<Status, Fault>
-    ensures runs { (zs : List ℕ) → S.left reader.old ≡ Some zs → Runs options.now.emit result zs
+    ensures runs { (zs : List ℕ) → S.left reader.old ≡ Some zs → Runs options.now result zs
         (output (W.held writer.old) (W.held writer.new) (W.has_failed writer.old) (W.has_failed writer.new)) }
     ensures verdict { IfOk result IsVerdict }
     ensures read { FailsAsTold is_read result (S.has_failed reader.old) (S.has_failed reader.new) }
     ensures written { FailsAsTold is_write result (W.has_failed writer.old) (W.has_failed writer.new) }
 {
     let script = read_run(alloc, reader)?;
-    let ran = run(rt, alloc, &script, &options.limits())?;
+    let ran = run_on_host(rt, alloc, options, &script)?;
     let judged = judge_run(alloc, options.emit(), &ran)?;
     writer.put(judged.text.as_slice())?;
     // The system takes memory back at the process's end, all at once.
@@ -50,10 +53,28 @@ pub(crate) fn print_run<R: Threads + Wait + Sync, S: Source, W: Sink>(
     Ok(judged.status)
 }
 
+/// Runs the script, by the host that is asked for.
+fn run_on_host<R: Threads + Wait + Sync>(
+    rt: &R,
+    alloc: Global,
+    options: &RunOptions,
+    script: &RunScript,
+) -> Result<Ran, RunFault>
+    ensures finished { IfOk result (λ r. IsFinished r.receipts.items r.finished) }
+    ensures promised { IfOk result (Promises options.now.host options.now.turns script.now.sections) }
+{
+    let limits = options.limits();
+    match options.host() {
+        Host::Lock => run(rt, alloc, script, &limits),
+        Host::Ring => run_rings(rt, alloc, script, &limits),
+    }
+}
+
 /// What is printed of a run, and the status by what the audit says of it.
 fn judge_run(alloc: Global, emit: Emit, ran: &Ran) -> Result<Judged, Fault>
     requires { IsFinished ran.now.receipts.items ran.now.finished }
     ensures value { IfOk result (λ j. SaysOfRun emit ran.now j.status j.text.items) }
+    ensures accepted { IsOk ran.now.finished.verdict → IfOk result (λ j. j.status ≡ Accepted) }
     ensures memory { IfErr result (λ e. e ≡ Memory) }
 {
     match emit {
@@ -66,6 +87,7 @@ fn judge_run(alloc: Global, emit: Emit, ran: &Ran) -> Result<Judged, Fault>
 fn judge_reported(alloc: Global, ran: &Ran) -> Result<Judged, Fault>
     requires { IsFinished ran.now.receipts.items ran.now.finished }
     ensures value { IfOk result (λ j. SaysOfRun Report ran.now j.status j.text.items) }
+    ensures accepted { IsOk ran.now.finished.verdict → IfOk result (λ j. j.status ≡ Accepted) }
     ensures memory { IfErr result (λ e. e ≡ Memory) }
 {
     match &ran.finished.verdict {
@@ -97,6 +119,7 @@ fn judge_reported(alloc: Global, ran: &Ran) -> Result<Judged, Fault>
 fn judge_bundled(alloc: Global, ran: &Ran) -> Result<Judged, Fault>
     requires { IsFinished ran.now.receipts.items ran.now.finished }
     ensures value { IfOk result (λ j. SaysOfRun Bundle ran.now j.status j.text.items) }
+    ensures accepted { IsOk ran.now.finished.verdict → IfOk result (λ j. j.status ≡ Accepted) }
     ensures memory { IfErr result (λ e. e ≡ Memory) }
 {
     let text = bundle_of(alloc, ran)?;

@@ -36,12 +36,12 @@ fn runs<R: Threads + Wait + Sync>(rt: &R, alloc: Global, words: &[&str]) -> bool
     ends(rt, alloc, words, SCRIPT, Status::Accepted, REPORT, b"")
 }
 
-/// Whether the bundle of the script's run is audited to the same lines.
-fn is_bundled<R: Threads + Wait + Sync>(rt: &R, alloc: Global) -> bool {
+/// Whether the bundle of the script's run by this host is audited to the same lines.
+fn is_bundled<R: Threads + Wait + Sync>(rt: &R, alloc: Global, host: &str) -> bool {
     let mut reader = Noted::new(SCRIPT);
     let mut writer = Noted::new(Vec::new(alloc));
     let mut fault_writer = Noted::new(Vec::new(alloc));
-    let words = ["epaxos", "run", "--emit", "bundle"];
+    let words = ["epaxos", "run", "--host", host, "--emit", "bundle"];
     let ended = engine(
         rt,
         alloc,
@@ -57,6 +57,8 @@ fn is_bundled<R: Threads + Wait + Sync>(rt: &R, alloc: Global) -> bool {
 fn two_sections(rt: HostRuntime) {
     assert!(rt; runs(&rt, rt.alloc(), &["epaxos", "run"]));
     assert!(rt; runs(&rt, rt.alloc(), &["epaxos", "run", "--host", "lock"]));
+    assert!(rt; runs(&rt, rt.alloc(), &["epaxos", "run", "--host", "ring"]));
+    assert!(rt; runs(&rt, rt.alloc(), &["epaxos", "run", "--host=ring"]));
     assert!(rt; runs(&rt, rt.alloc(), &["epaxos", "run", "--emit", "report"]));
 }
 
@@ -69,7 +71,8 @@ fn limits(rt: HostRuntime) {
 
 #[test]
 fn a_bundle(rt: HostRuntime) {
-    assert!(rt; is_bundled(&rt, rt.alloc()));
+    assert!(rt; is_bundled(&rt, rt.alloc(), "lock"));
+    assert!(rt; is_bundled(&rt, rt.alloc(), "ring"));
 }
 
 #[test]

@@ -139,10 +139,19 @@ fn words_that_are_refused(rt: HostRuntime) {
 #[test]
 fn options_of_a_run_that_are_refused(rt: HostRuntime) {
     let alloc = rt.alloc();
-    for host in ["ring", "nothing"] {
+    for host in ["nothing", "Ring", "rings", ""] {
         let begins = b"invalid value \"";
         assert!(rt; refuses(&rt, alloc, &["epaxos", "run", "--host", host], begins));
     }
+    let begins = b"the argument '--host <HOST>' cannot be used multiple times";
+    assert!(rt;
+        refuses(
+            &rt,
+            alloc,
+            &["epaxos", "run", "--host", "lock", "--host", "ring"],
+            begins
+        )
+    );
     for capacity in ["0", "4097", "+5", "", "00000000064"] {
         let words = ["epaxos", "run", "--capacity", capacity];
         assert!(rt; refuses(&rt, alloc, &words, b"invalid value \""));
