@@ -25,7 +25,7 @@ import rows
 PROGRAM = f"{TOP}/crates/ep_main/out/ep_main"
 PROGRAMS = {PROGRAM: "", f"{PROGRAM}.by-rattle": " (built by Rattle's own compiler)"}
 # tests that are run with each allocation refused: the crate, and a word of their names
-TESTS = (("ep_replica", ""), ("ep_journal", ""), ("ep_exec", "circle"))
+TESTS = (("ep_replica_tests", ""), ("ep_journal_tests", ""), ("ep_exec_tests", "circle"))
 # scripts that are played, made into a bundle, and audited so
 SCRIPTS = ("examples/one_put.script", "examples/crossing_puts.script", ".ci/scripts/seven.script")
 

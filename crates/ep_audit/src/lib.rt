@@ -17,6 +17,3 @@ pub use auditing::audit;
 pub use ep_report::{AuditFault, Happening};
 pub use ep_verdict::Verdict;
 pub use refusal::Refusal;
-
-#[cfg(test)]
-mod tests;

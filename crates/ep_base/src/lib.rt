@@ -57,6 +57,3 @@ pub use stamp::Stamp;
 pub use value::Value;
 pub use vote::{Status, Vote};
 pub use write_failed::WriteFailed;
-
-#[cfg(test)]
-mod tests;

@@ -32,6 +32,3 @@ pub use planning::{plan, plan_left};
 pub use reach::missing;
 pub use store::Store;
 pub use trial::Trial;
-
-#[cfg(test)]
-mod tests;

@@ -32,6 +32,3 @@ pub use laws::one_spelling;
 pub use origin::Origin;
 pub use view::FrameView;
 pub use writing::write;
-
-#[cfg(test)]
-mod tests;

@@ -38,6 +38,3 @@ pub use journals::Journals;
 pub use mark::Mark;
 pub use state::State;
 pub use step_fault::StepFault;
-
-#[cfg(test)]
-mod tests;

@@ -16,6 +16,3 @@ mod matching;
 mod proposals;
 
 pub use matching::first_fault;
-
-#[cfg(test)]
-mod tests;

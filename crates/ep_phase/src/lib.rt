@@ -23,8 +23,6 @@ mod propose;
 mod receivers;
 mod recorded;
 mod sending;
-#[cfg(test)]
-mod tests;
 
 pub use accept::{begin_accept, on_accept, on_accept_ok};
 pub use cell::Cell;

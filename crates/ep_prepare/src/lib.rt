@@ -24,6 +24,3 @@ pub use counting::on_prepare_ok;
 pub use prepare_fault::PrepareFault;
 pub use preparing::{on_nack, on_prepare};
 pub use recovering::recover;
-
-#[cfg(test)]
-mod tests;

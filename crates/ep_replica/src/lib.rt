@@ -27,6 +27,3 @@ pub use proposal::Proposal;
 pub use receipt_view::ReceiptView;
 pub use replica::Replica;
 pub use replica_fault::ReplicaFault;
-
-#[cfg(test)]
-mod tests;

@@ -22,6 +22,3 @@ pub use cause::Cause;
 pub use happening::Happening;
 pub use losses::Losses;
 pub use reports::{accepted, refusal, report, run_report};
-
-#[cfg(test)]
-mod tests;

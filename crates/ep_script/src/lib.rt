@@ -45,6 +45,3 @@ pub use script::Script;
 pub use script_fault::ScriptFault;
 pub use section::Section;
 pub use word::{push_word, read_word, word_law};
-
-#[cfg(test)]
-mod tests;

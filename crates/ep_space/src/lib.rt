@@ -20,8 +20,6 @@ mod space;
 mod space_full;
 mod table;
 mod taken;
-#[cfg(test)]
-mod tests;
 
 pub use interference_fault::InterferenceFault;
 pub use space::Space;

@@ -14,8 +14,6 @@ mod cause;
 mod place;
 mod refused;
 mod replicas;
-#[cfg(test)]
-mod tests;
 mod world;
 mod world_event;
 

@@ -1,0 +1,63 @@
+//! What a replica leads, by itself.
+
+use crate::samples::{ballot, first_of};
+use crate::trial::lead;
+use ep_base::InstanceId;
+use ep_phase::Lead;
+use ep_rules::{Answers, Led};
+use std::alloc::Global;
+use std::process::Abort;
+
+fn assert_told(rt: &impl Abort, lead: &Lead, id: InstanceId, told: Option<u16>, counter: u16) {
+    assert_eq!(rt; lead.earlier_told(id), told);
+    assert_eq!(rt; lead.told(id), counter);
+}
+
+#[test]
+fn a_counter_is_told_and_put_back(rt: HostRuntime) {
+    let id = first_of(&rt, 0);
+    let mut lead = lead(&rt, rt.alloc(), id);
+    assert_told(&rt, &lead, id, None, 0);
+    lead.tell(id, 7);
+    assert_told(&rt, &lead, id, Some(7), 7);
+    lead.put_back_told(id, Some(3));
+    assert_told(&rt, &lead, id, Some(3), 3);
+    lead.put_back_told(id, None);
+    assert_told(&rt, &lead, id, None, 0);
+    assert!(rt; lead.get(id).is_none());
+    drop(lead);
+}
+
+/// What is led again.
+fn again(rt: &impl Abort, alloc: Global, lead: &Lead, id: InstanceId) -> Option<Led> {
+    match lead.copy(alloc, id) {
+        Ok(led) => led,
+        Err(_) => lead.copy(alloc, id).expect(rt, "memory for a copy"),
+    }
+}
+
+fn is_proposing(lead: &Lead, id: InstanceId) -> bool {
+    matches!(lead.get(id), Some(Led::Proposing(_, _)))
+}
+
+fn is_accepting(led: Option<Led>) -> bool {
+    matches!(led, Some(Led::Accepting(_, _)))
+}
+
+#[test]
+fn what_was_led_is_put_back(rt: HostRuntime) {
+    let alloc = rt.alloc();
+    let id = first_of(&rt, 0);
+    let default = ballot(&rt, 0, 0);
+    let mut lead = lead(&rt, alloc, id);
+    lead.lead(id, Led::Proposing(default, Answers::new(alloc)));
+    let earlier = again(&rt, alloc, &lead, id);
+    lead.lead(id, Led::Accepting(default, Answers::new(alloc)));
+    assert!(rt; !is_proposing(&lead, id));
+    let there = lead.put_back(id, earlier);
+    assert!(rt; is_accepting(there));
+    assert!(rt; is_proposing(&lead, id));
+    lead.end(id);
+    assert!(rt; lead.get(id).is_none());
+    drop(lead);
+}
