@@ -76,7 +76,7 @@ fn faults_are_noted(rt: HostRuntime) {
     assert!(rt; Sink::failed(&device));
 }
 
-/// Writes the bytes from this place on, and tells the place behind them.
+/// Writes the bytes from this place on, and tells the place after them.
 fn append(rt: &impl Abort, text: &mut [u8], start: usize, bytes: &[u8]) -> usize {
     let mut at = start;
     for byte in bytes {

@@ -1,6 +1,6 @@
 //! Tests of `ep_base`: each public function once with ample memory, and rows known from outside.
 //!
-//! They stand apart from the crate, so that its functions aren't proved again with them.
+//! They stand in a crate of their own, so that the functions of `ep_base` aren't proved again with them.
 #![tactic(auto)]
 
 #[cfg(test)]

@@ -60,7 +60,7 @@ fn tell_not_a_run<F: Sink>(replica: ReplicaId, entry: u32, sink: &mut F) -> Resu
     sink.put(b"\n")
 }
 
-/// A name and a number behind it.
+/// Writes a name and the number after it.
 fn tell_place<F: Sink>(name: &[u8], place: u32, sink: &mut F) -> Result<(), WriteFailed>
     ensures { Puts (F.held sink.old) (F.held sink.new) (F.has_failed sink.old) (F.has_failed sink.new) result (name.now ++ decimal place) }
 {

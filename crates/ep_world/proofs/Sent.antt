@@ -37,7 +37,7 @@ source_of (a ∷ these) m k = elim (in_split m a.entry.out (frames_of these) k) 
   | inr later ↦ (let s = source_of these m later in record { act = s.act; stands = inr s.stands; out = s.out })
 ]
 
--- the code's entries and frames behind those of the rule book
+-- the code's entry, or frame, for each of the rule book's
 entry_behind : (es : List Entry) (k : ℕ) (e : rules.Entry) → slice_get (entries_of es) k ≡ Some e → (x : Entry) × (slice_get es k ≡ Some x) × (entry_of x ≡ e)
 entry_behind [] k e is = absurd (cc)
 entry_behind (x ∷ es) zero e is = (x, refl, (let s : Some (entry_of x) ≡ Some e = is in cc))
