@@ -6,37 +6,37 @@ use Rattle.ep_journal.specs.declared.step_fault.StepFault.{StepFault}
 use Rattle.ep_replica.specs.Applied.{IsDeclined}
 use Rattle.ep_replica.specs.Kept.{Kept}
 use Rattle.ep_host.specs.Acts.{Made, IsHandled}
-use Rattle.ep_host.specs.Fates.{fate, lost_in, Sends, IsSent, lost_after}
+use Rattle.ep_host.specs.Fates.{fate, lost_of, lost_in, Sends, IsSent, counted_up}
 use Rattle.ep_host.specs.Node.{Node}
 use Rattle.ep_host.specs.Pointwise.{Each}
 use Rattle.ep_host.specs.Rings.{PopsAt, IsTaken, handled_by}
 use Rattle.ep_host.specs.Tasks.{event_of, next_place}
 use Rattle.ep_host.specs.Turns.{TakesAt, BeginsTask}
+use Rattle.ep_host.specs.declared.delivery.Delivery.{Delivery}
 use Rattle.ep_host.specs.declared.link.Link.{Link}
+use Rattle.ep_host.specs.declared.weather.Weather.{Weather}
 use Rattle.ep_host.specs.declared.task.Task.{Task}
 use Rattle.ep_host.specs.declared.task.Task.TheVariants.{Propose, GiveUp, Recover}
 use Rattle.ep_host.proofs.Fated.{frames_in-append, lost_in-append, sends_sends}
 use Rattle.ep_host.proofs.Places.{each_each}
 
 -- a node of its parts
-abbrev pub node : Kept → List Link → List Task → List (ℕ × StepFault) → ℕ → ℕ → Bool → Node
-node k links agenda refused used lost ended = record { replica = k; links = links; agenda = agenda; refused = refused; used = used; lost = lost; ended = ended }
+abbrev pub node : Kept → List Link → List Weather → List Task → List (ℕ × StepFault) → ℕ → ℕ → Bool → Node
+node k links weather agenda refused used lost ended = record { replica = k; links = links; weather = weather; agenda = agenda; refused = refused; used = used; lost = lost; ended = ended }
 
 -- one frame more
 
-both_sent : (out : List (List ℕ)) (o : List ℕ) (put : Bool) (n m : ℕ) (xs ys zs : List Link) → IsSent out n xs ys → Each (Sends (fate o put ∷ [])) ys zs → m ≡ n + lost_in (fate o put ∷ []) → IsSent (out ++ o ∷ []) m xs zs
-both_sent out o put n m xs ys zs h s is = record {
-  fates = h.fates ++ fate o put ∷ [];
-  frames = frames_in-append h.fates (fate o put ∷ []) ∙ ap (λ (l : List (List ℕ)). l ++ o ∷ []) h.frames;
-  lost = (let l = h.lost in let p = lost_in-append h.fates (fate o put ∷ []) in omega (arith, l, p, is));
-  rings = each_each (Sends h.fates) (Sends (fate o put ∷ [])) (Sends (h.fates ++ fate o put ∷ [])) (sends_sends h.fates (fate o put ∷ [])) xs ys zs h.rings s;
+pub one_sent :
+    (ws : List Weather) (out : List (List ℕ)) (o : List ℕ) (d : Delivery) (n : ℕ) (xs ys zs : List Link) → IsSent ws out n xs ys → Each (Sends ws (fate o d ∷ [])) ys zs → IsSent ws (out ++ o ∷ []) (n + lost_of d) xs zs
+one_sent ws out o d n xs ys zs h s = record {
+  fates = h.fates ++ fate o d ∷ [];
+  frames = frames_in-append h.fates (fate o d ∷ []) ∙ ap (λ (l : List (List ℕ)). l ++ o ∷ []) h.frames;
+  lost = sum n (lost_in h.fates) (lost_of d) (lost_in (h.fates ++ fate o d ∷ [])) h.lost (lost_in-append h.fates (fate o d ∷ []));
+  rings = each_each (Sends ws h.fates) (Sends ws (fate o d ∷ [])) (Sends ws (h.fates ++ fate o d ∷ [])) (sends_sends ws h.fates (fate o d ∷ [])) xs ys zs h.rings s;
 }
-
-pub one_put : (out : List (List ℕ)) (o : List ℕ) (n : ℕ) (xs ys zs : List Link) → IsSent out n xs ys → Each (Sends (fate o true ∷ [])) ys zs → IsSent (out ++ o ∷ []) n xs zs
-one_put out o n xs ys zs h s = both_sent out o true n n xs ys zs h s (omega arith)
-
-pub one_lost : (out : List (List ℕ)) (o : List ℕ) (n : ℕ) (xs ys zs : List Link) → IsSent out n xs ys → Each (Sends (fate o false ∷ [])) ys zs → IsSent (out ++ o ∷ []) (n + 1) xs zs
-one_lost out o n xs ys zs h s = both_sent out o false n (n + 1) xs ys zs h s (omega arith)
+  where
+    sum : (n k l m : ℕ) → n ≡ k → m ≡ k + (l + 0) → n + l ≡ m
+    sum n k l m e f = omega (arith, e, f)
 
 -- one frame taken
 
@@ -44,8 +44,8 @@ pub takes_none : (place : ℕ) (a : Node) (links : List Link) → PopsAt place N
 takes_none place a links p = record { frame = None; links = links; pops = p; handled = refl; moves = refl }
 
 pub takes_frame :
-    (place : ℕ) (b : List ℕ) (a : Node) (links after : List Link) (k : Kept) (lost more : ℕ) → PopsAt place (Some b) a.links links → IsHandled b lost a.replica k links after →
-    more ≡ lost_after a.lost lost → TakesAt place true a (record a { replica = k; links = after; lost = more })
+    (place : ℕ) (b : List ℕ) (a : Node) (links after : List Link) (k : Kept) (lost more : ℕ) → PopsAt place (Some b) a.links links → IsHandled a.weather b lost a.replica k links after →
+    more ≡ counted_up a.lost lost → TakesAt place true a (record a { replica = k; links = after; lost = more })
 takes_frame place b a links after k lost more p h is = record { frame = Some b; links = links; pops = p; handled = (lost, h, ap (λ (n : ℕ). record a { replica = k; links = after; lost = n }) is); moves = refl }
 
 -- one task used up
@@ -60,10 +60,10 @@ task_taken t event links is = rw (is, none_handled t) (All-nil (IsTaken links))
 
 pub begins_made :
     (task : Task) (event : Event) (a : Node) (rest : List Task) (k : Kept) (after : List Link) (used lost more : ℕ) → event ≡ event_of task → a.agenda ≡ task ∷ rest →
-    Made event lost a.replica k a.links after → used ≡ next_place a.used → more ≡ lost_after a.lost lost →
+    Made a.weather event lost a.replica k a.links after → used ≡ next_place a.used → more ≡ counted_up a.lost lost →
     BeginsTask true a (record a { replica = k; links = after; agenda = rest; used = used; lost = more })
 begins_made task event a rest k after used lost more e agenda m u is =
-    (task, rest, agenda, inl (lost, subst (λ (v : Event). Made v lost a.replica k a.links after) e m, (rw (u, is) refl)))
+    (task, rest, agenda, inl (lost, subst (λ (v : Event). Made a.weather v lost a.replica k a.links after) e m, (rw (u, is) refl)))
 
 pub begins_refused :
     (task : Task) (event : Event) (a : Node) (rest : List Task) (k : Kept) (after : List Link) (used : ℕ) (fault : StepFault) (refused : List (ℕ × StepFault)) → event ≡ event_of task → a.agenda ≡ task ∷ rest →

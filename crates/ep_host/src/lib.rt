@@ -20,10 +20,12 @@
 mod account;
 mod act;
 mod acting;
+mod delivery;
 mod finished;
 mod finishing;
 mod gate;
 mod gate_unpassed;
+mod held;
 mod host_fault;
 mod link;
 mod lock_host;
@@ -35,12 +37,15 @@ mod running;
 mod seat;
 pub mod sections;
 mod sending;
+mod setting;
 mod settling;
 mod task;
 mod tended;
 mod tending;
 mod threads;
 mod turn;
+mod weather;
+mod weather_kind;
 
 pub use account::are_accepted;
 pub use act::Act;
@@ -59,6 +64,8 @@ pub use tended::Tended;
 pub use tending::tend;
 pub use threads::section;
 pub use turn::Turn;
+pub use weather::Weather;
+pub use weather_kind::WeatherKind;
 
 #[cfg(test)]
 mod ring_tests;

@@ -4,6 +4,7 @@ ghost use Rattle.std.specs.Prelude.{◌≡◌, ◌≤◌, ◌<◌, IfOk, OnOk};
 ghost use Rattle.ep_base.specs.Quorums.{size};
 ghost use Rattle.ep_host.specs.Joins.{Joins, CanJoin};
 
+use crate::held::Held;
 use crate::link::Link;
 use crate::ring_node::RingNode;
 use crate::task::Task;
@@ -29,11 +30,15 @@ fn join_nodes(
         peer: b_me,
         to: a_to_b,
         from: a_from_b,
+        count: 0,
+        held: Held::new(alloc),
     })?;
     b.add_link(Link {
         peer: a_me,
         to: b_to_a,
         from: b_from_a,
+        count: 0,
+        held: Held::new(alloc),
     })?;
     Ok(())
 }
