@@ -31,7 +31,7 @@ peer_low i k n l a b e = grind (arith)
 peer_other : (i k : ℕ) → peer_at i k ≢ i
 peer_other i k = λ e. grind (arith, e)
 
-place_peer : (i k : ℕ) → place i (peer_at i k) ≡ k
+pub place_peer : (i k : ℕ) → place i (peer_at i k) ≡ k
 place_peer i k = grind (arith)
 
 pub has_link : (f : ℕ) (nodes : List Node) (i j : ℕ) (d : Node) → IsHost f nodes → i < length nodes → j < length nodes → i ≢ j → HasLink (get_or nodes i d) (get_or nodes j d).replica.me

@@ -1,24 +1,29 @@
 -- What the parts of a turn do, of what they call.
-use Rattle.std.proofs.Common.{◌≡◌, ℕ, ◌+◌, List, [], ◌∷◌, ◌++◌, Bool, true, false, Some, None, refl, ap, ◌∙◌, subst, arith, inl, inr, All}
+use Rattle.std.proofs.Common.{◌≡◌, ℕ, ◌+◌, ◌<◌, ◌≤◌, cond, List, [], ◌∷◌, ◌++◌, length, get_or, set, Bool, true, false, Option, Some, None, refl, sym, ap, ◌∙◌, subst, arith, inl, inr, All}
 use Rattle.std.proofs.lemmas.List.Elements.{All-nil}
+use Rattle.ep_frame.specs.Meaning.{origin_at}
 use Rattle.ep_journal.specs.declared.event.Event.{Event}
 use Rattle.ep_journal.specs.declared.step_fault.StepFault.{StepFault}
 use Rattle.ep_replica.specs.Applied.{IsDeclined}
 use Rattle.ep_replica.specs.Kept.{Kept}
 use Rattle.ep_host.specs.Acts.{Made, IsHandled}
-use Rattle.ep_host.specs.Fates.{fate, lost_of, lost_in, Sends, IsSent, counted_up}
+use Rattle.ep_host.specs.Fates.{fate, lost_of, lost_in, Delivers, Sends, IsSent, counted_up}
 use Rattle.ep_host.specs.Node.{Node}
 use Rattle.ep_host.specs.Pointwise.{Each}
-use Rattle.ep_host.specs.Rings.{PopsAt, IsTaken, handled_by}
-use Rattle.ep_host.specs.Tasks.{event_of, next_place}
+use Rattle.ep_host.specs.Rings.{ArePeers, place, PopsAt, IsTaken, handled_by}
+use Rattle.ep_host.specs.Tasks.{event_of, next, next_place}
 use Rattle.ep_host.specs.Turns.{TakesAt, BeginsTask}
+use Rattle.ep_host.specs.Weathers.{kind_at}
 use Rattle.ep_host.specs.declared.delivery.Delivery.{Delivery}
+use Rattle.ep_host.specs.declared.delivery.Delivery.TheVariants.{Put, Short, Dropped, Held, Repeated}
 use Rattle.ep_host.specs.declared.link.Link.{Link}
 use Rattle.ep_host.specs.declared.weather.Weather.{Weather}
+use Rattle.ep_host.specs.declared.weather_kind.WeatherKind.{WeatherKind}
 use Rattle.ep_host.specs.declared.task.Task.{Task}
 use Rattle.ep_host.specs.declared.task.Task.TheVariants.{Propose, GiveUp, Recover}
-use Rattle.ep_host.proofs.Fated.{frames_in-append, lost_in-append, sends_sends}
-use Rattle.ep_host.proofs.Places.{each_each}
+use Rattle.ep_host.proofs.Fated.{frames_in-append, lost_in-append, sends_sends, delivers_sends, passes_by}
+use Rattle.ep_host.proofs.Hosts.{place_peer}
+use Rattle.ep_host.proofs.Places.{each_each, each_at}
 
 -- a node of its parts
 abbrev pub node : Kept → List Link → List Weather → List Task → List (ℕ × StepFault) → ℕ → ℕ → Bool → Node
@@ -37,6 +42,27 @@ one_sent ws out o d n xs ys zs h s = record {
   where
     sum : (n k l m : ℕ) → n ≡ k → m ≡ k + (l + 0) → n + l ≡ m
     sum n k l m e f = omega (arith, e, f)
+
+lost_at_most : (put : Bool) → cond put 0 1 ≤ 1
+lost_at_most true = omega arith
+lost_at_most false = omega arith
+
+pub lost_few : (d : Delivery) → lost_of d ≤ 2
+lost_few (Put put) = let l = lost_at_most put in omega (arith, l)
+lost_few Short = omega arith
+lost_few Dropped = omega arith
+lost_few Held = omega arith
+lost_few (Repeated first second) = let l = lost_at_most first in let m = lost_at_most second in omega (arith, l, m)
+
+-- a frame that goes to the link at a place
+pub each_sends :
+    (ws : List Weather) (b : List ℕ) (d : Delivery) (kind : Option WeatherKind) (me : ℕ) (links : List Link) (p : ℕ) (c e : Link) → ArePeers me links → p ≡ place me (origin_at b).to → p < length links →
+    (get_or links p e).peer ≡ (origin_at b).to → kind ≡ kind_at ws (get_or links p e).peer (next 18446744073709551615 (get_or links p e).count) → Delivers kind b d (get_or links p e) c → Each (Sends ws (fate b d ∷ [])) links (set links p c)
+each_sends ws b d kind me links p c e peers is low peer word h =
+    each_at (Sends ws (fate b d ∷ [])) links p c e (λ k f below other. passes_by ws b d (get_or links k f) (λ to. other (here k f below to))) low (delivers_sends ws b d kind (get_or links p e) c h word (sym peer))
+  where
+    here : (k : ℕ) (f : Link) → k < length links → (origin_at b).to ≡ (get_or links k f).peer → k ≡ p
+    here k f below to = sym (place_peer me k) ∙ ap (place me) (sym (peers k f below)) ∙ ap (place me) (sym to) ∙ sym is
 
 -- one frame taken
 

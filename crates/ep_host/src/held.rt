@@ -22,7 +22,7 @@ impl Model for Held {
 }
 
 impl Held {
-    ghost use Rattle.std.specs.Prelude.{◌≡◌, ◌∷◌, ◌++◌, [], OnOk, OnErr, length, option_to_list};
+    ghost use Rattle.std.specs.Prelude.{◌≡◌, ◌∷◌, ◌++◌, [], IfNone, OnOk, OnErr, length, option_to_list};
 
     /// None.
     pub fn new(alloc: Global) -> Held
@@ -59,7 +59,8 @@ impl Held {
 
     /// Takes the first.
     pub fn pop(&mut self) -> Option<Frame>
-        ensures { self.old ≡ option_to_list result ++ self.new }
+        ensures items { self.old ≡ option_to_list result ++ self.new }
+        ensures none { IfNone result (self.old ≡ []) }
     {
         self.frames.pop_front()
     }

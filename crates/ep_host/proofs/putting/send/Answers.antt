@@ -1,10 +1,10 @@
-use Rattle.std.proofs.Common.{ℕ, List, [], ◌∷◌, take, add-one}
+use Rattle.std.proofs.Common.{arith, ℕ, List, [], ◌∷◌, take, add-one}
 use Rattle.std.proofs.Math.Seq.{take-suc}
 use Rattle.ep_host.specs.Fates.{fate, Sends, Carries}
 use Rattle.ep_host.proofs.Booking.{peers_still, carried_keep}
 use Rattle.ep_host.proofs.Fated.{sends_carries}
 use Rattle.ep_host.proofs.Places.{each_weaker}
-use Rattle.ep_host.proofs.Turning.{one_sent}
+use Rattle.ep_host.proofs.Turning.{one_sent, lost_few}
 use Rattle.ep_host.proofs.putting.send.Goals as goal
 
 pub loop-frame-preserved : goal.loop-frame-preserved
@@ -14,4 +14,4 @@ loop-frame-preserved c =
     let fates = fate o c.send_one.result ∷ [] in
     let peers = peers_still c.args.me before after (carried_keep ws fates before after (each_weaker (Sends ws fates) (Carries ws fates) (sends_carries ws fates) before after c.send_one.ensures)) c.loop-frame.invariant.peers in
     rw (add-one, take-suc c.args.frames.now c.loop-frame.frame-index o c.loop-frame-test.true, ← c.frame-item.is)
-    record { sent = one_sent ws done o c.send_one.result c.loop-frame.lost first before after c.loop-frame.invariant.sent c.send_one.ensures; few = hole; peers = peers }
+    record { sent = one_sent ws done o c.send_one.result c.loop-frame.lost first before after c.loop-frame.invariant.sent c.send_one.ensures; few = (let few = lost_few c.send_one.result in omega (arith, c.loop-frame.invariant.few, few)); peers = peers }

@@ -1,20 +1,15 @@
-use Rattle.std.proofs.Common.{rules, ◌≡◌, ◌≤◌, length, vec_capacity, ℕ, ◌+◌, ◌-◌, ◌*◌, ◌<◌, ◌/◌, ◌%◌, Bool, true, false, nat_eq, nat_lt, List, [], ◌∷◌, ◌++◌, slice_index_or, slice_set, bit_and, bit_or, Fits, w8, w32, w64, Bor, MutBor}
-use Rattle.ep_host.specs.Pointwise.{Each}
-use Rattle.ep_host.specs.Setting.{CountsAnew, ReleasesAll}
+use Rattle.std.proofs.Common.{refl, ◌∙◌}
+use Rattle.ep_host.proofs.Releasing.{same_held}
 use Rattle.ep_host.proofs.setting.make_room.Goals as goal
 
--- src/setting.rt:28:5
 pub loop-place-init : goal.loop-place-init
-loop-place-init c = ?
+loop-place-init c = refl
 
--- src/setting.rt:30:9
 pub returns-in_err-reserve : goal.returns-in_err-reserve
-returns-in_err-reserve c = ?
+returns-in_err-reserve c = same_held c.loop-place.links c.loop-place.place c.index-links-place-in-loop-place.result c.reserve.new.self c.reserve.ensures ∙ c.loop-place.invariant
 
--- src/setting.rt:28:5
 pub loop-place-preserved : goal.loop-place-preserved
-loop-place-preserved c = ?
+loop-place-preserved c = same_held c.loop-place.links c.loop-place.place c.index-links-place-in-loop-place.result c.reserve.new.self c.reserve.ensures ∙ c.loop-place.invariant
 
--- src/setting.rt:25:1
 pub returns : goal.returns
-returns c = ?
+returns c = c.loop-place.invariant

@@ -1,7 +1,5 @@
-use Rattle.std.proofs.Common.{◌≡◌, ◌≤◌, length, vec_capacity, ℕ, ◌+◌, ◌-◌, ◌*◌, ◌<◌}
-use Rattle.ep_host.specs.Pointwise.{Each}
-use Rattle.ep_host.specs.Setting.{CountsAnew, ReleasesAll}
+use Rattle.std.proofs.Common.{◌≡◌}
 use Rattle.ep_host.proofs.setting.make_room.Given as goal
 
 abbrev pub invariant-loop-place : goal.invariant-loop-place
-invariant-loop-place l = ?
+invariant-loop-place l = l.links ≡ l.initial.links

@@ -1,7 +1,5 @@
-use Rattle.std.proofs.Common.{◌≡◌, ℕ, ◌<◌, length, slice_index_or, IsTrue, IsFalse, All, ◌+◌, ◌-◌, ◌*◌, ◌≤◌}
-use Rattle.ep_host.specs.Weathers.{kind_at, NameOne, IsFrameIn, IsWeather, IsWeatherAt}
-use Rattle.ep_host.specs.declared.weather.Weather.{Weather as Named}
+use Rattle.ep_host.proofs.Naming.{Checked}
 use Rattle.ep_host.proofs.weather.is_weather.Given as goal
 
 abbrev pub invariant-loop-place : goal.invariant-loop-place
-invariant-loop-place l = ?
+invariant-loop-place l = Checked l.cluster l.weather l.place
