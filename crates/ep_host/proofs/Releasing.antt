@@ -143,12 +143,15 @@ releases_more place before after m xs ys was y low h r =
 pub releases_all : (place before after : ℕ) (xs ys : List Link) → place ≡ length xs → ReleasesFirst place before after xs ys → ReleasesAll before after xs ys
 releases_all place before after xs ys all h = record { missed = h.missed; len = h.len ∙ all; links = h.links; at = λ i d low. h.done i d (omega (arith, all)); counted = h.counted }
 
+keeps_counted : (a : Link) (n : ℕ) → KeepsLink a (record a { count = n })
+keeps_counted a n = record { peer = refl; to = ((refl, refl, refl, refl), refl); from = ((refl, refl, refl, refl), refl) }
+
 -- the account
 
-thin_all : (P : List ℕ → Type 0) (xs ys : List (List ℕ)) → IsThinned xs ys → All P ys → All P xs
-thin_all P [] [] none h = h
-thin_all P (x ∷ xs) (x ∷ ys) (kept x t) h = All-cons P x xs (All-head P x ys h) (thin_all P xs ys t (All-tail P x ys h))
-thin_all P xs (y ∷ ys) (lost y t) h = thin_all P xs ys t (All-tail P y ys h)
+thin_all : (P : List ℕ → Type 0) {xs ys : List (List ℕ)} → IsThinned xs ys → All P ys → All P xs
+thin_all P none h = h
+thin_all P (kept {xs} {ys} x t) h = All-cons P x xs (All-head P x ys h) (thin_all P t (All-tail P x ys h))
+thin_all P (lost {xs} {ys} y t) h = thin_all P t (All-tail P y ys h)
 
 -- what a link put and holds still goes to its peer out of these entries
 pub record Accounts (es : List Entry) (a b : Link) : Type 0 where
@@ -183,13 +186,13 @@ accounts_book me es before after h was = record {
 released_account : (es : List Entry) (m : ℕ) (a b : Link) → Releases m a b → Accounts es a b
 released_account es m a b r = record {
   keeps = r.keeps;
-  put = λ put held. All-same (IsOut es a.peer) (sent b.to) (sent a.to ++ r.released) r.put (All-append (IsOut es a.peer) (sent a.to) r.released put (thin_all (IsOut es a.peer) r.released a.held r.copied.thin held));
+  put = λ put held. All-same (IsOut es a.peer) (sent b.to) (sent a.to ++ r.released) r.put (All-append (IsOut es a.peer) (sent a.to) r.released put (thin_all (IsOut es a.peer) r.copied.thin held));
   held = λ held. All-same (IsOut es a.peer) b.held [] r.held (All-nil (IsOut es a.peer));
   taken = r.taken;
 }
 
 counted_account : (es : List Entry) (a b : Link) → CountsAnew a b → Accounts es a b
-counted_account es a b is = subst (λ (l : Link). Accounts es a l) (sym is) record { keeps = keeps_self a; put = λ put held. put; held = λ held. held; taken = refl }
+counted_account es a b is = subst (λ (l : Link). Accounts es a l) (sym is) record { keeps = keeps_counted a 0; put = λ put held. put; held = λ held. held; taken = refl }
 
 pub released_books : (me : ℕ) (es : List Entry) (n m : ℕ) (before after : List Link) → ReleasesAll n m before after → IsBooked me es before → IsBooked me es after
 released_books me es n m before after r was = accounts_book me es before after
@@ -209,7 +212,7 @@ same_held xs i d held e = ap (λ (h : List (List ℕ)). set xs i (record (get_or
 -- the hosts
 
 each_keep : (a b : List Link) → Each CountsAnew a b → Each KeepsLink a b
-each_keep a b h = each_weaker CountsAnew KeepsLink (λ x y is. subst (λ (l : Link). KeepsLink x l) (sym is) (keeps_self x)) a b h
+each_keep a b h = each_weaker CountsAnew KeepsLink (λ x y is. subst (λ (l : Link). KeepsLink x l) (sym is) (keeps_counted x 0)) a b h
 
 pub weather_stays : (ws : List Weather) (a b : Node) → SetsWeather ws a b → Stays a b
 weather_stays ws a b s = subst (λ (n : Node). Stays a n) (sym s.is) record { faults = refl; me = refl; rings = each_keep a.links s.links s.counts }
