@@ -1,5 +1,5 @@
 -- Held frames are let go, and the weather is set: the loops, and that both keep the account.
-use Rattle.std.proofs.Common.{◌≡◌, ℕ, ◌+◌, ◌<◌, ◌≤◌, List, [], ◌∷◌, ◌++◌, length, get_or, set, take, drop, refl, sym, ap, ◌∙◌, subst, arith, length-append, append_assoc, ⊎_elim, All, Contains, get_or-set_same, get_or-set_other}
+use Rattle.std.proofs.Common.{Result, Ok, Err, OnOk, OnErr, ◌≡◌, ℕ, ◌+◌, ◌<◌, ◌≤◌, List, [], ◌∷◌, ◌++◌, length, get_or, set, take, drop, refl, sym, ap, ◌∙◌, subst, arith, length-append, append_assoc, ⊎_elim, All, Contains, get_or-set_same, get_or-set_other}
 use Rattle.std.proofs.Math.ListN.{length-set}
 use Rattle.std.proofs.lemmas.List.{append-nil, get_or_default, get_or_append_left, get_or_push, take_at, set-get_or}
 use Rattle.std.proofs.lemmas.Bool.Decides.{eqb_tells}
@@ -7,6 +7,7 @@ use Rattle.std.proofs.lemmas.List.Elements.{All-nil, All-cons, All-head, All-tai
 use Rattle.rtrb.specs.Ring.{sent, received}
 use Rattle.ep_journal.specs.declared.entry.Entry.{Entry}
 use Rattle.ep_host.specs.Fates.{Releases, counted_up}
+use Rattle.ep_host.specs.Host.{IsHost}
 use Rattle.ep_host.specs.Node.{Node}
 use Rattle.ep_host.specs.Pointwise.{Each}
 use Rattle.ep_host.specs.Rings.{KeepsLink, IsOut, IsTaken, IsBooked, frames_handled}
@@ -17,8 +18,8 @@ use Rattle.ep_host.specs.declared.weather.Weather.{Weather}
 use Rattle.ep_host.proofs.Booking.{peers_still}
 use Rattle.ep_host.proofs.Copying.{copied_none, copied_kept, copied_lost}
 use Rattle.ep_host.proofs.Fated.{keeps_self, keeps_keeps, counted_twice}
-use Rattle.ep_host.proofs.Hosts.{Stays}
-use Rattle.ep_host.proofs.Places.{each_weaker}
+use Rattle.ep_host.proofs.Hosts.{Stays, stays_self, host_stays, host_same}
+use Rattle.ep_host.proofs.Places.{each_weaker, each_set}
 
 -- the held frames of one link
 
@@ -90,7 +91,6 @@ releasing_all missed gone a b all h =
       held = held;
       count = h.count;
     }
-
 
 -- none is left where none was held
 pub releasing_end : (missed gone : ℕ) (a b c : Link) → gone < length a.held → b.held ≡ [] → Releasing missed gone a b → Releases missed a c
@@ -223,3 +223,11 @@ released_stays a b r = record {
   me = ap (λ (n : Node). n.replica.me) r.is;
   rings = record { len = r.links.links; at = λ i d low. (r.links.at i d low).keeps };
 }
+
+pub host_weathered :
+    {T E : Type 0} (P : Type 0) (r : Result T E) (f : ℕ) (xs : List Node) (k : ℕ) (b d : Node) (ws : List Weather) → k < length xs → OnOk r (P × SetsWeather ws (get_or xs k d) b) → OnErr r (b ≡ get_or xs k d) → IsHost f xs → IsHost f (set xs k b)
+host_weathered P (Ok t) f xs k b d ws low ok err host = host_stays f xs (set xs k b) (each_set Stays xs k b d stays_self low (weather_stays ws (get_or xs k d) b ok.1)) host
+host_weathered P (Err e) f xs k b d ws low ok err host = host_same f xs k b d low err host
+
+pub host_released : (f : ℕ) (xs ys : List Node) → Each IsReleased xs ys → IsHost f xs → IsHost f ys
+host_released f xs ys h host = host_stays f xs ys (each_weaker IsReleased Stays released_stays xs ys h) host

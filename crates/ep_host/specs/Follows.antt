@@ -41,6 +41,12 @@ pub record Runs (a b : Node) : Type 0 where
   pub follows : Follows a b
   pub ended : b.ended ≡ true → HasEnded b
 
+-- the node at this place is the first that hasn't ended
+pub record IsFirstUnended (nodes : List Node) (place : ℕ) : Type 0 where
+  pub low : place < length nodes
+  pub left : (d : Node) → (slice_index_or nodes place d).ended ≡ false
+  pub ended : (i : ℕ) (d : Node) → i < place → (slice_index_or nodes i d).ended ≡ true
+
 -- the node at this place is the first that hasn't ended: those before it have, with empty agendas
 pub record IsFirstLeft (nodes : List Node) (place : ℕ) : Type 0 where
   pub left : (d : Node) → (slice_index_or nodes place d).ended ≡ false

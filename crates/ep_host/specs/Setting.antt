@@ -1,8 +1,9 @@
 -- What setting the weather does to a node, and what letting its held frames go does.
-use Rattle.std.specs.Prelude.{◌≡◌, ℕ, ◌+◌, ◌<◌, List, [], ◌∷◌, length, slice_index_or}
+use Rattle.std.specs.Prelude.{◌≡◌, ℕ, ◌+◌, ◌<◌, List, [], ◌∷◌, length, slice_index_or, slice_set}
 use Rattle.ep_host.specs.Fates.{Releases, counted_up}
 use Rattle.ep_host.specs.Node.{Node}
 use Rattle.ep_host.specs.Pointwise.{Each}
+use Rattle.ep_host.specs.Weathers.{IsWeatherAt}
 use Rattle.ep_host.specs.declared.host_fault.HostFault.{HostFault}
 use Rattle.ep_host.specs.declared.host_fault.HostFault.TheVariants.{Memory, OutOfRange, Replica}
 use Rattle.ep_host.specs.declared.link.Link.{Link}
@@ -40,3 +41,14 @@ pub record ReleasesAll (lost lost' : ℕ) (xs ys : List Link) : Type 0 where
 pub record IsReleased (a b : Node) : Type 0 where
   pub links : ReleasesAll a.lost b.lost a.links b.links
   pub is : b ≡ record a { links = b.links; lost = b.lost }
+
+-- the same of the node at a place, which it is a weather of; and no other changed
+pub record SetsWeatherAt (place : ℕ) (ws : List Weather) (xs ys : List Node) : Type 0 where
+  pub node : Node
+  pub is : ys ≡ slice_set xs place node
+  pub own : (d : Node) → IsWeatherAt (slice_index_or xs place d).replica.faults (slice_index_or xs place d).replica.me ws
+  pub sets : (d : Node) → SetsWeather ws (slice_index_or xs place d) node
+
+-- why none was set at a place
+abbrev pub IsUnsetAt : ℕ → List Weather → List Node → HostFault → Type 0
+IsUnsetAt place ws xs fault = (d : Node) → IsUnset (IsWeatherAt (slice_index_or xs place d).replica.faults (slice_index_or xs place d).replica.me ws) fault

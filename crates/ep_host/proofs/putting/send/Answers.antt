@@ -16,4 +16,6 @@ loop-frame-preserved c =
     rw (add-one, take-suc c.args.frames.now c.loop-frame.frame-index o c.loop-frame-test.true, ← c.frame-item.is)
     record {
       sent = subst (λ (n : ℕ). IsSent ws (done ++ o ∷ []) (c.loop-frame.lost + n) first after) (sym c.lost-lost.ensures) (one_sent ws done o c.send_one.result c.loop-frame.lost first before after c.loop-frame.invariant.sent c.send_one.ensures);
-      few = (let few = lost_few c.send_one.result in omega (arith, c.loop-frame.invariant.few, few, c.lost-lost.ensures)); peers = peers }
+      few = (let few = lost_few c.send_one.result in omega (arith, c.loop-frame.invariant.few, few, c.lost-lost.ensures));
+      peers = peers;
+    }

@@ -14,6 +14,3 @@ returns-clause-host g c = λ f host.
     subst (λ (l : List Node). IsHost f l) (sym e)
     (host_still f c.args.nodes.items c.run_each.new.nodes
     (each_weaker Runs Follows (λ a b r. r.follows) c.args.nodes.items c.run_each.new.nodes (subst (λ (l : List Node). Each Runs l c.run_each.new.nodes) c.as_mut_slice.ensures.value c.run_each.ensures)) host)
-
-pub returns-clause-first : goal.returns-clause-first
-returns-clause-first g c = ?

@@ -10,6 +10,6 @@ invariant_of-self c = let i = c.self.inside in let ys = c.release_all-self-insid
     let len : length ys ≡ i.links.len = search rules in
     let is = in_place i.links.items ys i.links.len len in (
       subst (λ (l : List Link). IsBooked i.replica.me i.replica.entries l) (sym is)
-      (released_books i.replica.me i.replica.entries i.lost c.release_all-self-inside.result i.links.items ys (subst (λ (l : List Link). ReleasesAll i.lost c.release_all-self-inside.result l ys) c.deref_mut.ensures.value c.release_all-self-inside.ensures) c.self.invariant.0),
+          (released_books i.replica.me i.replica.entries i.lost c.release_all-self-inside.result i.links.items ys (subst (λ (l : List Link). ReleasesAll i.lost c.release_all-self-inside.result l ys) c.deref_mut.ensures.value c.release_all-self-inside.ensures) c.self.invariant.0),
       c.self.invariant.1,
     )

@@ -15,6 +15,6 @@ invariant_of-self-2 c = let i = c.self.inside in let ys = c.count_anew.new.links
     let before = c.deref_mut-2.ensures.value ∙ in_place i.links.items made i.links.len len' ∙ c.make_room.ensures ∙ c.deref_mut.ensures.value in
     let counts : Each CountsAnew i.links.items ys = subst (λ (l : List Link). Each CountsAnew l ys) before c.count_anew.ensures in (
       subst (λ (l : List Link). IsBooked i.replica.me i.replica.entries l) (sym is)
-      (counted_books i.replica.me i.replica.entries i.links.items ys counts c.self.invariant.0),
+          (counted_books i.replica.me i.replica.entries i.links.items ys counts c.self.invariant.0),
       c.self.invariant.1,
     )
