@@ -310,12 +310,15 @@ fn a_weather_out_of_range_leaves_the_one_before(rt: HostRuntime) {
     let weather = of_both(&rt, WeatherKind::Hold);
     begin_in(&rt, alloc, nodes.as_mut_slice(), &weather);
     assert!(&rt; nodes.len() == 3);
-    let first = named(&rt, 1, 1, WeatherKind::Drop);
-    assert!(&rt; is_refused_there(&mut nodes[0], &[first, named(&rt, 1, 1, WeatherKind::Hold)]));
+    let twice = [
+        named(&rt, 1, 1, WeatherKind::Drop),
+        named(&rt, 1, 1, WeatherKind::Hold),
+    ];
+    assert!(&rt; is_refused_there(&mut nodes[0], &twice));
     assert!(&rt; is_refused_there(&mut nodes[0], &[named(&rt, 1, 0, WeatherKind::Drop)]));
     assert!(&rt; is_refused_there(&mut nodes[0], &[named(&rt, 0, 1, WeatherKind::Drop)]));
     assert!(&rt; is_refused_there(&mut nodes[0], &[named(&rt, 3, 1, WeatherKind::Drop)]));
-    assert!(&rt; is_refused_there(&mut nodes[1], &[first]));
+    assert!(&rt; is_refused_there(&mut nodes[1], &[named(&rt, 0, 1, WeatherKind::Drop)]));
     assert!(&rt; !commits(&rt, nodes.as_mut_slice()));
     RingHost::release(nodes.as_mut_slice());
     assert!(&rt; commits(&rt, nodes.as_mut_slice()));
