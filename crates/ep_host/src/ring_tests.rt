@@ -318,7 +318,7 @@ fn a_weather_out_of_range_leaves_the_one_before(rt: HostRuntime) {
     assert!(&rt; is_refused_there(&mut nodes[0], &[named(&rt, 1, 0, WeatherKind::Drop)]));
     assert!(&rt; is_refused_there(&mut nodes[0], &[named(&rt, 0, 1, WeatherKind::Drop)]));
     assert!(&rt; is_refused_there(&mut nodes[0], &[named(&rt, 3, 1, WeatherKind::Drop)]));
-    assert!(&rt; is_refused_there(&mut nodes[1], &[named(&rt, 0, 1, WeatherKind::Drop)]));
+    assert!(&rt; is_refused_there(&mut nodes[1], &[named(&rt, 2, 1, WeatherKind::Drop)]));
     assert!(&rt; !commits(&rt, nodes.as_mut_slice()));
     RingHost::release(nodes.as_mut_slice());
     assert!(&rt; commits(&rt, nodes.as_mut_slice()));
