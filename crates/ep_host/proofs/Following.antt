@@ -14,7 +14,7 @@ use Rattle.ep_journal.specs.declared.step_fault.StepFault.{StepFault}
 use Rattle.ep_replica.specs.Applied.{Applied}
 use Rattle.ep_replica.specs.Kept.{Kept}
 use Rattle.ep_host.specs.Acts.{Made}
-use Rattle.ep_host.specs.Fates.{frames_in, lost_in, Sends, Carries, lost_after}
+use Rattle.ep_host.specs.Fates.{frames_in, lost_in, Sends, Carries, counted_up}
 use Rattle.ep_host.specs.Follows.{Follows, Runs, Settles, Rounds}
 use Rattle.ep_host.specs.Node.{Node}
 use Rattle.ep_host.specs.Pointwise.{Each}
@@ -24,9 +24,10 @@ use Rattle.ep_host.specs.Tasks.{Use, tasks_in, event_made, events_in, refusal_at
 use Rattle.ep_host.specs.Turns.{with_links, TakesUp, TakesAt, Takes, BeginsTask, ExecutesOwn, IsTurn}
 use Rattle.ep_host.specs.declared.link.Link.{Link}
 use Rattle.ep_host.specs.declared.task.Task.{Task}
+use Rattle.ep_host.specs.declared.weather.Weather.{Weather}
 use Rattle.ep_host.specs.declared.task.Task.TheVariants.{Propose, GiveUp, Recover}
 use Rattle.ep_host.proofs.Booking.{pops_carries}
-use Rattle.ep_host.proofs.Fated.{frames_in-append, lost_in-append, lost_lost, carries_none, carries_carries, sends_carries}
+use Rattle.ep_host.proofs.Fated.{frames_in-append, lost_in-append, counted_twice, carries_none, carries_carries, sends_carries}
 use Rattle.ep_host.proofs.Places.{each_self, each_each, each_weaker}
 use Rattle.ep_host.proofs.Pumping.{frames_both, no_frames}
 
@@ -61,41 +62,48 @@ places_both n (x ∷ xs) ys = places_both (next_place n) xs ys
 
 pub follows_self : (a : Node) → Follows a a
 follows_self a = record {
-  faults = refl;
-  me = refl;
-  entries = [];
-  journal = sym (append-nil a.replica.entries);
+  works = record {
+    faults = refl;
+    me = refl;
+    entries = [];
+    journal = sym (append-nil a.replica.entries);
+    used = [];
+    agenda = refl;
+    asked = refl;
+    refused = sym (append-nil a.refused);
+    place = refl;
+  };
   fates = [];
   frames = refl;
-  rings = each_self (Carries []) a.links carries_none;
+  rings = each_self (Carries a.weather []) a.links (carries_none a.weather);
+  weather = refl;
   dropped = 0;
   lost = refl;
-  used = [];
-  agenda = refl;
-  asked = refl;
-  refused = sym (append-nil a.refused);
-  place = refl;
 }
 
 pub follows_follows : (a b c : Node) → Follows a b → Follows b c → Follows a c
 follows_follows a b c h k = record {
-  faults = k.faults ∙ h.faults;
-  me = k.me ∙ h.me;
-  entries = h.entries ++ k.entries;
-  journal = k.journal ∙ ap (λ (l : List Entry). l ++ k.entries) h.journal ∙ append_assoc a.replica.entries h.entries k.entries;
+  works = record {
+    faults = k.works.faults ∙ h.works.faults;
+    me = k.works.me ∙ h.works.me;
+    entries = h.works.entries ++ k.works.entries;
+    journal = k.works.journal ∙ ap (λ (l : List Entry). l ++ k.works.entries) h.works.journal ∙ append_assoc a.replica.entries h.works.entries k.works.entries;
+    used = h.works.used ++ k.works.used;
+    agenda = h.works.agenda ∙ ap (λ (l : List Task). tasks_in h.works.used ++ l) k.works.agenda ∙ sym (append_assoc (tasks_in h.works.used) (tasks_in k.works.used) c.agenda) ∙ ap (λ (l : List Task). l ++ c.agenda) (sym (tasks_both h.works.used k.works.used));
+    asked = asked_both h.works.entries k.works.entries ∙ ap (λ (l : List rules.Event). l ++ asked_in (entries_of k.works.entries)) h.works.asked ∙ ap (λ (l : List rules.Event). events_in h.works.used ++ l) k.works.asked ∙ sym (events_both h.works.used k.works.used);
+    refused = k.works.refused ∙ ap (λ (l : List (ℕ × StepFault)). l ++ refusals_in b.used k.works.used) h.works.refused ∙ ap (λ (n : ℕ). a.refused ++ refusals_in a.used h.works.used ++ refusals_in n k.works.used) h.works.place
+        ∙ append_assoc a.refused (refusals_in a.used h.works.used) (refusals_in (place_after a.used h.works.used) k.works.used) ∙ ap (λ (l : List (ℕ × StepFault)). a.refused ++ l) (sym (refusals_both a.used h.works.used k.works.used));
+    place = k.works.place ∙ ap (λ (n : ℕ). place_after n k.works.used) h.works.place ∙ sym (places_both a.used h.works.used k.works.used);
+  };
   fates = h.fates ++ k.fates;
-  frames = frames_in-append h.fates k.fates ∙ ap (λ (l : List (List ℕ)). l ++ frames_in k.fates) h.frames ∙ ap (λ (l : List (List ℕ)). frames_of h.entries ++ l) k.frames ∙ sym (frames_both h.entries k.entries);
-  rings = each_each (Carries h.fates) (Carries k.fates) (Carries (h.fates ++ k.fates)) (carries_carries h.fates k.fates) a.links b.links c.links h.rings k.rings;
+  frames = frames_in-append h.fates k.fates ∙ ap (λ (l : List (List ℕ)). l ++ frames_in k.fates) h.frames ∙ ap (λ (l : List (List ℕ)). frames_of h.works.entries ++ l) k.frames ∙ sym (frames_both h.works.entries k.works.entries);
+  rings = each_each (Carries a.weather h.fates) (Carries a.weather k.fates) (Carries a.weather (h.fates ++ k.fates)) (carries_carries a.weather h.fates k.fates) a.links b.links c.links h.rings
+      (subst (λ (ws : List Weather). Each (Carries ws k.fates) b.links c.links) h.weather k.rings);
+  weather = k.weather ∙ h.weather;
   dropped = h.dropped + k.dropped;
   lost =
       let sum : lost_in (h.fates ++ k.fates) + (h.dropped + k.dropped) ≡ (lost_in h.fates + h.dropped) + (lost_in k.fates + k.dropped) = omega (arith, lost_in-append h.fates k.fates) in
-      k.lost ∙ ap (λ (n : ℕ). lost_after n (lost_in k.fates + k.dropped)) h.lost ∙ lost_lost a.lost (lost_in h.fates + h.dropped) (lost_in k.fates + k.dropped) ∙ ap (lost_after a.lost) (sym sum);
-  used = h.used ++ k.used;
-  agenda = h.agenda ∙ ap (λ (l : List Task). tasks_in h.used ++ l) k.agenda ∙ sym (append_assoc (tasks_in h.used) (tasks_in k.used) c.agenda) ∙ ap (λ (l : List Task). l ++ c.agenda) (sym (tasks_both h.used k.used));
-  asked = asked_both h.entries k.entries ∙ ap (λ (l : List rules.Event). l ++ asked_in (entries_of k.entries)) h.asked ∙ ap (λ (l : List rules.Event). events_in h.used ++ l) k.asked ∙ sym (events_both h.used k.used);
-  refused = k.refused ∙ ap (λ (l : List (ℕ × StepFault)). l ++ refusals_in b.used k.used) h.refused ∙ ap (λ (n : ℕ). a.refused ++ refusals_in a.used h.used ++ refusals_in n k.used) h.place
-      ∙ append_assoc a.refused (refusals_in a.used h.used) (refusals_in (place_after a.used h.used) k.used) ∙ ap (λ (l : List (ℕ × StepFault)). a.refused ++ l) (sym (refusals_both a.used h.used k.used));
-  place = k.place ∙ ap (λ (n : ℕ). place_after n k.used) h.place ∙ sym (places_both a.used h.used k.used);
+      k.lost ∙ ap (λ (n : ℕ). counted_up n (lost_in k.fates + k.dropped)) h.lost ∙ counted_twice a.lost (lost_in h.fates + h.dropped) (lost_in k.fates + k.dropped) ∙ ap (counted_up a.lost) (sym sum);
 }
 
 -- what one event does to the tasks
@@ -106,43 +114,49 @@ record Tasked (event : Event) (made : Bool) (a b : Node) : Type 0 where
   pub refused : b.refused ≡ a.refused ++ refusals_in a.used used
   pub place : b.used ≡ place_after a.used used
 
-made_follows : (event : Event) (lost : ℕ) (a b : Node) → Made event lost a.replica b.replica a.links b.links → b.lost ≡ lost_after a.lost lost → Tasked event true a b → Follows a b
-made_follows event lost a b m is t =
+made_follows : (event : Event) (lost : ℕ) (a b : Node) → Made a.weather event lost a.replica b.replica a.links b.links → b.weather ≡ a.weather → b.lost ≡ counted_up a.lost lost → Tasked event true a b → Follows a b
+made_follows event lost a b m same is t =
     let e : Entry = m.entry in
     let fates = m.sent.fates in
     let grown = m.applied.appended in record {
-      faults = ap (λ (k : Kept). k.faults) grown;
-      me = ap (λ (k : Kept). k.me) grown;
-      entries = e ∷ [];
-      journal = ap (λ (k : Kept). k.entries) grown;
+      works = record {
+        faults = ap (λ (k : Kept). k.faults) grown;
+        me = ap (λ (k : Kept). k.me) grown;
+        entries = e ∷ [];
+        journal = ap (λ (k : Kept). k.entries) grown;
+        used = t.used;
+        agenda = t.agenda;
+        asked = append-nil (asked_of e.event) ∙ ap asked_of m.applied.event ∙ t.asked;
+        refused = t.refused;
+        place = t.place;
+      };
       fates = fates;
       frames = m.sent.frames ∙ sym (append-nil e.frames);
-      rings = each_weaker (Sends fates) (Carries fates) (sends_carries fates) a.links b.links m.sent.rings;
+      rings = each_weaker (Sends a.weather fates) (Carries a.weather fates) (sends_carries a.weather fates) a.links b.links m.sent.rings;
+      weather = same;
       dropped = 0;
-      lost = (let s : lost ≡ lost_in fates + 0 = (let l = m.sent.lost in omega arith) in is ∙ ap (lost_after a.lost) s);
-      used = t.used;
-      agenda = t.agenda;
-      asked = append-nil (asked_of e.event) ∙ ap asked_of m.applied.event ∙ t.asked;
-      refused = t.refused;
-      place = t.place;
+      lost = (let s : lost ≡ lost_in fates + 0 = (let l = m.sent.lost in omega arith) in is ∙ ap (counted_up a.lost) s);
     }
 
-idle_follows : (event : Event) (dropped : ℕ) (a b : Node) → b.replica ≡ a.replica → b.links ≡ a.links → b.lost ≡ lost_after a.lost dropped → Tasked event false a b → Follows a b
-idle_follows event dropped a b k l is t = record {
-  faults = ap (λ (k : Kept). k.faults) k;
-  me = ap (λ (k : Kept). k.me) k;
-  entries = [];
-  journal = ap (λ (k : Kept). k.entries) k ∙ sym (append-nil a.replica.entries);
+idle_follows : (event : Event) (dropped : ℕ) (a b : Node) → b.replica ≡ a.replica → b.links ≡ a.links → b.weather ≡ a.weather → b.lost ≡ counted_up a.lost dropped → Tasked event false a b → Follows a b
+idle_follows event dropped a b k l same is t = record {
+  works = record {
+    faults = ap (λ (k : Kept). k.faults) k;
+    me = ap (λ (k : Kept). k.me) k;
+    entries = [];
+    journal = ap (λ (k : Kept). k.entries) k ∙ sym (append-nil a.replica.entries);
+    used = t.used;
+    agenda = t.agenda;
+    asked = t.asked;
+    refused = t.refused;
+    place = t.place;
+  };
   fates = [];
   frames = refl;
-  rings = subst (λ (links : List Link). Each (Carries []) a.links links) (sym l) (each_self (Carries []) a.links carries_none);
+  rings = subst (λ (links : List Link). Each (Carries a.weather []) a.links links) (sym l) (each_self (Carries a.weather []) a.links (carries_none a.weather));
+  weather = same;
   dropped = dropped;
-  lost = (let s : dropped ≡ 0 + dropped = omega arith in is ∙ ap (lost_after a.lost) s);
-  used = t.used;
-  agenda = t.agenda;
-  asked = t.asked;
-  refused = t.refused;
-  place = t.place;
+  lost = (let s : dropped ≡ 0 + dropped = omega arith in is ∙ ap (counted_up a.lost) s);
 }
 
 no_tasks : (event : Event) (made : Bool) (a b : Node) → asked_of event ≡ [] → b.agenda ≡ a.agenda → b.refused ≡ a.refused → b.used ≡ a.used → Tasked event made a b
@@ -161,26 +175,29 @@ no_tasks event made a b none agenda refused used = record {
 takes_up_follows : (frame : Option (List ℕ)) (a b : Node) → TakesUp frame a b → Follows a b
 takes_up_follows None a b e = subst (λ (n : Node). Follows a n) (sym e) (follows_self a)
 takes_up_follows (Some f) a b (lost, (inl m), e) =
-    made_follows (event.Handle f) lost a b m (ap (λ (n : Node). n.lost) e) (no_tasks (event.Handle f) true a b refl (ap (λ (n : Node). n.agenda) e) (ap (λ (n : Node). n.refused) e) (ap (λ (n : Node). n.used) e))
+    made_follows (event.Handle f) lost a b m (ap (λ (n : Node). n.weather) e) (ap (λ (n : Node). n.lost) e) (no_tasks (event.Handle f) true a b refl (ap (λ (n : Node). n.agenda) e) (ap (λ (n : Node). n.refused) e) (ap (λ (n : Node). n.used) e))
 takes_up_follows (Some f) a b (lost, (inr i), e) =
-    idle_follows (event.Handle f) lost a b i.1.replica i.1.rings (ap (λ (n : Node). n.lost) e) (no_tasks (event.Handle f) false a b refl (ap (λ (n : Node). n.agenda) e) (ap (λ (n : Node). n.refused) e) (ap (λ (n : Node). n.used) e))
+    idle_follows (event.Handle f) lost a b i.1.replica i.1.rings (ap (λ (n : Node). n.weather) e) (ap (λ (n : Node). n.lost) e) (no_tasks (event.Handle f) false a b refl (ap (λ (n : Node). n.agenda) e) (ap (λ (n : Node). n.refused) e) (ap (λ (n : Node). n.used) e))
 
 pops_follows : (place : ℕ) (frame : Option (List ℕ)) (a : Node) (ys : List Link) → place < length a.links → PopsAt place frame a.links ys → Follows a (with_links a ys)
 pops_follows place frame a ys low p = record {
-  faults = refl;
-  me = refl;
-  entries = [];
-  journal = sym (append-nil a.replica.entries);
+  works = record {
+    faults = refl;
+    me = refl;
+    entries = [];
+    journal = sym (append-nil a.replica.entries);
+    used = [];
+    agenda = refl;
+    asked = refl;
+    refused = sym (append-nil a.refused);
+    place = refl;
+  };
   fates = [];
   frames = refl;
-  rings = pops_carries place frame a.links ys low p;
+  rings = pops_carries a.weather place frame a.links ys low p;
+  weather = refl;
   dropped = 0;
   lost = refl;
-  used = [];
-  agenda = refl;
-  asked = refl;
-  refused = sym (append-nil a.refused);
-  place = refl;
 }
 
 pub takes_at_follows : (place : ℕ) (moved : Bool) (a b : Node) → place < length a.links → TakesAt place moved a b → Follows a b
@@ -200,14 +217,14 @@ asked_task (GiveUp i) = refl
 asked_task (Recover i) = refl
 
 begins_follows : (moved : Bool) (a b : Node) → BeginsTask moved a b → Follows a b
-begins_follows true a b (task, rest, is, (inl (lost, m, e))) = made_follows (event_of task) lost a b m (ap (λ (n : Node). n.lost) e) record {
+begins_follows true a b (task, rest, is, (inl (lost, m, e))) = made_follows (event_of task) lost a b m (ap (λ (n : Node). n.weather) e) (ap (λ (n : Node). n.lost) e) record {
   used = record { task = task; refusal = None } ∷ [];
   agenda = is ∙ ap (λ (l : List Task). task ∷ l) (sym (ap (λ (n : Node). n.agenda) e));
   asked = asked_task task;
   refused = ap (λ (n : Node). n.refused) e ∙ sym (append-nil a.refused);
   place = ap (λ (n : Node). n.used) e;
 }
-begins_follows true a b (task, rest, is, (inr (fault, i, e))) = idle_follows (event_of task) 0 a b i.replica i.rings (ap (λ (n : Node). n.lost) e) record {
+begins_follows true a b (task, rest, is, (inr (fault, i, e))) = idle_follows (event_of task) 0 a b i.replica i.rings (ap (λ (n : Node). n.weather) e) (ap (λ (n : Node). n.lost) e) record {
   used = record { task = task; refusal = Some fault } ∷ [];
   agenda = is ∙ ap (λ (l : List Task). task ∷ l) (sym (ap (λ (n : Node). n.agenda) e));
   asked = refl;
@@ -223,20 +240,23 @@ executes_follows true a b h =
     let p : Applied a.replica (event.Execute x.0) e b.replica = x.2.1 in
     let is = h.1 in
     record {
-      faults = ap (λ (k : Kept). k.faults) p.appended;
-      me = ap (λ (k : Kept). k.me) p.appended;
-      entries = e ∷ [];
-      journal = ap (λ (k : Kept). k.entries) p.appended;
+      works = record {
+        faults = ap (λ (k : Kept). k.faults) p.appended;
+        me = ap (λ (k : Kept). k.me) p.appended;
+        entries = e ∷ [];
+        journal = ap (λ (k : Kept). k.entries) p.appended;
+        used = [];
+        agenda = sym (ap (λ (n : Node). n.agenda) is);
+        asked = append-nil (asked_of e.event) ∙ ap asked_of p.event;
+        refused = ap (λ (n : Node). n.refused) is ∙ sym (append-nil a.refused);
+        place = ap (λ (n : Node). n.used) is;
+      };
       fates = [];
       frames = sym (append-nil e.frames ∙ no_frames a.replica b.replica x.0 e p);
-      rings = subst (λ (l : List Link). Each (Carries []) a.links l) (sym (ap (λ (n : Node). n.links) is)) (each_self (Carries []) a.links carries_none);
+      rings = subst (λ (l : List Link). Each (Carries a.weather []) a.links l) (sym (ap (λ (n : Node). n.links) is)) (each_self (Carries a.weather []) a.links (carries_none a.weather));
+      weather = ap (λ (n : Node). n.weather) is;
       dropped = 0;
       lost = ap (λ (n : Node). n.lost) is;
-      used = [];
-      agenda = sym (ap (λ (n : Node). n.agenda) is);
-      asked = append-nil (asked_of e.event) ∙ ap asked_of p.event;
-      refused = ap (λ (n : Node). n.refused) is ∙ sym (append-nil a.refused);
-      place = ap (λ (n : Node). n.used) is;
     }
 executes_follows false a b h =
     let same : b ≡ a = h.1 ∙ ap (λ (k : Kept). record a { replica = k }) h.0.1 in
@@ -249,12 +269,12 @@ turn_follows moved a b t =
     (executes_follows t.executed t.after_task b t.executes)
 
 -- a number that is counted up by so many, as far as the top
-counted_up : (n k : ℕ) → n ≤ 18446744073709551615 → min (n + k) 18446744073709551615 ≡ lost_after n k
-counted_up n zero low = omega arith
-counted_up n (suc k) low = let e = counted_up n k low in grind (arith, e)
+counts_to : (n k : ℕ) → n ≤ 18446744073709551615 → min (n + k) 18446744073709551615 ≡ counted_up n k
+counts_to n zero low = omega arith
+counts_to n (suc k) low = let e = counts_to n k low in grind (arith, e)
 
-pub counts : (n k : ℕ) → n < 18446744073709551616 → min (n + k) 18446744073709551615 ≡ lost_after n k
-counts n k low = counted_up n k (omega arith)
+pub counts : (n k : ℕ) → n < 18446744073709551616 → min (n + k) 18446744073709551615 ≡ counted_up n k
+counts n k low = counts_to n k (omega arith)
 
 pub next_is : (n : ℕ) → n < 4294967296 → min (n + 1) 4294967295 ≡ next_place n
 next_is n low = grind (arith)
@@ -263,20 +283,23 @@ next_is n low = grind (arith)
 
 ends_follows : (a : Node) (ended : Bool) → Follows a (record a { ended = ended })
 ends_follows a ended = record {
-  faults = refl;
-  me = refl;
-  entries = [];
-  journal = sym (append-nil a.replica.entries);
+  works = record {
+    faults = refl;
+    me = refl;
+    entries = [];
+    journal = sym (append-nil a.replica.entries);
+    used = [];
+    agenda = refl;
+    asked = refl;
+    refused = sym (append-nil a.refused);
+    place = refl;
+  };
   fates = [];
   frames = refl;
-  rings = each_self (Carries []) a.links carries_none;
+  rings = each_self (Carries a.weather []) a.links (carries_none a.weather);
+  weather = refl;
   dropped = 0;
   lost = refl;
-  used = [];
-  agenda = refl;
-  asked = refl;
-  refused = sym (append-nil a.refused);
-  place = refl;
 }
 
 pub runs_end : (a b : Node) (ended : Bool) → Follows a b → (ended ≡ true → b.agenda ≡ []) → Runs a (record b { ended = ended })

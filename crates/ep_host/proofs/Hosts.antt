@@ -11,11 +11,10 @@ use Rattle.ep_host.specs.Pointwise.{Each}
 use Rattle.ep_host.specs.Rings.{KeepsLink, IsTaken, IsOut, place, peer_at, frames_handled}
 use Rattle.ep_host.specs.Sent.{frames_of}
 use Rattle.ep_host.specs.declared.link.Link.{Link}
-use Rattle.ep_host.specs.Fates.{Fate, Carries}
 use Rattle.ep_host.specs.Turns.{Assigns}
 use Rattle.ep_host.specs.declared.task.Task.{Task}
-use Rattle.ep_host.proofs.Booking.{peers_still}
-use Rattle.ep_host.proofs.Fated.{carries_none}
+use Rattle.ep_host.proofs.Booking.{peers_still, carried_keep}
+use Rattle.ep_host.proofs.Fated.{keeps_self}
 use Rattle.ep_host.proofs.Places.{each_self, each_set, each_weaker}
 
 -- numbers of nodes and places of links
@@ -32,7 +31,7 @@ peer_low i k n l a b e = grind (arith)
 peer_other : (i k : ℕ) → peer_at i k ≢ i
 peer_other i k = λ e. grind (arith, e)
 
-place_peer : (i k : ℕ) → place i (peer_at i k) ≡ k
+pub place_peer : (i k : ℕ) → place i (peer_at i k) ≡ k
 place_peer i k = grind (arith)
 
 pub has_link : (f : ℕ) (nodes : List Node) (i j : ℕ) (d : Node) → IsHost f nodes → i < length nodes → j < length nodes → i ≢ j → HasLink (get_or nodes i d) (get_or nodes j d).replica.me
@@ -52,24 +51,23 @@ kept_pair : (a b a' b' : Link) → KeepsLink a a' → KeepsLink b b' → IsPair 
 kept_pair a b a' b' q r p = let s = q.to.0 in let t = r.from.0 in
     (t.0 ∙ p.0 ∙ sym s.0, t.1 ∙ p.1 ∙ sym s.1, t.2 ∙ p.2 ∙ sym s.2, t.3 ∙ p.3 ∙ sym s.3)
 
--- the same node with the same ends of rings, through which more may have gone
+-- the same replica's node with the same ends of rings
 pub record Stays (a b : Node) : Type 0 where
   pub faults : b.replica.faults ≡ a.replica.faults
   pub me : b.replica.me ≡ a.replica.me
-  pub fates : List Fate
-  pub rings : Each (Carries fates) a.links b.links
+  pub rings : Each KeepsLink a.links b.links
 
 pub stays_after : (a b : Node) → Follows a b → Stays a b
-stays_after a b h = record { faults = h.faults; me = h.me; fates = h.fates; rings = h.rings }
+stays_after a b h = record { faults = h.works.faults; me = h.works.me; rings = carried_keep a.weather h.fates a.links b.links h.rings }
 
 pub stays_self : (a : Node) → Stays a a
-stays_self a = record { faults = refl; me = refl; fates = []; rings = each_self (Carries []) a.links carries_none }
+stays_self a = record { faults = refl; me = refl; rings = each_self KeepsLink a.links keeps_self }
 
 pub stays_assigned : (a b : Node) (task : Task) → Assigns a task b → Stays a b
-stays_assigned a b task is = subst (λ (n : Node). Stays a n) (sym is) record { faults = refl; me = refl; fates = []; rings = each_self (Carries []) a.links carries_none }
+stays_assigned a b task is = subst (λ (n : Node). Stays a n) (sym is) record { faults = refl; me = refl; rings = each_self KeepsLink a.links keeps_self }
 
 kept_paired : (a b a' b' : Node) → Stays a a' → Stays b b' → HasLink a b.replica.me → HasLink b a.replica.me → Paired a b → Paired a' b'
-kept_paired a b a' b' la lb ha hb p = λ e. rw (la.me, lb.me) (kept_pair _ _ _ _ (la.rings.at (place a.replica.me b.replica.me) e ha.0).keeps (lb.rings.at (place b.replica.me a.replica.me) e hb.0).keeps (p e))
+kept_paired a b a' b' la lb ha hb p = λ e. rw (la.me, lb.me) (kept_pair _ _ _ _ (la.rings.at (place a.replica.me b.replica.me) e ha.0) (lb.rings.at (place b.replica.me a.replica.me) e hb.0) (p e))
 
 pub host_stays : (f : ℕ) (xs ys : List Node) → Each Stays xs ys → IsHost f xs → IsHost f ys
 host_stays f xs ys h host = record {
@@ -77,7 +75,7 @@ host_stays f xs ys h host = record {
   faults = λ i d low. let l : i < length xs = omega (arith, h.len) in (h.at i d l).faults ∙ host.faults i d l;
   me = λ i d low. let l : i < length xs = omega (arith, h.len) in (h.at i d l).me ∙ host.me i d l;
   links = λ i d low. let l : i < length xs = omega (arith, h.len) in let n = (h.at i d l).rings.len in let m = host.links i d l in omega (arith, h.len, n, m);
-  peers = λ i d low. let l : i < length xs = omega (arith, h.len) in peers_still i (h.at i d l).fates (get_or xs i d).links (get_or ys i d).links (h.at i d l).rings (host.peers i d l);
+  peers = λ i d low. let l : i < length xs = omega (arith, h.len) in peers_still i (get_or xs i d).links (get_or ys i d).links (h.at i d l).rings (host.peers i d l);
   paired = λ i j d less low. let l : i < length xs = omega (arith, h.len) in let m : j < length xs = omega arith in
       let p = host_both f xs i j d host less l in
       let fj = h.at j d m in let fi = h.at i d l in

@@ -7,6 +7,8 @@ pub mod Booking
 pub mod Following
 pub mod Looking
 pub mod Hosts
+pub mod Releasing
+pub mod Naming
 pub mod Turning
 pub mod Hosting
 pub mod Accepting

@@ -10,26 +10,26 @@ use Rattle.ep_host.proofs.Hosts.{Stays, host_stays}
 use Rattle.ep_host.specs.Host.{IsHost, Quiet, Looked, Paired, Begins, HasLink, PairedBoth, BeginsBoth}
 use Rattle.ep_host.specs.Node.{Node}
 use Rattle.ep_host.specs.Pointwise.{Each}
-use Rattle.ep_host.specs.Rings.{IsBooked, place}
+use Rattle.ep_host.specs.Rings.{KeepsLink, IsBooked, place}
 use Rattle.ep_host.specs.declared.link.Link.{Link}
 use Rattle.ep_host.proofs.Booking.{carries_still}
 use Rattle.ep_host.proofs.Fated.{keeps_self, keeps_keeps}
 use Rattle.ep_host.proofs.Places.{each_set, each_self, each_weaker, each_each}
 
 pub quiet_self : (a : Link) → Quiet a a
-quiet_self a = record { keeps = keeps_self a; put = refl; taken = refl }
+quiet_self a = record { keeps = keeps_self a; put = refl; taken = refl; held = refl; count = refl }
 
 quiet_quiet : (a b c : Link) → Quiet a b → Quiet b c → Quiet a c
-quiet_quiet a b c h k = record { keeps = keeps_keeps a b c h.keeps k.keeps; put = k.put ∙ h.put; taken = k.taken ∙ h.taken }
+quiet_quiet a b c h k = record { keeps = keeps_keeps a b c h.keeps k.keeps; put = k.put ∙ h.put; taken = k.taken ∙ h.taken; held = k.held ∙ h.held; count = k.count ∙ h.count }
 
 pub looks_at : (xs : List Link) (i : ℕ) (y was : Link) → was ≡ get_or xs i was → i < length xs → Quiet was y → Each Quiet xs (set xs i y)
 looks_at xs i y was is low q = each_set Quiet xs i y was quiet_self low (subst (λ (a : Link). Quiet a y) is q)
 
-quiet_carries : (a b : Link) → Quiet a b → Carries [] a b
-quiet_carries a b q = record { keeps = q.keeps; put = q.put ∙ sym (append-nil (sent a.to)); taken = ([], append-nil (received a.from) ∙ sym q.taken) }
+quiet_carries : (a b : Link) → Quiet a b → Carries [] [] a b
+quiet_carries a b q = record { keeps = q.keeps; put = q.put ∙ sym (append-nil (sent a.to)); taken = ([], append-nil (received a.from) ∙ sym q.taken); held = q.held ∙ sym (append-nil a.held); count = q.count; obeys = tt }
 
 pub looks_keep : (me : ℕ) (es : List Entry) (before after : List Link) → Each Quiet before after → IsBooked me es before → IsBooked me es after
-looks_keep me es before after h was = carries_still me es before after (each_weaker Quiet (Carries []) quiet_carries before after h) was
+looks_keep me es before after h was = carries_still [] me es before after (each_weaker Quiet (Carries [] []) quiet_carries before after h) was
 
 begins_link : (a b a' b' : Link) → Quiet a a' → Quiet b b' → IsPrefix (received b'.from) (sent a'.to) → IsPrefix (received b.from) (sent a.to)
 begins_link a b a' b' q r p = (p.0, ap (λ (l : List (List ℕ)). l ++ p.0) (sym r.taken) ∙ p.1 ∙ q.put)
@@ -65,8 +65,11 @@ looked_link a b a' b' la lb h = rw (me_is a a' la, me_is b b' lb) ((omega (arith
 pub looked_both : (a b a' b' : Node) → Looked a a' → Looked b b' → PairedBoth a b → PairedBoth a' b'
 looked_both a b a' b' la lb p = (looked_paired a b a' b' la lb p.2 p.3 p.0, looked_paired b a b' a' lb la p.3 p.2 p.1, looked_link a b a' b' la lb p.2, looked_link b a b' a' lb la p.3)
 
+quiet_keeps : (a b : Link) → Quiet a b → KeepsLink a b
+quiet_keeps a b q = q.keeps
+
 looked_stays : (a b : Node) → Looked a b → Stays a b
-looked_stays a b l = record { faults = ap (λ (k : Kept). k.faults) l.replica; me = me_is a b l; fates = []; rings = each_weaker Quiet (Carries []) quiet_carries a.links b.links l.links }
+looked_stays a b l = record { faults = ap (λ (k : Kept). k.faults) l.replica; me = me_is a b l; rings = each_weaker Quiet KeepsLink quiet_keeps a.links b.links l.links }
 
 pub host_looked : (f : ℕ) (xs ys : List Node) → Each Looked xs ys → IsHost f xs → IsHost f ys
 host_looked f xs ys h host = host_stays f xs ys (each_weaker Looked Stays looked_stays xs ys h) host

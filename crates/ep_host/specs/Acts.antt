@@ -9,12 +9,13 @@ use Rattle.ep_replica.specs.Kept.{Kept}
 use Rattle.ep_host.specs.Fates.{IsSent}
 use Rattle.ep_host.specs.Tending.{lost_by}
 use Rattle.ep_host.specs.declared.link.Link.{Link}
+use Rattle.ep_host.specs.declared.weather.Weather.{Weather}
 
--- the event made its entry, whose frames were put into their rings, but so many that are lost
-pub record Made (event : Event) (lost : ℕ) (old new : Kept) (before after : List Link) : Type 0 where
+-- the event made its entry, whose frames went out in this weather, and so many are lost
+pub record Made (ws : List Weather) (event : Event) (lost : ℕ) (old new : Kept) (before after : List Link) : Type 0 where
   pub entry : Entry
   pub applied : Applied old event entry new
-  pub sent : IsSent entry.frames lost before after
+  pub sent : IsSent ws entry.frames lost before after
 
 -- the event was refused for this reason, and all is as it was
 pub record IsIdle (event : Event) (fault : StepFault) (old new : Kept) (before after : List Link) : Type 0 where
@@ -23,5 +24,5 @@ pub record IsIdle (event : Event) (fault : StepFault) (old new : Kept) (before a
   pub rings : after ≡ before
 
 -- the frame made its entry, or was refused; so many frames are lost, itself among them where there was no memory for it
-abbrev pub IsHandled : List ℕ → ℕ → Kept → Kept → List Link → List Link → Type 0
-IsHandled b lost old new before after = Made (Handle b) lost old new before after ⊎ ((fault : StepFault) × IsIdle (Handle b) fault old new before after × (lost ≡ lost_by fault))
+abbrev pub IsHandled : List Weather → List ℕ → ℕ → Kept → Kept → List Link → List Link → Type 0
+IsHandled ws b lost old new before after = Made ws (Handle b) lost old new before after ⊎ ((fault : StepFault) × IsIdle (Handle b) fault old new before after × (lost ≡ lost_by fault))

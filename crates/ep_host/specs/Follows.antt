@@ -3,31 +3,35 @@ use Rattle.std.specs.Prelude.{◌≡◌, ℕ, ◌+◌, ◌-◌, ◌<◌, ◌≤�
 use Rattle.ep_rules.specs.Journals.{asked_in}
 use Rattle.ep_journal.specs.Entries.{entries_of}
 use Rattle.ep_journal.specs.declared.entry.Entry.{Entry}
-use Rattle.ep_host.specs.Fates.{Fate, frames_in, lost_in, Carries, lost_after}
+use Rattle.ep_host.specs.Fates.{Fate, frames_in, lost_in, Carries, counted_up}
 use Rattle.ep_host.specs.Node.{Node}
 use Rattle.ep_host.specs.Pointwise.{Each}
 use Rattle.ep_host.specs.Sent.{frames_of}
 use Rattle.ep_host.specs.Tasks.{Use, tasks_in, events_in, refusals_in, place_after}
 
--- the same node with more entries
-pub record Follows (a b : Node) : Type 0 where
+-- the same replica's node with more entries
+pub record Works (a b : Node) : Type 0 where
   pub faults : b.replica.faults ≡ a.replica.faults
   pub me : b.replica.me ≡ a.replica.me
   pub entries : List Entry
   pub journal : b.replica.entries ≡ a.replica.entries ++ entries
-  -- each frame out of them, in order, was put into its ring or is lost
-  pub fates : List Fate
-  pub frames : frames_in fates ≡ frames_of entries
-  pub rings : Each (Carries fates) a.links b.links
-  -- so many frames that were taken are lost, for want of memory
-  pub dropped : ℕ
-  pub lost : b.lost ≡ lost_after a.lost (lost_in fates + dropped)
   -- tasks from the agenda's head on are used up: each made its entry or was refused, in order
   pub used : List Use
   pub agenda : a.agenda ≡ tasks_in used ++ b.agenda
   pub asked : asked_in (entries_of entries) ≡ events_in used
   pub refused : b.refused ≡ a.refused ++ refusals_in a.used used
   pub place : b.used ≡ place_after a.used used
+
+-- what turns leave: the same, and what became of each frame out of the entries, in order
+pub record Follows (a b : Node) : Type 0 where
+  pub works : Works a b
+  pub fates : List Fate
+  pub frames : frames_in fates ≡ frames_of works.entries
+  pub rings : Each (Carries a.weather fates) a.links b.links
+  pub weather : b.weather ≡ a.weather
+  -- so many frames that were taken are lost, for want of memory
+  pub dropped : ℕ
+  pub lost : b.lost ≡ counted_up a.lost (lost_in fates + dropped)
 
 abbrev pub HasEnded : Node → Type 0
 HasEnded n = n.agenda ≡ []
@@ -36,6 +40,12 @@ HasEnded n = n.agenda ≡ []
 pub record Runs (a b : Node) : Type 0 where
   pub follows : Follows a b
   pub ended : b.ended ≡ true → HasEnded b
+
+-- the node at this place is the first that hasn't ended
+pub record IsFirstUnended (nodes : List Node) (place : ℕ) : Type 0 where
+  pub low : place < length nodes
+  pub left : (d : Node) → (slice_index_or nodes place d).ended ≡ false
+  pub ended : (i : ℕ) (d : Node) → i < place → (slice_index_or nodes i d).ended ≡ true
 
 -- the node at this place is the first that hasn't ended: those before it have, with empty agendas
 pub record IsFirstLeft (nodes : List Node) (place : ℕ) : Type 0 where

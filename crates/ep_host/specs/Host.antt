@@ -34,11 +34,13 @@ pub record IsFresh (n : Node) : Type 0 where
 
 -- What looks at both ends tell.
 
--- a look leaves what was put and taken
+-- a look leaves what was put, taken, held and counted
 pub record Quiet (a b : Link) : Type 0 where
   pub keeps : KeepsLink a b
   pub put : sent b.to ≡ sent a.to
   pub taken : received b.from ≡ received a.from
+  pub held : b.held ≡ a.held
+  pub count : b.count ≡ a.count
 
 -- looks leave all but what the ends know of one another
 pub record Looked (a b : Node) : Type 0 where

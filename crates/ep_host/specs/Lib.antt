@@ -4,11 +4,13 @@ pub mod Finishing
 pub mod Asking
 pub mod Pointwise
 pub mod Tasks
+pub mod Weathers
 pub mod Rings
 pub mod Fates
 pub mod Node
 pub mod Acts
 pub mod Turns
+pub mod Setting
 pub mod Follows
 pub mod Host
 pub mod Joins

@@ -33,6 +33,8 @@ pub record PopsAt (place : ℕ) (frame : Option (List ℕ)) (xs ys : List Link) 
   pub keeps : (d : Link) → KeepsLink (slice_index_or xs place d) link
   pub put : (d : Link) → sent link.to ≡ sent (slice_index_or xs place d).to
   pub taken : (d : Link) → received link.from ≡ received (slice_index_or xs place d).from ++ option_to_list frame
+  pub held : (d : Link) → link.held ≡ (slice_index_or xs place d).held
+  pub count : (d : Link) → link.count ≡ (slice_index_or xs place d).count
 
 -- The account.
 
@@ -57,13 +59,15 @@ IsOut es peer b = Contains (frames_of es) b × ((origin_at b).to ≡ peer)
 abbrev pub IsTaken : List Link → List ℕ → Type 0
 IsTaken links b = Any (λ (l : Link). Contains (received l.from) b) links
 
--- each frame that was put is one out of an entry of the journal, to that peer; each frame that was handled was taken from one of the rings
+-- each frame that was put, or is held, is one out of an entry of the journal, to that peer; each frame that was handled was taken from one of the rings
 pub record IsBooked (me : ℕ) (es : List Entry) (links : List Link) : Type 0 where
   pub peers : ArePeers me links
   pub put : All (λ (l : Link). All (IsOut es l.peer) (sent l.to)) links
+  pub held : All (λ (l : Link). All (IsOut es l.peer) l.held) links
   pub taken : All (IsTaken links) (frames_handled es)
 
--- a link to the next peer, through which nothing went
+-- a link to the next peer, through which nothing went, and which holds nothing
 pub record IsFreshLink (me : ℕ) (links : List Link) (l : Link) : Type 0 where
   pub peer : l.peer ≡ peer_at me (length links)
   pub put : sent l.to ≡ []
+  pub held : l.held ≡ []

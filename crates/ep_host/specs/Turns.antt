@@ -3,7 +3,7 @@ use Rattle.std.specs.Prelude.{◌≡◌, ◌⊎◌, ℕ, Bool, true, false, ◌|
 use Rattle.ep_journal.specs.declared.step_fault.StepFault.{StepFault}
 use Rattle.ep_replica.specs.Pending.{ExecutesNext}
 use Rattle.ep_host.specs.Acts.{Made, IsIdle, IsHandled}
-use Rattle.ep_host.specs.Fates.{lost_after}
+use Rattle.ep_host.specs.Fates.{counted_up}
 use Rattle.ep_host.specs.Node.{Node}
 use Rattle.ep_host.specs.Rings.{PopsAt}
 use Rattle.ep_host.specs.Tasks.{event_of, next_place}
@@ -31,7 +31,7 @@ with_links a links = record a { links = links }
 -- the frame, if there is one, is handled, and what is lost is counted
 abbrev pub TakesUp : Option (List ℕ) → Node → Node → Type 0
 TakesUp None a b = b ≡ a
-TakesUp (Some f) a b = (lost : ℕ) × IsHandled f lost a.replica b.replica a.links b.links × (b ≡ record a { replica = b.replica; links = b.links; lost = lost_after a.lost lost })
+TakesUp (Some f) a b = (lost : ℕ) × IsHandled a.weather f lost a.replica b.replica a.links b.links × (b ≡ record a { replica = b.replica; links = b.links; lost = counted_up a.lost lost })
 
 -- at most one frame is taken from the ring at a place, and handled
 pub record TakesAt (place : ℕ) (moved : Bool) (a b : Node) : Type 0 where
@@ -49,7 +49,7 @@ Takes (suc k) moved a b = (c : Node) × (before : Bool) × (now : Bool) × (move
 -- the task makes its entry, whose lost frames are counted; or it is refused, and listed with this place
 abbrev pub UsesUp : Task → ℕ → Node → Node → Type 0
 UsesUp task place a b =
-    ((lost : ℕ) × Made (event_of task) lost a.replica b.replica a.links b.links × (b ≡ record a { replica = b.replica; links = b.links; lost = lost_after a.lost lost }))
+    ((lost : ℕ) × Made a.weather (event_of task) lost a.replica b.replica a.links b.links × (b ≡ record a { replica = b.replica; links = b.links; lost = counted_up a.lost lost }))
     ⊎ ((fault : StepFault) × IsIdle (event_of task) fault a.replica b.replica a.links b.links × (b ≡ record a { refused = a.refused ++ (place, fault) ∷ [] }))
 
 -- the agenda's head is used up; or the agenda is empty, and all is as it was

@@ -9,6 +9,7 @@ ghost use Rattle.ep_host.specs.Acts.{Made, IsHandled};
 use crate::link::Link;
 use crate::putting::send;
 use crate::tending::lost_by;
+use crate::weather::Weather;
 use ep_frame::Frame;
 use ep_journal::{Event, StepFault};
 use ep_replica::Replica;
@@ -22,24 +23,34 @@ fn last_frames(replica: &Replica) -> &[Frame]
     entries[entries.len() - 1].frames.as_slice()
 }
 
-/// Takes the event, and puts the frames of its entry into their rings. Answers how many of them are lost.
-pub fn act(replica: &mut Replica, links: &mut Vec<Link>, event: Event) -> Result<u64, StepFault>
+/// Takes the event, and does with the frames of its entry what the weather says. Answers how many of them are lost.
+pub fn act(
+    replica: &mut Replica,
+    links: &mut Vec<Link>,
+    weather: &[Weather],
+    event: Event,
+) -> Result<u64, StepFault>
     requires { ArePeers replica.old.me links.old.items }
-    ensures ok { IfOk result (λ lost. Made event lost replica.old replica.new links.old.items links.new.items) }
+    ensures ok { IfOk result (λ lost. Made weather.now event lost replica.old replica.new links.old.items links.new.items) }
     ensures refused { IfErr result (λ fault. IsDeclined replica.old event fault) }
     ensures err { OnErr result ((replica.new ≡ replica.old) × (links.new.items ≡ links.old.items)) }
 {
     replica.take(event)?;
-    Ok(send(replica.me(), links, last_frames(replica)))
+    Ok(send(replica.me(), links, weather, last_frames(replica)))
 }
 
 /// Handles a frame that was taken, and answers how many frames are lost. One that is refused is dropped, and is lost where it was refused
 /// for want of memory.
-pub fn handle(replica: &mut Replica, links: &mut Vec<Link>, frame: Frame) -> u64
+pub fn handle(
+    replica: &mut Replica,
+    links: &mut Vec<Link>,
+    weather: &[Weather],
+    frame: Frame,
+) -> u64
     requires { ArePeers replica.old.me links.old.items }
-    ensures { IsHandled frame result replica.old replica.new links.old.items links.new.items }
+    ensures { IsHandled weather.now frame result replica.old replica.new links.old.items links.new.items }
 {
-    match act(replica, links, Event::Handle(frame)) {
+    match act(replica, links, weather, Event::Handle(frame)) {
         Ok(lost) => lost,
         Err(fault) => lost_by(&fault),
     }

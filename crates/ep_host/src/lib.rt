@@ -13,6 +13,8 @@
 //! specs/Turns.antt (one turn, exactly), specs/Follows.antt (what any turns leave) and specs/Host.antt (the nodes of one host), then
 //! `ring_node.rt`. What a node put into a ring is a frame out of an entry of its journal, and what it handled it took from one of its rings,
 //! by its type. Both ends of all rings together then say that all that was handled was sent, so `finish` never finds a fault.
+//! A node may have a weather (specs/Weathers.antt): frames for a peer are counted, and those that it names are dropped, held or put twice
+//! (specs/Fates.antt). What is held is put once the host releases it (specs/Setting.antt).
 //!
 //! No clause says that a thread gets on.
 #![tactic(auto)]
@@ -20,10 +22,12 @@
 mod account;
 mod act;
 mod acting;
+mod delivery;
 mod finished;
 mod finishing;
 mod gate;
 mod gate_unpassed;
+mod held;
 mod host_fault;
 mod link;
 mod lock_host;
@@ -35,12 +39,15 @@ mod running;
 mod seat;
 pub mod sections;
 mod sending;
+mod setting;
 mod settling;
 mod task;
 mod tended;
 mod tending;
 mod threads;
 mod turn;
+mod weather;
+mod weather_kind;
 
 pub use account::are_accepted;
 pub use act::Act;
@@ -59,6 +66,8 @@ pub use tended::Tended;
 pub use tending::tend;
 pub use threads::section;
 pub use turn::Turn;
+pub use weather::Weather;
+pub use weather_kind::WeatherKind;
 
 #[cfg(test)]
 mod ring_tests;

@@ -5,7 +5,9 @@ ghost use Rattle.ep_host.specs.Pointwise.{Each};
 ghost use Rattle.ep_host.specs.Rings.{ArePeers, place};
 ghost use Rattle.ep_host.specs.Fates.{fate, Sends, IsSent};
 
+use crate::delivery::Delivery;
 use crate::link::Link;
+use crate::weather::{Weather, kind_at};
 use ep_base::ReplicaId;
 use ep_frame::Frame;
 
@@ -21,40 +23,28 @@ pub fn place(me: ReplicaId, peer: ReplicaId) -> usize
     }
 }
 
-/// Puts the frame into the ring to its receiver. `false` where there is no such ring, and where it is full.
-fn put(me: ReplicaId, links: &mut Vec<Link>, frame: Frame) -> bool
+/// Does with the frame what the weather says, by the ring to its receiver. Where there is no such ring, it is lost.
+fn send_one(me: ReplicaId, links: &mut Vec<Link>, weather: &[Weather], frame: &Frame) -> Delivery
     requires { ArePeers me links.old.items }
-    ensures { Each (Sends (fate frame result ∷ [])) links.old.items links.new.items }
+    ensures { Each (Sends weather.now (fate frame.now result ∷ [])) links.old.items links.new.items }
 {
     let peer = frame.origin().to;
     let place = place(me, peer);
     if place >= links.len() || links[place].peer != peer {
-        return false;
+        return Delivery::Put(false);
     }
-    links[place].put(frame)
+    let count = links[place].count.saturating_add(1);
+    links[place].send(kind_at(weather, peer, count), frame)
 }
 
-/// Puts the frame, once more, into the ring to its receiver. `false` where it is lost.
-fn send_one(me: ReplicaId, links: &mut Vec<Link>, frame: &Frame) -> bool
+/// Does with the frames, in order, what the weather says, and counts those that are lost.
+pub fn send(me: ReplicaId, links: &mut Vec<Link>, weather: &[Weather], frames: &[Frame]) -> u64
     requires { ArePeers me links.old.items }
-    ensures { Each (Sends (fate frame.now result ∷ [])) links.old.items links.new.items }
-{
-    match frame.clone() {
-        Ok(frame) => put(me, links, frame),
-        Err(_) => false,
-    }
-}
-
-/// Puts the frames, in order, into their rings, and counts those that are lost.
-pub fn send(me: ReplicaId, links: &mut Vec<Link>, frames: &[Frame]) -> u64
-    requires { ArePeers me links.old.items }
-    ensures { IsSent frames.now result links.old.items links.new.items }
+    ensures { IsSent weather.now frames.now result links.old.items links.new.items }
 {
     let mut lost = 0u64;
     for frame in frames {
-        if !send_one(me, links, frame) {
-            lost += 1;
-        }
+        lost += send_one(me, links, weather, frame).lost();
     }
     lost
 }

@@ -4,9 +4,12 @@ ghost use Rattle.std.specs.Prelude.{◌≡◌, ◌≤◌, ◌<◌, IfOk, OnOk};
 ghost use Rattle.ep_base.specs.Quorums.{size};
 ghost use Rattle.ep_host.specs.Joins.{Joins, CanJoin};
 
+use crate::held::Held;
+use crate::host_fault::HostFault;
 use crate::link::Link;
 use crate::ring_node::RingNode;
 use crate::task::Task;
+use crate::weather::Weather;
 use ep_base::{ReplicaId, Size};
 use ep_replica::Replica;
 use rtrb::RingBuffer;
@@ -29,11 +32,15 @@ fn join_nodes(
         peer: b_me,
         to: a_to_b,
         from: a_from_b,
+        count: 0,
+        held: Held::new(alloc),
     })?;
     b.add_link(Link {
         peer: a_me,
         to: b_to_a,
         from: b_from_a,
+        count: 0,
+        held: Held::new(alloc),
     })?;
     Ok(())
 }
@@ -42,8 +49,10 @@ fn join_nodes(
 pub struct RingHost;
 
 impl RingHost {
-    ghost use Rattle.std.specs.Prelude.{◌≤◌, ◌<◌, ℕ, length, IfOk, OnOk, All};
+    ghost use Rattle.std.specs.Prelude.{◌≤◌, ◌<◌, ◌≡◌, ℕ, length, IfOk, IfErr, OnOk, OnErr, All};
     ghost use Rattle.ep_host.specs.Host.{IsHost, IsFresh};
+    ghost use Rattle.ep_host.specs.Pointwise.{Each};
+    ghost use Rattle.ep_host.specs.Setting.{SetsWeatherAt, IsUnsetAt, IsReleased};
     ghost use Rattle.ep_host.specs.Turns.{AssignsAt};
 
     /// The nodes of a cluster of this size, before any event and without tasks. Each ring has room for so many frames.
@@ -71,5 +80,30 @@ impl RingHost {
         ensures host { (f : ℕ) → IsHost f nodes.old → IsHost f nodes.new }
     {
         nodes[node].assign(task)
+    }
+
+    /// Sets the weather of one of the nodes of a host, which stays one, as `RingNode::set_weather` does.
+    pub fn set_weather_at(
+        nodes: &mut [RingNode],
+        node: usize,
+        weather: &[Weather],
+    ) -> Result<(), HostFault>
+        requires { node < length nodes.old }
+        ensures ok { OnOk result (SetsWeatherAt node weather.now nodes.old nodes.new) }
+        ensures refused { IfErr result (IsUnsetAt node weather.now nodes.old) }
+        ensures err { OnErr result (nodes.new ≡ nodes.old) }
+        ensures host { (f : ℕ) → IsHost f nodes.old → IsHost f nodes.new }
+    {
+        nodes[node].set_weather(weather)
+    }
+
+    /// Puts the held frames of each node of a host, which stays one, into their rings, as `RingNode::release` does.
+    pub fn release(nodes: &mut [RingNode])
+        ensures released { Each IsReleased nodes.old nodes.new }
+        ensures host { (f : ℕ) → IsHost f nodes.old → IsHost f nodes.new }
+    {
+        for place in 0..nodes.len() {
+            nodes[place].release();
+        }
     }
 }

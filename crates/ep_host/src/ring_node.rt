@@ -3,9 +3,12 @@
 ghost use Rattle.std.specs.Prelude.{◌≡◌};
 
 use crate::acting::{act, handle, pop};
+use crate::host_fault::HostFault;
 use crate::link::Link;
+use crate::setting::{count_anew, make_room, release_all, replace};
 use crate::task::Task;
 use crate::turn::Turn;
+use crate::weather::{Weather, is_weather_at};
 use ep_base::ReplicaId;
 use ep_journal::{Journal, StepFault};
 use ep_replica::Replica;
@@ -22,6 +25,7 @@ use std::marker::Model;
 pub struct RingNode {
     pub(crate) replica: Replica,
     pub(crate) links: Vec<Link>,
+    weather: Vec<Weather>,
     pub(crate) agenda: VecDeque<Task>,
     refused: Vec<(u32, StepFault)>,
     // How many tasks were used up.
@@ -39,13 +43,13 @@ impl Model for RingNode {
 
     ghost Value = { Node };
 
-    ghost view = { λ n. record { replica = n.replica; links = n.links.items; agenda = n.agenda.items; refused = n.refused.items; used = n.used; lost = n.lost; ended = n.ended } };
+    ghost view = { λ n. record { replica = n.replica; links = n.links.items; weather = n.weather.items; agenda = n.agenda.items; refused = n.refused.items; used = n.used; lost = n.lost; ended = n.ended } };
 
     ghost invariant = { λ n. IsBooked n.replica.me n.replica.entries n.links.items × (vec_len n.refused + deque_len n.agenda ≤ vec_capacity n.refused) };
 }
 
 impl RingNode {
-    ghost use Rattle.std.specs.Prelude.{◌≡◌, ◌<◌, ◌++◌, ◌∷◌, [], false, length, IfOk, OnOk, OnErr};
+    ghost use Rattle.std.specs.Prelude.{◌≡◌, ◌<◌, ◌++◌, ◌∷◌, [], false, length, IfOk, IfErr, OnOk, OnErr};
     ghost use Rattle.ep_journal.specs.Entries.{entries_of};
     ghost use Rattle.ep_replica.specs.Receipts.{receipts_after};
     ghost use Rattle.ep_rules.specs.Verdicts.{IsOwn};
@@ -55,6 +59,8 @@ impl RingNode {
     ghost use Rattle.ep_host.specs.Rings.{IsBooked, IsFreshLink};
     ghost use Rattle.ep_host.specs.Turns.{Assigns, TakesAt, Takes, BeginsTask, ExecutesOwn, IsTurn, has_moved};
     ghost use Rattle.ep_host.specs.Follows.{Follows};
+    ghost use Rattle.ep_host.specs.Setting.{SetsWeather, IsUnset, IsReleased};
+    ghost use Rattle.ep_host.specs.Weathers.{IsWeatherAt};
 
     /// A node without rings and tasks.
     pub(crate) fn new(alloc: Global, replica: Replica) -> RingNode
@@ -64,6 +70,7 @@ impl RingNode {
         RingNode {
             replica,
             links: Vec::new(alloc),
+            weather: Vec::new(alloc),
             agenda: VecDeque::new(alloc),
             refused: Vec::new(alloc),
             used: 0,
@@ -117,6 +124,7 @@ impl RingNode {
         let RingNode {
             replica,
             links: _,
+            weather: _,
             agenda: _,
             refused: _,
             used: _,
@@ -153,7 +161,12 @@ impl RingNode {
         let Some(frame) = pop(&mut self.links, place) else {
             return false;
         };
-        let lost = handle(&mut self.replica, &mut self.links, frame);
+        let lost = handle(
+            &mut self.replica,
+            &mut self.links,
+            self.weather.as_slice(),
+            frame,
+        );
         self.lost = self.lost.saturating_add(lost);
         true
     }
@@ -179,7 +192,13 @@ impl RingNode {
         };
         let place = self.used;
         self.used = place.saturating_add(1);
-        match act(&mut self.replica, &mut self.links, task.into_event()) {
+        let weather = self.weather.as_slice();
+        match act(
+            &mut self.replica,
+            &mut self.links,
+            weather,
+            task.into_event(),
+        ) {
             Ok(lost) => self.lost = self.lost.saturating_add(lost),
             Err(fault) => self.refused.push_reserved((place, fault)),
         }
@@ -208,6 +227,32 @@ impl RingNode {
         } else {
             Turn::Idle
         }
+    }
+
+    /// Sets the weather: what is to become of which frames that the node puts from now on. It takes the place of the one before; what is held stays held.
+    ///
+    /// `OutOfRange` where one of these names no frame that this node puts for another one of the cluster, or two name one frame; otherwise `Memory`
+    /// at want of memory. Either leaves the node as it was.
+    pub fn set_weather(&mut self, weather: &[Weather]) -> Result<(), HostFault>
+        ensures ok { OnOk result (IsWeatherAt self.old.replica.faults self.old.replica.me weather.now × SetsWeather weather.now self.old self.new) }
+        ensures refused { IfErr result (IsUnset (IsWeatherAt self.old.replica.faults self.old.replica.me weather.now)) }
+        ensures err { OnErr result (self.new ≡ self.old) }
+    {
+        if !is_weather_at(self.replica.size(), self.me(), weather) {
+            return Err(HostFault::OutOfRange);
+        }
+        make_room(&mut self.links, weather)?;
+        self.weather.reserve(weather.len())?;
+        replace(&mut self.weather, weather);
+        count_anew(&mut self.links);
+        Ok(())
+    }
+
+    /// Puts the held frames into their rings, in order. Those that find theirs full are lost.
+    pub fn release(&mut self)
+        ensures { IsReleased self.old self.new }
+    {
+        self.lost = release_all(&mut self.links, self.lost);
     }
 
     /// The receipts that the replica gave after this entry, in order: of what was proposed and executed here.

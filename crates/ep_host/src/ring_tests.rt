@@ -1,9 +1,12 @@
 //! Nodes of a ring host, in threads and in rounds.
 
-ghost use Rattle.std.specs.Prelude.{ℕ, ◌≤◌};
+ghost use Rattle.std.specs.Prelude.{ℕ, ◌≤◌, ◌<◌, length};
 ghost use Rattle.ep_host.specs.Host.{IsHost};
 
-use crate::{Gate, GateUnpassed, RingHost, RingNode, Task, finish, section, settle};
+use crate::{
+    Gate, GateUnpassed, HostFault, RingHost, RingNode, Task, Weather, WeatherKind, finish, section,
+    settle,
+};
 use ep_audit::Verdict;
 use ep_base::{Command, InstanceId, ReplicaId, Size};
 use ep_journal::StepFault;
@@ -133,6 +136,56 @@ fn is_refused(node: &RingNode, fault: StepFault) -> bool {
     }
 }
 
+/// What is to become of a frame of the first node.
+fn named(rt: &impl Abort, to: u8, count: u32, kind: WeatherKind) -> Weather {
+    Weather {
+        from: ReplicaId::first(),
+        to: ReplicaId::new(to).expect(rt, "a replica"),
+        count,
+        kind,
+    }
+}
+
+/// The same becomes of the first node's first frame for each of the two others.
+fn of_both(rt: &impl Abort, kind: WeatherKind) -> [Weather; 2] {
+    [named(rt, 1, 1, kind), named(rt, 2, 1, kind)]
+}
+
+/// Sets the weather of the first node, and gives it one put.
+fn begin_in(rt: &impl Abort, alloc: Global, nodes: &mut [RingNode], weather: &[Weather])
+    requires { 0 < length nodes.old }
+{
+    assert!(rt; RingHost::set_weather_at(nodes, 0, weather).is_ok());
+    assert!(rt; nodes[0].assign(put(rt, alloc, 1, 1, b"x")).is_ok());
+}
+
+/// Lets each node act, and tells whether the first has committed its first instance.
+fn commits(rt: &impl Abort, nodes: &mut [RingNode]) -> bool {
+    settle(nodes, 100);
+    nodes.len() > 0 && has_committed(rt, &nodes[0], 1)
+}
+
+/// How many entries the node made.
+fn entries(node: &RingNode) -> usize {
+    node.replica().journal().entries().len()
+}
+
+/// How many entries the second node makes in three turns, after one of the first.
+fn entries_made(nodes: &mut [RingNode]) -> usize
+    requires { 1 < length nodes.old }
+{
+    nodes[0].turn();
+    for _ in 0..3 {
+        nodes[1].turn();
+    }
+    entries(&nodes[1])
+}
+
+/// Whether the node refuses this weather as one that is out of range.
+fn is_refused_there(node: &mut RingNode, weather: &[Weather]) -> bool {
+    node.set_weather(weather) == Err(HostFault::OutOfRange)
+}
+
 #[test]
 fn sixty_puts(rt: HostRuntime) {
     let alloc = rt.alloc();
@@ -189,4 +242,84 @@ fn two_nodes_at_once(rt: HostRuntime) {
     };
     let section = section(&rt, nodes, &gate, 1);
     assert!(&rt; section.result.is_ok());
+}
+
+#[test]
+fn a_held_frame_comes_after_release(rt: HostRuntime) {
+    let alloc = rt.alloc();
+    let mut nodes = host(&rt, alloc, 16);
+    assert!(&rt; nodes.len() == 3);
+    let weather = of_both(&rt, WeatherKind::Hold);
+    begin_in(&rt, alloc, nodes.as_mut_slice(), &weather);
+    assert!(&rt; !commits(&rt, nodes.as_mut_slice()));
+    RingHost::release(nodes.as_mut_slice());
+    assert!(&rt; commits(&rt, nodes.as_mut_slice()));
+    assert_eq!(&rt; lost(&nodes), 0);
+}
+
+#[test]
+fn a_dropped_frame_never_comes(rt: HostRuntime) {
+    let alloc = rt.alloc();
+    let mut nodes = host(&rt, alloc, 16);
+    assert!(&rt; nodes.len() == 3);
+    let weather = of_both(&rt, WeatherKind::Drop);
+    begin_in(&rt, alloc, nodes.as_mut_slice(), &weather);
+    assert!(&rt; !commits(&rt, nodes.as_mut_slice()));
+    RingHost::release(nodes.as_mut_slice());
+    assert!(&rt; !commits(&rt, nodes.as_mut_slice()));
+    assert_eq!(&rt; lost(&nodes), 0);
+}
+
+#[test]
+fn a_repeated_frame_comes_twice(rt: HostRuntime) {
+    let alloc = rt.alloc();
+    let mut nodes = host(&rt, alloc, 16);
+    assert!(&rt; nodes.len() == 3);
+    begin_in(
+        &rt,
+        alloc,
+        nodes.as_mut_slice(),
+        &[named(&rt, 1, 1, WeatherKind::Repeat)],
+    );
+    assert!(&rt; nodes.len() == 3);
+    assert_eq!(&rt; entries_made(nodes.as_mut_slice()), 2);
+    assert_eq!(&rt; lost(&nodes), 0);
+}
+
+#[test]
+fn a_repeated_frame_finds_a_full_ring(rt: HostRuntime) {
+    let alloc = rt.alloc();
+    let mut nodes = host(&rt, alloc, 1);
+    assert!(&rt; nodes.len() == 3);
+    begin_in(
+        &rt,
+        alloc,
+        nodes.as_mut_slice(),
+        &[named(&rt, 1, 1, WeatherKind::Repeat)],
+    );
+    assert!(&rt; nodes.len() == 3);
+    assert_eq!(&rt; entries_made(nodes.as_mut_slice()), 1);
+    assert_eq!(&rt; lost(&nodes), 1);
+}
+
+#[test]
+fn a_weather_out_of_range_leaves_the_one_before(rt: HostRuntime) {
+    let alloc = rt.alloc();
+    let mut nodes = host(&rt, alloc, 16);
+    assert!(&rt; nodes.len() == 3);
+    let weather = of_both(&rt, WeatherKind::Hold);
+    begin_in(&rt, alloc, nodes.as_mut_slice(), &weather);
+    assert!(&rt; nodes.len() == 3);
+    let twice = [
+        named(&rt, 1, 1, WeatherKind::Drop),
+        named(&rt, 1, 1, WeatherKind::Hold),
+    ];
+    assert!(&rt; is_refused_there(&mut nodes[0], &twice));
+    assert!(&rt; is_refused_there(&mut nodes[0], &[named(&rt, 1, 0, WeatherKind::Drop)]));
+    assert!(&rt; is_refused_there(&mut nodes[0], &[named(&rt, 0, 1, WeatherKind::Drop)]));
+    assert!(&rt; is_refused_there(&mut nodes[0], &[named(&rt, 3, 1, WeatherKind::Drop)]));
+    assert!(&rt; is_refused_there(&mut nodes[1], &[named(&rt, 2, 1, WeatherKind::Drop)]));
+    assert!(&rt; !commits(&rt, nodes.as_mut_slice()));
+    RingHost::release(nodes.as_mut_slice());
+    assert!(&rt; commits(&rt, nodes.as_mut_slice()));
 }

@@ -1,9 +1,10 @@
 //! A section: each node in a thread of its own.
 
-ghost use Rattle.std.specs.Prelude.{◌≡◌, ◌<◌, ℕ, length, All, OnOk, IfErr};
+ghost use Rattle.std.specs.Prelude.{◌≡◌, ◌<◌, ℕ, true, length, All, OnOk, IfErr, IfSome, IfNone};
 ghost use Rattle.ep_host.specs.Pointwise.{Each};
-ghost use Rattle.ep_host.specs.Follows.{Follows, Runs, HasEnded, IsFirstLeft};
+ghost use Rattle.ep_host.specs.Follows.{Follows, Runs, HasEnded, IsFirstUnended, IsFirstLeft};
 ghost use Rattle.ep_host.specs.Host.{IsHost};
+ghost use Rattle.ep_host.specs.Node.{Node};
 
 use crate::gate::Gate;
 use crate::gate_unpassed::GateUnpassed;
@@ -29,6 +30,14 @@ fn run_each<R: Threads + Sync, G: Gate>(rt: &R, nodes: &mut [RingNode], gate: &G
     );
 }
 
+/// The place of the first node that hasn't ended.
+fn first_unended(nodes: &[RingNode]) -> Option<usize>
+    ensures some { IfSome result (IsFirstUnended nodes.now) }
+    ensures none { IfNone result (All (λ (n : Node). n.ended ≡ true) nodes.now) }
+{
+    nodes.iter().position(|node| !node.ended)
+}
+
 /// Gives each node so many turns, in a thread of its own, or on this one where none can be started, until its agenda is empty and the gate lets
 /// it end. All nodes come back, in order. At an `Err` the node told is the least that hadn't ended.
 pub fn section<R: Threads + Sync, G: Gate>(
@@ -44,7 +53,7 @@ pub fn section<R: Threads + Sync, G: Gate>(
     ensures ended { OnOk result.result (All HasEnded result.nodes.items) }
 {
     run_each(rt, nodes.as_mut_slice(), gate, turns);
-    let result = match nodes.iter().position(|node| !node.ended) {
+    let result = match first_unended(nodes.as_slice()) {
         Some(node) => Err(GateUnpassed { node, turns }),
         None => Ok(()),
     };

@@ -6,7 +6,7 @@ use Rattle.std.proofs.lemmas.List.Elements.{Contains-append_left, Contains-appen
 use Rattle.std.proofs.lemmas.Bool.{cases_lt}
 use Rattle.std.proofs.lemmas.Bool.Decides.{eqb_tells}
 use mathlib.Core.List.{IsPrefix}
-use Rattle.ep_host.specs.Follows.{Follows, Settles}
+use Rattle.ep_host.specs.Follows.{Works, Follows, Settles}
 use Rattle.ep_host.specs.Host.{IsHost, IsFresh}
 use Rattle.ep_host.specs.Node.{Node, fresh_node}
 use Rattle.ep_host.specs.Pointwise.{Each}
@@ -155,10 +155,10 @@ beginnings_more (b ∷ c ∷ cs) xs h = (h.0, beginnings_more (c ∷ cs) xs h.1)
 
 own_follows : (a b : Node) (t : Receipt) → Follows a b → IsOwn a.replica.faults a.replica.me (entries_of a.replica.entries) t → IsOwn b.replica.faults b.replica.me (entries_of b.replica.entries) t
 own_follows a b t h own =
-    let grown : entries_of b.replica.entries ≡ entries_of a.replica.entries ++ entries_of h.entries = ap entries_of h.journal ∙ entries_both a.replica.entries h.entries in
-    subst (λ (f : ℕ). IsOwn f b.replica.me (entries_of b.replica.entries) t) (sym h.faults)
-    (subst (λ (r : ℕ). IsOwn a.replica.faults r (entries_of b.replica.entries) t) (sym h.me)
-    (subst (λ (es : List rules.Entry). IsOwn a.replica.faults a.replica.me es t) (sym grown) (own_stays_lem a.replica.faults a.replica.me (entries_of a.replica.entries) (entries_of h.entries) t own)))
+    let grown : entries_of b.replica.entries ≡ entries_of a.replica.entries ++ entries_of h.works.entries = ap entries_of h.works.journal ∙ entries_both a.replica.entries h.works.entries in
+    subst (λ (f : ℕ). IsOwn f b.replica.me (entries_of b.replica.entries) t) (sym h.works.faults)
+    (subst (λ (r : ℕ). IsOwn a.replica.faults r (entries_of b.replica.entries) t) (sym h.works.me)
+    (subst (λ (es : List rules.Entry). IsOwn a.replica.faults a.replica.me es t) (sym grown) (own_stays_lem a.replica.faults a.replica.me (entries_of a.replica.entries) (entries_of h.works.entries) t own)))
 
 -- the receipts of nodes are still theirs after what the nodes do
 pub of_related : (R : Node → Node → Type 0) (xs ys : List Node) (ts : List Receipt) → ((a b : Node) (t : Receipt) → R a b → IsOwn a.replica.faults a.replica.me (entries_of a.replica.entries) t → IsOwn b.replica.faults b.replica.me (entries_of b.replica.entries) t) →
@@ -202,14 +202,14 @@ collects_collects nodes a b c xs ys zs h k = record {
 pub follows_settles : (turns : ℕ) (a b c : Node) → Follows a b → Settles turns b c → Settles turns a c
 follows_settles turns a b c h k = record {
   follows = follows_follows a b c h k.follows;
-  agenda = (let shorter = ap (λ (l : List Task). length l) h.agenda in let l = k.agenda in omega (arith, shorter, length-append (tasks_in h.used) b.agenda, l));
+  agenda = (let shorter = ap (λ (l : List Task). length l) h.works.agenda in let l = k.agenda in omega (arith, shorter, length-append (tasks_in h.works.used) b.agenda, l));
 }
 
 -- Agendas.
 
 -- what has been used up after more was asked, and turns
 used_more :
-    (used : List Use) (left ts : List Task) (a b c : Node) → HasUsed used left a → b ≡ record a { agenda = a.agenda ++ ts } → (h : Follows b c) →
+    (used : List Use) (left ts : List Task) (a b c : Node) → HasUsed used left a → b ≡ record a { agenda = a.agenda ++ ts } → (h : Works b c) →
     (left ++ ts ≡ tasks_in h.used ++ c.agenda) × HasUsed (used ++ h.used) c.agenda c
 used_more used left ts a b c u is h = (
   ap (λ (l : List Task). l ++ ts) (sym u.agenda) ∙ sym (ap (λ (n : Node). n.agenda) is) ∙ h.agenda,
@@ -240,7 +240,7 @@ uses_more r turns tasks asked xs ys zs u given each none = ⊎_elim
     let c = get_or zs r blank in
     let low' : r < length ys = omega (arith, low, given.len) in
     let low'' : r < length zs = omega (arith, low', each.len) in
-    let h : Follows (get_or ys r blank) c = (each.at r blank low').follows in
+    let h : Works (get_or ys r blank) c = (each.at r blank low').follows.works in
     let m = used_more u.used u.left more (get_or xs r blank) (get_or ys r blank) c (u.node blank low) (given.at r blank low) h in
     let all : UsesUp r (tasks ++ more) zs = record {
       used = u.used ++ h.used;

@@ -13,5 +13,7 @@ returns c =
       is = refl;
       keeps = λ d. subst (λ (a : Link). KeepsLink a l) (read d) c.pop.ensures.keeps;
       put = λ d. c.pop.ensures.put ∙ ap (λ (a : Link). sent a.to) (read d);
+      held = λ d. c.pop.ensures.same.1 ∙ ap (λ (a : Link). a.held) (read d);
+      count = λ d. c.pop.ensures.same.0 ∙ ap (λ (a : Link). a.count) (read d);
       taken = λ d. c.pop.ensures.taken ∙ ap (λ (a : Link). received a.from ++ option_to_list c.pop.result) (read d);
     }
