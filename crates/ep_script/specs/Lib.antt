@@ -6,7 +6,6 @@ pub mod Window
 pub mod RawLines
 pub mod SoFar
 pub mod Plan
-pub mod Sections
 pub mod Fits
 pub mod Outcome
 pub mod Faults
