@@ -1,5 +1,5 @@
 -- What lines keep to, since they were read.
-use Rattle.std.proofs.Common.{◌≡◌, ◌≢◌, ℕ, ◌+◌, ◌*◌, ◌/◌, ◌<◌, ◌≤◌, ◌==◌, Bool, true, false, cond, List, [], ◌∷◌, ◌++◌, Option, Some, None, refl, sym, subst, arith, IfSome}
+use Rattle.std.proofs.Common.{◌≡◌, ◌≢◌, ℕ, ◌+◌, ◌*◌, ◌/◌, ◌<◌, ◌≤◌, ◌==◌, Bool, true, false, cond, MatchBool, List, [], ◌∷◌, ◌++◌, Option, Some, None, refl, sym, subst, arith, IfSome}
 use Rattle.std.specs.Prelude.{nat_le, nat_lt, ◌&&◌, option_map, option_and_then, codes}
 use Rattle.std.specs.Option.{option_map_or}
 use Rattle.std.specs.List.{IsDistinct}
@@ -152,12 +152,17 @@ none_fits n = record { agendas = All-nil (λ (e : ℕ × AgendaLine). FitsCluste
 pub agenda_more : (n number : ℕ) (l : AgendaLine) (s : SectionPlan) → FitsCluster n l → FitsSection n s → FitsSection n (with_agenda number l s)
 agenda_more n number l s fits h = record { agendas = All-push (λ (e : ℕ × AgendaLine). FitsCluster n e.1) s.lines (number, l) h.agendas fits; weather = h.weather; distinct = h.distinct }
 
-pub weather_more : (n : ℕ) (w : WeatherLine) (s : SectionPlan) → FitsWeather n w → has_frame w s ≡ false → FitsSection n s → FitsSection n (with_weather w s)
+weather_more : (n : ℕ) (w : WeatherLine) (s : SectionPlan) → FitsWeather n w → has_frame w s ≡ false → FitsSection n s → FitsSection n (with_weather w s)
 weather_more n w s fits new h = record {
   agendas = h.agendas;
   weather = All-push (FitsWeather n) s.weather w h.weather fits;
   distinct = IsDistinct-push frames_equal s.weather w h.distinct new;
 }
+
+-- a line of the weather was taken, or there was one for its frame
+pub weather_taken : (n : ℕ) (w : WeatherLine) (s after : SectionPlan) (b : Bool) → MatchBool b ((has_frame w s ≡ false) × (after ≡ with_weather w s)) ((has_frame w s ≡ true) × (after ≡ s)) → FitsWeather n w → FitsSection n s → FitsSection n after
+weather_taken n w s after true taken fits h = subst (FitsSection n) (sym taken.1) (weather_more n w s fits taken.0 h)
+weather_taken n w s after false taken fits h = subst (FitsSection n) (sym taken.1) h
 
 -- a section more has ended, or none was pushed
 pub all_more : (n : ℕ) (ended after : List SectionPlan) (s : SectionPlan) (ok : Bool) → after ≡ cond ok (ended ++ s ∷ []) ended → FitsSection n s → AllFit n ended → AllFit n after

@@ -6,6 +6,7 @@ pub mod Window
 pub mod RawLines
 pub mod SoFar
 pub mod Plan
+pub mod Frames
 pub mod Fits
 pub mod Outcome
 pub mod Faults

@@ -29,6 +29,7 @@ mod script;
 mod script_fault;
 mod script_kind;
 mod section;
+mod weather;
 mod weather_kind;
 mod weather_line;
 mod window;

@@ -80,11 +80,8 @@ impl OpenRun {
         requires { FitsWeather (size_with self.old.faults) line }
         ensures { IfOk result (λ b. MatchBool b (after_line 0 self.old (Weather line) ≡ Some self.new) (after_line 0 self.old (Weather line) ≡ None)) }
     {
-        if self.current.has_frame_of(&line) {
-            return Ok(false);
-        }
-        self.current.push_weather(line)?;
-        Ok(true)
+        let is_new = self.current.push_weather(line)?;
+        Ok(is_new)
     }
 
     fn end_section(&mut self, alloc: Global) -> Result<(), AllocError>

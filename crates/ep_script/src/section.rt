@@ -1,9 +1,10 @@
 //! Sections of a script for a run.
 
-ghost use Rattle.std.specs.Prelude.{◌≡◌, ◌↔◌, IsTrue, OnOk, OnErr};
+ghost use Rattle.std.specs.Prelude.{◌≡◌, ◌↔◌, true, false, IsTrue, IfOk, OnOk, OnErr, MatchBool};
 ghost use Rattle.ep_script.specs.Plan.{no_section, with_agenda, with_weather, has_frame};
 
 use crate::agenda_line::AgendaLine;
+use crate::weather::Weather;
 use crate::weather_line::WeatherLine;
 use std::alloc::{AllocError, Global};
 use std::marker::Model;
@@ -12,7 +13,7 @@ use std::marker::Model;
 #[derive(Debug, Drop)]
 pub struct Section {
     lines: Vec<(u32, AgendaLine)>,
-    weather: Vec<WeatherLine>,
+    weather: Weather,
 }
 
 impl Model for Section {
@@ -20,7 +21,7 @@ impl Model for Section {
 
     ghost Value = { SectionPlan };
 
-    ghost view = { λ s. record { lines = s.lines.items; weather = s.weather.items } };
+    ghost view = { λ s. record { lines = s.lines.items; weather = s.weather } };
 }
 
 impl Section {
@@ -30,7 +31,7 @@ impl Section {
     {
         Section {
             lines: Vec::new(alloc),
-            weather: Vec::new(alloc),
+            weather: Weather::new(alloc),
         }
     }
 
@@ -43,27 +44,20 @@ impl Section {
         Ok(())
     }
 
-    /// Adds a line of the weather at the end. At an `Err` nothing has changed.
-    pub(crate) fn push_weather(&mut self, line: WeatherLine) -> Result<(), AllocError>
-        ensures ok { OnOk result (self.new ≡ with_weather line self.old) }
+    /// Adds a line of the weather at the end. False where there is one for its frame, and then, as at an `Err`, nothing has changed.
+    pub(crate) fn push_weather(&mut self, line: WeatherLine) -> Result<bool, AllocError>
+        ensures ok { IfOk result (λ b. MatchBool b ((has_frame line self.old ≡ false) × (self.new ≡ with_weather line self.old)) ((has_frame line self.old ≡ true) × (self.new ≡ self.old))) }
         ensures err { OnErr result (self.new ≡ self.old) }
     {
-        self.weather.push(line)?;
-        Ok(())
-    }
-
-    /// Whether a line of the weather is for the frame of this one.
-    pub(crate) fn has_frame_of(&self, line: &WeatherLine) -> bool
-        ensures { result ≡ has_frame line.now self.now }
-    {
-        self.weather.iter().any(|other| line.is_for_frame_of(other))
+        let is_new = self.weather.push(line)?;
+        Ok(is_new)
     }
 
     /// Whether it has no line.
     pub(crate) fn is_empty(&self) -> bool
         ensures { IsTrue result ↔ (self.now ≡ no_section) }
     {
-        self.lines.is_empty() && self.weather.is_empty()
+        self.lines.is_empty() && self.weather.as_slice().is_empty()
     }
 
     /// The lines of the agendas, each with its number, counted from 1.

@@ -1,7 +1,7 @@
 //! Lines of a section's weather.
 
 ghost use Rattle.std.specs.Prelude.{◌≡◌};
-ghost use Rattle.ep_script.specs.Plan.{same_frame};
+ghost use Rattle.ep_script.specs.Frames.{frame_of};
 
 use crate::weather_kind::WeatherKind;
 use ep_base::ReplicaId;
@@ -16,10 +16,10 @@ pub struct WeatherLine {
 }
 
 impl WeatherLine {
-    /// Whether both lines are for one frame.
-    pub(crate) fn is_for_frame_of(&self, other: &WeatherLine) -> bool
-        ensures { result ≡ same_frame self.now other.now }
+    /// The frame: its sender, its receiver and its count.
+    pub(crate) fn frame(&self) -> (u8, u8, u32)
+        ensures { result ≡ frame_of self.now }
     {
-        self.from == other.from && self.to == other.to && self.count == other.count
+        (self.from.index(), self.to.index(), self.count)
     }
 }
