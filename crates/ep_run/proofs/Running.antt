@@ -30,6 +30,7 @@ use Rattle.ep_rules.specs.Worlds.{In}
 use Rattle.ep_rules.specs.declared.receipt.Receipt.{Receipt}
 use Rattle.ep_rules.proofs.OwnReceipts.{own_stays_lem}
 use Rattle.ep_script.specs.Fits.{FitsCluster}
+use Rattle.ep_script.specs.Plan.{SectionPlan}
 use Rattle.ep_script.specs.declared.agenda_line.AgendaLine.{AgendaLine}
 use Rattle.ep_script.specs.declared.agenda_line.AgendaLine.TheVariants.{Propose, GiveUp, Recover}
 use Rattle.ep_run.specs.Asking.{asked_of, asked_by, asked_in, proposers_after, proposers_of}
@@ -49,18 +50,18 @@ asked_by_both ps ts (x ∷ xs) ys = ap (λ (l : List (ℕ × (ℕ × Task))). (x
 
 -- one section more
 pub asked_more :
-    (ps : List ℕ) (ss : List (List (ℕ × AgendaLine))) (s : List (ℕ × AgendaLine)) (before : List (List Receipt)) (ts : List Receipt) → length before ≡ length ss →
-    asked_in ps (ss ++ s ∷ []) (before ++ ts ∷ []) ≡ asked_in ps ss before ++ asked_by (proposers_in ps ss) ts s
-asked_more ps [] s [] ts len = append-nil (asked_by ps ts s)
+    (ps : List ℕ) (ss : List SectionPlan) (s : SectionPlan) (before : List (List Receipt)) (ts : List Receipt) → length before ≡ length ss →
+    asked_in ps (ss ++ s ∷ []) (before ++ ts ∷ []) ≡ asked_in ps ss before ++ asked_by (proposers_in ps ss) ts s.lines
+asked_more ps [] s [] ts len = append-nil (asked_by ps ts s.lines)
 asked_more ps [] s (b ∷ bs) ts len = absurd (omega (arith, len))
 asked_more ps (x ∷ xs) s [] ts len = absurd (omega (arith, len))
 asked_more ps (x ∷ xs) s (b ∷ bs) ts len =
     let shorter : length bs ≡ length xs = omega (arith, len) in
-    ap (λ (l : List (ℕ × (ℕ × Task))). asked_by ps b x ++ l) (asked_more (proposers_of ps x) xs s bs ts shorter) ∙ sym (append_assoc (asked_by ps b x) (asked_in (proposers_of ps x) xs bs) (asked_by (proposers_in (proposers_of ps x) xs) ts s))
+    ap (λ (l : List (ℕ × (ℕ × Task))). asked_by ps b x.lines ++ l) (asked_more (proposers_of ps x.lines) xs s bs ts shorter) ∙ sym (append_assoc (asked_by ps b x.lines) (asked_in (proposers_of ps x.lines) xs bs) (asked_by (proposers_in (proposers_of ps x.lines) xs) ts s.lines))
 
-pub proposers_in_more : (ps : List ℕ) (ss : List (List (ℕ × AgendaLine))) (s : List (ℕ × AgendaLine)) → proposers_in ps (ss ++ s ∷ []) ≡ proposers_of (proposers_in ps ss) s
+pub proposers_in_more : (ps : List ℕ) (ss : List SectionPlan) (s : SectionPlan) → proposers_in ps (ss ++ s ∷ []) ≡ proposers_of (proposers_in ps ss) s.lines
 proposers_in_more ps [] s = refl
-proposers_in_more ps (x ∷ xs) s = proposers_in_more (proposers_of ps x) xs s
+proposers_in_more ps (x ∷ xs) s = proposers_in_more (proposers_of ps x.lines) xs s
 
 -- a line asks its replica
 pub asks_replica : (ps : List ℕ) (ts : List Receipt) (l : AgendaLine) → (asked_of ps ts l).0 ≡ replica_of l
@@ -294,21 +295,21 @@ empty_short : (l : List Task) → length l ≤ 0 → l ≡ []
 empty_short [] low = refl
 empty_short (t ∷ ts) low = absurd (omega (arith, low))
 
-most_before : (turns : ℕ) (ss : List (List (ℕ × AgendaLine))) (s : List (ℕ × AgendaLine)) → HaveAtMost turns (ss ++ s ∷ []) → HaveAtMost turns ss
+most_before : (turns : ℕ) (ss : List SectionPlan) (s : SectionPlan) → HaveAtMost turns (ss ++ s ∷ []) → HaveAtMost turns ss
 most_before turns ss s h x is = h x (Contains-append_left ss (s ∷ []) x is)
 
-most_last : (turns : ℕ) (ss : List (List (ℕ × AgendaLine))) (s : List (ℕ × AgendaLine)) → HaveAtMost turns (ss ++ s ∷ []) → (r : ℕ) → count_for r s ≤ turns
+most_last : (turns : ℕ) (ss : List SectionPlan) (s : SectionPlan) → HaveAtMost turns (ss ++ s ∷ []) → (r : ℕ) → count_for r s.lines ≤ turns
 most_last turns ss s h r = h s (Contains-push ss s) r
 
 pub has_run :
-    (f turns : ℕ) (done : List (List (ℕ × AgendaLine))) (s : List (ℕ × AgendaLine)) (old new : RingRun) (middle : List Node) (clients : Clients) → HasRun f turns done old →
-    All (λ (e : ℕ × AgendaLine). FitsCluster (length old.nodes.items) e.1) s → AreAssigned (asked_by (proposers_in [] done) old.receipts.items s) old.nodes.items middle →
-    AreCounted clients (proposers_of (proposers_in [] done) s) old.receipts.items → Each (Settles turns) middle new.nodes.items → IsHost f new.nodes.items →
+    (f turns : ℕ) (done : List SectionPlan) (s : SectionPlan) (old new : RingRun) (middle : List Node) (clients : Clients) → HasRun f turns done old →
+    All (λ (e : ℕ × AgendaLine). FitsCluster (length old.nodes.items) e.1) s.lines → AreAssigned (asked_by (proposers_in [] done) old.receipts.items s.lines) old.nodes.items middle →
+    AreCounted clients (proposers_of (proposers_in [] done) s.lines) old.receipts.items → Each (Settles turns) middle new.nodes.items → IsHost f new.nodes.items →
     Collects new.nodes.items clients old.receipts.items new.clients new.receipts.items → HasRun f turns (done ++ s ∷ []) new
 has_run f turns done s old new middle clients h fit given counted each host collects =
     let ps = proposers_in [] done in
     let ts = old.receipts.items in
-    let asked = asked_by ps ts s in
+    let asked = asked_by ps ts s.lines in
     let before = h.before ++ ts ∷ [] in
     let len : length h.before ≡ length done = h.sectioned in
     let of : AreOf new.nodes.items ts = of_follows middle new.nodes.items ts turns each (of_assigned asked old.nodes.items middle ts given h.own) in
@@ -322,7 +323,7 @@ has_run f turns done s old new middle clients h fit given counted each host coll
       used = λ r.
           subst (λ (l : List Task). UsesUp r l new.nodes.items) (sym (ap (tasks_at r) all ∙ tasks_at_both r (asked_in [] done h.before) asked))
           (uses_more r turns (tasks_at r (asked_in [] done h.before)) asked old.nodes.items middle new.nodes.items (h.used r) given each
-          (λ high. none_asked (length old.nodes.items) r ps ts s high fit));
+          (λ high. none_asked (length old.nodes.items) r ps ts s.lines high fit));
       none_left = λ most i d low.
           let low' : i < length middle = omega (arith, low, each.len) in
           let low'' : i < length old.nodes.items = omega (arith, low', given.len) in
@@ -330,7 +331,7 @@ has_run f turns done s old new middle clients h fit given counted each host coll
           let is : (get_or middle i d).agenda ≡ tasks_at i asked = ap (λ (n : Node). n.agenda) (given.at i d low'') ∙ ap (λ (l : List Task). l ++ tasks_at i asked) was in
           let short = (each.at i d low').agenda in
           let all' = ap (λ (l : List Task). length l) is in
-          empty_short (get_or new.nodes.items i d).agenda (omega (arith, short, all', tasks_counted i ps ts s, most_last turns done s most i));
+          empty_short (get_or new.nodes.items i d).agenda (omega (arith, short, all', tasks_counted i ps ts s.lines, most_last turns done s most i));
     }
 
 -- Receipts of the nodes' own are own by the journals.

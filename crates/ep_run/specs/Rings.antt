@@ -12,7 +12,7 @@ use Rattle.ep_rules.specs.Journals.{asked_in as asked_in_entries}
 use Rattle.ep_rules.specs.Verdicts.{IsOwn}
 use Rattle.ep_rules.specs.Worlds.{In}
 use Rattle.ep_rules.specs.declared.receipt.Receipt.{Receipt}
-use Rattle.ep_script.specs.declared.agenda_line.AgendaLine.{AgendaLine}
+use Rattle.ep_script.specs.Plan.{SectionPlan}
 use Rattle.ep_run.specs.Asking.{asked_in, proposers_of}
 use Rattle.ep_run.specs.Lines.{Fate, made, refused, left, Line, AreBeginnings, HaveAtMost}
 use Rattle.ep_run.specs.declared.ring_run.RingRun.{RingRun}
@@ -73,12 +73,12 @@ pub record UsesUp (r : ℕ) (tasks : List Task) (nodes : List Node) : Type 0 whe
   pub others : length nodes ≤ r → (used ≡ []) × (left ≡ [])
 
 -- the clients that have proposed in sections
-abbrev pub proposers_in : List ℕ → List (List (ℕ × AgendaLine)) → List ℕ
+abbrev pub proposers_in : List ℕ → List SectionPlan → List ℕ
 proposers_in proposers [] = proposers
-proposers_in proposers (s ∷ ss) = proposers_in (proposers_of proposers s) ss
+proposers_in proposers (s ∷ ss) = proposers_in (proposers_of proposers s.lines) ss
 
 -- how far the run of a cluster in which f may fail has come, after these sections
-pub record HasRun (f turns : ℕ) (sections : List (List (ℕ × AgendaLine))) (s : RingRun) : Type 0 where
+pub record HasRun (f turns : ℕ) (sections : List SectionPlan) (s : RingRun) : Type 0 where
   pub host : IsHost f s.nodes.items
   pub own : AreOf s.nodes.items s.receipts.items
   pub counted : AreCounted s.clients (proposers_in [] sections) s.receipts.items

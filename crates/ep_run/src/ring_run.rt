@@ -121,6 +121,7 @@ impl RingRun {
     ghost use Rattle.std.specs.Prelude.{◌≡◌, ◌++◌, ◌∷◌, [], ◌≤◌, ◌<◌, length, ℕ, List, All, IfOk, OnOk, IsOk};
     ghost use Rattle.ep_host.specs.Finishing.{IsFinished};
     ghost use Rattle.ep_script.specs.Fits.{FitsCluster};
+    ghost use Rattle.ep_script.specs.Plan.{SectionPlan};
     ghost use Rattle.ep_script.specs.declared.agenda_line.AgendaLine.{AgendaLine as Line};
     ghost use Rattle.ep_run.specs.Lines.{AreDone};
     ghost use Rattle.ep_run.specs.Rings.{Collects, HasRun};
@@ -148,9 +149,9 @@ impl RingRun {
         section: &Section,
         turns: u32,
     ) -> Result<(), AllocError>
-        requires run { (f : ℕ) × (done : List (List (ℕ × Line))) × HasRun f turns done self.old }
-        requires fit { All (λ (e : ℕ × Line). FitsCluster (length self.old.nodes.items) e.1) section.now }
-        ensures { OnOk result ((f : ℕ) (done : List (List (ℕ × Line))) → HasRun f turns done self.old → HasRun f turns (done ++ section.now ∷ []) self.new) }
+        requires run { (f : ℕ) × (done : List SectionPlan) × HasRun f turns done self.old }
+        requires fit { All (λ (e : ℕ × Line). FitsCluster (length self.old.nodes.items) e.1) section.now.lines }
+        ensures { OnOk result ((f : ℕ) (done : List SectionPlan) → HasRun f turns done self.old → HasRun f turns (done ++ section.now ∷ []) self.new) }
     {
         assign_all(
             self.alloc,

@@ -50,8 +50,8 @@ fn submissions_of(
     clients: &mut Clients,
     section: &Section,
 ) -> Result<Vec<Submission>, AllocError>
-    ensures tasks { IfOk result (λ tasks. (ps : List ℕ) (ts : List Told) → AreCounted clients.old ps ts → AreSubmissions ps ts section.now tasks.items) }
-    ensures counted { OnOk result ((ps : List ℕ) (ts : List Told) → AreCounted clients.old ps ts → AreCounted clients.new (proposers_of ps section.now) ts) }
+    ensures tasks { IfOk result (λ tasks. (ps : List ℕ) (ts : List Told) → AreCounted clients.old ps ts → AreSubmissions ps ts section.now.lines tasks.items) }
+    ensures counted { OnOk result ((ps : List ℕ) (ts : List Told) → AreCounted clients.old ps ts → AreCounted clients.new (proposers_of ps section.now.lines) ts) }
 {
     let mut tasks = Vec::new(alloc);
     for (line, asked) in section.lines() {

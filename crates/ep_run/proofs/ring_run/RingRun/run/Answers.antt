@@ -5,6 +5,7 @@ use Rattle.ep_host.specs.Host.{IsHost}
 use Rattle.ep_host.specs.Node.{Node}
 use Rattle.ep_host.specs.Pointwise.{Each}
 use Rattle.ep_replay.specs.Tables.{AreCounted}
+use Rattle.ep_script.specs.Plan.{SectionPlan}
 use Rattle.ep_script.specs.declared.agenda_line.AgendaLine.{AgendaLine}
 use Rattle.ep_run.specs.Asking.{asked_by, proposers_of}
 use Rattle.ep_run.specs.Rings.{AreAssigned, Collects, proposers_in}
@@ -14,7 +15,8 @@ use Rattle.ep_run.proofs.ring_run.RingRun.run.Goals as goal
 pub returns : goal.returns
 returns g c = λ f done h.
     let turns = c.args.turns in
-    let s : List (ℕ × AgendaLine) = c.args.section.now in
+    let plan : SectionPlan = c.args.section.now in
+    let s : List (ℕ × AgendaLine) = plan.lines in
     let old = c.args.self.now in
     let new = c.collect_all.new.self in
     let middle : List Node = c.assign_all.new.nodes in
@@ -34,4 +36,4 @@ returns g c = λ f done h.
     subst (λ (l : List Node). IsHost f l) (sym kept) (c.turned.ensures.host f (subst (λ (l : List Node). IsHost f l) (sym is) (c.assign_all.ensures.host f (subst (λ (l : List Node). IsHost f l) (sym start) h.host)))) in
     let collects : Collects new.nodes.items clients ts new.clients new.receipts.items =
     subst (λ (l : List Node). Collects l clients ts new.clients new.receipts.items) (sym kept) c.in_ok-collect_all.ensures.receipts in
-    has_run f turns done s old new middle clients h c.requires.fit given counted each host collects
+    has_run f turns done plan old new middle clients h c.requires.fit given counted each host collects
