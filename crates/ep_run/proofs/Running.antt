@@ -6,7 +6,7 @@ use Rattle.std.proofs.lemmas.List.Elements.{Contains-append_left, Contains-appen
 use Rattle.std.proofs.lemmas.Bool.{cases_lt}
 use Rattle.std.proofs.lemmas.Bool.Decides.{eqb_tells}
 use mathlib.Core.List.{IsPrefix}
-use Rattle.ep_host.specs.Follows.{Works, Follows, Settles}
+use Rattle.ep_host.specs.Follows.{Works}
 use Rattle.ep_host.specs.Host.{IsHost, IsFresh}
 use Rattle.ep_host.specs.Node.{Node, fresh_node}
 use Rattle.ep_host.specs.Pointwise.{Each}
@@ -14,8 +14,7 @@ use Rattle.ep_host.specs.RingFinishing.{replicas_in, their_journals}
 use Rattle.ep_host.specs.Tasks.{Use, tasks_in, events_in, refusals_in, refusal_at, place_after, next_place}
 use Rattle.ep_host.specs.Turns.{AssignsAt}
 use Rattle.ep_host.specs.declared.task.Task.{Task}
-use Rattle.ep_host.proofs.Following.{follows_follows, tasks_both, events_both, asked_both, refusals_both, places_both, entries_both}
-use Rattle.ep_host.proofs.Places.{each_each}
+use Rattle.ep_host.proofs.Following.{tasks_both, events_both, asked_both, refusals_both, places_both, entries_both}
 use Rattle.ep_journal.specs.Entries.{entries_of}
 use Rattle.ep_journal.specs.declared.entry.Entry.{Entry}
 use Rattle.ep_journal.specs.declared.step_fault.StepFault.{StepFault}
@@ -37,6 +36,7 @@ use Rattle.ep_run.specs.Asking.{asked_of, asked_by, asked_in, proposers_after, p
 use Rattle.ep_run.specs.Lines.{AreBeginnings, HaveAtMost, count_for, replica_of}
 use Rattle.ep_run.specs.Rings.{tasks_at, AreAssigned, AreOf, Collects, HasUsed, UsesUp, proposers_in, HasRun}
 use Rattle.ep_run.specs.declared.ring_run.RingRun.{RingRun}
+use Rattle.ep_run.proofs.Turning.{Passes}
 
 -- What is asked.
 
@@ -154,12 +154,12 @@ beginnings_more (b ∷ c ∷ cs) xs h = (h.0, beginnings_more (c ∷ cs) xs h.1)
 
 -- Receipts.
 
-own_follows : (a b : Node) (t : Receipt) → Follows a b → IsOwn a.replica.faults a.replica.me (entries_of a.replica.entries) t → IsOwn b.replica.faults b.replica.me (entries_of b.replica.entries) t
-own_follows a b t h own =
-    let grown : entries_of b.replica.entries ≡ entries_of a.replica.entries ++ entries_of h.works.entries = ap entries_of h.works.journal ∙ entries_both a.replica.entries h.works.entries in
-    subst (λ (f : ℕ). IsOwn f b.replica.me (entries_of b.replica.entries) t) (sym h.works.faults)
-    (subst (λ (r : ℕ). IsOwn a.replica.faults r (entries_of b.replica.entries) t) (sym h.works.me)
-    (subst (λ (es : List rules.Entry). IsOwn a.replica.faults a.replica.me es t) (sym grown) (own_stays_lem a.replica.faults a.replica.me (entries_of a.replica.entries) (entries_of h.works.entries) t own)))
+own_works : (a b : Node) (t : Receipt) → Works a b → IsOwn a.replica.faults a.replica.me (entries_of a.replica.entries) t → IsOwn b.replica.faults b.replica.me (entries_of b.replica.entries) t
+own_works a b t h own =
+    let grown : entries_of b.replica.entries ≡ entries_of a.replica.entries ++ entries_of h.entries = ap entries_of h.journal ∙ entries_both a.replica.entries h.entries in
+    subst (λ (f : ℕ). IsOwn f b.replica.me (entries_of b.replica.entries) t) (sym h.faults)
+    (subst (λ (r : ℕ). IsOwn a.replica.faults r (entries_of b.replica.entries) t) (sym h.me)
+    (subst (λ (es : List rules.Entry). IsOwn a.replica.faults a.replica.me es t) (sym grown) (own_stays_lem a.replica.faults a.replica.me (entries_of a.replica.entries) (entries_of h.entries) t own)))
 
 -- the receipts of nodes are still theirs after what the nodes do
 pub of_related : (R : Node → Node → Type 0) (xs ys : List Node) (ts : List Receipt) → ((a b : Node) (t : Receipt) → R a b → IsOwn a.replica.faults a.replica.me (entries_of a.replica.entries) t → IsOwn b.replica.faults b.replica.me (entries_of b.replica.entries) t) →
@@ -167,8 +167,8 @@ pub of_related : (R : Node → Node → Type 0) (xs ys : List Node) (ts : List R
 of_related R xs ys ts keeps each own t h =
     let o = own t h in (o.0, omega (arith, o.1, each.len), λ d. keeps (get_or xs o.0 d) (get_or ys o.0 d) t (each.at o.0 d o.1) (o.2 d))
 
-pub of_follows : (xs ys : List Node) (ts : List Receipt) (turns : ℕ) → Each (Settles turns) xs ys → AreOf xs ts → AreOf ys ts
-of_follows xs ys ts turns each own = of_related (Settles turns) xs ys ts (λ a b t h. own_follows a b t h.follows) each own
+pub of_passes : (xs ys : List Node) (ts : List Receipt) (turns : ℕ) → Each (Passes turns) xs ys → AreOf xs ts → AreOf ys ts
+of_passes xs ys ts turns each own = of_related (Passes turns) xs ys ts (λ a b t h. own_works a b t h.works) each own
 
 pub of_assigned : (asked : List (ℕ × (ℕ × Task))) (xs ys : List Node) (ts : List Receipt) → AreAssigned asked xs ys → AreOf xs ts → AreOf ys ts
 of_assigned asked xs ys ts h own t is =
@@ -198,14 +198,6 @@ collects_collects nodes a b c xs ys zs h k = record {
   counted = λ ps counted. k.counted ps (h.counted ps counted);
 }
 
--- Turns.
-
-pub follows_settles : (turns : ℕ) (a b c : Node) → Follows a b → Settles turns b c → Settles turns a c
-follows_settles turns a b c h k = record {
-  follows = follows_follows a b c h k.follows;
-  agenda = (let shorter = ap (λ (l : List Task). length l) h.works.agenda in let l = k.agenda in omega (arith, shorter, length-append (tasks_in h.works.used) b.agenda, l));
-}
-
 -- Agendas.
 
 -- what has been used up after more was asked, and turns
@@ -233,7 +225,7 @@ abbrev pub blank : Node
 blank = fresh_node (record { faults = 0; me = 0; entries = [] })
 
 pub uses_more :
-    (r turns : ℕ) (tasks : List Task) (asked : List (ℕ × (ℕ × Task))) (xs ys zs : List Node) → UsesUp r tasks xs → AreAssigned asked xs ys → Each (Settles turns) ys zs →
+    (r turns : ℕ) (tasks : List Task) (asked : List (ℕ × (ℕ × Task))) (xs ys zs : List Node) → UsesUp r tasks xs → AreAssigned asked xs ys → Each (Passes turns) ys zs →
     (length xs ≤ r → tasks_at r asked ≡ []) → UsesUp r (tasks ++ tasks_at r asked) zs
 uses_more r turns tasks asked xs ys zs u given each none = ⊎_elim
     (λ (low : r < length xs).
@@ -241,7 +233,7 @@ uses_more r turns tasks asked xs ys zs u given each none = ⊎_elim
     let c = get_or zs r blank in
     let low' : r < length ys = omega (arith, low, given.len) in
     let low'' : r < length zs = omega (arith, low', each.len) in
-    let h : Works (get_or ys r blank) c = (each.at r blank low').follows.works in
+    let h : Works (get_or ys r blank) c = (each.at r blank low').works in
     let m = used_more u.used u.left more (get_or xs r blank) (get_or ys r blank) c (u.node blank low) (given.at r blank low) h in
     let all : UsesUp r (tasks ++ more) zs = record {
       used = u.used ++ h.used;
@@ -304,7 +296,7 @@ most_last turns ss s h r = h s (Contains-push ss s) r
 pub has_run :
     (f turns : ℕ) (done : List SectionPlan) (s : SectionPlan) (old new : RingRun) (middle : List Node) (clients : Clients) → HasRun f turns done old →
     All (λ (e : ℕ × AgendaLine). FitsCluster (length old.nodes.items) e.1) s.lines → AreAssigned (asked_by (proposers_in [] done) old.receipts.items s.lines) old.nodes.items middle →
-    AreCounted clients (proposers_of (proposers_in [] done) s.lines) old.receipts.items → Each (Settles turns) middle new.nodes.items → IsHost f new.nodes.items →
+    AreCounted clients (proposers_of (proposers_in [] done) s.lines) old.receipts.items → Each (Passes turns) middle new.nodes.items → IsHost f new.nodes.items →
     Collects new.nodes.items clients old.receipts.items new.clients new.receipts.items → HasRun f turns (done ++ s ∷ []) new
 has_run f turns done s old new middle clients h fit given counted each host collects =
     let ps = proposers_in [] done in
@@ -312,7 +304,7 @@ has_run f turns done s old new middle clients h fit given counted each host coll
     let asked = asked_by ps ts s.lines in
     let before = h.before ++ ts ∷ [] in
     let len : length h.before ≡ length done = h.sectioned in
-    let of : AreOf new.nodes.items ts = of_follows middle new.nodes.items ts turns each (of_assigned asked old.nodes.items middle ts given h.own) in
+    let of : AreOf new.nodes.items ts = of_passes middle new.nodes.items ts turns each (of_assigned asked old.nodes.items middle ts given h.own) in
     let all : asked_in [] (done ++ s ∷ []) before ≡ asked_in [] done h.before ++ asked = asked_more [] done s h.before ts len in record {
       host = host;
       own = subst (λ (l : List Receipt). AreOf new.nodes.items l) (sym collects.is) (of_both new.nodes.items ts collects.more of collects.own);

@@ -1,9 +1,13 @@
 -- How a run over rings gets on.
 use Rattle.std.specs.Prelude.{◌≡◌, ℕ, ◌<◌, ◌≤◌, eqb, cond, List, [], ◌∷◌, ◌++◌, length, drop, Option, Some, None, slice_index_or as get_or}
+use Rattle.ep_host.specs.Follows.{Follows, Settles}
 use Rattle.ep_host.specs.Host.{IsHost}
 use Rattle.ep_host.specs.Node.{Node}
+use Rattle.ep_host.specs.Pointwise.{Each}
+use Rattle.ep_host.specs.Setting.{IsReleased}
 use Rattle.ep_host.specs.Tasks.{Use, tasks_in, events_in, refusals_in, place_after}
 use Rattle.ep_host.specs.declared.task.Task.{Task}
+use Rattle.ep_host.specs.declared.weather.Weather.{Weather}
 use Rattle.ep_journal.specs.declared.step_fault.StepFault.{StepFault}
 use Rattle.ep_journal.specs.Entries.{entries_of}
 use Rattle.ep_replay.specs.Tables.{AreCounted}
@@ -15,6 +19,7 @@ use Rattle.ep_rules.specs.declared.receipt.Receipt.{Receipt}
 use Rattle.ep_script.specs.Plan.{SectionPlan}
 use Rattle.ep_run.specs.Asking.{asked_in, proposers_of}
 use Rattle.ep_run.specs.Lines.{Fate, made, refused, left, Line, AreBeginnings, HaveAtMost}
+use Rattle.ep_run.specs.Weathers.{SetsOwn}
 use Rattle.ep_run.specs.declared.ring_run.RingRun.{RingRun}
 
 abbrev pub fate_of : Option StepFault → Fate
@@ -44,6 +49,24 @@ tasks_at r (a ∷ asked) = cond (eqb a.1.0 r) (a.1.1 ∷ []) [] ++ tasks_at r as
 pub record AreAssigned (asked : List (ℕ × (ℕ × Task))) (xs ys : List Node) : Type 0 where
   pub len : length ys ≡ length xs
   pub at : (i : ℕ) (d : Node) → i < length xs → get_or ys i d ≡ record (get_or xs i d) { agenda = (get_or xs i d).agenda ++ tasks_at i asked }
+
+-- a section begins: what it asks of each node stands last on its agenda, and then its weather is set
+pub record Begins (asked : List (ℕ × (ℕ × Task))) (weather : List Weather) (xs ys : List Node) : Type 0 where
+  pub assigned : List Node
+  pub assigns : AreAssigned asked xs assigned
+  pub sets : Each (SetsOwn weather) assigned ys
+
+-- held frames are put, and then there are rounds
+pub record SettlesReleased (rounds : ℕ) (xs ys : List Node) : Type 0 where
+  pub released : List Node
+  pub releases : Each IsReleased xs released
+  pub settles : Each (Settles rounds) released ys
+
+-- a section's turns in threads; then held frames are put, and there are as many rounds
+pub record Turns (turns : ℕ) (xs ys : List Node) : Type 0 where
+  pub turned : List Node
+  pub follows : Each Follows xs turned
+  pub settles : SettlesReleased turns turned ys
 
 -- each is a receipt of one of the nodes' own
 abbrev pub AreOf : List Node → List Receipt → Type 0

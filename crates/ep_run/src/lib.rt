@@ -11,16 +11,19 @@
 #![tactic(auto)]
 
 mod asking;
+mod collecting;
 mod cursor;
 mod lane;
 mod limits;
 mod ran;
 mod refusals;
 mod ring_run;
+mod ring_weather;
 mod rings;
 mod run_fault;
 mod runner;
 mod submission;
+mod weather;
 
 pub use limits::Limits;
 pub use ran::Ran;
