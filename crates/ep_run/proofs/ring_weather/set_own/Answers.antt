@@ -12,4 +12,4 @@ pub want_of_memory-requires : goal.want_of_memory-requires
 want_of_memory-requires c =
     let h = c.requires.host in
     let same : c.deref.result.now ≡ own_of c.args.place c.args.weather.now = c.deref.ensures.value ∙ c.in_ok-own.ensures in
-    only_memory h.0 c.args.place c.args.nodes.now c.args.weather.now c.deref.result.now c.in_err-set_weather_at.fault h.1 c.requires.within h.2 same (c.in_err-set_weather_at.ensures.refused blank)
+    only_memory h.0 c.args.place c.args.nodes.now c.args.weather.now c.deref.result.now c.in-Err.fault h.1 c.requires.within h.2 same (c.in-Err.ensures.refused blank)
