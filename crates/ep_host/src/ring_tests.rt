@@ -170,10 +170,9 @@ fn entries(node: &RingNode) -> usize {
     node.replica().journal().entries().len()
 }
 
-/// Gives the node one put of x, and sets its weather to this alone.
-fn begin_alone(rt: &impl Abort, alloc: Global, node: &mut RingNode, weather: Weather) {
-    let client = u32::from(weather.from.index()) + 1;
-    assert!(rt; node.set_weather(&[weather]).is_ok());
+/// Sets the weather of the node, and gives it one put of x by this client.
+fn begin_by(rt: &impl Abort, alloc: Global, node: &mut RingNode, client: u32, weather: &[Weather]) {
+    assert!(rt; node.set_weather(weather).is_ok());
     assert!(rt; node.assign(put(rt, alloc, client, 1, b"x")).is_ok());
 }
 
@@ -356,9 +355,9 @@ fn held_frames_in_a_circle(rt: HostRuntime) {
     let alloc = rt.alloc();
     let mut nodes = host(&rt, alloc, 1);
     assert!(&rt; nodes.len() == 3);
-    begin_alone(&rt, alloc, &mut nodes[0], held(&rt, 0, 1));
-    begin_alone(&rt, alloc, &mut nodes[1], held(&rt, 1, 2));
-    begin_alone(&rt, alloc, &mut nodes[2], held(&rt, 2, 0));
+    begin_by(&rt, alloc, &mut nodes[0], 1, &[held(&rt, 0, 1)]);
+    begin_by(&rt, alloc, &mut nodes[1], 2, &[held(&rt, 1, 2)]);
+    begin_by(&rt, alloc, &mut nodes[2], 3, &[held(&rt, 2, 0)]);
     let gate = Meeting {
         flags: [AtomicU64::new(0), AtomicU64::new(0)],
     };
