@@ -15,7 +15,7 @@ use Rattle.ep_host.specs.declared.delivery.Delivery.TheVariants.{Put}
 use Rattle.ep_host.specs.declared.outlet.Outlet.{Outlet}
 use Rattle.ep_host.specs.declared.weather.Weather.{Weather}
 use Rattle.ep_host.specs.declared.weather_kind.WeatherKind.{WeatherKind}
-use Rattle.ep_host.proofs.Fated.{frames_in-append, held_for-append, counted_for-append, lost_in-append, counted_twice, obeys_both, held_all}
+use Rattle.ep_host.proofs.Fated.{IsFated, frames_in-append, held_for-append, counted_for-append, lost_in-append, counted_twice, obeys_both, held_all}
 use Rattle.ep_host.proofs.Naming.{eqb_same, eqb_apart}
 use Rattle.ep_host.proofs.Places.{place_at, place_self, place_place}
 use Rattle.ep_host.proofs.Releasing.{none_left}
@@ -83,6 +83,24 @@ mails_mails ps qs n m a b c h k =
     sum : (p q both n m : ℕ) → both ≡ p + q → (p + n) + (q + m) ≡ both + (n + m)
     sum p q both n m e = omega (arith, e)
 
+-- an outbox of its parts
+abbrev pub outbox : ℕ → List Weather → List Outlet → ℕ → Outbox
+outbox me weather outlets lost = record { me = me; weather = weather; outlets = outlets; lost = lost }
+
+-- one frame
+pub mails_one :
+    (ws : List Weather) (b : List ℕ) (d : Delivery) (a : Outbox) (ys : List Outlet) (after : ℕ) → ws ≡ a.weather → EachAt (Passes ws (fate b d ∷ [])) a.outlets ys → (length a.outlets ≤ (origin_at b).to → d ≡ Put false) →
+    after ≡ counted_up a.lost (lost_of d) → Mails (fate b d ∷ []) 0 a (record a { outlets = ys; lost = after })
+mails_one ws b d a ys after weather outlets stray lost = record {
+  is = refl;
+  outlets = subst (λ (w : List Weather). EachAt (Passes w (fate b d ∷ [])) a.outlets ys) weather outlets;
+  strays = All-push (IsLostPast (length a.outlets)) [] (fate b d) (All-nil (IsLostPast (length a.outlets))) stray;
+  lost = lost ∙ ap (counted_up a.lost) (one (lost_of d));
+}
+  where
+    one : (n : ℕ) → n ≡ (n + 0) + 0
+    one n = omega arith
+
 pub mailed_none : (a : Outbox) → IsMailed [] 0 a a
 mailed_none a = record { fates = []; frames = refl; mails = mails_none a }
 
@@ -119,7 +137,7 @@ passed_addressed ws fates xs ys h was = λ k d low.
     let low' : k < length xs = omega (arith, h.len) in
     let P : List ℕ → Type 0 = λ (b : List ℕ). (origin_at b).to ≡ k in
     All-same P (get_or ys k d).held ((get_or xs k d).held ++ held_for k fates) (h.at k d low').held
-    (All-append P (get_or xs k d).held (held_for k fates) (was k d low') (All-weaker _ P (λ b f. f.1) (held_for k fates) (held_all k fates)))
+    (All-append P (get_or xs k d).held (held_for k fates) (was k d low') (All-weaker (IsFated k fates) P (λ b f. f.1) (held_for k fates) (held_all k fates)))
 
 pub counted_addressed : (xs ys : List Outlet) → Each CountsFromNone xs ys → AreAddressed xs → AreAddressed ys
 counted_addressed xs ys h was = λ k d low.
@@ -183,12 +201,9 @@ own_push me (v ∷ ws) w = split (eqb v.from me) (own_push me ws w)
 own_next : (me : ℕ) (ws : List Weather) (i : ℕ) (w : Weather) → i < length ws → w ≡ get_or ws i w → own_of me (take (i + 1) ws) ≡ own_of me (take i ws) ++ cond (eqb w.from me) (w ∷ []) []
 own_next me ws i w low is = ap (own_of me) (take_more ws i w low ∙ ap (λ (v : Weather). take i ws ++ v ∷ []) (sym is)) ∙ own_push me (take i ws) w
 
-pub own_more : (me : ℕ) (own more ws : List Weather) (i : ℕ) (w : Weather) → i < length ws → w ≡ get_or ws i w → own ≡ own_of me (take i ws) → w.from ≡ me → more ≡ own ++ w ∷ [] → more ≡ own_of me (take (i + 1) ws)
-own_more me own more ws i w low is so_far mine pushed =
-    let yes' : eqb w.from me ≡ true = eqb_same w.from me mine in
-    rw (own_next me ws i w low is, yes') (pushed ∙ ap (λ (l : List Weather). l ++ w ∷ []) so_far)
+pub own_more :
+    (me : ℕ) (own more ws : List Weather) (i : ℕ) (w : Weather) → i < length ws → w ≡ get_or ws i w → own ≡ own_of me (take i ws) → eqb w.from me ≡ true → more ≡ own ++ w ∷ [] → more ≡ own_of me (take (i + 1) ws)
+own_more me own more ws i w low is so_far mine pushed = rw (own_next me ws i w low is, mine) (pushed ∙ ap (λ (l : List Weather). l ++ w ∷ []) so_far)
 
-pub own_past : (me : ℕ) (own ws : List Weather) (i : ℕ) (w : Weather) → i < length ws → w ≡ get_or ws i w → own ≡ own_of me (take i ws) → (w.from ≡ me → ⊥) → own ≡ own_of me (take (i + 1) ws)
-own_past me own ws i w low is so_far other =
-    let no' : eqb w.from me ≡ false = eqb_apart w.from me other in
-    rw (own_next me ws i w low is, no') (so_far ∙ sym (append-nil (own_of me (take i ws))))
+pub own_past : (me : ℕ) (own ws : List Weather) (i : ℕ) (w : Weather) → i < length ws → w ≡ get_or ws i w → own ≡ own_of me (take i ws) → eqb w.from me ≡ false → own ≡ own_of me (take (i + 1) ws)
+own_past me own ws i w low is so_far other = rw (own_next me ws i w low is, other) (so_far ∙ sym (append-nil (own_of me (take i ws))))
