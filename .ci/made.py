@@ -1,7 +1,8 @@
-"""Scripts that are made from a rule, with the reports that the rule asks for, and scripts that are refused at a line."""
+"""Scripts that are made from a rule, with the reports that the rule asks for, scripts with weather, and scripts that are refused at a line."""
 
 LIMIT = 1000
 NOTHING = ["verdict accepted", "committed 0", "history 0", "receipts 0", "refused 0"]
+ONE_PUT = ["verdict accepted", "committed 1", "0.1 seq 1 deps - put x 1", "history 1", "1 0.1 put x 1 -> absent", "receipts 1", "client 1 request 1 0.1 absent", "refused 0"]
 
 
 def instance(count, size):
@@ -83,12 +84,42 @@ def every():
         yield name, joined(script), joined(report)
 
 
+def weather():
+    """Names, words of `run`, scripts, and their reports, of which any one may come."""
+    put = "propose 0 1 put x 1"
+    held = ["hold 0 1 1", "hold 1 0 1", put]
+    narrow = ["--capacity", "1"]
+    for name, words, script, report, lost in (
+        ("a PreAccept held and put", [], ["hold 0 1 1", put], ONE_PUT, [0]),
+        ("a PreAccept and its answer put twice", [], ["repeat 0 1 1", "repeat 1 0 1", put], ONE_PUT, [0]),
+        ("a put at capacity 1", narrow, [put], ONE_PUT, [0]),
+        ("a PreAccept put twice at capacity 1", narrow, ["repeat 0 1 1", put], ONE_PUT, [0, 1]),
+        # the answer is sent while the host settles, and waits for the next section's threads
+        ("an answer held while the host settles", [], [*held, "section", "section"], ONE_PUT, [0]),
+        ("an answer held in the last section", [], held, NOTHING, [0]),
+        ("weather of the section before", [], ["drop 0 1 1", "section", put], ONE_PUT, [0]),
+        ("frames counted anew", [], [put, "section", "drop 0 1 1", "propose 0 1 put y 2"], ONE_PUT, [0]),
+        ("one frame in two sections", [], ["drop 0 1 1", "section", "hold 0 1 1", "section"], NOTHING, [0]),
+    ):
+        yield name, words, joined(["replicas 3", *script]), [joined([*report, f"lost {it}"]) for it in lost]
+
+
+def refused_runs():
+    """Names of scripts for a run, the scripts, and the lines at which they are refused."""
+    for second in ("drop", "hold", "repeat"):
+        yield f"refused: {second} of a frame that is dropped", joined(["replicas 3", "drop 0 1 1", "hold 0 1 2", "hold 0 2 1", f"{second} 0 1 1"]), 5
+    for line in ("drop 1 1 1", "hold 0 3 1", "repeat 3 0 1", "drop 0 1 0", "drop 0 1", "drop 0 1 1 1", "hold 0 1 4294967296", "Drop 0 1 1"):
+        yield f"refused: {line}", joined(["replicas 3", line]), 2
+
+
 def refused():
     """Names, scripts, and the lines at which they are refused."""
     yield "a line too long", joined(["replicas 3", "#" * 8193]), 2
     yield "a script too long", joined(["replicas 3", *[""] * 100_000]), 100_001
     for line in ("propose 0 0 get x", "propose 0 4294967296 get x", "propose 0 00000000001 get x", "propose 3 1 get x", "propose 0 1 get %-", "propose 0 1 get %4"):
         yield f"refused: {line}", joined(["replicas 3", line]), 2
+    for line in ("drop 0 1 1", "hold 0 1 1", "repeat 0 1 1"):
+        yield f"refused in a replay: {line}", joined(["replicas 3", line]), 2
     yield "a key of 256 bytes", joined(["replicas 3", f"propose 0 1 get {'k' * 256}"]), 2
     yield "a value of 1,025 bytes", joined(["replicas 3", f"propose 0 1 put k {'v' * 1025}"]), 2
     yield "replicas again", joined(["replicas 3", "", "replicas 3"]), 3

@@ -9,7 +9,8 @@ A row is a folder .ci/rows/NAME with files, each of which may lack:
   change     lines 'PLACE BYTE', in decimal and hexadecimal: bytes that are others where the second run reads them
   redirect   the shell's redirections of the last run
   stdout stderr status     what is wanted: nothing, nothing and 0 where there is no such file; stdout.gz: packed
-More rows are made of the scripts and reports in docs/FORMATS.md, examples/ and .ci/scripts/, and by .ci/made.py from a rule.
+More rows are made of the scripts and reports in docs/FORMATS.md, examples/ and .ci/scripts/ (NAME.script is played, NAME.run is run
+by both hosts), and by .ci/made.py.
 """
 
 import gzip
@@ -34,6 +35,8 @@ class Row:
     status: int = 0
     redirect: str = ""
     change: list = field(default_factory=list)
+    # outputs that are as good as the one that is wanted
+    others: list = field(default_factory=list)
 
     def run(self, program):
         """Returns what is wrong with a run of the program, or nothing."""
@@ -50,7 +53,7 @@ class Row:
             return f"status {status} and not {self.status}; on standard error {told[:200]!r}"
         if told != self.told:
             return f"standard error has {told[:200]!r} and not {self.told[:200]!r}"
-        if wrote != self.wanted:
+        if wrote != self.wanted and wrote not in self.others:
             at = next((place for place, (a, b) in enumerate(zip(wrote, self.wanted)) if a != b), min(len(wrote), len(self.wanted)))
             return f"standard output has {len(wrote)} bytes and not {len(self.wanted)}, or differs first in line {wrote[:at].count(10) + 1}: {wrote[at : at + 80]!r} and not {self.wanted[at : at + 80]!r}"
         return ""
@@ -105,6 +108,12 @@ def played(name, script, report):
     yield Row(f"{name}, its bundle audited", ["replay", "--emit", "bundle", "|", "audit"], script, report[: report.rindex(b"refused ")])
 
 
+def hosted(name, words, script, reports):
+    """The rows of a script for a run, by each host."""
+    for host in ("lock", "ring"):
+        yield Row(f"{name}, by the {host} host", ["run", "--host", host, *words], script, reports[0], others=reports[1:])
+
+
 def written():
     """The rows of scripts and reports that stand as files, or in the page on formats."""
     with open(f"{TOP}/docs/FORMATS.md", "rb") as it:
@@ -112,15 +121,14 @@ def written():
     for place, (script, report) in enumerate(re.findall(rb"\n```script\n(.*?)```\n```report\n(.*?)```\n", page, re.S)):
         yield from played(f"docs/FORMATS.md, script {place + 1}", script, report)
     for place, (script, report) in enumerate(re.findall(rb"\n```script-run\n(.*?)```\n```report\n(.*?)```\n", page, re.S)):
-        # scripts with weather aren't read yet
-        if b"drop " not in script:
-            for host in ("lock", "ring"):
-                yield Row(f"docs/FORMATS.md, script for a run {place + 1}, by the {host} host", ["run", "--host", host], script, report)
+        yield from hosted(f"docs/FORMATS.md, script for a run {place + 1}", [], script, [report])
     for folder in ("examples", ".ci/scripts"):
         for name in sorted(os.listdir(f"{TOP}/{folder}")):
-            if name.endswith(".script"):
-                report = text(f"{TOP}/{folder}", f"{name.removesuffix('.script')}.report")
-                yield from played(f"{folder}/{name}", text(f"{TOP}/{folder}", name), report)
+            stem, kind = os.path.splitext(name)
+            if kind in (".script", ".run"):
+                script, report = text(f"{TOP}/{folder}", name), text(f"{TOP}/{folder}", f"{stem}.report")
+                name = f"{folder}/{name}"
+                yield from played(name, script, report) if kind == ".script" else hosted(name, [], script, [report])
 
 
 def every():
@@ -132,8 +140,11 @@ def every():
     yield from written()
     for name, script, report in made.every():
         yield from played(name, script, report)
-    for name, script, line in made.refused():
-        yield Row(name, ["replay"], script, told=b"script refused at line %d\n" % line, status=2)
+    for name, words, script, reports in made.weather():
+        yield from hosted(name, words, script, reports)
+    for subcommand, scripts in (("replay", made.refused()), ("run", made.refused_runs())):
+        for name, script, line in scripts:
+            yield Row(name, [subcommand], script, told=b"script refused at line %d\n" % line, status=2)
 
 
 def tried(program, word="", by=""):

@@ -8,6 +8,8 @@ pub mod Following
 pub mod Looking
 pub mod Hosts
 pub mod Releasing
+pub mod Losing
+pub mod Mailing
 pub mod Naming
 pub mod Turning
 pub mod Hosting

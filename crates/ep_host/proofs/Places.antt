@@ -4,7 +4,7 @@ use Rattle.std.proofs.Math.ListN.{length-set}
 use Rattle.std.proofs.lemmas.List.{get_or_default, get_or_append_left, get_or-append_right}
 use Rattle.std.proofs.lemmas.Bool.{cases_lt}
 use Rattle.std.proofs.lemmas.Bool.Decides.{eqb_tells}
-use Rattle.ep_host.specs.Pointwise.{Each}
+use Rattle.ep_host.specs.Pointwise.{Each, EachAt}
 
 module _ {X : Type 0} where
   pub each_self : (R : X → X → Type 0) (xs : List X) → ((a : X) → R a a) → Each R xs xs
@@ -20,6 +20,27 @@ module _ {X : Type 0} where
         (λ (e : _). subst (λ (j : ℕ). R (get_or xs j d) (get_or (set xs i y) j d)) (sym e.1) (rw (get_or-set_same xs i y d low) (subst (λ (z : X). R z y) (get_or_default xs i b d low) at)))
         (λ (e : _). rw (get_or-set_other xs i k y d e.1) (same k d below e.1))
         (eqb_tells k i);
+  }
+
+  -- the same, where the place counts
+  pub place_at :
+      (R : ℕ → X → X → Type 0) (xs : List X) (i : ℕ) (y b : X) → ((k : ℕ) (d : X) → k < length xs → k ≢ i → R k (get_or xs k d) (get_or xs k d)) →
+      i < length xs → R i (get_or xs i b) y → EachAt R xs (set xs i y)
+  place_at R xs i y b same low at = record {
+    len = length-set xs i y;
+    at = λ k d below. ⊎_elim
+        (λ (e : _). subst (λ (j : ℕ). R j (get_or xs j d) (get_or (set xs i y) j d)) (sym e.1) (rw (get_or-set_same xs i y d low) (subst (λ (z : X). R i z y) (get_or_default xs i b d low) at)))
+        (λ (e : _). rw (get_or-set_other xs i k y d e.1) (same k d below e.1))
+        (eqb_tells k i);
+  }
+
+  pub place_self : (R : ℕ → X → X → Type 0) (xs : List X) → ((k : ℕ) (d : X) → k < length xs → R k (get_or xs k d) (get_or xs k d)) → EachAt R xs xs
+  place_self R xs same = record { len = refl; at = λ i d low. same i d low }
+
+  pub place_place : (R S T : ℕ → X → X → Type 0) → ((k : ℕ) (a b c : X) → R k a b → S k b c → T k a c) → (xs ys zs : List X) → EachAt R xs ys → EachAt S ys zs → EachAt T xs zs
+  place_place R S T join xs ys zs h k = record {
+    len = k.len ∙ h.len;
+    at = λ i d low. join i _ _ _ (h.at i d low) (k.at i d (rw h.len low));
   }
 
   pub each_set : (R : X → X → Type 0) (xs : List X) (i : ℕ) (y b : X) → ((a : X) → R a a) → i < length xs → R (get_or xs i b) y → Each R xs (set xs i y)

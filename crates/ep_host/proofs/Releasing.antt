@@ -1,23 +1,21 @@
 -- Held frames are let go, and the weather is set: the loops, and that both keep the account.
-use Rattle.std.proofs.Common.{Result, Ok, Err, OnOk, OnErr, ◌≡◌, ℕ, ◌+◌, ◌<◌, ◌≤◌, List, [], ◌∷◌, ◌++◌, length, get_or, set, take, drop, refl, sym, ap, ◌∙◌, subst, arith, length-append, append_assoc, ⊎_elim, All, Contains, get_or-set_same, get_or-set_other}
-use Rattle.std.proofs.Math.ListN.{length-set}
-use Rattle.std.proofs.lemmas.List.{append-nil, get_or_default, get_or_append_left, get_or_push, take_at, set-get_or}
-use Rattle.std.proofs.lemmas.Bool.Decides.{eqb_tells}
+use Rattle.std.proofs.Common.{Result, Ok, Err, OnOk, OnErr, ◌≡◌, ℕ, ◌+◌, ◌<◌, ◌≤◌, List, [], ◌∷◌, ◌++◌, length, get_or, set, take, drop, refl, sym, ap, ◌∙◌, subst, arith, length-append, append_assoc, All, Contains}
+use Rattle.std.proofs.lemmas.List.{append-nil, get_or_default, take_at, set-get_or}
 use Rattle.std.proofs.lemmas.List.Elements.{All-nil, All-cons, All-head, All-tail, All-append, All-same, All-weaker}
 use Rattle.rtrb.specs.Ring.{sent, received}
 use Rattle.ep_journal.specs.declared.entry.Entry.{Entry}
-use Rattle.ep_host.specs.Fates.{Releases, counted_up}
+use Rattle.ep_host.specs.Fates.{Releases}
 use Rattle.ep_host.specs.Host.{IsHost}
 use Rattle.ep_host.specs.Node.{Node}
 use Rattle.ep_host.specs.Pointwise.{Each}
 use Rattle.ep_host.specs.Rings.{KeepsLink, IsOut, IsTaken, IsBooked, frames_handled}
 use Rattle.ep_host.specs.Sent.{IsThinned, none, kept, lost, IsCopied}
-use Rattle.ep_host.specs.Setting.{CountsAnew, SetsWeather, IsReleased, ReleasesAll, total}
+use Rattle.ep_host.specs.Setting.{CountsAnew, SetsWeather, IsReleased, ReleasesAll}
 use Rattle.ep_host.specs.declared.link.Link.{Link}
 use Rattle.ep_host.specs.declared.weather.Weather.{Weather}
 use Rattle.ep_host.proofs.Booking.{peers_still}
 use Rattle.ep_host.proofs.Copying.{copied_none, copied_kept, copied_lost}
-use Rattle.ep_host.proofs.Fated.{keeps_self, keeps_keeps, counted_twice}
+use Rattle.ep_host.proofs.Fated.{keeps_self, keeps_keeps}
 use Rattle.ep_host.proofs.Hosts.{Stays, stays_self, host_stays, host_same}
 use Rattle.ep_host.proofs.Places.{each_weaker, each_set}
 
@@ -74,7 +72,7 @@ releasing_lost missed gone f a b c h keeps held put taken count = record {
   count = count ∙ h.count;
 }
 
-none_left : (xs out held : List (List ℕ)) (gone : ℕ) → xs ≡ out ++ held → length out ≡ gone → length xs ≤ gone → held ≡ []
+pub none_left : (xs out held : List (List ℕ)) (gone : ℕ) → xs ≡ out ++ held → length out ≡ gone → length xs ≤ gone → held ≡ []
 none_left xs out [] gone e l h = refl
 none_left xs out (f ∷ fs) gone e l h = absurd (omega (arith, length-append out (f ∷ fs), ap (length {A = List ℕ}) e))
 
@@ -97,51 +95,6 @@ pub releasing_end : (missed gone : ℕ) (a b c : Link) → gone < length a.held 
 releasing_end missed gone a b c low empty h =
     let out : a.held ≡ h.out = h.is ∙ ap (λ (l : List (List ℕ)). h.out ++ l) empty ∙ append-nil h.out in
     let l = h.len in absurd (omega (arith, l, ap (length {A = List ℕ}) out))
-
--- those of all links
-
-pub record ReleasesFirst (place before after : ℕ) (xs ys : List Link) : Type 0 where
-  pub missed : List ℕ
-  pub len : length missed ≡ place
-  pub links : length ys ≡ length xs
-  pub done : (k : ℕ) (d : Link) → k < place → Releases (get_or missed k 0) (get_or xs k d) (get_or ys k d)
-  pub left : (k : ℕ) (d : Link) → place ≤ k → get_or ys k d ≡ get_or xs k d
-  pub counted : after ≡ counted_up before (total missed)
-
-pub releases_none : (before : ℕ) (xs : List Link) → ReleasesFirst 0 before before xs xs
-releases_none before xs = record { missed = []; len = refl; links = refl; done = λ k d low. absurd (omega arith); left = λ k d low. refl; counted = refl }
-
-total_push : (ns : List ℕ) (m : ℕ) → total (ns ++ m ∷ []) ≡ total ns + m
-total_push [] m = omega arith
-total_push (n ∷ ns) m = sum n (total (ns ++ m ∷ [])) (total ns) m (total_push ns m)
-  where
-    sum : (k n l m : ℕ) → n ≡ l + m → k + n ≡ (k + l) + m
-    sum k n l m e = omega (arith, e)
-
-pub releases_more :
-    (place before after m : ℕ) (xs ys : List Link) (was y : Link) → place < length xs → ReleasesFirst place before after xs ys → Releases m (get_or ys place was) y → ReleasesFirst (place + 1) before (counted_up after m) xs (set ys place y)
-releases_more place before after m xs ys was y low h r =
-    let links = h.links in let len = h.len in
-    let low' : place < length ys = omega (arith, links) in record {
-      missed = h.missed ++ m ∷ [];
-      len = omega (arith, length-append h.missed (m ∷ []), len);
-      links = length-set ys place y ∙ h.links;
-      done = λ k d below. ⊎_elim
-          (λ (e : _). let at : k ≡ place = e.1 in
-          rw at (rw (get_or_push h.missed m 0 place h.len, get_or-set_same ys place y d low') (subst (λ (z : Link). Releases m z y) (get_or_default ys place was d low' ∙ h.left place d (omega arith)) r)))
-          (λ (e : _). let below' : k < place = (let other = e.1 in grind (arith, other)) in
-          let inside : k < length h.missed = omega (arith, len) in
-          rw (get_or_append_left h.missed (m ∷ []) 0 k inside, get_or-set_other ys place k y d e.1) (h.done k d below'))
-          (eqb_tells k place);
-      left = λ k d below. ⊎_elim
-          (λ (e : _). let at : k ≡ place = e.1 in absurd (omega arith))
-          (λ (e : _). get_or-set_other ys place k y d e.1 ∙ h.left k d (omega arith))
-          (eqb_tells k place);
-      counted = ap (λ (n : ℕ). counted_up n m) h.counted ∙ counted_twice before (total h.missed) m ∙ ap (counted_up before) (sym (total_push h.missed m));
-    }
-
-pub releases_all : (place before after : ℕ) (xs ys : List Link) → place ≡ length xs → ReleasesFirst place before after xs ys → ReleasesAll before after xs ys
-releases_all place before after xs ys all h = record { missed = h.missed; len = h.len ∙ all; links = h.links; at = λ i d low. h.done i d (omega (arith, all)); counted = h.counted }
 
 keeps_counted : (a : Link) (n : ℕ) → KeepsLink a (record a { count = n })
 keeps_counted a n = record { peer = refl; to = ((refl, refl, refl, refl), refl); from = ((refl, refl, refl, refl), refl) }
@@ -196,7 +149,7 @@ counted_account es a b is = subst (λ (l : Link). Accounts es a l) (sym is) reco
 
 pub released_books : (me : ℕ) (es : List Entry) (n m : ℕ) (before after : List Link) → ReleasesAll n m before after → IsBooked me es before → IsBooked me es after
 released_books me es n m before after r was = accounts_book me es before after
-    record { len = r.links; at = λ i d low. released_account es (get_or r.missed i 0) (get_or before i d) (get_or after i d) (r.at i d low) } was
+    record { len = r.places; at = λ i d low. released_account es (get_or r.missed i 0) (get_or before i d) (get_or after i d) (r.at i d low) } was
 
 pub counted_books : (me : ℕ) (es : List Entry) (before after : List Link) → Each CountsAnew before after → IsBooked me es before → IsBooked me es after
 counted_books me es before after h was = accounts_book me es before after (each_weaker CountsAnew (Accounts es) (counted_account es) before after h) was
@@ -221,7 +174,7 @@ pub released_stays : (a b : Node) → IsReleased a b → Stays a b
 released_stays a b r = record {
   faults = ap (λ (n : Node). n.replica.faults) r.is;
   me = ap (λ (n : Node). n.replica.me) r.is;
-  rings = record { len = r.links.links; at = λ i d low. (r.links.at i d low).keeps };
+  rings = record { len = r.links.places; at = λ i d low. (r.links.at i d low).keeps };
 }
 
 pub host_weathered :

@@ -11,6 +11,7 @@ pub mod Node
 pub mod Acts
 pub mod Turns
 pub mod Setting
+pub mod Outboxes
 pub mod Follows
 pub mod Host
 pub mod Joins

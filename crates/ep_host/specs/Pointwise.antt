@@ -5,3 +5,8 @@ use Rattle.std.specs.Prelude.{◌≡◌, ℕ, ◌<◌, List, length, slice_index
 pub record Each {X : Type 0} (R : X → X → Type 0) (xs ys : List X) : Type 0 where
   pub len : length ys ≡ length xs
   pub at : (i : ℕ) (d : X) → i < length xs → R (slice_index_or xs i d) (slice_index_or ys i d)
+
+-- the same, where the place counts
+pub record EachAt {X : Type 0} (R : ℕ → X → X → Type 0) (xs ys : List X) : Type 0 where
+  pub len : length ys ≡ length xs
+  pub at : (i : ℕ) (d : X) → i < length xs → R i (slice_index_or xs i d) (slice_index_or ys i d)

@@ -19,7 +19,7 @@ pub record SetsWeather (ws : List Weather) (a b : Node) : Type 0 where
   pub counts : Each CountsAnew a.links links
   pub is : b ≡ record a { links = links; weather = ws }
 
--- why a weather was not set: want of memory, where it is one; or it is none
+-- why a list was not set, where P says that it is a weather, of the cluster or of one replica: want of memory, and it is one; or it is none
 abbrev pub IsUnset : Type 0 → HostFault → Type 0
 IsUnset P Memory = P
 IsUnset P OutOfRange = P → ⊥
@@ -29,13 +29,17 @@ abbrev pub total : List ℕ → ℕ
 total [] = 0
 total (n ∷ ns) = n + total ns
 
--- each link's held frames are put, in order, less so many that are lost of each; all these are counted
-pub record ReleasesAll (lost lost' : ℕ) (xs ys : List Link) : Type 0 where
+-- each two at one place are so related, by how many are lost there; all these are counted
+pub record LosesAll {X : Type 0} (R : ℕ → X → X → Type 0) (lost lost' : ℕ) (xs ys : List X) : Type 0 where
   pub missed : List ℕ
   pub len : length missed ≡ length xs
-  pub links : length ys ≡ length xs
-  pub at : (i : ℕ) (d : Link) → i < length xs → Releases (slice_index_or missed i 0) (slice_index_or xs i d) (slice_index_or ys i d)
+  pub places : length ys ≡ length xs
+  pub at : (i : ℕ) (d : X) → i < length xs → R (slice_index_or missed i 0) (slice_index_or xs i d) (slice_index_or ys i d)
   pub counted : lost' ≡ counted_up lost (total missed)
+
+-- each link's held frames are put, in order, less so many that are lost of each; all these are counted
+abbrev pub ReleasesAll : ℕ → ℕ → List Link → List Link → Type 0
+ReleasesAll lost lost' xs ys = LosesAll Releases lost lost' xs ys
 
 -- the held frames of a node are put, and it holds none
 pub record IsReleased (a b : Node) : Type 0 where

@@ -9,6 +9,11 @@ abbrev pub kind_at : List Weather → ℕ → ℕ → Option WeatherKind
 kind_at [] peer count = None
 kind_at (w ∷ ws) peer count = cond (eqb w.to peer && eqb w.count count) (Some w.kind) (kind_at ws peer count)
 
+-- those of frames that this replica puts, in order
+abbrev pub own_of : ℕ → List Weather → List Weather
+own_of me [] = []
+own_of me (w ∷ ws) = cond (eqb w.from me) (w ∷ own_of me ws) (own_of me ws)
+
 -- both name one frame
 pub record NameOne (v w : Weather) : Type 0 where
   pub from : v.from ≡ w.from

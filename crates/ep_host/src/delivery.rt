@@ -5,7 +5,7 @@ ghost use Rattle.std.specs.Prelude.{◌≡◌};
 /// What became of a frame out.
 #[derive(Clone, Copy, Debug, PartialEq, Eq)]
 pub enum Delivery {
-    /// It was put into its ring, or is lost, where that was full.
+    /// It was put into its ring or inbox, or is lost, where that was full.
     Put(bool),
     /// There was no memory for it: it is lost.
     Short,

@@ -14,6 +14,7 @@ use crate::sending::{Sending, sent_last};
 use crate::tended::Tended;
 use crate::tending::tend;
 use crate::turn::Turn;
+use crate::weather::{Weather, is_weather};
 use ep_base::{Command, InstanceId, ReplicaId, Size};
 use ep_frame::Frame;
 use ep_journal::{Event, Journal, StepFault};
@@ -97,7 +98,7 @@ fn journals_of(alloc: Global, seats: Vec<Seat>) -> Result<Vec<Journal>, AllocErr
         let Seat {
             cell,
             inbox: _,
-            lost: _,
+            sender: _,
         } = seat;
         journals.push(cell.into_inner().into_journal())?;
     }
@@ -110,7 +111,9 @@ impl LockHost {
     ghost use Rattle.ep_journal.specs.declared.event.Event.TheVariants.{Propose};
     ghost use Rattle.ep_host.specs.Asking.{IsTaken, IsSubmitted, IsPumped, IsRefused, IsUntold, AreTold, IsOutcomeIn};
     ghost use Rattle.ep_host.specs.Finishing.{IsFinished};
+    ghost use Rattle.ep_host.specs.Setting.{IsUnset};
     ghost use Rattle.ep_host.specs.Tending.{event_of};
+    ghost use Rattle.ep_host.specs.Weathers.{IsWeather};
     ghost use Rattle.ep_host.specs.declared.host_fault.HostFault.TheVariants.{OutOfRange};
 
     /// The replicas of a cluster of this size, before any event, each with an inbox for so many frames.
@@ -234,11 +237,38 @@ impl LockHost {
         Ok(receipts)
     }
 
-    /// How many frames were lost: for want of memory, and where an inbox was full.
+    /// Sets the weather: what is to become of which frames that the replicas send from now on. Each replica's part of the list takes the place of the
+    /// one before, by rising replica, each under its sending lock, and its frames for each other one are counted anew; what is held stays held.
+    ///
+    /// `OutOfRange` where one of these names no frame that a replica of the cluster puts for another one, or two name one frame, and nothing has
+    /// changed; otherwise `Memory` at want of memory. The replicas before the one that it was wanted for then have their new part, and the others
+    /// are as they were.
+    pub fn set_weather<R: Wait>(&self, rt: &R, weather: &[Weather]) -> Result<(), HostFault>
+        ensures ok { OnOk result (IsWeather self.now.cluster weather.now) }
+        ensures unset { IfErr result (IsUnset (IsWeather self.now.cluster weather.now)) }
+    {
+        if !is_weather(self.cluster, weather) {
+            return Err(HostFault::OutOfRange);
+        }
+        for seat in &self.seats {
+            seat.sender.lock(rt).set_weather(self.alloc, weather)?;
+        }
+        Ok(())
+    }
+
+    /// Puts the held frames into the inboxes of their receivers, by rising replica, each under its sending lock, and of each by rising receiver and
+    /// in order. Those that find an inbox full are lost, and counted.
+    pub fn release<R: Wait>(&self, rt: &R) {
+        for seat in &self.seats {
+            seat.sender.lock(rt).release(rt, &self.seats);
+        }
+    }
+
+    /// How many frames were lost: for want of memory, and where an inbox was full. Counted up to 2^64 - 1.
     pub fn lost<R: Wait>(&self, rt: &R) -> u64 {
         let mut sum = 0u64;
         for seat in &self.seats {
-            sum = sum.saturating_add(*seat.lost.lock(rt));
+            sum = sum.saturating_add(seat.sender.lock(rt).lost());
         }
         sum
     }

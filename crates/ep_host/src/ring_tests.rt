@@ -170,6 +170,22 @@ fn entries(node: &RingNode) -> usize {
     node.replica().journal().entries().len()
 }
 
+/// Sets the weather of the node, and gives it one put of x by this client.
+fn begin_by(rt: &impl Abort, alloc: Global, node: &mut RingNode, client: u32, weather: &[Weather]) {
+    assert!(rt; node.set_weather(weather).is_ok());
+    assert!(rt; node.assign(put(rt, alloc, client, 1, b"x")).is_ok());
+}
+
+/// The first frame of this node for that one is held.
+fn held(rt: &impl Abort, from: u8, to: u8) -> Weather {
+    Weather {
+        from: ReplicaId::new(from).expect(rt, "a replica"),
+        to: ReplicaId::new(to).expect(rt, "a replica"),
+        count: 1,
+        kind: WeatherKind::Hold,
+    }
+}
+
 /// How many entries the second node makes in three turns, after one of the first.
 fn entries_made(nodes: &mut [RingNode]) -> usize
     requires { 1 < length nodes.old }
@@ -179,6 +195,16 @@ fn entries_made(nodes: &mut [RingNode]) -> usize
         nodes[1].turn();
     }
     entries(&nodes[1])
+}
+
+/// Whether each node made an entry.
+fn have_entries(nodes: &[RingNode]) -> bool {
+    for node in nodes {
+        if entries(node) == 0 {
+            return false;
+        }
+    }
+    true
 }
 
 /// Whether the node refuses this weather as one that is out of range.
@@ -322,4 +348,20 @@ fn a_weather_out_of_range_leaves_the_one_before(rt: HostRuntime) {
     assert!(&rt; !commits(&rt, nodes.as_mut_slice()));
     RingHost::release(nodes.as_mut_slice());
     assert!(&rt; commits(&rt, nodes.as_mut_slice()));
+}
+
+#[test]
+fn held_frames_in_a_circle(rt: HostRuntime) {
+    let alloc = rt.alloc();
+    let mut nodes = host(&rt, alloc, 1);
+    assert!(&rt; nodes.len() == 3);
+    begin_by(&rt, alloc, &mut nodes[0], 1, &[held(&rt, 0, 1)]);
+    begin_by(&rt, alloc, &mut nodes[1], 2, &[held(&rt, 1, 2)]);
+    begin_by(&rt, alloc, &mut nodes[2], 3, &[held(&rt, 2, 0)]);
+    let gate = Meeting {
+        flags: [AtomicU64::new(0), AtomicU64::new(0)],
+    };
+    let section = section(&rt, nodes, &gate, 1);
+    assert!(&rt; section.result.is_ok());
+    assert!(&rt; have_entries(&section.nodes));
 }

@@ -3,6 +3,7 @@
 ghost use Rattle.std.specs.Prelude.{◌<◌};
 ghost use Rattle.ep_base.specs.Quorums.{size};
 
+use crate::sender::Sender;
 use crate::sending::Sending;
 use crossbeam_queue::ArrayQueue;
 use ep_base::{ReplicaId, Size};
@@ -14,12 +15,12 @@ use std::sync::{Mutex, Wait};
 /// A replica behind its lock.
 pub type ReplicaCell = Mutex<Replica>;
 
-/// A replica behind its lock, its inbox, and its sending lock, with the count of the frames that it lost.
+/// A replica behind its lock, its inbox, and what it sends by, behind the sending lock.
 #[derive(Drop)]
 pub struct Seat {
     pub cell: ReplicaCell,
     pub inbox: ArrayQueue<Frame>,
-    pub lost: Mutex<u64>,
+    pub sender: Mutex<Sender>,
 }
 
 impl Seat {
@@ -34,31 +35,32 @@ impl Seat {
         requires some { 0 < capacity }
     {
         let inbox = ArrayQueue::new(alloc, capacity)?;
+        let sender = Sender::new(alloc, cluster, me)?;
         Ok(Seat {
             cell: Mutex::new(Replica::new(alloc, cluster, me).unwrap()),
             inbox,
-            lost: Mutex::new(0),
+            sender: Mutex::new(sender),
         })
     }
 }
 
-/// Sends the frame to its receiver's inbox. It is lost where there is no such replica, and where its inbox is full.
-fn send_one<R: Wait>(rt: &R, seats: &[Seat], frame: Frame) -> bool {
+/// Puts the frame into its receiver's inbox. It is lost where there is no such replica, and where its inbox is full.
+pub fn put<R: Wait>(rt: &R, seats: &[Seat], frame: Frame) -> bool {
     match seats.get(frame.origin().to.index() as usize) {
         Some(seat) => seat.inbox.push(rt, frame).is_ok(),
         None => false,
     }
 }
 
-/// Sends frames that the replica of this seat sent, in order, under its sending lock, and counts those that are lost.
-pub fn send<R: Wait>(rt: &R, seats: &[Seat], from: &Seat, sending: Sending) {
-    let Sending { frames, lost } = sending;
-    let mut count = from.lost.lock(rt);
-    let mut more = lost;
-    for frame in frames {
-        if !send_one(rt, seats, frame) {
-            more = more.saturating_add(1);
-        }
+/// Puts a copy of the frame, where there is memory for one.
+pub fn put_copy<R: Wait>(rt: &R, seats: &[Seat], frame: &Frame) -> bool {
+    match frame.clone() {
+        Ok(copy) => put(rt, seats, copy),
+        Err(_) => false,
     }
-    *count = count.saturating_add(more);
+}
+
+/// Sends frames of the replica of this seat, in order, under its sending lock, in its weather.
+pub fn send<R: Wait>(rt: &R, seats: &[Seat], from: &Seat, sending: Sending) {
+    from.sender.lock(rt).send(rt, seats, sending);
 }

@@ -7,14 +7,13 @@ ghost use Rattle.ep_host.specs.Setting.{CountsAnew, ReleasesAll};
 use crate::link::Link;
 use crate::weather::Weather;
 use crate::weather_kind::WeatherKind;
-use ep_base::ReplicaId;
 use std::alloc::AllocError;
 
-/// How many frames for the peer are to be held.
-fn holds(weather: &[Weather], peer: ReplicaId) -> usize {
+/// How many frames for the replica of this number are to be held.
+pub fn holds(weather: &[Weather], to: usize) -> usize {
     let mut count = 0usize;
     for it in weather {
-        if it.to == peer && it.kind == WeatherKind::Hold {
+        if it.to.index() as usize == to && it.kind == WeatherKind::Hold {
             count = count.saturating_add(1);
         }
     }
@@ -26,7 +25,7 @@ pub fn make_room(links: &mut [Link], weather: &[Weather]) -> Result<(), AllocErr
     ensures { links.new ≡ links.old }
 {
     for place in 0..links.len() {
-        let more = holds(weather, links[place].peer);
+        let more = holds(weather, links[place].peer.index() as usize);
         links[place].held.reserve(more)?;
     }
     Ok(())

@@ -1,6 +1,8 @@
 //! Replicas that threads call: what they leave is audited.
 
-use crate::{HostFault, LockHost, Turn};
+ghost use Rattle.std.specs.Prelude.{◌≤◌};
+
+use crate::{HostFault, LockHost, Turn, Weather, WeatherKind};
 use ep_base::{Command, InstanceId, ReplicaId, Size};
 use ep_rules::Receipt;
 use std::alloc::Global;
@@ -14,9 +16,16 @@ fn replica_at(rt: &impl Abort, index: u8) -> ReplicaId {
     ReplicaId::new(index).expect(rt, "a replica")
 }
 
+/// A host of so many replicas, each with an inbox for so many frames.
+fn host_of(rt: &impl Abort, alloc: Global, replicas: u8, capacity: usize) -> LockHost
+    requires { (1 ≤ capacity) × (capacity ≤ 4096) }
+{
+    let size = Size::new(replicas).expect(rt, "a size");
+    LockHost::new(alloc, size, capacity).expect(rt, "memory for a host")
+}
+
 fn host(rt: &impl Abort, alloc: Global) -> LockHost {
-    let size = Size::new(3).expect(rt, "a size");
-    LockHost::new(alloc, size, 4096).expect(rt, "memory for a host")
+    host_of(rt, alloc, 3, 4096)
 }
 
 /// Twenty puts of x at a replica.
@@ -56,7 +65,7 @@ fn in_threads<R: Threads + Wait + Abort + Sync>(rt: &R, alloc: Global, host: &Lo
 /// One pump of each replica; whether one of them moved.
 fn pump_each<R: Wait + Abort>(rt: &R, host: &LockHost) -> bool {
     let mut moved = false;
-    for index in 0..3 {
+    for index in 0..host.size().count() {
         let turn = host.pump(rt, replica_at(rt, index));
         moved = turn == Ok(Turn::Moved) || moved;
     }
@@ -94,6 +103,67 @@ fn is_told<R: Wait + Abort>(rt: &R, host: &LockHost, receipts: &[Receipt]) -> bo
     }
 }
 
+/// One put at replica 0.
+fn submit_put<R: Wait + Abort>(rt: &R, alloc: Global, host: &LockHost, request: u32, key: &[u8]) {
+    let command = Command::put(alloc, key, b"1").expect(rt, "a command");
+    let told = host.submit(rt, replica_at(rt, 0), 1, request, command, 0);
+    assert!(rt; told.is_ok());
+}
+
+/// What is to become of a frame.
+fn named(rt: &impl Abort, from: u8, to: u8, count: u32, kind: WeatherKind) -> Weather {
+    Weather {
+        from: replica_at(rt, from),
+        to: replica_at(rt, to),
+        count,
+        kind,
+    }
+}
+
+/// The same becomes of the first frames of replica 0 for replicas 1 and 2.
+fn of_both(rt: &impl Abort, kind: WeatherKind) -> [Weather; 2] {
+    [named(rt, 0, 1, 1, kind), named(rt, 0, 2, 1, kind)]
+}
+
+/// The first frame of replica 0 for each of six others is held.
+fn of_six(rt: &impl Abort) -> [Weather; 6] {
+    [
+        named(rt, 0, 1, 1, WeatherKind::Hold),
+        named(rt, 0, 2, 1, WeatherKind::Hold),
+        named(rt, 0, 3, 1, WeatherKind::Hold),
+        named(rt, 0, 4, 1, WeatherKind::Hold),
+        named(rt, 0, 5, 1, WeatherKind::Hold),
+        named(rt, 0, 6, 1, WeatherKind::Hold),
+    ]
+}
+
+fn set<R: Wait + Abort>(rt: &R, host: &LockHost, weather: &[Weather]) {
+    assert!(rt; host.set_weather(rt, weather).is_ok());
+}
+
+/// Whether this weather is refused as one that is out of range.
+fn is_refused<R: Wait + Abort>(rt: &R, host: &LockHost, weather: &[Weather]) -> bool {
+    host.set_weather(rt, weather) == Err(HostFault::OutOfRange)
+}
+
+/// Lets each replica act, and tells whether replica 0 has executed its instance with this number.
+fn executes<R: Wait + Abort>(rt: &R, host: &LockHost, number: u16) -> bool {
+    settle(rt, host);
+    let instance = InstanceId::new(replica_at(rt, 0), number).expect(rt, "an instance");
+    host.outcome(rt, instance).expect(rt, "memory").is_some()
+}
+
+/// How many of four pumps of replica 1 move it.
+fn moves<R: Wait + Abort>(rt: &R, host: &LockHost) -> u8 {
+    let mut moves = 0u8;
+    for _ in 0..4 {
+        if host.pump(rt, replica_at(rt, 1)) == Ok(Turn::Moved) {
+            moves = moves.saturating_add(1);
+        }
+    }
+    moves
+}
+
 #[test]
 fn forty_puts_in_threads(rt: HostRuntime) {
     let alloc = rt.alloc();
@@ -118,4 +188,112 @@ fn a_replica_that_is_none(rt: HostRuntime) {
     assert_eq!(rt; host.pump(&rt, none), Err(HostFault::OutOfRange));
     let beyond = InstanceId::new(none, 1).expect(&rt, "an instance");
     assert!(rt; host.outcome(&rt, beyond).expect(&rt, "memory").is_none());
+}
+
+#[test]
+fn a_held_frame_comes_after_release(rt: HostRuntime) {
+    let alloc = rt.alloc();
+    let host = host(&rt, alloc);
+    set(&rt, &host, &of_both(&rt, WeatherKind::Hold));
+    submit_put(&rt, alloc, &host, 1, b"x");
+    assert!(rt; !executes(&rt, &host, 1));
+    host.release(&rt);
+    assert!(rt; executes(&rt, &host, 1));
+    assert_eq!(rt; host.lost(&rt), 0);
+    drop(host);
+}
+
+#[test]
+fn a_held_frame_stays_held_in_another_weather(rt: HostRuntime) {
+    let alloc = rt.alloc();
+    let host = host(&rt, alloc);
+    set(&rt, &host, &of_both(&rt, WeatherKind::Hold));
+    submit_put(&rt, alloc, &host, 1, b"x");
+    set(&rt, &host, &[]);
+    assert!(rt; !executes(&rt, &host, 1));
+    host.release(&rt);
+    assert!(rt; executes(&rt, &host, 1));
+    drop(host);
+}
+
+#[test]
+fn a_dropped_frame_never_comes(rt: HostRuntime) {
+    let alloc = rt.alloc();
+    let host = host(&rt, alloc);
+    set(&rt, &host, &of_both(&rt, WeatherKind::Drop));
+    submit_put(&rt, alloc, &host, 1, b"x");
+    submit_put(&rt, alloc, &host, 2, b"y");
+    host.release(&rt);
+    assert!(rt; executes(&rt, &host, 2));
+    assert!(rt; !executes(&rt, &host, 1));
+    assert_eq!(rt; host.lost(&rt), 0);
+    drop(host);
+}
+
+#[test]
+fn frames_are_counted_anew(rt: HostRuntime) {
+    let alloc = rt.alloc();
+    let host = host(&rt, alloc);
+    set(&rt, &host, &of_both(&rt, WeatherKind::Drop));
+    submit_put(&rt, alloc, &host, 1, b"x");
+    set(&rt, &host, &of_both(&rt, WeatherKind::Drop));
+    submit_put(&rt, alloc, &host, 2, b"y");
+    assert!(rt; !executes(&rt, &host, 2));
+    drop(host);
+}
+
+#[test]
+fn a_repeated_frame_comes_twice(rt: HostRuntime) {
+    let alloc = rt.alloc();
+    let host = host(&rt, alloc);
+    set(&rt, &host, &[named(&rt, 0, 1, 1, WeatherKind::Repeat)]);
+    submit_put(&rt, alloc, &host, 1, b"x");
+    assert_eq!(rt; moves(&rt, &host), 2);
+    assert_eq!(rt; host.lost(&rt), 0);
+    drop(host);
+}
+
+#[test]
+fn a_repeated_frame_finds_a_full_inbox(rt: HostRuntime) {
+    let alloc = rt.alloc();
+    let host = host_of(&rt, alloc, 3, 1);
+    set(&rt, &host, &[named(&rt, 0, 1, 1, WeatherKind::Repeat)]);
+    submit_put(&rt, alloc, &host, 1, b"x");
+    assert_eq!(rt; moves(&rt, &host), 1);
+    assert_eq!(rt; host.lost(&rt), 1);
+    drop(host);
+}
+
+#[test]
+fn seven_replicas_in_weather(rt: HostRuntime) {
+    let alloc = rt.alloc();
+    let host = host_of(&rt, alloc, 7, 16);
+    set(&rt, &host, &of_six(&rt));
+    submit_put(&rt, alloc, &host, 1, b"x");
+    assert!(rt; !executes(&rt, &host, 1));
+    host.release(&rt);
+    assert!(rt; executes(&rt, &host, 1));
+    assert_eq!(rt; host.lost(&rt), 0);
+    drop(host);
+}
+
+#[test]
+fn a_weather_out_of_range_leaves_the_one_before(rt: HostRuntime) {
+    let alloc = rt.alloc();
+    let host = host(&rt, alloc);
+    set(&rt, &host, &of_both(&rt, WeatherKind::Hold));
+    let twice = [
+        named(&rt, 0, 1, 1, WeatherKind::Drop),
+        named(&rt, 0, 1, 1, WeatherKind::Hold),
+    ];
+    assert!(rt; is_refused(&rt, &host, &twice));
+    assert!(rt; is_refused(&rt, &host, &[named(&rt, 0, 1, 0, WeatherKind::Drop)]));
+    assert!(rt; is_refused(&rt, &host, &[named(&rt, 1, 1, 1, WeatherKind::Drop)]));
+    assert!(rt; is_refused(&rt, &host, &[named(&rt, 0, 3, 1, WeatherKind::Drop)]));
+    assert!(rt; is_refused(&rt, &host, &[named(&rt, 3, 0, 1, WeatherKind::Drop)]));
+    submit_put(&rt, alloc, &host, 1, b"x");
+    assert!(rt; !executes(&rt, &host, 1));
+    host.release(&rt);
+    assert!(rt; executes(&rt, &host, 1));
+    drop(host);
 }

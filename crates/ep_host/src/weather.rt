@@ -1,11 +1,12 @@
 //! What is to become of which frame.
 
-ghost use Rattle.std.specs.Prelude.{◌≡◌, ℕ, ◌<◌, length, slice_index_or, IsTrue, IsFalse, All};
-ghost use Rattle.ep_host.specs.Weathers.{kind_at, NameOne, IsFrameIn, IsWeather, IsWeatherAt};
+ghost use Rattle.std.specs.Prelude.{◌≡◌, ℕ, ◌<◌, length, slice_index_or, IsTrue, IsFalse, IfOk, All};
+ghost use Rattle.ep_host.specs.Weathers.{kind_at, own_of, NameOne, IsFrameIn, IsWeather, IsWeatherAt};
 ghost use Rattle.ep_host.specs.declared.weather.Weather.{Weather as Named};
 
 use crate::weather_kind::WeatherKind;
 use ep_base::{ReplicaId, Size};
+use std::alloc::{AllocError, Global};
 
 /// What is to become of one frame: the one that this replica puts for that one as its `count`-th, from 1, since the weather was set.
 #[derive(Clone, Copy, Debug, PartialEq, Eq)]
@@ -26,6 +27,19 @@ pub fn kind_at(weather: &[Weather], peer: ReplicaId, count: u64) -> Option<Weath
         }
     }
     None
+}
+
+/// Those of frames that this replica puts, in order.
+pub fn own_of(alloc: Global, me: ReplicaId, weather: &[Weather]) -> Result<Vec<Weather>, AllocError>
+    ensures { IfOk result (λ own. own.items ≡ own_of me weather.now) }
+{
+    let mut own = Vec::new(alloc);
+    for it in weather {
+        if it.from == me {
+            own.push(*it)?;
+        }
+    }
+    Ok(own)
 }
 
 /// Whether it names a frame that a replica of the cluster puts for another one.

@@ -14,7 +14,7 @@ use Rattle.ep_rules.specs.Journals.{asked_in as asked_in_entries}
 use Rattle.ep_rules.specs.Steps.{Event}
 use Rattle.ep_report.specs.declared.cause.Cause.{Cause}
 use Rattle.ep_rules.specs.declared.receipt.Receipt.{Receipt}
-use Rattle.ep_script.specs.declared.agenda_line.AgendaLine.{AgendaLine}
+use Rattle.ep_script.specs.Plan.{SectionPlan}
 use Rattle.ep_run.specs.Asking.{asked_in}
 use Rattle.ep_run.specs.Lines.{Fate, made, refused, left, Line, asks, event_made, made_at, refused_in, AreBeginnings, HaveAtMost, AreDone}
 use Rattle.ep_run.specs.Rings.{fate_of, next_fate, without_next, lines_of, tasks_at, HasUsed, UsesUp, HasRun}
@@ -117,14 +117,14 @@ none_at (n ∷ ns) zero high = absurd (omega (arith, high))
 none_at (n ∷ ns) (suc r) high = none_at ns r (omega (arith, high))
 
 -- these are the lines that were refused, as the nodes tell
-abbrev pub Refuses : List (List (ℕ × AgendaLine)) → List (ℕ × Cause) → List Node → Type 0
+abbrev pub Refuses : List SectionPlan → List (ℕ × Cause) → List Node → Type 0
 Refuses sections told nodes =
     (before : List (List Receipt)) (uses : ℕ → List Use) → (length before ≡ length sections) → ((i : ℕ) (d : Node) → i < length nodes → (get_or nodes i d).refused ≡ refusals_in 0 (uses i)) →
     ((i : ℕ) → length nodes ≤ i → uses i ≡ []) → told ≡ refused_in (lines_of (asked_in [] sections before) uses)
 
 -- what the lines became
 pub are_done :
-    (f turns : ℕ) (sections : List (List (ℕ × AgendaLine))) (s : RingRun) (ran : Ran) → HasRun f turns sections s → ran.finished.journals.entries ≡ entries_in (replicas_in s.nodes.items) → ran.receipts.items ≡ s.receipts.items →
+    (f turns : ℕ) (sections : List SectionPlan) (s : RingRun) (ran : Ran) → HasRun f turns sections s → ran.finished.journals.entries ≡ entries_in (replicas_in s.nodes.items) → ran.receipts.items ≡ s.receipts.items →
     (nodes : List Node) → nodes ≡ s.nodes.items → Refuses sections ran.refused.items nodes → AreDone turns sections ran
 are_done f turns sections s ran h journals receipts from same refuses =
     let told : Refuses sections ran.refused.items s.nodes.items = subst (λ (l : List Node). Refuses sections ran.refused.items l) same refuses in

@@ -6,7 +6,7 @@ use Rattle.std.proofs.lemmas.List.Elements.{Contains-append_left, Contains-appen
 use Rattle.std.proofs.lemmas.Bool.{cases_lt}
 use Rattle.std.proofs.lemmas.Bool.Decides.{eqb_tells}
 use mathlib.Core.List.{IsPrefix}
-use Rattle.ep_host.specs.Follows.{Works, Follows, Settles}
+use Rattle.ep_host.specs.Follows.{Works}
 use Rattle.ep_host.specs.Host.{IsHost, IsFresh}
 use Rattle.ep_host.specs.Node.{Node, fresh_node}
 use Rattle.ep_host.specs.Pointwise.{Each}
@@ -14,8 +14,7 @@ use Rattle.ep_host.specs.RingFinishing.{replicas_in, their_journals}
 use Rattle.ep_host.specs.Tasks.{Use, tasks_in, events_in, refusals_in, refusal_at, place_after, next_place}
 use Rattle.ep_host.specs.Turns.{AssignsAt}
 use Rattle.ep_host.specs.declared.task.Task.{Task}
-use Rattle.ep_host.proofs.Following.{follows_follows, tasks_both, events_both, asked_both, refusals_both, places_both, entries_both}
-use Rattle.ep_host.proofs.Places.{each_each}
+use Rattle.ep_host.proofs.Following.{tasks_both, events_both, asked_both, refusals_both, places_both, entries_both}
 use Rattle.ep_journal.specs.Entries.{entries_of}
 use Rattle.ep_journal.specs.declared.entry.Entry.{Entry}
 use Rattle.ep_journal.specs.declared.step_fault.StepFault.{StepFault}
@@ -30,12 +29,14 @@ use Rattle.ep_rules.specs.Worlds.{In}
 use Rattle.ep_rules.specs.declared.receipt.Receipt.{Receipt}
 use Rattle.ep_rules.proofs.OwnReceipts.{own_stays_lem}
 use Rattle.ep_script.specs.Fits.{FitsCluster}
+use Rattle.ep_script.specs.Plan.{SectionPlan}
 use Rattle.ep_script.specs.declared.agenda_line.AgendaLine.{AgendaLine}
 use Rattle.ep_script.specs.declared.agenda_line.AgendaLine.TheVariants.{Propose, GiveUp, Recover}
 use Rattle.ep_run.specs.Asking.{asked_of, asked_by, asked_in, proposers_after, proposers_of}
 use Rattle.ep_run.specs.Lines.{AreBeginnings, HaveAtMost, count_for, replica_of}
 use Rattle.ep_run.specs.Rings.{tasks_at, AreAssigned, AreOf, Collects, HasUsed, UsesUp, proposers_in, HasRun}
 use Rattle.ep_run.specs.declared.ring_run.RingRun.{RingRun}
+use Rattle.ep_run.proofs.Turning.{Passes}
 
 -- What is asked.
 
@@ -49,18 +50,18 @@ asked_by_both ps ts (x ∷ xs) ys = ap (λ (l : List (ℕ × (ℕ × Task))). (x
 
 -- one section more
 pub asked_more :
-    (ps : List ℕ) (ss : List (List (ℕ × AgendaLine))) (s : List (ℕ × AgendaLine)) (before : List (List Receipt)) (ts : List Receipt) → length before ≡ length ss →
-    asked_in ps (ss ++ s ∷ []) (before ++ ts ∷ []) ≡ asked_in ps ss before ++ asked_by (proposers_in ps ss) ts s
-asked_more ps [] s [] ts len = append-nil (asked_by ps ts s)
+    (ps : List ℕ) (ss : List SectionPlan) (s : SectionPlan) (before : List (List Receipt)) (ts : List Receipt) → length before ≡ length ss →
+    asked_in ps (ss ++ s ∷ []) (before ++ ts ∷ []) ≡ asked_in ps ss before ++ asked_by (proposers_in ps ss) ts s.lines
+asked_more ps [] s [] ts len = append-nil (asked_by ps ts s.lines)
 asked_more ps [] s (b ∷ bs) ts len = absurd (omega (arith, len))
 asked_more ps (x ∷ xs) s [] ts len = absurd (omega (arith, len))
 asked_more ps (x ∷ xs) s (b ∷ bs) ts len =
     let shorter : length bs ≡ length xs = omega (arith, len) in
-    ap (λ (l : List (ℕ × (ℕ × Task))). asked_by ps b x ++ l) (asked_more (proposers_of ps x) xs s bs ts shorter) ∙ sym (append_assoc (asked_by ps b x) (asked_in (proposers_of ps x) xs bs) (asked_by (proposers_in (proposers_of ps x) xs) ts s))
+    ap (λ (l : List (ℕ × (ℕ × Task))). asked_by ps b x.lines ++ l) (asked_more (proposers_of ps x.lines) xs s bs ts shorter) ∙ sym (append_assoc (asked_by ps b x.lines) (asked_in (proposers_of ps x.lines) xs bs) (asked_by (proposers_in (proposers_of ps x.lines) xs) ts s.lines))
 
-pub proposers_in_more : (ps : List ℕ) (ss : List (List (ℕ × AgendaLine))) (s : List (ℕ × AgendaLine)) → proposers_in ps (ss ++ s ∷ []) ≡ proposers_of (proposers_in ps ss) s
+pub proposers_in_more : (ps : List ℕ) (ss : List SectionPlan) (s : SectionPlan) → proposers_in ps (ss ++ s ∷ []) ≡ proposers_of (proposers_in ps ss) s.lines
 proposers_in_more ps [] s = refl
-proposers_in_more ps (x ∷ xs) s = proposers_in_more (proposers_of ps x) xs s
+proposers_in_more ps (x ∷ xs) s = proposers_in_more (proposers_of ps x.lines) xs s
 
 -- a line asks its replica
 pub asks_replica : (ps : List ℕ) (ts : List Receipt) (l : AgendaLine) → (asked_of ps ts l).0 ≡ replica_of l
@@ -153,12 +154,12 @@ beginnings_more (b ∷ c ∷ cs) xs h = (h.0, beginnings_more (c ∷ cs) xs h.1)
 
 -- Receipts.
 
-own_follows : (a b : Node) (t : Receipt) → Follows a b → IsOwn a.replica.faults a.replica.me (entries_of a.replica.entries) t → IsOwn b.replica.faults b.replica.me (entries_of b.replica.entries) t
-own_follows a b t h own =
-    let grown : entries_of b.replica.entries ≡ entries_of a.replica.entries ++ entries_of h.works.entries = ap entries_of h.works.journal ∙ entries_both a.replica.entries h.works.entries in
-    subst (λ (f : ℕ). IsOwn f b.replica.me (entries_of b.replica.entries) t) (sym h.works.faults)
-    (subst (λ (r : ℕ). IsOwn a.replica.faults r (entries_of b.replica.entries) t) (sym h.works.me)
-    (subst (λ (es : List rules.Entry). IsOwn a.replica.faults a.replica.me es t) (sym grown) (own_stays_lem a.replica.faults a.replica.me (entries_of a.replica.entries) (entries_of h.works.entries) t own)))
+own_works : (a b : Node) (t : Receipt) → Works a b → IsOwn a.replica.faults a.replica.me (entries_of a.replica.entries) t → IsOwn b.replica.faults b.replica.me (entries_of b.replica.entries) t
+own_works a b t h own =
+    let grown : entries_of b.replica.entries ≡ entries_of a.replica.entries ++ entries_of h.entries = ap entries_of h.journal ∙ entries_both a.replica.entries h.entries in
+    subst (λ (f : ℕ). IsOwn f b.replica.me (entries_of b.replica.entries) t) (sym h.faults)
+    (subst (λ (r : ℕ). IsOwn a.replica.faults r (entries_of b.replica.entries) t) (sym h.me)
+    (subst (λ (es : List rules.Entry). IsOwn a.replica.faults a.replica.me es t) (sym grown) (own_stays_lem a.replica.faults a.replica.me (entries_of a.replica.entries) (entries_of h.entries) t own)))
 
 -- the receipts of nodes are still theirs after what the nodes do
 pub of_related : (R : Node → Node → Type 0) (xs ys : List Node) (ts : List Receipt) → ((a b : Node) (t : Receipt) → R a b → IsOwn a.replica.faults a.replica.me (entries_of a.replica.entries) t → IsOwn b.replica.faults b.replica.me (entries_of b.replica.entries) t) →
@@ -166,8 +167,8 @@ pub of_related : (R : Node → Node → Type 0) (xs ys : List Node) (ts : List R
 of_related R xs ys ts keeps each own t h =
     let o = own t h in (o.0, omega (arith, o.1, each.len), λ d. keeps (get_or xs o.0 d) (get_or ys o.0 d) t (each.at o.0 d o.1) (o.2 d))
 
-pub of_follows : (xs ys : List Node) (ts : List Receipt) (turns : ℕ) → Each (Settles turns) xs ys → AreOf xs ts → AreOf ys ts
-of_follows xs ys ts turns each own = of_related (Settles turns) xs ys ts (λ a b t h. own_follows a b t h.follows) each own
+pub of_passes : (xs ys : List Node) (ts : List Receipt) (turns : ℕ) → Each (Passes turns) xs ys → AreOf xs ts → AreOf ys ts
+of_passes xs ys ts turns each own = of_related (Passes turns) xs ys ts (λ a b t h. own_works a b t h.works) each own
 
 pub of_assigned : (asked : List (ℕ × (ℕ × Task))) (xs ys : List Node) (ts : List Receipt) → AreAssigned asked xs ys → AreOf xs ts → AreOf ys ts
 of_assigned asked xs ys ts h own t is =
@@ -197,14 +198,6 @@ collects_collects nodes a b c xs ys zs h k = record {
   counted = λ ps counted. k.counted ps (h.counted ps counted);
 }
 
--- Turns.
-
-pub follows_settles : (turns : ℕ) (a b c : Node) → Follows a b → Settles turns b c → Settles turns a c
-follows_settles turns a b c h k = record {
-  follows = follows_follows a b c h k.follows;
-  agenda = (let shorter = ap (λ (l : List Task). length l) h.works.agenda in let l = k.agenda in omega (arith, shorter, length-append (tasks_in h.works.used) b.agenda, l));
-}
-
 -- Agendas.
 
 -- what has been used up after more was asked, and turns
@@ -232,7 +225,7 @@ abbrev pub blank : Node
 blank = fresh_node (record { faults = 0; me = 0; entries = [] })
 
 pub uses_more :
-    (r turns : ℕ) (tasks : List Task) (asked : List (ℕ × (ℕ × Task))) (xs ys zs : List Node) → UsesUp r tasks xs → AreAssigned asked xs ys → Each (Settles turns) ys zs →
+    (r turns : ℕ) (tasks : List Task) (asked : List (ℕ × (ℕ × Task))) (xs ys zs : List Node) → UsesUp r tasks xs → AreAssigned asked xs ys → Each (Passes turns) ys zs →
     (length xs ≤ r → tasks_at r asked ≡ []) → UsesUp r (tasks ++ tasks_at r asked) zs
 uses_more r turns tasks asked xs ys zs u given each none = ⊎_elim
     (λ (low : r < length xs).
@@ -240,7 +233,7 @@ uses_more r turns tasks asked xs ys zs u given each none = ⊎_elim
     let c = get_or zs r blank in
     let low' : r < length ys = omega (arith, low, given.len) in
     let low'' : r < length zs = omega (arith, low', each.len) in
-    let h : Works (get_or ys r blank) c = (each.at r blank low').follows.works in
+    let h : Works (get_or ys r blank) c = (each.at r blank low').works in
     let m = used_more u.used u.left more (get_or xs r blank) (get_or ys r blank) c (u.node blank low) (given.at r blank low) h in
     let all : UsesUp r (tasks ++ more) zs = record {
       used = u.used ++ h.used;
@@ -294,24 +287,24 @@ empty_short : (l : List Task) → length l ≤ 0 → l ≡ []
 empty_short [] low = refl
 empty_short (t ∷ ts) low = absurd (omega (arith, low))
 
-most_before : (turns : ℕ) (ss : List (List (ℕ × AgendaLine))) (s : List (ℕ × AgendaLine)) → HaveAtMost turns (ss ++ s ∷ []) → HaveAtMost turns ss
+most_before : (turns : ℕ) (ss : List SectionPlan) (s : SectionPlan) → HaveAtMost turns (ss ++ s ∷ []) → HaveAtMost turns ss
 most_before turns ss s h x is = h x (Contains-append_left ss (s ∷ []) x is)
 
-most_last : (turns : ℕ) (ss : List (List (ℕ × AgendaLine))) (s : List (ℕ × AgendaLine)) → HaveAtMost turns (ss ++ s ∷ []) → (r : ℕ) → count_for r s ≤ turns
+most_last : (turns : ℕ) (ss : List SectionPlan) (s : SectionPlan) → HaveAtMost turns (ss ++ s ∷ []) → (r : ℕ) → count_for r s.lines ≤ turns
 most_last turns ss s h r = h s (Contains-push ss s) r
 
 pub has_run :
-    (f turns : ℕ) (done : List (List (ℕ × AgendaLine))) (s : List (ℕ × AgendaLine)) (old new : RingRun) (middle : List Node) (clients : Clients) → HasRun f turns done old →
-    All (λ (e : ℕ × AgendaLine). FitsCluster (length old.nodes.items) e.1) s → AreAssigned (asked_by (proposers_in [] done) old.receipts.items s) old.nodes.items middle →
-    AreCounted clients (proposers_of (proposers_in [] done) s) old.receipts.items → Each (Settles turns) middle new.nodes.items → IsHost f new.nodes.items →
+    (f turns : ℕ) (done : List SectionPlan) (s : SectionPlan) (old new : RingRun) (middle : List Node) (clients : Clients) → HasRun f turns done old →
+    All (λ (e : ℕ × AgendaLine). FitsCluster (length old.nodes.items) e.1) s.lines → AreAssigned (asked_by (proposers_in [] done) old.receipts.items s.lines) old.nodes.items middle →
+    AreCounted clients (proposers_of (proposers_in [] done) s.lines) old.receipts.items → Each (Passes turns) middle new.nodes.items → IsHost f new.nodes.items →
     Collects new.nodes.items clients old.receipts.items new.clients new.receipts.items → HasRun f turns (done ++ s ∷ []) new
 has_run f turns done s old new middle clients h fit given counted each host collects =
     let ps = proposers_in [] done in
     let ts = old.receipts.items in
-    let asked = asked_by ps ts s in
+    let asked = asked_by ps ts s.lines in
     let before = h.before ++ ts ∷ [] in
     let len : length h.before ≡ length done = h.sectioned in
-    let of : AreOf new.nodes.items ts = of_follows middle new.nodes.items ts turns each (of_assigned asked old.nodes.items middle ts given h.own) in
+    let of : AreOf new.nodes.items ts = of_passes middle new.nodes.items ts turns each (of_assigned asked old.nodes.items middle ts given h.own) in
     let all : asked_in [] (done ++ s ∷ []) before ≡ asked_in [] done h.before ++ asked = asked_more [] done s h.before ts len in record {
       host = host;
       own = subst (λ (l : List Receipt). AreOf new.nodes.items l) (sym collects.is) (of_both new.nodes.items ts collects.more of collects.own);
@@ -322,7 +315,7 @@ has_run f turns done s old new middle clients h fit given counted each host coll
       used = λ r.
           subst (λ (l : List Task). UsesUp r l new.nodes.items) (sym (ap (tasks_at r) all ∙ tasks_at_both r (asked_in [] done h.before) asked))
           (uses_more r turns (tasks_at r (asked_in [] done h.before)) asked old.nodes.items middle new.nodes.items (h.used r) given each
-          (λ high. none_asked (length old.nodes.items) r ps ts s high fit));
+          (λ high. none_asked (length old.nodes.items) r ps ts s.lines high fit));
       none_left = λ most i d low.
           let low' : i < length middle = omega (arith, low, each.len) in
           let low'' : i < length old.nodes.items = omega (arith, low', given.len) in
@@ -330,7 +323,7 @@ has_run f turns done s old new middle clients h fit given counted each host coll
           let is : (get_or middle i d).agenda ≡ tasks_at i asked = ap (λ (n : Node). n.agenda) (given.at i d low'') ∙ ap (λ (l : List Task). l ++ tasks_at i asked) was in
           let short = (each.at i d low').agenda in
           let all' = ap (λ (l : List Task). length l) is in
-          empty_short (get_or new.nodes.items i d).agenda (omega (arith, short, all', tasks_counted i ps ts s, most_last turns done s most i));
+          empty_short (get_or new.nodes.items i d).agenda (omega (arith, short, all', tasks_counted i ps ts s.lines, most_last turns done s most i));
     }
 
 -- Receipts of the nodes' own are own by the journals.

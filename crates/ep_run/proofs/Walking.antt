@@ -9,6 +9,7 @@ use Rattle.ep_host.specs.declared.task.Task.{Task}
 use Rattle.ep_journal.specs.declared.step_fault.StepFault.{StepFault}
 use Rattle.ep_report.specs.declared.cause.Cause.{Cause}
 use Rattle.ep_rules.specs.declared.receipt.Receipt.{Receipt}
+use Rattle.ep_script.specs.Plan.{SectionPlan}
 use Rattle.ep_script.specs.declared.agenda_line.AgendaLine.{AgendaLine}
 use Rattle.ep_script.specs.declared.agenda_line.AgendaLine.TheVariants.{Propose, GiveUp, Recover}
 use Rattle.ep_run.specs.Asking.{asked_of, proposers_of, asked_by, asked_in}
@@ -205,13 +206,13 @@ lists_line number (Recover replica i) r ps ts ns cs cs' rs rs' f asks why rest i
 
 -- one section more
 pub asked_in_more :
-    (ps : List ℕ) (ss : List (List (ℕ × AgendaLine))) (s : List (ℕ × AgendaLine)) (before : List (List Receipt)) → length ss < length before →
-    asked_in ps (ss ++ s ∷ []) before ≡ asked_in ps ss before ++ asked_by (proposers_in ps ss) (slice_index_or before (length ss) []) s
+    (ps : List ℕ) (ss : List SectionPlan) (s : SectionPlan) (before : List (List Receipt)) → length ss < length before →
+    asked_in ps (ss ++ s ∷ []) before ≡ asked_in ps ss before ++ asked_by (proposers_in ps ss) (slice_index_or before (length ss) []) s.lines
 asked_in_more ps [] s [] short = absurd (omega arith)
-asked_in_more ps [] s (given ∷ before) short = append-nil (asked_by ps given s)
+asked_in_more ps [] s (given ∷ before) short = append-nil (asked_by ps given s.lines)
 asked_in_more ps (t ∷ ss) s [] short = absurd (omega arith)
 asked_in_more ps (t ∷ ss) s (given ∷ before) short =
     let shorter : length ss < length before = omega arith in
-    let first : List (ℕ × (ℕ × Task)) = asked_by ps given t in
-    let qs : List ℕ = proposers_of ps t in
-    ap (λ (l : List (ℕ × (ℕ × Task))). first ++ l) (asked_in_more qs ss s before shorter) ∙ sym (append_assoc first (asked_in qs ss before) (asked_by (proposers_in qs ss) (slice_index_or before (length ss) []) s))
+    let first : List (ℕ × (ℕ × Task)) = asked_by ps given t.lines in
+    let qs : List ℕ = proposers_of ps t.lines in
+    ap (λ (l : List (ℕ × (ℕ × Task))). first ++ l) (asked_in_more qs ss s before shorter) ∙ sym (append_assoc first (asked_in qs ss before) (asked_by (proposers_in qs ss) (slice_index_or before (length ss) []) s.lines))

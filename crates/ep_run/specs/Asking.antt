@@ -4,6 +4,7 @@ use Rattle.ep_host.specs.declared.task.Task.{Task}
 use Rattle.ep_host.specs.declared.task.Task.TheVariants as task
 use Rattle.ep_replay.specs.Clients.{times, greatest}
 use Rattle.ep_rules.specs.declared.receipt.Receipt.{Receipt}
+use Rattle.ep_script.specs.Plan.{SectionPlan}
 use Rattle.ep_script.specs.declared.agenda_line.AgendaLine.{AgendaLine}
 use Rattle.ep_script.specs.declared.agenda_line.AgendaLine.TheVariants.{Propose, GiveUp, Recover}
 use Rattle.ep_run.specs.declared.submission.Submission.{Submission}
@@ -42,7 +43,7 @@ asked_by proposers receipts [] = []
 asked_by proposers receipts (l ∷ ls) = (l.0, asked_of proposers receipts l.1) ∷ asked_by (proposers_after proposers l.1) receipts ls
 
 -- the same of sections, before each of which these receipts had been given
-abbrev pub asked_in : List ℕ → List (List (ℕ × AgendaLine)) → List (List Receipt) → List (ℕ × (ℕ × Task))
+abbrev pub asked_in : List ℕ → List SectionPlan → List (List Receipt) → List (ℕ × (ℕ × Task))
 asked_in proposers [] before = []
 asked_in proposers (s ∷ ss) [] = []
-asked_in proposers (s ∷ ss) (given ∷ before) = asked_by proposers given s ++ asked_in (proposers_of proposers s) ss before
+asked_in proposers (s ∷ ss) (given ∷ before) = asked_by proposers given s.lines ++ asked_in (proposers_of proposers s.lines) ss before

@@ -11,6 +11,7 @@ use Rattle.ep_report.specs.declared.cause.Cause.{Cause}
 use Rattle.ep_rules.specs.Journals.{asked_in as asked_in_entries}
 use Rattle.ep_rules.specs.Steps.{Event}
 use Rattle.ep_rules.specs.declared.receipt.Receipt.{Receipt}
+use Rattle.ep_script.specs.Plan.{SectionPlan}
 use Rattle.ep_script.specs.declared.agenda_line.AgendaLine.{AgendaLine}
 use Rattle.ep_script.specs.declared.agenda_line.AgendaLine.TheVariants.{Propose, GiveUp, Recover}
 use Rattle.ep_run.specs.Asking.{asked_in}
@@ -71,12 +72,12 @@ count_for r [] = 0
 count_for r (l ∷ ls) = cond (eqb (replica_of l.1) r) 1 0 + count_for r ls
 
 -- no section has more lines for one replica
-abbrev pub HaveAtMost : ℕ → List (List (ℕ × AgendaLine)) → Type 0
-HaveAtMost turns sections = (s : List (ℕ × AgendaLine)) → Contains sections s → (r : ℕ) → count_for r s ≤ turns
+abbrev pub HaveAtMost : ℕ → List SectionPlan → Type 0
+HaveAtMost turns sections = (s : SectionPlan) → Contains sections s → (r : ℕ) → count_for r s.lines ≤ turns
 
 -- What became of the lines of these sections, where each section had so many turns: of each replica's lines, those that made entries are what was
 -- asked of it, in order, and the refused lines are those that are told. None is left undone where the turns are as many as a section's lines.
-pub record AreDone (turns : ℕ) (sections : List (List (ℕ × AgendaLine))) (ran : Ran) : Type 0 where
+pub record AreDone (turns : ℕ) (sections : List SectionPlan) (ran : Ran) : Type 0 where
   pub lines : List Line
   -- the receipts that had been given before each section
   pub before : List (List Receipt)

@@ -1,9 +1,13 @@
 -- How a run over rings gets on.
 use Rattle.std.specs.Prelude.{◌≡◌, ℕ, ◌<◌, ◌≤◌, eqb, cond, List, [], ◌∷◌, ◌++◌, length, drop, Option, Some, None, slice_index_or as get_or}
+use Rattle.ep_host.specs.Follows.{Follows, Settles}
 use Rattle.ep_host.specs.Host.{IsHost}
 use Rattle.ep_host.specs.Node.{Node}
+use Rattle.ep_host.specs.Pointwise.{Each}
+use Rattle.ep_host.specs.Setting.{IsReleased}
 use Rattle.ep_host.specs.Tasks.{Use, tasks_in, events_in, refusals_in, place_after}
 use Rattle.ep_host.specs.declared.task.Task.{Task}
+use Rattle.ep_host.specs.declared.weather.Weather.{Weather}
 use Rattle.ep_journal.specs.declared.step_fault.StepFault.{StepFault}
 use Rattle.ep_journal.specs.Entries.{entries_of}
 use Rattle.ep_replay.specs.Tables.{AreCounted}
@@ -12,9 +16,10 @@ use Rattle.ep_rules.specs.Journals.{asked_in as asked_in_entries}
 use Rattle.ep_rules.specs.Verdicts.{IsOwn}
 use Rattle.ep_rules.specs.Worlds.{In}
 use Rattle.ep_rules.specs.declared.receipt.Receipt.{Receipt}
-use Rattle.ep_script.specs.declared.agenda_line.AgendaLine.{AgendaLine}
+use Rattle.ep_script.specs.Plan.{SectionPlan}
 use Rattle.ep_run.specs.Asking.{asked_in, proposers_of}
 use Rattle.ep_run.specs.Lines.{Fate, made, refused, left, Line, AreBeginnings, HaveAtMost}
+use Rattle.ep_run.specs.Weathers.{SetsOwn}
 use Rattle.ep_run.specs.declared.ring_run.RingRun.{RingRun}
 
 abbrev pub fate_of : Option StepFault → Fate
@@ -45,6 +50,24 @@ pub record AreAssigned (asked : List (ℕ × (ℕ × Task))) (xs ys : List Node)
   pub len : length ys ≡ length xs
   pub at : (i : ℕ) (d : Node) → i < length xs → get_or ys i d ≡ record (get_or xs i d) { agenda = (get_or xs i d).agenda ++ tasks_at i asked }
 
+-- a section begins: what it asks of each node stands last on its agenda, and then its weather is set
+pub record Begins (asked : List (ℕ × (ℕ × Task))) (weather : List Weather) (xs ys : List Node) : Type 0 where
+  pub assigned : List Node
+  pub assigns : AreAssigned asked xs assigned
+  pub sets : Each (SetsOwn weather) assigned ys
+
+-- held frames are put, and then there are rounds
+pub record SettlesReleased (rounds : ℕ) (xs ys : List Node) : Type 0 where
+  pub released : List Node
+  pub releases : Each IsReleased xs released
+  pub settles : Each (Settles rounds) released ys
+
+-- a section's turns in threads; then held frames are put, and there are as many rounds
+pub record Turns (turns : ℕ) (xs ys : List Node) : Type 0 where
+  pub turned : List Node
+  pub follows : Each Follows xs turned
+  pub settles : SettlesReleased turns turned ys
+
 -- each is a receipt of one of the nodes' own
 abbrev pub AreOf : List Node → List Receipt → Type 0
 AreOf nodes receipts =
@@ -73,12 +96,12 @@ pub record UsesUp (r : ℕ) (tasks : List Task) (nodes : List Node) : Type 0 whe
   pub others : length nodes ≤ r → (used ≡ []) × (left ≡ [])
 
 -- the clients that have proposed in sections
-abbrev pub proposers_in : List ℕ → List (List (ℕ × AgendaLine)) → List ℕ
+abbrev pub proposers_in : List ℕ → List SectionPlan → List ℕ
 proposers_in proposers [] = proposers
-proposers_in proposers (s ∷ ss) = proposers_in (proposers_of proposers s) ss
+proposers_in proposers (s ∷ ss) = proposers_in (proposers_of proposers s.lines) ss
 
 -- how far the run of a cluster in which f may fail has come, after these sections
-pub record HasRun (f turns : ℕ) (sections : List (List (ℕ × AgendaLine))) (s : RingRun) : Type 0 where
+pub record HasRun (f turns : ℕ) (sections : List SectionPlan) (s : RingRun) : Type 0 where
   pub host : IsHost f s.nodes.items
   pub own : AreOf s.nodes.items s.receipts.items
   pub counted : AreCounted s.clients (proposers_in [] sections) s.receipts.items

@@ -88,7 +88,7 @@ fn list_section(
     section: &Section,
 ) -> Result<(), AllocError>
     requires { length cursors.old ≡ length nodes.now }
-    ensures { OnOk result ((ps : List ℕ) (ts : List Receipt) → Lists (asked_by ps ts section.now) nodes.now cursors.old cursors.new refused.old.items refused.new.items) }
+    ensures { OnOk result ((ps : List ℕ) (ts : List Receipt) → Lists (asked_by ps ts section.now.lines) nodes.now cursors.old cursors.new refused.old.items refused.new.items) }
 {
     for (number, line) in section.lines() {
         list_line(refused, cursors, nodes, *number, line)?;

@@ -2,20 +2,21 @@
 
 ghost use Rattle.std.specs.Prelude.{◌≡◌, ◌++◌, ◌∷◌, [], ◌≤◌, length, ℕ, List, All, IfOk, OnOk, IsOk};
 ghost use Rattle.ep_host.specs.Finishing.{IsFinished};
-ghost use Rattle.ep_host.specs.Follows.{Settles};
 ghost use Rattle.ep_host.specs.Host.{IsHost};
-ghost use Rattle.ep_host.specs.Pointwise.{Each};
 ghost use Rattle.ep_replay.specs.Tables.{AreCounted};
 ghost use Rattle.ep_rules.specs.declared.receipt.Receipt.{Receipt as Told};
-ghost use Rattle.ep_script.specs.Fits.{FitsCluster};
+ghost use Rattle.ep_script.specs.Fits.{FitsCluster, FitsSection};
 ghost use Rattle.ep_script.specs.declared.agenda_line.AgendaLine.{AgendaLine as Line};
 ghost use Rattle.ep_run.specs.Asking.{asked_by as asks_of, asked_of, proposers_after, proposers_of};
-ghost use Rattle.ep_run.specs.Rings.{AreAssigned, Collects, HasRun};
+ghost use Rattle.ep_run.specs.Rings.{AreAssigned, Begins, SettlesReleased, Turns, Collects, HasRun};
 ghost use Rattle.ep_run.specs.Lines.{AreDone};
+ghost use Rattle.ep_run.specs.Weathers.{weather_in, HasOwn};
 
 use crate::asking::asked_by;
+use crate::collecting::{last_entry, none_collected, note_last};
 use crate::ran::Ran;
 use crate::refusals::refused_lines;
+use crate::ring_weather::set_weather;
 use ep_base::Size;
 use ep_host::{Finished, Gate, RingHost, RingNode, finish_with, section as turn_all, settle};
 use ep_replay::Clients;
@@ -83,47 +84,52 @@ fn assign_all(
     Ok(())
 }
 
-/// So many turns of each node in a thread of its own, and then so many rounds.
+/// Begins a section: puts what its lines ask for on the agendas of their nodes, and sets its weather.
+fn begin(
+    alloc: Global,
+    clients: &mut Clients,
+    nodes: &mut [RingNode],
+    section: &Section,
+) -> Result<(), AllocError>
+    requires fits { FitsSection (length nodes.old) section.now }
+    requires host { (f : ℕ) × IsHost f nodes.old }
+    requires counted { (ps : List ℕ) × (ts : List Told) × AreCounted clients.old ps ts }
+    ensures host { (f : ℕ) → IsHost f nodes.old → IsHost f nodes.new }
+    ensures begins { OnOk result ((ps : List ℕ) (ts : List Told) → AreCounted clients.old ps ts → Begins (asks_of ps ts section.now.lines) (weather_in section.now.weather) nodes.old nodes.new) }
+    ensures counted { OnOk result ((ps : List ℕ) (ts : List Told) → AreCounted clients.old ps ts → AreCounted clients.new (proposers_of ps section.now.lines) ts) }
+{
+    assign_all(alloc, clients, nodes, section.lines())?;
+    set_weather(alloc, nodes, section)?;
+    Ok(())
+}
+
+/// Puts the held frames, and then so many rounds.
+fn settle_released(nodes: &mut [RingNode], rounds: u32)
+    ensures settles { SettlesReleased rounds nodes.old nodes.new }
+    ensures host { (f : ℕ) → IsHost f nodes.old → IsHost f nodes.new }
+{
+    RingHost::release(nodes);
+    settle(nodes, rounds);
+}
+
+/// So many turns of each node in a thread of its own; then the held frames are put, and then so many rounds.
 fn turned<R: Threads + Sync>(rt: &R, nodes: Vec<RingNode>, turns: u32) -> Vec<RingNode>
-    ensures settled { Each (Settles turns) nodes.items result.items }
+    ensures turns { Turns turns nodes.items result.items }
     ensures host { (f : ℕ) → IsHost f nodes.items → IsHost f result.items }
 {
     let mut nodes = turn_all(rt, nodes, &Open, turns).nodes;
-    settle(nodes.as_mut_slice(), turns);
+    settle_released(nodes.as_mut_slice(), turns);
     nodes
-}
-
-/// The last entry that gave one of the receipts, or this one where there are none.
-fn last_entry(receipts: &[Receipt], before: u32) -> u32 {
-    match receipts.last() {
-        None => before,
-        Some(receipt) => receipt.entry,
-    }
-}
-
-/// The receipts of the node at this place were collected up to this entry.
-fn note_last(collected: &mut [u32], place: usize, entry: u32) {
-    if let Some(last) = collected.get_mut(place) {
-        *last = entry;
-    }
-}
-
-/// No entry of any node.
-fn none_collected(alloc: Global, count: usize) -> Result<Vec<u32>, AllocError> {
-    let mut collected = Vec::new(alloc);
-    for _ in 0..count {
-        collected.push(0)?;
-    }
-    Ok(collected)
 }
 
 impl RingRun {
     ghost use Rattle.std.specs.Prelude.{◌≡◌, ◌++◌, ◌∷◌, [], ◌≤◌, ◌<◌, length, ℕ, List, All, IfOk, OnOk, IsOk};
     ghost use Rattle.ep_host.specs.Finishing.{IsFinished};
-    ghost use Rattle.ep_script.specs.Fits.{FitsCluster};
-    ghost use Rattle.ep_script.specs.declared.agenda_line.AgendaLine.{AgendaLine as Line};
+    ghost use Rattle.ep_script.specs.Fits.{FitsSection};
+    ghost use Rattle.ep_script.specs.Plan.{SectionPlan};
     ghost use Rattle.ep_run.specs.Lines.{AreDone};
     ghost use Rattle.ep_run.specs.Rings.{Collects, HasRun};
+    ghost use Rattle.ep_run.specs.Weathers.{weather_in, HasOwn};
 
     /// A run before any section.
     pub(crate) fn new(alloc: Global, cluster: Size, capacity: usize) -> Result<RingRun, AllocError>
@@ -141,22 +147,23 @@ impl RingRun {
         })
     }
 
-    /// Runs a section in threads, settles, and collects the receipts.
+    /// Runs a section in threads and in its own weather, puts the held frames, settles, and collects the receipts.
     pub(crate) fn run<R: Threads + Sync>(
         &mut self,
         rt: &R,
         section: &Section,
         turns: u32,
     ) -> Result<(), AllocError>
-        requires run { (f : ℕ) × (done : List (List (ℕ × Line))) × HasRun f turns done self.old }
-        requires fit { All (λ (e : ℕ × Line). FitsCluster (length self.old.nodes.items) e.1) section.now }
-        ensures { OnOk result ((f : ℕ) (done : List (List (ℕ × Line))) → HasRun f turns done self.old → HasRun f turns (done ++ section.now ∷ []) self.new) }
+        requires run { (f : ℕ) × (done : List SectionPlan) × HasRun f turns done self.old }
+        requires fits { FitsSection (length self.old.nodes.items) section.now }
+        ensures run { OnOk result ((f : ℕ) (done : List SectionPlan) → HasRun f turns done self.old → HasRun f turns (done ++ section.now ∷ []) self.new) }
+        ensures weather { OnOk result (All (HasOwn (weather_in section.now.weather)) self.new.nodes.items) }
     {
-        assign_all(
+        begin(
             self.alloc,
             &mut self.clients,
             self.nodes.as_mut_slice(),
-            section.lines(),
+            section,
         )?;
         let none = Vec::new(self.alloc);
         let nodes = mem::replace(&mut self.nodes, none);

@@ -1,18 +1,22 @@
 //! Runs.
 
-ghost use Rattle.std.specs.Prelude.{ℕ, List, IfOk, OnOk};
+ghost use Rattle.std.specs.Prelude.{◌≡◌, ℕ, List, IfOk, OnOk};
+ghost use Rattle.ep_base.specs.Quorums.{size as size_with};
 ghost use Rattle.ep_host.specs.Finishing.{IsFinished};
 ghost use Rattle.ep_replay.specs.Tables.{AreCounted};
 ghost use Rattle.ep_rules.specs.declared.receipt.Receipt.{Receipt as Told};
+ghost use Rattle.ep_script.specs.Fits.{FitsSection};
 ghost use Rattle.ep_run.specs.Asking.{AreSubmissions, proposers_of};
 
+use crate::collecting::{last_entry, none_collected, note_last};
 use crate::lane::{lanes, run_lanes};
 use crate::limits::Limits;
 use crate::ran::Ran;
 use crate::run_fault::RunFault;
 use crate::submission::Submission;
+use crate::weather::{want_of_memory, weather_in};
 use ep_base::{ReplicaId, Size};
-use ep_host::{HostFault, LockHost, Turn};
+use ep_host::{LockHost, Turn};
 use ep_replay::Clients;
 use ep_report::Cause;
 use ep_rules::Receipt;
@@ -26,7 +30,6 @@ use std::thread::Threads;
 #[derive(Drop)]
 struct Runner {
     host: LockHost,
-    cluster: Size,
     clients: Clients,
     receipts: Vec<Receipt>,
     refused: Vec<(u32, Cause)>,
@@ -35,23 +38,14 @@ struct Runner {
     alloc: Global,
 }
 
-/// No entry of any replica.
-fn none_collected(alloc: Global, cluster: Size) -> Result<Vec<u32>, AllocError> {
-    let mut collected = Vec::new(alloc);
-    for _ in 0..cluster.count() {
-        collected.push(0)?;
-    }
-    Ok(collected)
-}
-
 /// What the section's lines ask for, in order.
 fn submissions_of(
     alloc: Global,
     clients: &mut Clients,
     section: &Section,
 ) -> Result<Vec<Submission>, AllocError>
-    ensures tasks { IfOk result (λ tasks. (ps : List ℕ) (ts : List Told) → AreCounted clients.old ps ts → AreSubmissions ps ts section.now tasks.items) }
-    ensures counted { OnOk result ((ps : List ℕ) (ts : List Told) → AreCounted clients.old ps ts → AreCounted clients.new (proposers_of ps section.now) ts) }
+    ensures tasks { IfOk result (λ tasks. (ps : List ℕ) (ts : List Told) → AreCounted clients.old ps ts → AreSubmissions ps ts section.now.lines tasks.items) }
+    ensures counted { OnOk result ((ps : List ℕ) (ts : List Told) → AreCounted clients.old ps ts → AreCounted clients.new (proposers_of ps section.now.lines) ts) }
 {
     let mut tasks = Vec::new(alloc);
     for (line, asked) in section.lines() {
@@ -60,42 +54,51 @@ fn submissions_of(
     Ok(tasks)
 }
 
-/// The last entry that gave one of the receipts, or this one where there are none.
-fn last_entry(receipts: &[Receipt], before: u32) -> u32 {
-    match receipts.last() {
-        None => before,
-        Some(receipt) => receipt.entry,
-    }
-}
-
 impl Runner {
     /// A runner before any section.
-    fn new(alloc: Global, cluster: Size, limits: &Limits) -> Result<Runner, AllocError> {
+    fn new(alloc: Global, cluster: Size, limits: &Limits) -> Result<Runner, AllocError>
+        ensures { IfOk result (λ runner. runner.host.cluster ≡ cluster) }
+    {
         Ok(Runner {
             host: LockHost::new(alloc, cluster, limits.capacity)?,
-            cluster,
             clients: Clients::new(alloc),
             receipts: Vec::new(alloc),
             refused: Vec::new(alloc),
-            collected: none_collected(alloc, cluster)?,
+            collected: none_collected(alloc, cluster.count() as usize)?,
             alloc,
         })
     }
 
-    /// Runs a section in threads, settles, and collects what came of it.
+    /// Runs a section in threads and in its own weather, has the held frames put, settles, and collects what came of it.
     fn run<R: Threads + Wait + Sync>(
         &mut self,
         rt: &R,
         section: &Section,
         turns: u32,
-    ) -> Result<(), RunFault> {
+    ) -> Result<(), RunFault>
+        requires { FitsSection (size_with self.old.host.cluster) section.now }
+        ensures { self.new.host ≡ self.old.host }
+    {
         let tasks = submissions_of(self.alloc, &mut self.clients, section)?;
-        let lanes = lanes(self.alloc, self.cluster)?;
+        let lanes = lanes(self.alloc, self.host.size())?;
+        self.set_weather(rt, section)?;
         run_lanes(rt, self.alloc, &self.host, &tasks, &lanes, turns)?;
+        self.host.release(rt);
         self.settle(rt, turns);
         self.list(rt, &tasks)?;
         self.collect_all(rt)?;
         Ok(())
+    }
+
+    /// Sets the host's weather: the section's.
+    fn set_weather<R: Wait>(&self, rt: &R, section: &Section) -> Result<(), AllocError>
+        requires { FitsSection (size_with self.now.host.cluster) section.now }
+    {
+        let weather = weather_in(self.alloc, section.weather())?;
+        match self.host.set_weather(rt, &weather) {
+            Ok(()) => Ok(()),
+            Err(fault) => Err(want_of_memory(fault)),
+        }
     }
 
     /// Pumps the replicas in rounds, until none of them moves, or after so many.
@@ -110,7 +113,7 @@ impl Runner {
     /// One pump of each replica; whether one of them moved.
     fn pump_each<R: Wait>(&self, rt: &R) -> bool {
         let mut has_moved = false;
-        for index in 0..self.cluster.count() {
+        for index in 0..self.host.size().count() {
             let replica = ReplicaId::new(index).unwrap();
             if self.host.pump(rt, replica) == Ok(Turn::Moved) {
                 has_moved = true;
@@ -120,7 +123,9 @@ impl Runner {
     }
 
     /// Lists the tasks that were refused.
-    fn list<R: Wait>(&mut self, rt: &R, tasks: &[Submission]) -> Result<(), AllocError> {
+    fn list<R: Wait>(&mut self, rt: &R, tasks: &[Submission]) -> Result<(), AllocError>
+        ensures { self.new.host ≡ self.old.host }
+    {
         for task in tasks {
             if let Some(cause) = task.refusal(rt) {
                 self.refused.push((task.line, cause))?;
@@ -130,8 +135,10 @@ impl Runner {
     }
 
     /// Collects the receipts that the replicas have given since the last section, by replica.
-    fn collect_all<R: Wait>(&mut self, rt: &R) -> Result<(), RunFault> {
-        for index in 0..self.cluster.count() {
+    fn collect_all<R: Wait>(&mut self, rt: &R) -> Result<(), RunFault>
+        ensures { self.new.host ≡ self.old.host }
+    {
+        for index in 0..self.host.size().count() {
             let replica = ReplicaId::new(index).unwrap();
             self.collect(rt, replica)?;
         }
@@ -139,7 +146,9 @@ impl Runner {
     }
 
     /// Collects the receipts that the replica has given since the last section.
-    fn collect<R: Wait>(&mut self, rt: &R, replica: ReplicaId) -> Result<(), RunFault> {
+    fn collect<R: Wait>(&mut self, rt: &R, replica: ReplicaId) -> Result<(), RunFault>
+        ensures { self.new.host ≡ self.old.host }
+    {
         let place = replica.index() as usize;
         let before = match self.collected.get(place) {
             Some(entry) => *entry,
@@ -149,9 +158,11 @@ impl Runner {
             return Err(RunFault::Memory);
         };
         self.clients.note_all(&new)?;
-        if let Some(entry) = self.collected.get_mut(place) {
-            *entry = last_entry(&new, before);
-        }
+        note_last(
+            self.collected.as_mut_slice(),
+            place,
+            last_entry(&new, before),
+        );
         self.receipts.append(&mut new)?;
         Ok(())
     }
@@ -162,7 +173,6 @@ impl Runner {
     {
         let Runner {
             host,
-            cluster: _,
             clients: _,
             receipts,
             refused,
@@ -182,9 +192,10 @@ impl Runner {
 
 /// Runs the script in threads, over replicas behind locks.
 ///
-/// The sections are run one after another. In each, every replica has a thread that submits its lines, in the script's order,
-/// and one that pumps it, until its lines are submitted and a later pump is idle, or for the limit of turns; then all are
-/// pumped in rounds until none of them moves, or for as many rounds; then receipts are collected. A client's requests are
+/// The sections are run one after another, each in its own weather. In each, every replica has a thread that submits its lines,
+/// in the script's order, and one that pumps it, until its lines are submitted and a later pump is idle, or for the limit of
+/// turns; then the held frames are put; then all are pumped in rounds until none of them moves, or for as many rounds; then
+/// receipts are collected. A frame that is held while they are pumped so waits for the next section. A client's requests are
 /// numbered from 1 in the script's order, refused ones included; what it has seen is the greatest stamp of its receipts
 /// before the section. A line that its replica refuses is listed, and the run goes on; so it does where a thread finds no
 /// memory. Elsewhere want of memory ends the run, and so does a thread that can't be started.

@@ -138,3 +138,28 @@ fn refused_lines_over_rings_are_told_in_their_order(rt: HostRuntime) {
     assert!(rt; are_refused(&ran));
     drop(ran);
 }
+
+#[test]
+fn a_held_frame_is_put_once_the_threads_have_ended(rt: HostRuntime) {
+    let limits = Limits {
+        capacity: 4096,
+        turns: 100_000,
+    };
+    let script = b"replicas 3\nhold 0 1 1\npropose 0 1 put x 1\npropose 0 1 put x 2\n";
+    let ran = ran(&rt, rt.alloc(), script, &limits);
+    // The second put doesn't wait for the vote on the first, and so goes before it.
+    assert!(rt; has_requests(&ran, 2, 1, 0));
+    drop(ran);
+}
+
+#[test]
+fn a_held_frame_is_put_over_rings_once_the_threads_have_ended(rt: HostRuntime) {
+    let limits = Limits {
+        capacity: 4096,
+        turns: 100_000,
+    };
+    let script = b"replicas 3\nhold 0 1 1\npropose 0 1 put x 1\npropose 0 1 put x 2\n";
+    let ran = ran_over_rings(&rt, rt.alloc(), script, &limits);
+    assert!(rt; has_requests(&ran, 2, 1, 0));
+    drop(ran);
+}

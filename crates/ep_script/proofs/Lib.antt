@@ -2,4 +2,5 @@ pub mod Spelling
 pub mod LineLemmas
 pub mod Steps
 pub mod LinesFit
+pub mod FrameSets
 pub mod Splitting

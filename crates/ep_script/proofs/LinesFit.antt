@@ -1,19 +1,23 @@
 -- What lines keep to, since they were read.
-use Rattle.std.proofs.Common.{◌≡◌, ℕ, ◌+◌, ◌*◌, ◌/◌, ◌<◌, ◌≤◌, Bool, true, false, cond, List, [], ◌∷◌, ◌++◌, Option, Some, None, refl, sym, subst, arith, All, IfSome}
+use Rattle.std.proofs.Common.{◌≡◌, ◌≢◌, ℕ, ◌+◌, ◌*◌, ◌/◌, ◌<◌, ◌≤◌, ◌==◌, Bool, true, false, cond, MatchBool, List, [], ◌∷◌, ◌++◌, Option, Some, None, refl, sym, subst, arith, IfSome}
 use Rattle.std.specs.Prelude.{nat_le, nat_lt, ◌&&◌, option_map, option_and_then, codes}
+use Rattle.std.specs.Option.{option_map_or}
+use Rattle.std.specs.List.{IsDistinct}
 use Rattle.std.specs.Str.{bytes_eq}
+use Rattle.std.specs.Cmp.{IsEquivalence}
 use Rattle.std.proofs.lemmas.Bool.Decides.{nat_tests}
-use Rattle.std.proofs.lemmas.List.Elements.{All-nil, All-cons, All-head, All-tail, All-push}
-use Rattle.ep_base.specs.Quorums.{size as size_with}
+use Rattle.std.proofs.lemmas.List.Elements.{All-nil, All-push}
+use Rattle.std.proofs.lemmas.Map.Keys.{IsDistinct-push}
 use Rattle.ep_base.specs.Instances.{instance_of, leader_of}
 use Rattle.ep_script.specs.Parts.{number_of}
-use Rattle.ep_script.specs.Grammar.{number_in, count_of, replica_of, instance_parts, parts_of, place_of, command_of, propose_of, agenda_line, section_of, run_line}
-use Rattle.ep_script.specs.Plan.{before_sections, sections_of}
-use Rattle.ep_script.specs.Fits.{FitsCluster, AllFit, WasSaid, WereSaid}
+use Rattle.ep_script.specs.Grammar.{number_in, count_of, replica_of, instance_parts, parts_of, place_of, command_of, propose_of, agenda_line, section_of, weather_between, weather_of, kind_of, plain_run_line, run_line}
+use Rattle.ep_script.specs.Plan.{SectionPlan, no_section, with_agenda, with_weather, same_frame, has_frame}
+use Rattle.ep_script.specs.Fits.{FitsCluster, FitsWeather, FitsRun, FitsSection, AllFit}
 use Rattle.ep_script.specs.declared.agenda_line.AgendaLine.{AgendaLine}
 use Rattle.ep_script.specs.declared.agenda_line.AgendaLine.TheVariants.{Propose, GiveUp, Recover}
-use Rattle.ep_script.specs.declared.run_line.RunLine.{RunLine}
-use Rattle.ep_script.specs.declared.run_line.RunLine.TheVariants.{Agenda, Section}
+use Rattle.ep_script.specs.declared.run_line.RunLine.TheVariants.{Agenda, Weather}
+use Rattle.ep_script.specs.declared.weather_kind.WeatherKind.{WeatherKind}
+use Rattle.ep_script.specs.declared.weather_line.WeatherLine.{WeatherLine}
 
 if_mapped : {A B : Type 0} (f : A → B) (P : A → Type 0) (Q : B → Type 0) (o : Option A) → IfSome o P → ((x : A) → P x → Q (f x)) → IfSome (option_map f o) Q
 if_mapped f P Q None h g = h
@@ -94,45 +98,73 @@ agenda_fits n (w ∷ ws) =
     (if_either (FitsCluster n) (bytes_eq w (codes "recover")) _ None
     (if_mapped (λ p. Recover p.0 p.1) (λ p. (p.0 < n) × (leader_of p.1 < n)) (FitsCluster n) (place_of n ws) (place_fits n ws) (λ p h. h)) tt))
 
-abbrev FitsRun : ℕ → RunLine → Type 0
-FitsRun n Section = Unit {0}
-FitsRun n (Agenda l) = FitsCluster n l
+between_fits : (n : ℕ) (kind : WeatherKind) (a b j : ℕ) → a < n → b < n → 1 ≤ j → IfSome (weather_between kind a b j) (FitsWeather n)
+between_fits n kind a b j below-a below-b counted = go (a == b) refl
+  where
+    apart : (a == b) ≡ false → a ≢ b
+    apart e = grind (arith, nat_tests)
+
+    go : (t : Bool) → (a == b) ≡ t → IfSome (cond t None (Some (record { kind = kind; from = a; to = b; count = j }))) (FitsWeather n)
+    go true e = tt
+    go false e = record { from_below = below-a; to_below = below-b; between_two = apart e; counted = counted }
+
+weather_fits : (n : ℕ) (kind : WeatherKind) (ws : List (List ℕ)) → IfSome (weather_of n kind ws) (FitsWeather n)
+weather_fits n kind [] = tt
+weather_fits n kind (a ∷ []) = tt
+weather_fits n kind (a ∷ b ∷ []) = tt
+weather_fits n kind (a ∷ b ∷ j ∷ []) =
+    if_then (λ from. option_and_then (λ to. option_and_then (weather_between kind from to) (count_of j)) (replica_of n b)) (λ from. from < n) (FitsWeather n) (replica_of n a) (replica_fits n a)
+    (λ from h. if_then (λ to. option_and_then (weather_between kind from to) (count_of j)) (λ to. to < n) (FitsWeather n) (replica_of n b) (replica_fits n b)
+    (λ to k. if_then (weather_between kind from to) (λ count. 1 ≤ count) (FitsWeather n) (count_of j) (count_fits j)
+    (λ count l. between_fits n kind from to count h k l)))
+weather_fits n kind (a ∷ b ∷ j ∷ w ∷ more) = tt
 
 section_fits : (n : ℕ) (ws : List (List ℕ)) → IfSome (section_of ws) (FitsRun n)
 section_fits n [] = tt
 section_fits n (w ∷ ws) = tt
 
-run_fits : (n : ℕ) (ws : List (List ℕ)) → IfSome (run_line n ws) (FitsRun n)
-run_fits n [] = tt
-run_fits n (w ∷ ws) =
+plain_fits : (n : ℕ) (ws : List (List ℕ)) → IfSome (plain_run_line n ws) (FitsRun n)
+plain_fits n [] = tt
+plain_fits n (w ∷ ws) =
     if_either (FitsRun n) (bytes_eq w (codes "section")) _ _ (section_fits n ws)
     (if_mapped (λ l. Agenda l) (FitsCluster n) (FitsRun n) (agenda_line n (w ∷ ws)) (agenda_fits n (w ∷ ws)) (λ l h. h))
 
-said_fits : (n : ℕ) (e : ℕ × RunLine) → WasSaid run_line n e → FitsRun n e.1
-said_fits n e h = subst (λ (o : Option RunLine). IfSome o (FitsRun n)) h.1 (run_fits n h.0)
+-- a line that was read fits
+pub run_fits : (n : ℕ) (ws : List (List ℕ)) → IfSome (run_line n ws) (FitsRun n)
+run_fits n [] = tt
+run_fits n (w ∷ ws) = go (kind_of w)
+  where
+    go : (o : Option WeatherKind) → IfSome (option_map_or (λ kind. option_map (λ l. Weather l) (weather_of n kind ws)) o (plain_run_line n (w ∷ ws))) (FitsRun n)
+    go None = plain_fits n (w ∷ ws)
+    go (Some kind) = if_mapped (λ l. Weather l) (FitsWeather n) (FitsRun n) (weather_of n kind ws) (weather_fits n kind ws) (λ l h. h)
 
-before_fits : (n number : ℕ) (l : RunLine) (later : List (List (ℕ × AgendaLine))) → FitsRun n l → AllFit n later → AllFit n (before_sections number l later)
-before_fits n number Section later h k = All-cons (λ s. All (λ e. FitsCluster n e.1) s) [] later (All-nil (λ e. FitsCluster n e.1)) k
-before_fits n number (Agenda l) [] h k =
-    All-cons (λ s. All (λ e. FitsCluster n e.1) s) ((number, l) ∷ []) [] (All-cons (λ e. FitsCluster n e.1) (number, l) [] h (All-nil (λ e. FitsCluster n e.1))) k
-before_fits n number (Agenda l) (s ∷ later) h k =
-    All-cons (λ s. All (λ e. FitsCluster n e.1) s) ((number, l) ∷ s) later
-    (All-cons (λ e. FitsCluster n e.1) (number, l) s h (All-head (λ s. All (λ e. FitsCluster n e.1) s) s later k))
-    (All-tail (λ s. All (λ e. FitsCluster n e.1) s) s later k)
+frames_equal : IsEquivalence same_frame
+frames_equal = record {
+  refl = λ v. grind (arith, nat_tests);
+  symm = λ v w. grind (arith, nat_tests);
+  congr = λ v w u e. grind (arith, nat_tests);
+}
 
--- the sections of lines that were read fit
-pub all_fit : (n : ℕ) (es : List (ℕ × RunLine)) → All (WasSaid run_line n) es → AllFit n (sections_of es)
-all_fit n [] h = All-nil (λ s. All (λ e. FitsCluster n e.1) s)
-all_fit n (e ∷ es) h =
-    before_fits n e.0 e.1 (sections_of es) (said_fits n e (All-head (WasSaid run_line n) e es h)) (all_fit n es (All-tail (WasSaid run_line n) e es h))
+pub none_fits : (n : ℕ) → FitsSection n no_section
+unfolding IsDistinct
+none_fits n = record { agendas = All-nil (λ (e : ℕ × AgendaLine). FitsCluster n e.1); weather = All-nil (FitsWeather n); distinct = tt }
 
-pushed_said : {L : Type 0} (says : ℕ → List (List ℕ) → Option L) (n number : ℕ) (l : L) (lines after : List (ℕ × L)) (ws : List (List ℕ)) (ok : Bool)
-    → after ≡ cond ok (lines ++ (number, l) ∷ []) lines → says n ws ≡ Some l → All (WasSaid says n) lines → All (WasSaid says n) after
-pushed_said says n number l lines after ws true e s h = subst (λ (x : List (ℕ × _)). All (WasSaid says n) x) (sym e) (All-push (WasSaid says n) lines (number, l) h (ws, s))
-pushed_said says n number l lines after ws false e s h = subst (λ (x : List (ℕ × _)). All (WasSaid says n) x) (sym e) h
+pub agenda_more : (n number : ℕ) (l : AgendaLine) (s : SectionPlan) → FitsCluster n l → FitsSection n s → FitsSection n (with_agenda number l s)
+agenda_more n number l s fits h = record { agendas = All-push (λ (e : ℕ × AgendaLine). FitsCluster n e.1) s.lines (number, l) h.agendas fits; weather = h.weather; distinct = h.distinct }
 
--- a line more was said, or none was pushed
-pub were_more : {L : Type 0} (says : ℕ → List (List ℕ) → Option L) (size : Option ℕ) (f number : ℕ) (l : L) (lines after : List (ℕ × L)) (ws : List (List ℕ)) (ok : Bool)
-    → size ≡ Some f → after ≡ cond ok (lines ++ (number, l) ∷ []) lines → says (size_with f) ws ≡ Some l → WereSaid says size lines → WereSaid says size after
-were_more says size f number l lines after ws ok e g s h =
-    subst (λ (o : Option ℕ). WereSaid says o after) (sym e) (pushed_said says (size_with f) number l lines after ws ok g s (subst (λ (o : Option ℕ). WereSaid says o lines) e h))
+weather_more : (n : ℕ) (w : WeatherLine) (s : SectionPlan) → FitsWeather n w → has_frame w s ≡ false → FitsSection n s → FitsSection n (with_weather w s)
+weather_more n w s fits new h = record {
+  agendas = h.agendas;
+  weather = All-push (FitsWeather n) s.weather w h.weather fits;
+  distinct = IsDistinct-push frames_equal s.weather w h.distinct new;
+}
+
+-- a line of the weather was taken, or there was one for its frame
+pub weather_taken : (n : ℕ) (w : WeatherLine) (s after : SectionPlan) (b : Bool) → MatchBool b ((has_frame w s ≡ false) × (after ≡ with_weather w s)) ((has_frame w s ≡ true) × (after ≡ s)) → FitsWeather n w → FitsSection n s → FitsSection n after
+weather_taken n w s after true taken fits h = subst (FitsSection n) (sym taken.1) (weather_more n w s fits taken.0 h)
+weather_taken n w s after false taken fits h = subst (FitsSection n) (sym taken.1) h
+
+-- a section more has ended, or none was pushed
+pub all_more : (n : ℕ) (ended after : List SectionPlan) (s : SectionPlan) (ok : Bool) → after ≡ cond ok (ended ++ s ∷ []) ended → FitsSection n s → AllFit n ended → AllFit n after
+all_more n ended after s true e h all = subst (AllFit n) (sym e) (All-push (FitsSection n) ended s all h)
+all_more n ended after s false e h all = subst (AllFit n) (sym e) all

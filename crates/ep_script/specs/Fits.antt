@@ -1,9 +1,13 @@
 -- What a line that was read keeps to.
-use Rattle.std.specs.Prelude.{◌≡◌, ℕ, ◌<◌, ◌≤◌, List, [], Option, Some, All, MatchOption}
+use Rattle.std.specs.Prelude.{◌≢◌, ℕ, ◌<◌, ◌≤◌, List, All}
+use Rattle.std.specs.List.{IsDistinct}
 use Rattle.ep_base.specs.Instances.{leader_of}
-use Rattle.ep_base.specs.Quorums.{size as size_with}
+use Rattle.ep_script.specs.Plan.{SectionPlan, same_frame}
 use Rattle.ep_script.specs.declared.agenda_line.AgendaLine.{AgendaLine}
 use Rattle.ep_script.specs.declared.agenda_line.AgendaLine.TheVariants.{Propose, GiveUp, Recover}
+use Rattle.ep_script.specs.declared.run_line.RunLine.{RunLine}
+use Rattle.ep_script.specs.declared.run_line.RunLine.TheVariants.{Agenda, Weather, Section}
+use Rattle.ep_script.specs.declared.weather_line.WeatherLine.{WeatherLine}
 
 -- it names replicas of a cluster of n, and a client that is one
 abbrev pub FitsCluster : ℕ → AgendaLine → Type 0
@@ -11,14 +15,23 @@ FitsCluster n (Propose replica client command) = (replica < n) × (1 ≤ client)
 FitsCluster n (GiveUp replica instance) = (replica < n) × (leader_of instance < n)
 FitsCluster n (Recover replica instance) = (replica < n) × (leader_of instance < n)
 
--- so does each line of each section
-abbrev pub AllFit : ℕ → List (List (ℕ × AgendaLine)) → Type 0
-AllFit n sections = All (λ (s : List (ℕ × AgendaLine)). All (λ (e : ℕ × AgendaLine). FitsCluster n e.1) s) sections
+-- it names a frame between two replicas of a cluster of n
+pub record FitsWeather (n : ℕ) (w : WeatherLine) : Type 0 where
+  pub from_below : w.from < n
+  pub to_below : w.to < n
+  pub between_two : w.from ≢ w.to
+  pub counted : 1 ≤ w.count
 
--- some words say the line
-abbrev pub WasSaid : {L : Type 0} → (ℕ → List (List ℕ) → Option L) → ℕ → ℕ × L → Type 0
-WasSaid says n e = (ws : List (List ℕ)) × (says n ws ≡ Some e.1)
+abbrev pub FitsRun : ℕ → RunLine → Type 0
+FitsRun n (Agenda l) = FitsCluster n l
+FitsRun n (Weather w) = FitsWeather n w
+FitsRun n Section = Unit {0}
 
--- before there is a size there is no line; then each was said
-abbrev pub WereSaid : {L : Type 0} → (ℕ → List (List ℕ) → Option L) → Option ℕ → List (ℕ × L) → Type 0
-WereSaid says size lines = MatchOption size (lines ≡ []) (λ f. All (WasSaid says (size_with f)) lines)
+-- each of its lines does, and no two of its weather are for one frame
+pub record FitsSection (n : ℕ) (s : SectionPlan) : Type 0 where
+  pub agendas : All (λ (e : ℕ × AgendaLine). FitsCluster n e.1) s.lines
+  pub weather : All (FitsWeather n) s.weather
+  pub distinct : IsDistinct same_frame s.weather
+
+abbrev pub AllFit : ℕ → List SectionPlan → Type 0
+AllFit n sections = All (FitsSection n) sections

@@ -2,6 +2,7 @@
 use Rattle.std.specs.Prelude.{ℕ, ◌==◌, ◌&&◌, nat_le, nat_lt, Bool, false, List, [], ◌∷◌, ◌++◌, Option, Some, None, length, if◌then◌else◌, codes, option_map, option_and_then}
 use Rattle.std.specs.Str.{bytes_eq}
 use Rattle.std.specs.List.{slice_split}
+use Rattle.std.specs.Option.{option_map_or}
 use Rattle.ep_base.specs.Instances.{instance_of}
 use Rattle.ep_base.specs.declared.command.Command.{Command}
 use Rattle.ep_base.specs.declared.command.Command.TheVariants.{Get, Put, Del}
@@ -12,7 +13,10 @@ use Rattle.ep_script.specs.declared.agenda_line.AgendaLine.TheVariants as agenda
 use Rattle.ep_script.specs.declared.line.Line.{Line}
 use Rattle.ep_script.specs.declared.line.Line.TheVariants.{Propose, GiveUp, Recover, Execute, Deliver, Flush}
 use Rattle.ep_script.specs.declared.run_line.RunLine.{RunLine}
-use Rattle.ep_script.specs.declared.run_line.RunLine.TheVariants.{Agenda, Section}
+use Rattle.ep_script.specs.declared.run_line.RunLine.TheVariants.{Agenda, Weather, Section}
+use Rattle.ep_script.specs.declared.weather_kind.WeatherKind.{WeatherKind}
+use Rattle.ep_script.specs.declared.weather_kind.WeatherKind.TheVariants as kinds
+use Rattle.ep_script.specs.declared.weather_line.WeatherLine.{WeatherLine}
 
 abbrev pub starts_comment : List ℕ → Bool
 starts_comment [] = false
@@ -149,9 +153,34 @@ abbrev pub section_of : List (List ℕ) → Option RunLine
 section_of [] = Some Section
 section_of (w ∷ ws) = None
 
+-- no replica puts a frame for itself
+abbrev pub weather_between : WeatherKind → ℕ → ℕ → ℕ → Option WeatherLine
+weather_between kind a b j = if a == b then None else Some (record { kind = kind; from = a; to = b; count = j })
+
+-- a frame, and what becomes of it: the J-th that A puts for B, by `A B J`
+abbrev pub weather_of : ℕ → WeatherKind → List (List ℕ) → Option WeatherLine
+weather_of n kind [] = None
+weather_of n kind (a ∷ []) = None
+weather_of n kind (a ∷ b ∷ []) = None
+weather_of n kind (a ∷ b ∷ j ∷ []) = option_and_then (λ from. option_and_then (λ to. option_and_then (weather_between kind from to) (count_of j)) (replica_of n b)) (replica_of n a)
+weather_of n kind (a ∷ b ∷ j ∷ w ∷ more) = None
+
+-- what becomes of the frame that `drop`, `hold` or `repeat` is about
+abbrev pub kind_of : List ℕ → Option WeatherKind
+kind_of w =
+    if bytes_eq w (codes "drop") then Some kinds.Drop
+    else if bytes_eq w (codes "hold") then Some kinds.Hold
+    else if bytes_eq w (codes "repeat") then Some kinds.Repeat
+    else None
+
+-- a line of a run that is none of its weather
+abbrev pub plain_run_line : ℕ → List (List ℕ) → Option RunLine
+plain_run_line n [] = None
+plain_run_line n (w ∷ ws) =
+    if bytes_eq w (codes "section") then section_of ws
+    else option_map (λ l. Agenda l) (agenda_line n (w ∷ ws))
+
 -- a line of a run, other than `replicas N`; none where it is refused
 abbrev pub run_line : ℕ → List (List ℕ) → Option RunLine
 run_line n [] = None
-run_line n (w ∷ ws) =
-    if bytes_eq w (codes "section") then section_of ws
-    else option_map (λ l. Agenda l) (agenda_line n (w ∷ ws))
+run_line n (w ∷ ws) = option_map_or (λ kind. option_map (λ l. Weather l) (weather_of n kind ws)) (kind_of w) (plain_run_line n (w ∷ ws))

@@ -6,7 +6,7 @@ pub mod Window
 pub mod RawLines
 pub mod SoFar
 pub mod Plan
-pub mod Sections
+pub mod Frames
 pub mod Fits
 pub mod Outcome
 pub mod Faults

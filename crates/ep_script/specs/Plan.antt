@@ -1,6 +1,7 @@
--- What the lines of a script say together. A kind of script has lines L; `says` gives the line that some words say in a cluster of so many
--- replicas, none where they are refused.
-use Rattle.std.specs.Prelude.{ℕ, ◌+◌, nat_le, List, [], ◌∷◌, ◌++◌, Option, Some, None, Result, Ok, Err, length, if◌then◌else◌, option_map}
+-- What the lines of a script say together. Of each kind of script, `begins` gives the script P without lines of a cluster in which so many replicas may
+-- fail; `takes` gives the script that a line makes of the one before it, by its number and its words, none where the line is refused.
+use Rattle.std.specs.Prelude.{ℕ, ◌+◌, ◌==◌, ◌&&◌, nat_le, Bool, List, [], ◌∷◌, ◌++◌, Option, Some, None, Result, Ok, Err, length, if◌then◌else◌, option_map, option_and_then}
+use Rattle.std.specs.List.{list_any}
 use Rattle.std.specs.Option.{option_map_or}
 use Rattle.std.specs.Str.Lines.{strip_carriage_return}
 use Rattle.ep_base.specs.Quorums.{size as size_with}
@@ -10,74 +11,113 @@ use Rattle.ep_script.specs.RawLines.{raw_lines}
 use Rattle.ep_script.specs.declared.agenda_line.AgendaLine.{AgendaLine}
 use Rattle.ep_script.specs.declared.line.Line.{Line}
 use Rattle.ep_script.specs.declared.run_line.RunLine.{RunLine}
-use Rattle.ep_script.specs.declared.run_line.RunLine.TheVariants.{Agenda, Section}
+use Rattle.ep_script.specs.declared.run_line.RunLine.TheVariants.{Agenda, Weather, Section}
+use Rattle.ep_script.specs.declared.weather_line.WeatherLine.{WeatherLine}
 
--- how many replicas may fail, and the lines that aren't skipped, each with its number
-pub record Listed (L : Type 0) : Type 0 where
-  pub faults : ℕ
-  pub lines : List (ℕ × L)
+-- what line n, with these words, makes of the lines before it, which are no script before the line `replicas N`; none where it is refused
+abbrev pub said : {P : Type 0} → (ℕ → P) → (ℕ → P → List (List ℕ) → Option P) → ℕ → Option P → List (List ℕ) → Option (Option P)
+said begins takes n None ws = option_map (λ f. Some (begins f)) (size_of ws)
+said begins takes n (Some p) ws = option_map (λ q. Some q) (takes n p ws)
 
--- the first lines, with no size before the line `replicas N`
-pub record Part (L : Type 0) : Type 0 where
-  pub size : Option ℕ
-  pub lines : List (ℕ × L)
-
--- line n adds what these words say, which aren't skipped; none where they are refused
-abbrev pub said : {L : Type 0} → (ℕ → List (List ℕ) → Option L) → ℕ → Option ℕ → List (ℕ × L) → List (List ℕ) → Option (Part L)
-said says n None lines ws = option_map (λ f. record { size = Some f; lines = lines }) (size_of ws)
-said says n (Some f) lines ws = option_map (λ l. record { size = Some f; lines = lines ++ (n, l) ∷ [] }) (says (size_with f) ws)
-
-abbrev pub words_step : {L : Type 0} → (ℕ → List (List ℕ) → Option L) → ℕ → Part L → List (List ℕ) → Option (Part L)
-words_step says n p [] = Some p
-words_step says n p (w ∷ ws) = if starts_comment w then Some p else said says n p.size p.lines (w ∷ ws)
+abbrev pub words_step : {P : Type 0} → (ℕ → P) → (ℕ → P → List (List ℕ) → Option P) → ℕ → Option P → List (List ℕ) → Option (Option P)
+words_step begins takes n p [] = Some p
+words_step begins takes n p (w ∷ ws) = if starts_comment w then Some p else said begins takes n p (w ∷ ws)
 
 -- a line has at most 8,192 bytes, not counting one carriage return at its end
-abbrev pub line_step : {L : Type 0} → (ℕ → List (List ℕ) → Option L) → ℕ → Part L → List ℕ → Option (Part L)
-line_step says n p line =
+abbrev pub line_step : {P : Type 0} → (ℕ → P) → (ℕ → P → List (List ℕ) → Option P) → ℕ → Option P → List ℕ → Option (Option P)
+line_step begins takes n p line =
     let l = strip_carriage_return line in
-    if nat_le (length l) 8192 then words_step says n p (words_of l) else None
+    if nat_le (length l) 8192 then words_step begins takes n p (words_of l) else None
 
 -- the script is over before line n
-abbrev pub ended : {L : Type 0} → ℕ → Part L → Result (Listed L) ℕ
-ended n p = option_map_or (λ (f : ℕ). Ok (record { faults = f; lines = p.lines })) p.size (Err n)
+abbrev pub ended : {P : Type 0} → ℕ → Option P → Result P ℕ
+ended n p = option_map_or (λ q. Ok q) p (Err n)
 
--- the lines from number n on: all that was listed, or the number of the first line at fault
-abbrev pub reads : {L : Type 0} → (ℕ → List (List ℕ) → Option L) → ℕ → Part L → List (List ℕ) → Result (Listed L) ℕ
-reads says n p [] = ended n p
-reads says n p (l ∷ ls) = if nat_le n 100000 then option_map_or (λ q. reads says (n + 1) q ls) (line_step says n p l) (Err n) else Err n
+-- the lines from number n on: the whole script, or the number of the first line at fault
+abbrev pub reads : {P : Type 0} → (ℕ → P) → (ℕ → P → List (List ℕ) → Option P) → ℕ → Option P → List (List ℕ) → Result P ℕ
+reads begins takes n p [] = ended n p
+reads begins takes n p (l ∷ ls) = if nat_le n 100000 then option_map_or (λ q. reads begins takes (n + 1) q ls) (line_step begins takes n p l) (Err n) else Err n
 
 -- what the bytes of a script say
-abbrev pub listed_of : {L : Type 0} → (ℕ → List (List ℕ) → Option L) → List ℕ → Result (Listed L) ℕ
-listed_of says zs = reads says 1 (record { size = None; lines = [] }) (raw_lines zs)
+abbrev pub read_of : {P : Type 0} → (ℕ → P) → (ℕ → P → List (List ℕ) → Option P) → List ℕ → Result P ℕ
+read_of begins takes zs = reads begins takes 1 None (raw_lines zs)
 
--- a script for a replay
-abbrev pub Plan : Type 0
-Plan = Listed Line
+-- a script for a replay: how many replicas may fail, and the lines that aren't skipped, each with its number
+pub record Plan : Type 0 where
+  pub faults : ℕ
+  pub lines : List (ℕ × Line)
+
+abbrev pub no_lines : ℕ → Plan
+no_lines f = record { faults = f; lines = [] }
+
+abbrev pub with_line : ℕ → Plan → List (List ℕ) → Option Plan
+with_line n p ws = option_map (λ l. record { faults = p.faults; lines = p.lines ++ (n, l) ∷ [] }) (replay_line (size_with p.faults) ws)
 
 -- what the bytes of a script for a replay say
 abbrev pub script_of : List ℕ → Result Plan ℕ
-script_of zs = listed_of replay_line zs
+script_of zs = read_of no_lines with_line zs
 
--- a script for a run: how many replicas may fail, and its sections, each a list of lines with their numbers
+-- a section: the lines of its agendas, each with its number, and those of its weather
+pub record SectionPlan : Type 0 where
+  pub lines : List (ℕ × AgendaLine)
+  pub weather : List WeatherLine
+
+abbrev pub no_section : SectionPlan
+no_section = record { lines = []; weather = [] }
+
+abbrev pub with_agenda : ℕ → AgendaLine → SectionPlan → SectionPlan
+with_agenda n l s = record { lines = s.lines ++ (n, l) ∷ []; weather = s.weather }
+
+abbrev pub with_weather : WeatherLine → SectionPlan → SectionPlan
+with_weather w s = record { lines = s.lines; weather = s.weather ++ w ∷ [] }
+
+-- two lines of a weather are for one frame
+abbrev pub same_frame : WeatherLine → WeatherLine → Bool
+same_frame v w = (v.from == w.from) && (v.to == w.to) && (v.count == w.count)
+
+-- the section has a line of its weather for the frame of this one
+abbrev pub has_frame : WeatherLine → SectionPlan → Bool
+has_frame w s = list_any (same_frame w) s.weather
+
+-- a script for a run: how many replicas may fail, and its sections
 pub record RunPlan : Type 0 where
   pub faults : ℕ
-  pub sections : List (List (ℕ × AgendaLine))
+  pub sections : List SectionPlan
 
--- this line, at this number, before the sections of what follows it
-abbrev pub before_sections : ℕ → RunLine → List (List (ℕ × AgendaLine)) → List (List (ℕ × AgendaLine))
-before_sections n Section later = [] ∷ later
-before_sections n (Agenda l) [] = ((n, l) ∷ []) ∷ []
-before_sections n (Agenda l) (s ∷ later) = ((n, l) ∷ s) ∷ later
+-- the first lines of a script for a run: how many replicas may fail, the sections that have ended, and the one that hasn't
+pub record OpenPlan : Type 0 where
+  pub faults : ℕ
+  pub ended : List SectionPlan
+  pub current : SectionPlan
 
--- each line `section` ends a section; what follows the last one is a section if it has a line
-abbrev pub sections_of : List (ℕ × RunLine) → List (List (ℕ × AgendaLine))
-sections_of [] = []
-sections_of (e ∷ es) = before_sections e.0 e.1 (sections_of es)
+abbrev pub no_sections : ℕ → OpenPlan
+no_sections f = record { faults = f; ended = []; current = no_section }
 
-abbrev pub run_of_listed : Result (Listed RunLine) ℕ → Result RunPlan ℕ
-run_of_listed (Ok p) = Ok (record { faults = p.faults; sections = sections_of p.lines })
-run_of_listed (Err n) = Err n
+abbrev pub with_current : OpenPlan → SectionPlan → OpenPlan
+with_current p s = record { faults = p.faults; ended = p.ended; current = s }
+
+-- line n of the script says this. A line `section` ends a section; a second line of a section's weather for one frame is refused
+abbrev pub after_line : ℕ → OpenPlan → RunLine → Option OpenPlan
+after_line n p (Agenda l) = Some (with_current p (with_agenda n l p.current))
+after_line n p (Weather w) = if has_frame w p.current then None else Some (with_current p (with_weather w p.current))
+after_line n p Section = Some (record { faults = p.faults; ended = p.ended ++ p.current ∷ []; current = no_section })
+
+abbrev pub with_run_line : ℕ → OpenPlan → List (List ℕ) → Option OpenPlan
+with_run_line n p ws = option_and_then (after_line n p) (run_line (size_with p.faults) ws)
+
+-- what follows the last line `section` is a section if it has a line
+abbrev pub last_section : List (ℕ × AgendaLine) → List WeatherLine → List SectionPlan
+last_section [] [] = []
+last_section (l ∷ ls) ws = (record { lines = l ∷ ls; weather = ws }) ∷ []
+last_section [] (w ∷ ws) = (record { lines = []; weather = w ∷ ws }) ∷ []
+
+abbrev pub closed : OpenPlan → RunPlan
+closed p = record { faults = p.faults; sections = p.ended ++ last_section p.current.lines p.current.weather }
+
+abbrev pub run_of_open : Result OpenPlan ℕ → Result RunPlan ℕ
+run_of_open (Ok p) = Ok (closed p)
+run_of_open (Err n) = Err n
 
 -- what the bytes of a script for a run say
 abbrev pub run_of : List ℕ → Result RunPlan ℕ
-run_of zs = run_of_listed (listed_of run_line zs)
+run_of zs = run_of_open (read_of no_sections with_run_line zs)

@@ -7,18 +7,17 @@
 //! Start with `reader.rt` and `line.rt`, then specs/Grammar.antt and specs/Plan.antt.
 //!
 //! It knows nothing of the protocol. A new line of the grammar is a case of `Line`, of `RunLine`, or of `AgendaLine` where
-//! both kinds of scripts have it, with its words in specs/Grammar.antt first. `drop`, `hold` and `repeat` aren't read yet.
+//! both kinds of scripts have it, with its words in specs/Grammar.antt first.
 #![tactic(auto)]
 
 mod agenda_line;
-mod cutting;
 mod draft;
 mod got;
 mod line;
 mod line_fault;
-mod listing;
 mod messages;
 mod numbers;
+mod open_run;
 mod operands;
 mod reader;
 mod reading;
@@ -28,8 +27,11 @@ mod run_line;
 mod run_script;
 mod script;
 mod script_fault;
-mod script_line;
+mod script_kind;
 mod section;
+mod weather;
+mod weather_kind;
+mod weather_line;
 mod window;
 mod window_line;
 mod word;
@@ -44,4 +46,6 @@ pub use run_script::RunScript;
 pub use script::Script;
 pub use script_fault::ScriptFault;
 pub use section::Section;
+pub use weather_kind::WeatherKind;
+pub use weather_line::WeatherLine;
 pub use word::{push_word, read_word, word_law};

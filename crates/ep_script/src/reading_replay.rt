@@ -10,29 +10,27 @@ use crate::line::Line;
 use crate::messages::Messages;
 use crate::operands::{count, place};
 use crate::reading::read_agenda_line;
-use crate::script_line::ScriptLine;
 use crate::words::{is_word, next_word};
 use ep_base::Size;
 use std::alloc::{AllocError, Global};
 
-impl ScriptLine for Line {
-    ghost says = { replay_line };
-
-    fn read(alloc: Global, size: Size, words: &[u8]) -> Result<Option<Line>, AllocError> {
-        let Some((first, rest)) = next_word(words) else {
-            return Ok(None);
-        };
-        if is_word(first, b"execute") {
-            return Ok(execute(size, rest));
-        }
-        if is_word(first, b"deliver") {
-            return deliver(alloc, rest);
-        }
-        if is_word(first, b"flush") {
-            return Ok(flush(rest));
-        }
-        shared(alloc, size, words)
+/// The line that these words say; none where they are refused.
+pub(crate) fn read_line(alloc: Global, size: Size, words: &[u8]) -> Result<Option<Line>, AllocError>
+    ensures { IfOk result (λ l. l ≡ replay_line (size_with size) (words_of words.now)) }
+{
+    let Some((first, rest)) = next_word(words) else {
+        return Ok(None);
+    };
+    if is_word(first, b"execute") {
+        return Ok(execute(size, rest));
     }
+    if is_word(first, b"deliver") {
+        return deliver(alloc, rest);
+    }
+    if is_word(first, b"flush") {
+        return Ok(flush(rest));
+    }
+    shared(alloc, size, words)
 }
 
 fn shared(alloc: Global, size: Size, words: &[u8]) -> Result<Option<Line>, AllocError>

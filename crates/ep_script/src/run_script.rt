@@ -8,8 +8,9 @@ use crate::section::Section;
 use ep_base::Size;
 use std::marker::Model;
 
-/// A script for a run: the size of its cluster, and its sections. Each of their lines is for a replica of the cluster, names instances of its
-/// replicas alone, and has a client of number 1 or more.
+/// A script for a run: the size of its cluster, and its sections. Each line of their agendas is for a replica of the cluster, names instances of
+/// its replicas alone, and has a client of number 1 or more. Each line of their weather is for a frame between two replicas of the cluster, with a
+/// count of 1 or more, and no two of one section are for one frame.
 #[derive(Debug, Drop)]
 pub struct RunScript {
     size: Size,

@@ -1,9 +1,14 @@
 //! Scripts.
 
-ghost use Rattle.std.specs.Prelude.{◌≡◌};
+ghost use Rattle.std.specs.Prelude.{◌≡◌, Some, None, IfOk, MatchBool};
+ghost use Rattle.ep_script.specs.Parts.{words_of};
+ghost use Rattle.ep_script.specs.Plan.{no_lines, with_line};
 
 use crate::line::Line;
+use crate::reading_replay::read_line;
+use crate::script_kind::ScriptKind;
 use ep_base::Size;
+use std::alloc::{AllocError, Global};
 use std::marker::Model;
 
 /// A script for a replay: the size of its cluster, and its lines that aren't skipped, each with its number.
@@ -21,13 +26,30 @@ impl Model for Script {
     ghost view = { λ s. record { faults = s.size; lines = s.lines.items } };
 }
 
-impl Script {
-    pub(crate) fn new(size: Size, lines: Vec<(u32, Line)>) -> Script
-        ensures { result ≡ record { faults = size; lines = lines.items } }
-    {
-        Script { size, lines }
+impl ScriptKind for Script {
+    ghost begins = { no_lines };
+
+    ghost takes = { with_line };
+
+    fn begin(alloc: Global, size: Size) -> Script {
+        Script {
+            size,
+            lines: Vec::new(alloc),
+        }
     }
 
+    fn take(&mut self, alloc: Global, number: u32, words: &[u8]) -> Result<bool, AllocError> {
+        match read_line(alloc, self.size, words)? {
+            None => Ok(false),
+            Some(line) => {
+                self.lines.push((number, line))?;
+                Ok(true)
+            }
+        }
+    }
+}
+
+impl Script {
     /// The size of the cluster.
     pub fn size(&self) -> Size
         ensures { result ≡ self.now.faults }

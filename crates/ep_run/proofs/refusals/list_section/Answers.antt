@@ -27,5 +27,5 @@ returns c = λ ps ts.
     let all : List (ℕ × AgendaLine) = c.lines-number-items.result.now in
     let i : ℕ = c.loop-number.number-index in
     let long : length all ≤ i = omega arith in
-    let whole : take i all ≡ c.args.section.now = take_all i all long ∙ c.lines-number-items.ensures in
+    let whole : take i all ≡ c.args.section.now.lines = take_all i all long ∙ c.lines-number-items.ensures in
     subst (λ (ls : List (ℕ × AgendaLine)). Lists (asked_by ps ts ls) c.args.nodes.now c.args.cursors.now c.loop-number.cursors c.args.refused.now.items c.loop-number.refused.items) whole (c.loop-number.invariant ps ts)

@@ -1,6 +1,8 @@
 use Rattle.std.proofs.Common.{◌≡◌, ◌∙◌, ℕ, ◌+◌, List, [], ◌∷◌, ◌++◌, length, take, add-one, refl, ap, sym, subst, arith}
 use Rattle.std.proofs.Math.Seq.{take-suc, take-length}
-use Rattle.ep_script.specs.declared.agenda_line.AgendaLine.{AgendaLine}
+use Rattle.ep_base.specs.Quorums.{size}
+use Rattle.ep_script.specs.Fits.{AllFit, FitsSection}
+use Rattle.ep_script.specs.Plan.{SectionPlan}
 use Rattle.ep_run.specs.Lines.{AreDone}
 use Rattle.ep_run.specs.Rings.{HasRun}
 use Rattle.ep_run.proofs.rings.run_rings.Goals as goal
@@ -8,20 +10,29 @@ use Rattle.ep_run.proofs.rings.run_rings.Goals as goal
 pub loop-section-init : goal.loop-section-init
 loop-section-init g c = subst (λ (f : ℕ). HasRun f c.args.limits.now.turns [] c.in_ok-run.run') c.size.ensures (c.in_ok-run.ensures c.args.limits.now.turns)
 
+pub run-2-requires-clause-fits : goal.run-2-requires-clause-fits
+run-2-requires-clause-fits g c =
+    let f = c.args.script.now.faults in
+    let all : List SectionPlan = c.sections-section-items.result.now in
+    let s : SectionPlan = c.section-item.result in
+    let fit : AllFit (size f) all = subst (λ (ss : List SectionPlan). AllFit (size f) ss) (sym (c.sections-section-items.ensures.value)) c.sections-section-items.ensures.fit in
+    let fits : FitsSection (size f) s = subst (FitsSection (size f)) (sym c.section-item.is) (fit c.loop-section.section-index s c.loop-section-test.true) in
+    subst (λ (n : ℕ). FitsSection n s) (sym c.loop-section.invariant.host.count) fits
+
 pub loop-section-preserved : goal.loop-section-preserved
 loop-section-preserved g c =
-    let all : List (List (ℕ × AgendaLine)) = c.sections-section-items.result.now in
+    let all : List SectionPlan = c.sections-section-items.result.now in
     let i : ℕ = c.loop-section.section-index in
-    let s : List (ℕ × AgendaLine) = c.section-item.result in
+    let s : SectionPlan = c.section-item.result in
     let more : take (i + 1) all ≡ take i all ++ s ∷ [] = rw (add-one, take-suc all i s c.loop-section-test.true, ← c.section-item.is) refl in
-    rw more (c.in_ok-run-2.ensures c.args.script.now.faults (take i all) c.loop-section.invariant)
+    rw more (c.in_ok-run-2.ensures.run c.args.script.now.faults (take i all) c.loop-section.invariant)
 
 pub returns-clause-lines : goal.returns-clause-lines
 returns-clause-lines g c =
     let f = c.args.script.now.faults in
     let turns = c.args.limits.now.turns in
-    let all : List (List (ℕ × AgendaLine)) = c.sections-section-items.result.now in
+    let all : List SectionPlan = c.sections-section-items.result.now in
     let at : c.loop-section.section-index ≡ length all = omega arith in
     let same : take c.loop-section.section-index all ≡ c.sections.result.now = ap (λ (n : ℕ). take n all) at ∙ take-length all ∙ c.sections-section-items.ensures.value ∙ sym c.sections.ensures.value in
-    let h : HasRun f turns c.sections.result.now c.loop-section.run = subst (λ (ss : List (List (ℕ × AgendaLine))). HasRun f turns ss c.loop-section.run) same c.loop-section.invariant in
-    subst (λ (ss : List (List (ℕ × AgendaLine))). AreDone turns ss c.in_ok-ran.ran) c.sections.ensures.value (c.in_ok-ran.ensures.lines f turns h)
+    let h : HasRun f turns c.sections.result.now c.loop-section.run = subst (λ (ss : List SectionPlan). HasRun f turns ss c.loop-section.run) same c.loop-section.invariant in
+    subst (λ (ss : List SectionPlan). AreDone turns ss c.in_ok-ran.ran) c.sections.ensures.value (c.in_ok-ran.ensures.lines f turns h)

@@ -3,5 +3,5 @@ use Rattle.ep_script.proofs.draft.Draft.take_said.Goals as goal
 
 pub returns-in-None : goal.returns-in-None
 returns-in-None g c =
-    let none : c.args.self.now.size ≡ None = search rules in
+    let none : c.args.self.now.script ≡ None = search rules in
     rw none (c.take_size.ensures c.args.number)
