@@ -33,6 +33,3 @@ pub use journal::read_journal;
 pub use read_laws::{bundles_are_canonical, journals_are_canonical};
 pub use write_laws::{bundle_is_read_back, journal_is_read_back};
 pub use writing::{write_bundle, write_journal};
-
-#[cfg(test)]
-mod tests;

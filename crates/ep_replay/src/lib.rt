@@ -19,6 +19,3 @@ pub use causes::step_cause;
 pub use clients::{Client, Clients};
 pub use player::replay;
 pub use replayed::Replayed;
-
-#[cfg(test)]
-mod tests;

@@ -1,7 +1,7 @@
 //! Bundles as bytes: read, written, and refused where one of their bytes is changed.
 
-use crate::{Bundle, BundleFault, read_bundle, read_journal, write_bundle, write_journal};
 use ep_base::{FailAt, Noted, ReplicaId, Size, Source, WriteFailed};
+use ep_bundle::{Bundle, BundleFault, read_bundle, read_journal, write_bundle, write_journal};
 use ep_journal::Journal;
 use std::alloc::Global;
 use std::process::Abort;

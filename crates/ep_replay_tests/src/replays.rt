@@ -1,8 +1,8 @@
 //! Worked scripts: what is received and what is refused. Each call that finds no memory is made again.
 
-use crate::{Replayed, replay};
 use ep_base::{Answer, Noted, ReplicaId, Reply};
 use ep_journal::{Event, Journal};
+use ep_replay::{Replayed, replay};
 use ep_script::{Script, read_script};
 use std::alloc::{AllocError, Global};
 use std::fmt::Write;
