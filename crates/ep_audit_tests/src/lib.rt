@@ -1,7 +1,9 @@
-//! Tests of `ep_audit`: journals that hold nothing, and receipts of them.
+//! Tests of `ep_audit`: journals that hold nothing, and receipts of them; a bundle that is read; a forged frame that a replica took.
 //!
 //! They stand apart from the crate, so that its functions aren't proved again with them.
 #![tactic(auto)]
 
 #[cfg(test)]
 mod audits;
+#[cfg(test)]
+mod bundles;
