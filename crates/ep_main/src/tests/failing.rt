@@ -61,7 +61,7 @@ impl Ended {
 }
 
 /// How the program ends on devices that fail so.
-fn ended<R: Threads + Wait + Sync>(
+fn run_failing<R: Threads + Wait + Sync>(
     rt: &R,
     alloc: Global,
     words: &[&str],
@@ -105,7 +105,7 @@ fn fail_reads<R: Threads + Wait + Sync + Abort>(
     input: &[u8],
 ) {
     for read in 1..1000u64 {
-        let ended = ended(rt, alloc, words, input, Failing::at(read, 0, 0));
+        let ended = run_failing(rt, alloc, words, input, Failing::at(read, 0, 0));
         if !ended.reader_failed {
             assert!(*rt; ended.status == Status::Accepted && read > 2);
             return;
@@ -124,7 +124,7 @@ fn fail_writes<R: Threads + Wait + Sync + Abort>(
     input: &[u8],
 ) {
     for write in 1..1000u64 {
-        let ended = ended(rt, alloc, words, input, Failing::at(0, write, 0));
+        let ended = run_failing(rt, alloc, words, input, Failing::at(0, write, 0));
         if !ended.writer_failed {
             assert!(*rt; ended.status == Status::Accepted && write > 1);
             return;
@@ -142,7 +142,7 @@ fn fail_lines<R: Threads + Wait + Sync + Abort>(
     input: &[u8],
 ) {
     for (read, write) in [(1, 0), (0, 1)] {
-        let ended = ended(rt, alloc, words, input, Failing::at(read, write, 1));
+        let ended = run_failing(rt, alloc, words, input, Failing::at(read, write, 1));
         assert!(*rt; ended.fault_writer_failed && ended.tells(b""));
     }
 }
@@ -180,7 +180,7 @@ fn each_device_of_a_run_fails(rt: HostRuntime) {
 fn each_device_of_an_audit_fails(rt: HostRuntime) {
     let alloc = rt.alloc();
     let script = long_script(&rt, alloc);
-    let bundle = ended(&rt, alloc, &BUNDLE, &script, Failing::at(0, 0, 0)).output;
+    let bundle = run_failing(&rt, alloc, &BUNDLE, &script, Failing::at(0, 0, 0)).output;
     fail_each(&rt, alloc, &AUDIT, &bundle);
 }
 
@@ -189,7 +189,7 @@ fn each_device_of_an_audit_fails(rt: HostRuntime) {
 fn a_fault_output_that_fails(rt: HostRuntime) {
     let alloc = rt.alloc();
     for line in 1..4u64 {
-        let ended = ended(&rt, alloc, &WORDS, b"", Failing::at(0, 0, line));
+        let ended = run_failing(&rt, alloc, &WORDS, b"", Failing::at(0, 0, line));
         assert!(rt; ended.status == Status::Refused && ended.output.is_empty());
         assert!(rt; ended.fault_writer_failed);
     }
