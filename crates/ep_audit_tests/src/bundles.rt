@@ -1,13 +1,9 @@
-//! A bundle that is read and audited, and a forged frame: each call that finds no memory is made again.
+//! Bundles that are read and audited, and refused where they are cut: each call that finds no memory is made again.
 
-use crate::audits::{audited, counts, empty_journal};
-use bytes::Bytes;
-use ep_audit::{AuditFault, Refusal};
-use ep_base::{Command, Noted, ReplicaId, Size};
+use crate::audits::{audited, counts};
+use ep_base::Noted;
 use ep_bundle::{Bundle, BundleFault, read_bundle};
-use ep_journal::{Journal, Journals};
-use ep_replica::Replica;
-use std::alloc::{AllocError, Global};
+use std::alloc::Global;
 use std::process::Abort;
 
 /// The put of the first example, whose commit all replicas have.
@@ -49,12 +45,6 @@ const BUNDLE: [u8; 529] = [
     0,
 ];
 
-/// The PreAccept from 0 to 1 of `put x 1` in 0.1, as if it came out of entry 9.
-const FORGED: [u8; 42] = [
-    0x45, 0x50, 1, 1, 0, 1, 0, 0, 0, 0, 0, 9, 0, 0, 0, 0, 0, 0, 0, 1, 0, 0, 1, 0, 0, 0, 0, 0, 0, 0,
-    0, 0, 0, 1, 3, 1, 0, 1, 0, 0, 0x78, 0x31,
-];
-
 /// The bundle.
 fn bundle(rt: &impl Abort, alloc: Global) -> Bundle {
     match read_bundle(alloc, &mut Noted::new(BUNDLE.as_slice())) {
@@ -77,71 +67,58 @@ fn a_bundle_is_read_and_audited(rt: HostRuntime) {
     drop(bundle);
 }
 
-/// A replica of three.
-fn replica(rt: &impl Abort, alloc: Global, index: u8) -> Replica {
-    let size = Size::new(3).expect(rt, "a size");
-    let me = ReplicaId::new(index).expect(rt, "a replica");
-    Replica::new(alloc, size, me).expect(rt, "a replica of the cluster")
-}
+/// The bundle of one proposal: its header, the entry of replica 0, and two journals without entries.
+const ONE_PROPOSAL: [u8; 106] = [
+    // the header: three journals, no receipts
+    0x45, 0x50, 0x4a, 0x42, 1, 3, 0, 0, 0, 0,
+    // replica 0, one entry
+    0, 0, 0, 0, 1,
+    // it proposes `put x 1`
+    1, 0, 0, 0, 0, 0, 0, 0, 1, 0, 0, 0, 1, 0, 0, 0, 1, 0, 0, 0, 0, 0, 0, 0, 0, 3, 1, 0, 1, 0x78,
+    0x31,
+    // it sends the PreAccept to 1
+    0, 1, 0, 0, 0, 42, 0x45, 0x50, 1, 1, 0, 1, 0, 0, 0, 0, 0, 1, 0, 0, 0, 0, 0, 0, 0, 1, 0, 0, 1,
+    0, 0, 0, 0, 0, 0, 0, 0, 0, 0, 1, 3, 1, 0, 1, 0, 0, 0x78, 0x31,
+    // no executions; replicas 1 and 2
+    0, 0, 1, 0, 0, 0, 0, 2, 0, 0, 0, 0,
+];
 
-fn put(rt: &impl Abort, alloc: Global) -> Command {
-    match Command::put(alloc, b"x", b"1") {
-        Ok(command) => command,
-        Err(_) => Command::put(alloc, b"x", b"1").expect(rt, "a command"),
+/// The offset at which the bytes are refused as no bundle; none where they are read, or refused otherwise.
+fn refused_at(alloc: Global, bytes: &[u8]) -> Option<u64> {
+    match read_bundle(alloc, &mut Noted::new(bytes)) {
+        Err(BundleFault::BadBundle(at)) => Some(at),
+        _ => None,
     }
 }
 
-/// The journal of replica 0, which proposed `put x 1`.
-fn proposed(rt: &impl Abort, alloc: Global) -> Journal {
-    let mut replica = replica(rt, alloc, 0);
-    if replica.submit(1, 1, put(rt, alloc), 0).is_err() {
-        let again = replica.submit(1, 1, put(rt, alloc), 0);
-        assert!(rt; again.is_ok());
-    }
-    replica.into_journal()
-}
-
-fn forged(rt: &impl Abort, alloc: Global) -> Bytes {
-    match Bytes::copy_from_slice(alloc, &FORGED) {
-        Ok(bytes) => bytes,
-        Err(_) => Bytes::copy_from_slice(alloc, &FORGED).expect(rt, "memory for bytes"),
-    }
-}
-
-/// The journal of replica 1, which handled the forged frame.
-fn handled(rt: &impl Abort, alloc: Global) -> Journal {
-    let mut replica = replica(rt, alloc, 1);
-    if replica.handle(forged(rt, alloc)).is_err() {
-        assert!(rt; replica.handle(forged(rt, alloc)).is_ok());
-    }
-    replica.into_journal()
-}
-
-/// The journals of replica 0, which proposed, of replica 1, which handled the forged frame, and of replica 2, which took no event.
-fn gathered(rt: &impl Abort, alloc: Global) -> Result<Vec<Journal>, AllocError> {
-    let mut journals = Vec::new(alloc);
-    journals.push(proposed(rt, alloc))?;
-    journals.push(handled(rt, alloc))?;
-    journals.push(empty_journal(rt, alloc, 2))?;
-    Ok(journals)
-}
-
-fn journals(rt: &impl Abort, alloc: Global) -> Journals {
-    let journals = match gathered(rt, alloc) {
-        Ok(journals) => journals,
-        Err(_) => gathered(rt, alloc).expect(rt, "memory for journals"),
+/// The bytes are refused as no bundle at this offset; where that finds no memory, they are read again.
+fn assert_refused(rt: &impl Abort, alloc: Global, bytes: &[u8], at: u64) {
+    let told = match refused_at(alloc, bytes) {
+        Some(told) => Some(told),
+        None => refused_at(alloc, bytes),
     };
-    Journals::new(journals).expect(rt, "journals in replica order")
+    assert_eq!(rt; told, Some(at));
 }
 
-/// A replica takes it, since it may have been sent; the audit finds that replica 0's journal has one entry.
 #[test]
-fn a_frame_out_of_no_entry_is_refused_by_the_audit(rt: HostRuntime) {
-    let alloc = rt.alloc();
-    let journals = journals(&rt, alloc);
-    let refused = audited(alloc, &journals, &[]).err();
-    let one = ReplicaId::new(1).expect(&rt, "a replica");
-    let fault = AuditFault::UnsentFrame(one, 1);
-    assert_eq!(rt; refused, Some(Refusal::Fault(fault)));
-    drop(journals);
+fn a_cut_bundle_is_refused_at_the_field_that_is_cut(rt: HostRuntime) {
+    for (length, at) in [
+        (0, 0),
+        (4, 4),
+        (9, 6),
+        (10, 10),
+        (50, 48),
+        (60, 52),
+        (96, 96),
+        (105, 102),
+    ] {
+        assert_refused(&rt, rt.alloc(), &ONE_PROPOSAL[..length], at);
+    }
+}
+
+#[test]
+fn a_longer_bundle_is_refused_at_its_end(rt: HostRuntime) {
+    let mut longer = [0; 107];
+    longer[..106].copy_from_slice(&ONE_PROPOSAL);
+    assert_refused(&rt, rt.alloc(), &longer, 106);
 }

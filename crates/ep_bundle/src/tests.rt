@@ -211,6 +211,7 @@ fn one_proposal(rt: HostRuntime) {
     let mut bytes = one_put(&rt, alloc);
     assert_eq!(rt; bytes.len(), 106);
     assert_same_when_written(&rt, alloc, bytes.as_slice());
+    assert_bad(&rt, alloc, part(bytes.as_slice(), 0, 105), 102);
     assert_no_run_with(&rt, alloc, &mut bytes, 93, 0x32, 1);
 
     // The client is 0; the operation is a no-op; a get has a value.
@@ -219,26 +220,6 @@ fn one_proposal(rt: HostRuntime) {
     assert_bad_with(&rt, alloc, &mut bytes, 40, 2, 42);
     append(&rt, &mut bytes, &[0]);
     assert_bad(&rt, alloc, bytes.as_slice(), 106);
-    drop(bytes);
-}
-
-/// Cut to so many bytes, the bundle of one proposal is refused at the field that is cut off.
-#[test]
-fn a_cut_bundle(rt: HostRuntime) {
-    let alloc = rt.alloc();
-    let bytes = one_put(&rt, alloc);
-    for (length, at) in [
-        (0, 0),
-        (4, 4),
-        (9, 6),
-        (10, 10),
-        (50, 48),
-        (60, 52),
-        (96, 96),
-        (105, 102),
-    ] {
-        assert_bad(&rt, alloc, part(bytes.as_slice(), 0, length), at);
-    }
     drop(bytes);
 }
 
