@@ -2,7 +2,8 @@
 
   .ci/run             first looks whether the copies that tools write are up to date, and whether the edits of wrong/ still fit. Then
                       runs the test command of README.md, `rt ci`, and then what it built: the rows of .ci/rows.py by both compilers,
-                      and some of them with each allocation refused in turn (tools/refused-memory)
+                      some of them with each allocation refused in turn (tools/refused-memory), and runs of the program with each read
+                      and each write failed in turn (tools/failing-devices)
   .ci/run --built     runs only what an earlier `rt ci` built
 
 At its end it says what processor time it took, and its last line is 'N passed, M failed'. The status is 0 where M is 0.
@@ -25,9 +26,31 @@ import rows
 PROGRAM = f"{TOP}/crates/ep_main/out/ep_main"
 PROGRAMS = {PROGRAM: "", f"{PROGRAM}.by-rattle": " (built by Rattle's own compiler)"}
 # tests that are run with each allocation refused: the crate, and a word of their names
-TESTS = (("ep_replica_tests", ""), ("ep_journal_tests", ""), ("ep_exec_tests", "circle"))
+TESTS = (
+    ("ep_replica_tests", ""),
+    ("ep_journal_tests", ""),
+    ("ep_exec_tests", "circle"),
+    ("ep_world_tests", "played_on"),
+    ("ep_audit_tests", ""),
+    ("ep_host_tests", ""),
+)
 # scripts that are played, made into a bundle, and audited so
 SCRIPTS = ("examples/one_put.script", "examples/crossing_puts.script", ".ci/scripts/seven.script")
+# rows of which the last run is made again so
+ROWS = (
+    "audit-of-one-put",
+    "audit-of-another-value",
+    "audit-of-an-equal-stamp",
+    "audit-of-another-entry",
+    "audit-caller-order",
+    "docs/FORMATS.md, script for a run 1, by the lock host",
+    "docs/FORMATS.md, script for a run 1, by the ring host",
+)
+# what is run on devices that fail, all but audits: the words, and the script
+DEVICES = (("replay",), ("replay", "--emit", "bundle"), ("run",), ("run", "--host", "ring"), ("run", "--emit", "bundle"))
+PUT = b"replicas 3\npropose 0 1 put x 1\n"
+# the script whose bundle, which takes several reads, is audited on devices that fail
+LONG = ".ci/scripts/seven.script"
 
 
 def looks():
@@ -59,20 +82,56 @@ def test_command():
     return passed, failed or int(status != 0)
 
 
+def swept(tool, words, given=None):
+    """Whether the tool's runs all ended as they may."""
+    return not subprocess.run([f"{TOP}/tools/{tool}", *words], input=given).returncode
+
+
+def bundle_of(script):
+    """The bundle that the program makes of the script."""
+    return subprocess.run([PROGRAM, "replay", "--emit", "bundle"], input=script, stdout=subprocess.PIPE).stdout
+
+
+def read(name):
+    """The bytes of a file of the repository."""
+    with open(f"{TOP}/{name}", "rb") as it:
+        return it.read()
+
+
+def last_run(row):
+    """The words of a row's last run, and what it reads."""
+    given, runs = row.given, [it.split("\n") for it in "\n".join(row.words).split("\n|\n")]
+    for words in runs[:-1]:
+        given = bytearray(row.one(PROGRAM, words, given, "")[1])
+    for place, byte in row.change:
+        given[place] = byte
+    return runs[-1], bytes(given)
+
+
 def refused_memory():
-    """Refuses allocations, and returns how many of these sweeps passed and how many failed."""
-    tool, well = f"{TOP}/tools/refused-memory", []
+    """Refuses allocations, and says of each of these sweeps whether it passed."""
     for crate, word in TESTS:
-        well.append(not subprocess.run([tool, crate, word]).returncode)
+        yield swept("refused-memory", [crate, word])
     for name in SCRIPTS:
-        with open(f"{TOP}/{name}", "rb") as it:
-            script = it.read()
+        script = read(name)
         print(f"{name}, with each allocation refused:", flush=True)
-        replay = ["replay", "--emit", "bundle"]
-        bundle = subprocess.run([PROGRAM, *replay], input=script, stdout=subprocess.PIPE).stdout
-        for words, given in ((["replay"], script), (replay, script), (["audit"], bundle)):
-            well.append(not subprocess.run([tool, "ep_main", "--", *words], input=given).returncode)
-    return well.count(True), well.count(False)
+        for words, given in ((["replay"], script), (["replay", "--emit", "bundle"], script), (["audit"], bundle_of(script))):
+            yield swept("refused-memory", ["ep_main", "--", *words], given)
+    named = {row.name: row for row in (*rows.stored(), *rows.written())}
+    for name in ROWS:
+        words, given = last_run(named[name])
+        print(f"row {name}, with each allocation refused:", flush=True)
+        yield swept("refused-memory", ["ep_main", "--", *words], given)
+
+
+def failing_devices():
+    """Fails reads and writes, and says of each of these sweeps whether it passed."""
+    print("with each read and each write failed:", flush=True)
+    for words in DEVICES:
+        yield swept("failing-devices", ["ep_main", "--", *words], PUT)
+    yield swept("failing-devices", ["ep_main", "--", "audit"], bundle_of(read(LONG)))
+    # (a script that is refused, so that the fault output is written on)
+    yield swept("failing-devices", ["ep_main", "--", "replay"], b"replicas 4\n")
 
 
 def built():
@@ -87,8 +146,8 @@ def built():
         counts = rows.tried(program, by=by)
         passed, failed = passed + counts[0], failed + counts[1]
     if os.path.isfile(PROGRAM):
-        counts = refused_memory()
-        passed, failed = passed + counts[0], failed + counts[1]
+        well = [*refused_memory(), *failing_devices()]
+        passed, failed = passed + well.count(True), failed + well.count(False)
     return passed, failed
 
 

@@ -8,7 +8,7 @@ use std::alloc::Global;
 use std::process::Abort;
 
 /// The journal of a replica that took no event.
-fn empty_journal(rt: &impl Abort, alloc: Global, index: u8) -> Journal {
+pub(crate) fn empty_journal(rt: &impl Abort, alloc: Global, index: u8) -> Journal {
     let size = Size::new(3).expect(rt, "a size");
     let replica = ReplicaId::new(index).expect(rt, "a replica");
     assert!(rt; replica.index() < size.count());
@@ -43,7 +43,11 @@ fn receipt(rt: &impl Abort) -> Receipt {
 }
 
 /// The audit of the journals with these receipts.
-fn audited(alloc: Global, journals: &Journals, receipts: &[Receipt]) -> Result<Verdict, Refusal> {
+pub(crate) fn audited(
+    alloc: Global,
+    journals: &Journals,
+    receipts: &[Receipt],
+) -> Result<Verdict, Refusal> {
     match audit(alloc, journals, receipts) {
         Err(Refusal::Memory) => audit(alloc, journals, receipts),
         told => told,
@@ -51,7 +55,7 @@ fn audited(alloc: Global, journals: &Journals, receipts: &[Receipt]) -> Result<V
 }
 
 /// How many entries, how much that is committed, and how many lines of history the verdict has.
-fn counts(verdict: &Verdict) -> (usize, usize, usize) {
+pub(crate) fn counts(verdict: &Verdict) -> (usize, usize, usize) {
     (
         verdict.schedule.len(),
         verdict.committed.len(),

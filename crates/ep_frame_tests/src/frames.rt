@@ -318,10 +318,21 @@ fn the_longest_key_and_value_are_read_whole(rt: HostRuntime) {
     assert_read_whole(&rt, rt.alloc(), message, 1319, &LONGEST_KEY, &LONGEST_VALUE);
 }
 
+/// Every cut of the first frame.
 #[test]
-fn a_wrong_length_is_told(rt: HostRuntime) {
-    assert_eq!(rt; fault(&PRE_ACCEPT[..39]), Some(FrameFault::Short));
-    assert_eq!(rt; fault(&PRE_ACCEPT[..41]), Some(FrameFault::Length));
+fn a_cut_frame_is_told(rt: HostRuntime) {
+    for length in 0..42 {
+        let expected = if length < 40 {
+            FrameFault::Short
+        } else {
+            FrameFault::Length
+        };
+        assert_eq!(rt; fault(&PRE_ACCEPT[..length]), Some(expected), "at {length}");
+    }
+}
+
+#[test]
+fn a_longer_frame_is_told(rt: HostRuntime) {
     let mut longer = [0; 43];
     longer[..42].copy_from_slice(&PRE_ACCEPT);
     assert_eq!(rt; fault(&longer), Some(FrameFault::Length));

@@ -364,3 +364,56 @@ fn play_plays_all(rt: HostRuntime) {
     assert_eq!(rt; answer, Ok(()));
     assert_eq!(rt; counts, (3, 3));
 }
+
+/// Why one of the events isn't played, if one isn't. Where one finds no memory, the world has played just those before it, and is played on from there.
+fn refusal_in(rt: &impl Abort, world: &mut World, events: &[WorldEvent]) -> Option<Cause> {
+    let before = world.steps().len();
+    let refused = world.play(events).err()?;
+    if refused.cause != Cause::Step(StepFault::Memory) {
+        return Some(refused.cause);
+    }
+    assert_eq!(rt; world.steps().len(), before.saturating_add(refused.index));
+    let left = events.get(refused.index..).expect(rt, "events");
+    let refused = world.play(left).err()?;
+    Some(refused.cause)
+}
+
+/// Two puts conflict, and the first one is committed: it waits for the second.
+fn conflict(rt: &impl Abort, alloc: Global) -> [WorldEvent; 5] {
+    [
+        proposal(rt, alloc, 0, b"1"),
+        proposal(rt, alloc, 1, b"2"),
+        WorldEvent::Deliver(1),
+        WorldEvent::Deliver(3),
+        execute(rt, 0, 0),
+    ]
+}
+
+/// The second one is recovered by the first one's leader, which then executes both.
+fn recovery(rt: &impl Abort) -> [WorldEvent; 8] {
+    [
+        recover(rt, 0, 1),
+        WorldEvent::Deliver(6),
+        WorldEvent::Deliver(8),
+        WorldEvent::Deliver(9),
+        WorldEvent::Deliver(11),
+        WorldEvent::Deliver(12),
+        WorldEvent::Deliver(14),
+        execute(rt, 0, 0),
+    ]
+}
+
+#[test]
+fn a_world_without_memory_is_played_on(rt: HostRuntime) {
+    let alloc = rt.alloc();
+    let mut world = world(&rt, alloc, 3);
+    let refused = refusal_in(&rt, &mut world, &conflict(&rt, alloc));
+    let waits = Cause::Step(StepFault::NotCommitted(first(&rt, 1)));
+    assert_eq!(rt; refused, Some(waits));
+    assert_eq!(rt; counts(&world), (5, 4));
+    let refused = refusal_in(&rt, &mut world, &recovery(&rt));
+    assert_eq!(rt; refused, None);
+    assert_eq!(rt; counts(&world), (16, 12));
+    assert!(rt; has_committed(&rt, &world, 0, 0, b"1"));
+    assert!(rt; has_committed(&rt, &world, 0, 1, b"2"));
+}

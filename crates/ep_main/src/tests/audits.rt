@@ -3,7 +3,7 @@
 use super::ends;
 use crate::program::engine;
 use crate::status::Status;
-use ep_base::{FailAt, Noted, Source};
+use ep_base::Noted;
 use std::alloc::Global;
 use std::marker::Sync;
 use std::process::Abort;
@@ -196,37 +196,4 @@ fn a_script_without_a_bundle(rt: HostRuntime) {
     let words = ["epaxos", "replay", "--emit", "bundle"];
     let line = b"script refused at line 1\n";
     assert!(rt; ends(&rt, rt.alloc(), &words, b"", Status::Refused, b"", line));
-}
-
-#[test]
-fn readers_and_writers_that_fail(rt: HostRuntime) {
-    let alloc = rt.alloc();
-    let mut reader = FailAt::new(Noted::new(EMPTY.as_slice()), 2);
-    let mut writer = Noted::new(Vec::new(alloc));
-    let mut fault_writer = Noted::new(Vec::new(alloc));
-    let status = engine(
-        &rt,
-        alloc,
-        &WORDS,
-        &mut reader,
-        &mut writer,
-        &mut fault_writer,
-    );
-    assert!(rt; reader.failed() && status == Status::Failed && writer.inner().is_empty());
-    assert!(rt; fault_writer.inner().as_slice() == b"reading failed\n".as_slice());
-
-    let words = ["epaxos", "replay", "--emit", "bundle"];
-    let mut reader = Noted::new(b"replicas 3\n".as_slice());
-    let mut writer = FailAt::new(Noted::new(Vec::new(alloc)), 1);
-    let mut fault_writer = Noted::new(Vec::new(alloc));
-    let status = engine(
-        &rt,
-        alloc,
-        &words,
-        &mut reader,
-        &mut writer,
-        &mut fault_writer,
-    );
-    assert!(rt; status == Status::Failed);
-    assert!(rt; fault_writer.inner().as_slice() == b"writing failed\n".as_slice());
 }

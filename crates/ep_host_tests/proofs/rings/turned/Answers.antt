@@ -1,0 +1,12 @@
+use Rattle.std.proofs.Common.{rules, List, subst, sym}
+use Rattle.std.proofs.lemmas.List.{with_items_is}
+use Rattle.ep_host.specs.Host.{IsHost}
+use Rattle.ep_host.specs.Node.{Node}
+use Rattle.ep_host_tests.proofs.rings.turned.Goals as goal
+
+pub returns : goal.returns
+returns g c = λ f host.
+    let middle = c.section.result.nodes in
+    let after = c.settle.new.nodes in
+    let is = with_items_is middle after (search rules) in
+    subst (λ (l : List Node). IsHost f l) (sym is) (c.settle.ensures.host f (subst (λ (l : List Node). IsHost f l) (sym c.as_mut_slice.ensures.value) (c.section.ensures.host f host)))

@@ -1,0 +1,12 @@
+//! Tests of `ep_host`: two puts through each host, of which any allocation, and any start of a thread, may be refused. (`tools/refused-memory` refuses
+//! them, one at a time.) Frames and tasks are lost then, and whatever is left is accepted by the audit.
+//!
+//! They stand apart from the crate, so that its functions aren't proved again with them.
+#![tactic(auto)]
+
+#[cfg(test)]
+mod locks;
+#[cfg(test)]
+mod rings;
+#[cfg(test)]
+mod samples;
