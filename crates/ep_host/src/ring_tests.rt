@@ -197,10 +197,10 @@ fn entries_made(nodes: &mut [RingNode]) -> usize
     entries(&nodes[1])
 }
 
-/// Whether each node made an entry.
-fn have_entries(nodes: &[RingNode]) -> bool {
+/// Whether each node made one entry.
+fn have_one_entry(nodes: &[RingNode]) -> bool {
     for node in nodes {
-        if entries(node) == 0 {
+        if entries(node) != 1 {
             return false;
         }
     }
@@ -363,5 +363,5 @@ fn held_frames_in_a_circle(rt: HostRuntime) {
     };
     let section = section(&rt, nodes, &gate, 1);
     assert!(&rt; section.result.is_ok());
-    assert!(&rt; have_entries(&section.nodes));
+    assert!(&rt; have_one_entry(&section.nodes));
 }
