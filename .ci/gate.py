@@ -36,15 +36,14 @@ TESTS = (
 )
 # scripts that are played, made into a bundle, and audited so
 SCRIPTS = ("examples/one_put.script", "examples/crossing_puts.script", ".ci/scripts/seven.script")
-# rows of which the last run is made again so
+# what the names of rows begin with whose last run is made again so
 ROWS = (
     "audit-of-one-put",
     "audit-of-another-value",
     "audit-of-an-equal-stamp",
     "audit-of-another-entry",
     "audit-caller-order",
-    "docs/FORMATS.md, script for a run 1, by the lock host",
-    "docs/FORMATS.md, script for a run 1, by the ring host",
+    "docs/FORMATS.md, script for a run ",
 )
 # what is run on devices that fail, all but audits: the words, and the script
 DEVICES = (("replay",), ("replay", "--emit", "bundle"), ("run",), ("run", "--host", "ring"), ("run", "--emit", "bundle"))
@@ -112,11 +111,16 @@ def refused_memory():
         print(f"{name}, with each allocation refused:", flush=True)
         for words, given in ((["replay"], script), (["replay", "--emit", "bundle"], script), (["audit"], bundle_of(script))):
             yield swept("refused-memory", ["ep_main", "--", *words], given)
-    named = {row.name: row for row in (*rows.stored(), *rows.written())}
+    every = [*rows.stored(), *rows.written()]
     for name in ROWS:
-        words, given = last_run(named[name])
-        print(f"row {name}, with each allocation refused:", flush=True)
-        yield swept("refused-memory", ["ep_main", "--", *words], given)
+        named = [row for row in every if row.name.startswith(name)]
+        if not named:
+            print(f"there is no row {name}", flush=True)
+            yield False
+        for row in named:
+            words, given = last_run(row)
+            print(f"row {row.name}, with each allocation refused:", flush=True)
+            yield swept("refused-memory", ["ep_main", "--", *words], given)
 
 
 def failing_devices():
