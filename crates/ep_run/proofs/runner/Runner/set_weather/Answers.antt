@@ -11,4 +11,4 @@ want_of_memory-requires g c =
     let f = c.args.self.now.host.cluster in
     let plan : SectionPlan = c.args.section.now in
     let same : c.deref.result.now ≡ weather_in plan.weather = c.deref.ensures.value ∙ c.in_ok-weather.ensures in
-    memory_alone (IsWeather f c.deref.result.now) c.in-Err.fault (subst (IsWeather f) (sym same) (section_weather f plan c.requires)) c.in-Err.ensures.refused
+    memory_alone (IsWeather f c.deref.result.now) c.in-Err.fault (subst (IsWeather f) (sym same) (section_weather f plan c.requires)) c.in-Err.ensures.unset
