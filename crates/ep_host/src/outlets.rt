@@ -1,6 +1,6 @@
 //! The outlets of a replica behind its lock, one for each replica of the cluster, by rising number.
 
-ghost use Rattle.std.specs.Prelude.{◌≡◌, ◌∷◌, [], ◌≤◌, IfOk, length};
+ghost use Rattle.std.specs.Prelude.{◌≡◌, ◌∷◌, [], ◌≤◌, false, IfOk, length};
 ghost use Rattle.ep_frame.specs.Meaning.{origin_at};
 ghost use Rattle.ep_host.specs.Fates.{fate};
 ghost use Rattle.ep_host.specs.Outboxes.{AreFresh, Passes, CountsFromNone, LetsGo};

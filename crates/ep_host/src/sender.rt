@@ -78,14 +78,21 @@ impl Sender {
         delivery
     }
 
+    /// Does with frames, in order, what the weather says, and counts those that are lost.
+    fn send_all<R: Wait>(&mut self, rt: &R, seats: &[Seat], frames: Vec<Frame>)
+        ensures { IsMailed frames.items 0 self.old self.new }
+    {
+        for frame in frames {
+            self.send_one(rt, seats, frame);
+        }
+    }
+
     /// Does with frames, in order, what the weather says, and counts those that are lost with those that were lost before.
     pub fn send<R: Wait>(&mut self, rt: &R, seats: &[Seat], sending: Sending)
         ensures { IsMailed sending.frames.items sending.lost self.old self.new }
     {
         let Sending { frames, lost } = sending;
-        for frame in frames {
-            self.send_one(rt, seats, frame);
-        }
+        self.send_all(rt, seats, frames);
         self.lose(lost);
     }
 
