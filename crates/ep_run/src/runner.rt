@@ -76,7 +76,7 @@ impl Runner {
         section: &Section,
         turns: u32,
     ) -> Result<(), RunFault>
-        requires { FitsSection (size_with self.old.host.cluster) section.now }
+        requires fits { FitsSection (size_with self.old.host.cluster) section.now }
         ensures { self.new.host ≡ self.old.host }
     {
         let tasks = submissions_of(self.alloc, &mut self.clients, section)?;

@@ -20,14 +20,14 @@ set_own-requires-clause-host c =
     let h = c.requires.host in
     let ws : List Weather = weather_in c.args.section.now.weather in
     let fits : FitsSection (size h.0) c.args.section.now = subst (λ (n : ℕ). FitsSection n c.args.section.now) h.1.count c.requires.fits in
-    let same : c.deref.result.now ≡ ws = c.deref.ensures.value ∙ c.in_ok-weather_in.ensures in
+    let same : c.deref.result.now ≡ ws = c.deref.ensures.value ∙ c.in_ok-weather.ensures ∙ ap weather_in c.weather.ensures in
     (h.0, c.loop-place.invariant.host h.0 h.1, subst (λ (l : List Weather). IsWeather h.0 l) (sym same) (section_weather h.0 c.args.section.now fits))
 
 pub loop-place-preserved : goal.loop-place-preserved
 loop-place-preserved c =
     let h = c.requires.host in
     let ws : List Weather = weather_in c.args.section.now.weather in
-    let same : c.deref.result.now ≡ ws = c.deref.ensures.value ∙ c.in_ok-weather_in.ensures in
+    let same : c.deref.result.now ≡ ws = c.deref.ensures.value ∙ c.in_ok-weather.ensures ∙ ap weather_in c.weather.ensures in
     let sets : SetsWeatherAt c.loop-place.place (own_of c.loop-place.place ws) c.loop-place.nodes c.set_own.new.nodes =
     subst (λ (l : List Weather). SetsWeatherAt c.loop-place.place (own_of c.loop-place.place l) c.loop-place.nodes c.set_own.new.nodes) same c.in_ok-set_own.ensures.set in record {
       firsts = set_more h.0 ws c.loop-place.place c.args.nodes.now c.loop-place.nodes c.set_own.new.nodes c.loop-place-test.true (c.loop-place.invariant.host h.0 h.1) c.loop-place.invariant.firsts sets;

@@ -10,8 +10,8 @@ use Rattle.ep_run.proofs.rings.run_rings.Goals as goal
 pub loop-section-init : goal.loop-section-init
 loop-section-init g c = subst (λ (f : ℕ). HasRun f c.args.limits.now.turns [] c.in_ok-run.run') c.size.ensures (c.in_ok-run.ensures c.args.limits.now.turns)
 
-pub run-2-requires-clause-fits : goal.run-2-requires-clause-fits
-run-2-requires-clause-fits g c =
+pub run-requires-clause-fits : goal.run-requires-clause-fits
+run-requires-clause-fits g c = λ lifetimes lives.
     let f = c.args.script.now.faults in
     let all : List SectionPlan = c.sections-section-items.result.now in
     let s : SectionPlan = c.section-item.result in
