@@ -49,11 +49,7 @@ const BUNDLE: [u8; 529] = [
 fn bundle(rt: &impl Abort, alloc: Global) -> Bundle {
     match read_bundle(alloc, &mut Noted::new(BUNDLE.as_slice())) {
         Ok(bundle) => bundle,
-        Err(fault) => {
-            assert_eq!(rt; fault, BundleFault::Memory);
-            let again = read_bundle(alloc, &mut Noted::new(BUNDLE.as_slice()));
-            again.expect(rt, "a bundle")
-        }
+        Err(_) => read_bundle(alloc, &mut Noted::new(BUNDLE.as_slice())).expect(rt, "a bundle"),
     }
 }
 
