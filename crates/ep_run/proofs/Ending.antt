@@ -1,5 +1,5 @@
 -- What a run over rings leaves of its lines.
-use Rattle.std.proofs.Common.{◌≡◌, ◌≢◌, ℕ, zero, suc, ◌+◌, ◌<◌, ◌≤◌, eqb, cond, Bool, true, false, List, [], ◌∷◌, ◌++◌, length, get_or, refl, sym, ap, subst, ◌∙◌, arith, inl, inr, ◌⊎◌, ⊎_elim, All, drop, Option, Some, None}
+use Rattle.std.proofs.Common.{◌≡◌, ◌≢◌, ℕ, zero, suc, ◌<◌, ◌≤◌, eqb, cond, Bool, true, false, List, [], ◌∷◌, ◌++◌, length, get_or, refl, sym, ap, subst, ◌∙◌, arith, ⊎_elim, All, drop, Option, Some, None}
 use Rattle.std.proofs.lemmas.List.{append-nil}
 use Rattle.std.proofs.lemmas.Bool.{cases_lt}
 use Rattle.std.proofs.lemmas.Bool.Decides.{eqb_tells}
@@ -9,15 +9,15 @@ use Rattle.ep_host.specs.Tasks.{Use, tasks_in, events_in, refusals_in, event_mad
 use Rattle.ep_host.specs.declared.task.Task.{Task}
 use Rattle.ep_journal.specs.declared.entry.Entry.{Entry}
 use Rattle.ep_journal.specs.declared.step_fault.StepFault.{StepFault}
-use Rattle.ep_journal.specs.Entries.{entries_of, journals_of}
+use Rattle.ep_journal.specs.Entries.{entries_of}
 use Rattle.ep_rules.specs.Journals.{asked_in as asked_in_entries}
 use Rattle.ep_rules.specs.Steps.{Event}
 use Rattle.ep_report.specs.declared.cause.Cause.{Cause}
 use Rattle.ep_rules.specs.declared.receipt.Receipt.{Receipt}
 use Rattle.ep_script.specs.Plan.{SectionPlan}
 use Rattle.ep_run.specs.Asking.{asked_in}
-use Rattle.ep_run.specs.Lines.{Fate, made, refused, left, Line, asks, event_made, made_at, refused_in, AreBeginnings, HaveAtMost, AreDone}
-use Rattle.ep_run.specs.Rings.{fate_of, next_fate, without_next, lines_of, tasks_at, HasUsed, UsesUp, HasRun}
+use Rattle.ep_run.specs.Lines.{left, Line, asks, event_made, made_at, refused_in, AreBeginnings, AreDone}
+use Rattle.ep_run.specs.Rings.{fate_of, next_fate, without_next, lines_of, tasks_at, HasRun}
 use Rattle.ep_run.specs.declared.ran.Ran.{Ran}
 use Rattle.ep_run.specs.declared.ring_run.RingRun.{RingRun}
 use Rattle.ep_run.proofs.Running.{blank}

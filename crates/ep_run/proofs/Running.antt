@@ -1,8 +1,8 @@
 -- How a run over rings gets on, from section to section.
-use Rattle.std.proofs.Common.{◌≡◌, ◌≢◌, ℕ, zero, suc, ◌+◌, ◌-◌, ◌<◌, ◌≤◌, eqb, cond, Bool, true, false, List, [], ◌∷◌, ◌++◌, length, get_or, refl, sym, ap, subst, ◌∙◌, arith, inl, inr, ◌⊎◌, ⊎_elim, All, Contains, append_assoc, length-append, set, get_or-set_same, get_or-set_other}
+use Rattle.std.proofs.Common.{◌≡◌, ◌≢◌, ℕ, zero, suc, ◌<◌, ◌≤◌, eqb, cond, Bool, true, false, List, [], ◌∷◌, ◌++◌, length, get_or, refl, sym, ap, subst, ◌∙◌, arith, inl, inr, ◌⊎◌, ⊎_elim, All, append_assoc, length-append, set, get_or-set_same, get_or-set_other}
 use Rattle.std.proofs.Math.ListN.{length-set}
 use Rattle.std.proofs.lemmas.List.{append-nil, get_or_default}
-use Rattle.std.proofs.lemmas.List.Elements.{Contains-append_left, Contains-append_right, Contains-push}
+use Rattle.std.proofs.lemmas.List.Elements.{Contains-append_left, Contains-push}
 use Rattle.std.proofs.lemmas.Bool.{cases_lt}
 use Rattle.std.proofs.lemmas.Bool.Decides.{eqb_tells}
 use mathlib.Core.List.{IsPrefix}
@@ -11,7 +11,7 @@ use Rattle.ep_host.specs.Host.{IsHost, IsFresh}
 use Rattle.ep_host.specs.Node.{Node, fresh_node}
 use Rattle.ep_host.specs.Pointwise.{Each}
 use Rattle.ep_host.specs.RingFinishing.{replicas_in, their_journals}
-use Rattle.ep_host.specs.Tasks.{Use, tasks_in, events_in, refusals_in, refusal_at, place_after, next_place}
+use Rattle.ep_host.specs.Tasks.{Use, tasks_in, events_in, refusals_in, place_after}
 use Rattle.ep_host.specs.Turns.{AssignsAt}
 use Rattle.ep_host.specs.declared.task.Task.{Task}
 use Rattle.ep_host.proofs.Following.{tasks_both, events_both, asked_both, refusals_both, places_both, entries_both}

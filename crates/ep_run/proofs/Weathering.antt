@@ -8,7 +8,7 @@ use Rattle.std.proofs.lemmas.Map.Keys.{IsDistinct-head, IsDistinct-tail}
 use Rattle.ep_base.specs.Quorums.{size}
 use Rattle.ep_host.specs.Host.{IsHost}
 use Rattle.ep_host.specs.Node.{Node}
-use Rattle.ep_host.specs.Setting.{IsUnset, IsUnsetAt, SetsWeather, SetsWeatherAt}
+use Rattle.ep_host.specs.Setting.{IsUnset, SetsWeather, SetsWeatherAt}
 use Rattle.ep_host.specs.Weathers.{NameOne, IsFrameIn, IsWeather, IsWeatherAt}
 use Rattle.ep_host.specs.declared.weather.Weather.{Weather}
 use Rattle.ep_host.specs.declared.host_fault.HostFault.{HostFault}

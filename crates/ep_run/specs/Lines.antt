@@ -1,5 +1,5 @@
 -- What became of the lines of a run over rings.
-use Rattle.std.specs.Prelude.{◌≡◌, ◌≢◌, ℕ, ◌+◌, ◌≤◌, eqb, cond, List, [], ◌∷◌, ◌++◌, length, All, Contains, Option, Some, None}
+use Rattle.std.specs.Prelude.{◌≡◌, ◌≢◌, ℕ, ◌+◌, ◌≤◌, eqb, cond, List, [], ◌∷◌, ◌++◌, length, All, Contains}
 use mathlib.Core.List.{IsPrefix}
 use Rattle.ep_host.specs.Tasks.{event_of}
 use Rattle.ep_host.specs.declared.task.Task.{Task}

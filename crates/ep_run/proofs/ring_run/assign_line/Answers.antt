@@ -1,4 +1,4 @@
-use Rattle.std.proofs.Common.{◌≡◌, ◌<◌, ℕ, List, length, ap, subst, ◌∙◌, arith}
+use Rattle.std.proofs.Common.{◌≡◌, ◌<◌, ℕ, length, ap, subst, ◌∙◌, arith}
 use Rattle.ep_host.specs.Turns.{AssignsAt}
 use Rattle.ep_host.specs.declared.task.Task.{Task}
 use Rattle.ep_run.specs.Asking.{asked_of}

@@ -4,8 +4,7 @@ use Rattle.ep_script.specs.Fits.{FitsCluster, FitsSection}
 use Rattle.ep_script.specs.Plan.{SectionPlan}
 use Rattle.ep_script.specs.declared.agenda_line.AgendaLine.{AgendaLine}
 use Rattle.ep_run.specs.Asking.{asked_by, proposers_of}
-use Rattle.ep_run.specs.Rings.{AreAssigned, Begins}
-use Rattle.ep_run.specs.Weathers.{weather_in}
+use Rattle.ep_run.specs.Rings.{AreAssigned}
 use Rattle.ep_run.proofs.ring_run.begin.Goals as goal
 
 pub assign_all-requires-clause-fit : goal.assign_all-requires-clause-fit

@@ -1,8 +1,4 @@
-use Rattle.std.proofs.Common.{◌≡◌, ◌∙◌, List, ap, subst, sym}
-use Rattle.ep_host.specs.Node.{Node}
-use Rattle.ep_host.specs.Setting.{SetsWeatherAt, IsUnset}
-use Rattle.ep_host.specs.Weathers.{IsWeatherAt}
-use Rattle.ep_host.specs.declared.weather.Weather.{Weather}
+use Rattle.std.proofs.Common.{◌≡◌, ◌∙◌}
 use Rattle.ep_run.specs.Weathers.{own_of}
 use Rattle.ep_run.proofs.Running.{blank}
 use Rattle.ep_run.proofs.Weathering.{only_memory}

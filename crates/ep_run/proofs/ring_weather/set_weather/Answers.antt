@@ -1,12 +1,9 @@
-use Rattle.std.proofs.Common.{arith, ◌≡◌, ◌∙◌, ◌+◌, ◌<◌, ℕ, List, length, get_or, set, subst, sym, ap}
-use Rattle.std.proofs.lemmas.List.{get_or_default}
+use Rattle.std.proofs.Common.{◌≡◌, ◌∙◌, ℕ, List, subst, sym, ap}
 use Rattle.ep_base.specs.Quorums.{size}
-use Rattle.ep_host.specs.Host.{IsHost}
-use Rattle.ep_host.specs.Node.{Node}
-use Rattle.ep_host.specs.Setting.{SetsWeather, SetsWeatherAt}
+use Rattle.ep_host.specs.Setting.{SetsWeatherAt}
 use Rattle.ep_host.specs.Weathers.{IsWeather}
 use Rattle.ep_host.specs.declared.weather.Weather.{Weather}
-use Rattle.ep_host.proofs.Places.{Firsts, firsts_none, firsts_all}
+use Rattle.ep_host.proofs.Places.{firsts_none, firsts_all}
 use Rattle.ep_script.specs.Fits.{FitsSection}
 use Rattle.ep_run.specs.Weathers.{weather_in, own_of, SetsOwn}
 use Rattle.ep_run.proofs.Weathering.{section_weather, set_more}

@@ -1,4 +1,4 @@
-use Rattle.std.proofs.Common.{◌≡◌, ◌∙◌, ℕ, List, [], ◌∷◌, ◌++◌, take, ap, sym}
+use Rattle.std.proofs.Common.{◌∙◌, ℕ, List, [], ◌∷◌, ◌++◌, ap, sym}
 use Rattle.std.proofs.lemmas.List.{take_all}
 use Rattle.ep_host.specs.declared.weather.Weather.{Weather}
 use Rattle.ep_run.specs.Weathers.{own_of}

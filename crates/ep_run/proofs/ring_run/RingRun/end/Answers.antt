@@ -1,4 +1,4 @@
-use Rattle.std.proofs.Common.{◌≡◌, List, subst, sym, refl}
+use Rattle.std.proofs.Common.{List, subst, sym, refl}
 use Rattle.ep_host.specs.RingFinishing.{replicas_in, their_journals}
 use Rattle.ep_rules.specs.Verdicts.{AreOwn}
 use Rattle.ep_rules.specs.declared.receipt.Receipt.{Receipt as Told}

@@ -1,4 +1,4 @@
-use Rattle.std.proofs.Common.{rules, ◌≡◌, ◌∙◌, ℕ, List, length, subst, sym, ap, []}
+use Rattle.std.proofs.Common.{rules, ◌≡◌, ◌∙◌, List, length, subst, sym, ap, []}
 use Rattle.std.proofs.lemmas.List.{with_items_is}
 use Rattle.ep_host.specs.Host.{IsHost}
 use Rattle.ep_host.specs.Node.{Node}
@@ -9,7 +9,7 @@ use Rattle.ep_script.specs.Fits.{FitsSection}
 use Rattle.ep_script.specs.Plan.{SectionPlan}
 use Rattle.ep_run.specs.Asking.{asked_by, proposers_of}
 use Rattle.ep_run.specs.Rings.{Begins, Turns, Collects, proposers_in}
-use Rattle.ep_run.specs.Weathers.{weather_in, HasOwn}
+use Rattle.ep_run.specs.Weathers.{weather_in}
 use Rattle.ep_run.proofs.Running.{has_run}
 use Rattle.ep_run.proofs.Turning.{Passes, passes_section, own_stays}
 use Rattle.ep_run.proofs.ring_run.RingRun.run.Goals as goal

@@ -1,6 +1,5 @@
-use Rattle.std.proofs.Common.{◌≡◌, ◌∙◌, List, ap, subst, sym}
+use Rattle.std.proofs.Common.{◌≡◌, ◌∙◌, ap, subst, sym}
 use Rattle.ep_host.specs.Weathers.{IsWeather}
-use Rattle.ep_host.specs.declared.weather.Weather.{Weather}
 use Rattle.ep_script.specs.Plan.{SectionPlan}
 use Rattle.ep_run.specs.Weathers.{weather_in}
 use Rattle.ep_run.proofs.Weathering.{memory_alone, section_weather}
