@@ -96,6 +96,18 @@ impl Command {
         }
     }
 
+    /// Whether the command names the key.
+    #[tactic(auto, using(crate::proofs::Keys::or_false))]
+    pub fn names(&self, key: &Key) -> bool
+        ensures { result ≡ has_key key.now (keys_of self.now) }
+    {
+        match self {
+            Command::Noop => false,
+            Command::Get(own) | Command::Put(own, _) | Command::Del(own) => key.is_same(own),
+            Command::Swap(own) => key.is_same(own.first()) || key.is_same(own.second()),
+        }
+    }
+
     /// Whether the command is a get.
     pub fn is_get(&self) -> bool
         ensures { result ≡ is_get self.now }
@@ -135,18 +147,6 @@ fn meet(a: &Command, b: &Command) -> bool
     share_key(a, b) && !(a.is_get() && b.is_get())
 }
 
-// Whether the command names the key.
-#[tactic(auto, using(crate::proofs::Keys::or_false))]
-fn names(command: &Command, key: &Key) -> bool
-    ensures { result ≡ has_key key.now (keys_of command.now) }
-{
-    match command {
-        Command::Noop => false,
-        Command::Get(own) | Command::Put(own, _) | Command::Del(own) => key.is_same(own),
-        Command::Swap(own) => key.is_same(own.first()) || key.is_same(own.second()),
-    }
-}
-
 // Whether both name some key.
 #[tactic(auto, using(crate::proofs::Keys::or_false))]
 fn share_key(a: &Command, b: &Command) -> bool
@@ -154,8 +154,8 @@ fn share_key(a: &Command, b: &Command) -> bool
 {
     match a {
         Command::Noop => false,
-        Command::Get(key) | Command::Put(key, _) | Command::Del(key) => names(b, key),
-        Command::Swap(keys) => names(b, keys.first()) || names(b, keys.second()),
+        Command::Get(key) | Command::Put(key, _) | Command::Del(key) => b.names(key),
+        Command::Swap(keys) => b.names(keys.first()) || b.names(keys.second()),
     }
 }
 
