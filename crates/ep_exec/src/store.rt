@@ -6,7 +6,7 @@ ghost use Rattle.ep_base.specs.Sameness.{is_noop};
 ghost use Rattle.ep_rules.specs.OneMap.{empty, value_at, after, reply};
 ghost use Rattle.ep_exec.specs.Table.{contents_of};
 
-use crate::table::{self, Table, copied, remove, set, told, value_of};
+use crate::table::{self, Table, copied, remove, set, told, turn, value_of};
 use crate::trial::Trial;
 use ep_base::{Command, Key, Reply, Value};
 use indexmap::IndexMap;
@@ -65,6 +65,7 @@ impl Store {
                 Ok(told(set(&mut self.table, name, Some(value))?))
             }
             Command::Del(key) => Ok(told(remove(&mut self.table, key.as_slice()))),
+            Command::Swap(keys) => Ok(told(turn(self.alloc, &mut self.table, keys)?)),
         }
     }
 

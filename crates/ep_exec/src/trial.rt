@@ -6,7 +6,7 @@ ghost use Rattle.ep_exec.specs.Table.{contents_of};
 ghost use Rattle.ep_exec.specs.Tries.{tried};
 
 use crate::store::Store;
-use crate::table::{Table, copied, sweep_all, take_back, told, value_of, write};
+use crate::table::{Table, copied, exchange, sweep_all, take_back, told, value_of, write};
 use ep_base::{Answer, Command, Value};
 use std::alloc::{AllocError, Global};
 use std::marker::Model;
@@ -74,6 +74,12 @@ impl Trial {
                 &mut self.undo,
                 key.as_slice(),
                 None,
+            )?))),
+            Command::Swap(keys) => Ok(Answer::Told(told(exchange(
+                self.alloc,
+                &mut self.table,
+                &mut self.undo,
+                keys,
             )?))),
         }
     }

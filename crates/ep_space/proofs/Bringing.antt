@@ -98,3 +98,16 @@ both_steps f own p q k s t a b i xs ys zs apart es et ea eb first second =
     second ∙ (λ d. cond (same_list k q && not (et d)) (f (eb d) (first d)) (first d))
     ∙ (λ d. cond (same_list k q && not (has_key q own)) (f i (cond (same_list k p && not (es d)) (f (ea d) xs) xs)) (cond (same_list k p && not (es d)) (f (ea d) xs) xs))
     ∙ two_steps (f i) own p q k xs apart
+
+-- a key brings nothing to the run of another
+pub other_brings : (f : List ℕ → List ℕ) (own : List (List ℕ)) (p q : List ℕ) (xs : List ℕ) → p ≢ q → cond (brings own (p ∷ []) q) (f xs) xs ≡ xs
+other_brings f own p q xs apart = ap (λ b. cond b (f xs) xs) (sym (brings_one own p q)) ∙ other_run f p q (has_key p own) xs apart
+
+-- what one key brings and then another, both bring
+pub both_bring : (f : List ℕ → List ℕ) (own : List (List ℕ)) (p q k : List ℕ) (xs ys zs : List ℕ) → p ≢ q
+    → ys ≡ cond (brings own (p ∷ []) k) (f xs) xs → zs ≡ cond (brings own (q ∷ []) k) (f ys) ys → zs ≡ cond (brings own (p ∷ q ∷ []) k) (f xs) xs
+both_bring f own p q k xs ys zs apart first second =
+    let one : ys ≡ cond (same_list k p && not (has_key p own)) (f xs) xs = first ∙ ap (λ b. cond b (f xs) xs) (sym (brings_one own p k)) in
+    second ∙ ap (λ b. cond b (f ys) ys) (sym (brings_one own q k))
+    ∙ (λ d. cond (same_list k q && not (has_key q own)) (f (one d)) (one d))
+    ∙ two_steps f own p q k xs apart
