@@ -9,7 +9,7 @@ use crate::deciding::{
 };
 use crate::samples::{decree, replica};
 use crate::texts::text;
-use ep_base::{Ballot, InstanceId, ReplicaId, Size, Status};
+use ep_base::{Ballot, InstanceId, ReplicaId, Size, Status, Version};
 use ep_phase::{
     Cell, Change, Lead, Leading, PhaseFault, Recorded, next_instance, on_accept, on_commit,
 };
@@ -126,7 +126,7 @@ fn known(cell: &Cell<'_>) -> Known {
 impl Trial {
     /// This replica of five, which knows of nothing.
     pub fn new(rt: &impl Abort, alloc: Global, me: u8, id: InstanceId) -> Trial {
-        let space = Space::new(alloc, Size::new(5).expect(rt, "a size"));
+        let space = Space::new(alloc, Size::new(5).expect(rt, "a size"), Version::V2);
         Trial::over(rt, alloc, me, id, space)
     }
 
@@ -138,7 +138,7 @@ impl Trial {
         id: InstanceId,
         other: InstanceId,
     ) -> Trial {
-        let mut space = Space::new(alloc, Size::new(5).expect(rt, "a size"));
+        let mut space = Space::new(alloc, Size::new(5).expect(rt, "a size"), Version::V2);
         hold(rt, alloc, &mut space, other);
         Trial::over(rt, alloc, me, id, space)
     }

@@ -5,7 +5,7 @@ ghost use Rattle.std.specs.FinSet as set;
 ghost use Rattle.ep_space.specs.Held.{HasPlace};
 
 use crate::samples::{decree, replica};
-use ep_base::{Ballot, Decree, InstanceId, ReplicaId, Size, Vote};
+use ep_base::{Ballot, Decree, InstanceId, ReplicaId, Size, Version, Vote};
 use ep_phase::{Cell, Change, Lead, Leading, Recorded};
 use ep_prepare::{PrepareFault, on_prepare, on_prepare_ok, recover};
 use ep_rules::Duplicate;
@@ -28,7 +28,7 @@ pub struct Trial {
 fn space(rt: &impl Abort, alloc: Global, size: u8, id: InstanceId) -> Space
     ensures { HasPlace result.places id }
 {
-    let mut space = Space::new(alloc, Size::new(size).expect(rt, "a size"));
+    let mut space = Space::new(alloc, Size::new(size).expect(rt, "a size"), Version::V2);
     match space.reserve(id) {
         Ok(()) => (),
         Err(_) => space.reserve(id).expect(rt, "memory"),

@@ -1,5 +1,5 @@
 -- What one key, or two of them, change of the runs.
-use Rattle.std.proofs.Common.{◌≡◌, ◌≢◌, ℕ, Bool, true, false, cond, not, ◌&&◌, ◌||◌, List, [], ◌∷◌, refl, sym, ap, ◌∙◌, true≢false, Result, Ok, Err, OnOk, OnErr}
+use Rattle.std.proofs.Common.{◌≡◌, ◌≢◌, ℕ, Bool, true, false, cond, not, ◌&&◌, ◌||◌, List, [], ◌∷◌, refl, sym, ap, ◌∙◌, true≢false, Result, Ok, Err, IfOk, OnOk}
 use Rattle.ep_base.specs.Attributes.{same_list}
 use Rattle.ep_base.specs.Interference.{has_key}
 use Rattle.ep_base.proofs.Same.{Decides-same_list}
@@ -82,6 +82,10 @@ back_again f g true xs h = h refl
 back_again f g false xs h = refl
 
 -- the same, of what calls tell
+
+pub on_value : {X E : Type 0} {P Q : X → Type 0} (r : Result X E) → ((x : X) → P x → Q x) → IfOk r P → IfOk r Q
+on_value (Ok x) f h = f x h
+on_value (Err e) f h = h
 
 pub on_ok : {X E : Type 0} {P Q : Type 0} (r : Result X E) → (P → Q) → OnOk r P → OnOk r Q
 on_ok (Ok x) f h = f h

@@ -99,10 +99,16 @@ module _ (c : Command) (except : ℕ) where
       ∙ ap (λ (es : List Entry). next_attrs (record { seq = max 0 (greatest_seq es); deps = instances es })) (those_within (touches c except) some (entries m) touched_key)
       ∙ (λ d. next_attrs (record { seq = least (greatest_seq (those (touches c except) (entries m))) d; deps = instances (those (touches c except) (entries m)) }))
 
--- with no key there is nobody
-pub holders-nobody : (es : List Entry) → instances (those (names_one []) es) ≡ []
-holders-nobody [] = refl
-holders-nobody (e ∷ es) = holders-nobody es
+  -- and so of those keys that are the command's
+  pub gathered-keys : (m : Map Record) (ks : List (List ℕ)) → keys_of c ≡ ks → next_attrs (gather_all (touches c except) m (record { seq = 0; deps = [] }) (holders_of ks m)) ≡ interference m except c
+  gathered-keys m ks is = ap (λ l. next_attrs (gather_all (touches c except) m (record { seq = 0; deps = [] }) (holders_of l m))) (sym is) ∙ gathered-run m
+
+  pub gathered-none : (m : Map Record) → keys_of c ≡ [] → next_attrs (record { seq = 0; deps = [] }) ≡ interference m except c
+  gathered-none m is = ap (λ xs. next_attrs (gather_all (touches c except) m (record { seq = 0; deps = [] }) xs)) (sym (nobody (entries m))) ∙ gathered-keys m [] is
+    where
+      nobody : (es : List Entry) → instances (those (names_one []) es) ≡ []
+      nobody [] = refl
+      nobody (e ∷ es) = nobody es
 
 -- Rising while it is gathered.
 

@@ -174,6 +174,9 @@ from_second true b e = refl
 from_second false true e = refl
 from_second false false e = e
 
+pub rising-holders_of : (ks : List (List ℕ)) (m : Map Record) → IsRising (holders_of ks m)
+rising-holders_of ks m = rising_those (names_one ks) (map.entries m) (sorted_true m)
+
 pub holders-two : (k l : List ℕ) (m : Map Record) → union (holders k m) (holders l m) ≡ holders_of (k ∷ l ∷ []) m
 holders-two k l m =
     same_members (union (holders k m) (holders l m)) (holders_of (k ∷ l ∷ []) m)

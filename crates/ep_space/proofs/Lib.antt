@@ -6,6 +6,7 @@ pub mod Holders
 pub mod Entered
 pub mod Bringing
 pub mod Kept
+pub mod Undone
 pub mod Gathering
 pub mod FirstTaken
 pub mod Least

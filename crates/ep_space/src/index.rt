@@ -53,14 +53,14 @@ fn enter_record(
     table: &Table<Record>,
     index: &mut Index,
     id: InstanceId,
-    record: &Record,
+    written: &Record,
 ) -> Result<(), AllocError>
     requires { IsKept table.now index.old.entries }
-    ensures ok { OnOk result ((k : List ℕ) → run index.new.entries k ≡ cond (brings (keys_at table.now.held id) (voted_keys record.now.vote) k) (with_instance id (run index.old.entries k)) (run index.old.entries k)) }
+    ensures ok { OnOk result ((k : List ℕ) → run index.new.entries k ≡ cond (brings (keys_at table.now.held id) (voted_keys written.now.vote) k) (with_instance id (run index.old.entries k)) (run index.old.entries k)) }
     ensures err { OnErr result ((k : List ℕ) → run index.new.entries k ≡ run index.old.entries k) }
-    ensures succeeds { NeedsNoRoom (keys_at table.now.held id) (voted_keys record.now.vote) → IsOk result }
+    ensures succeeds { NeedsNoRoom (keys_at table.now.held id) (voted_keys written.now.vote) → IsOk result }
 {
-    match &record.vote {
+    match &written.vote {
         None => Ok(()),
         Some(vote) => enter_command(table, index, id, &vote.decree.command),
     }
@@ -142,12 +142,12 @@ pub(crate) fn leave(
     }
 }
 
-fn leave_record(index: &mut Index, id: InstanceId, record: &Record, value: &Option<Record>)
+fn leave_record(index: &mut Index, id: InstanceId, written: &Record, value: &Option<Record>)
     requires rising { (k : List ℕ) → IsRising (run index.old.entries k) }
-    requires there { (k : List ℕ) → has_key k (voted_keys record.now.vote) ≡ true → Has (run index.old.entries k) id }
-    ensures { (k : List ℕ) → run index.new.entries k ≡ cond (brings (recorded_keys value.now) (voted_keys record.now.vote) k) (without id (run index.old.entries k)) (run index.old.entries k) }
+    requires there { (k : List ℕ) → has_key k (voted_keys written.now.vote) ≡ true → Has (run index.old.entries k) id }
+    ensures { (k : List ℕ) → run index.new.entries k ≡ cond (brings (recorded_keys value.now) (voted_keys written.now.vote) k) (without id (run index.old.entries k)) (run index.old.entries k) }
 {
-    match &record.vote {
+    match &written.vote {
         None => (),
         Some(vote) => leave_command(index, id, &vote.decree.command, value),
     }
@@ -306,10 +306,10 @@ fn names(value: &Option<Record>, key: &Key) -> bool
 }
 
 // Whether the record's command has the key.
-fn record_names(record: &Record, key: &Key) -> bool
-    ensures { result ≡ has_key key.now (voted_keys record.now.vote) }
+fn record_names(written: &Record, key: &Key) -> bool
+    ensures { result ≡ has_key key.now (voted_keys written.now.vote) }
 {
-    match &record.vote {
+    match &written.vote {
         None => false,
         Some(vote) => vote.decree.command.names(key),
     }

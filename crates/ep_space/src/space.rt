@@ -4,6 +4,7 @@ ghost use Rattle.std.specs.Prelude.{ℕ, ◌≡◌, ◌≤◌, ◌<◌, ◌-◌,
 ghost use Rattle.std.specs.Option.{option_copied};
 ghost use Rattle.std.specs.FinSet as set;
 ghost use Rattle.ep_base.specs.Interference.{keys_of};
+ghost use Rattle.ep_base.specs.Instances.{highest_number};
 ghost use Rattle.ep_base.specs.Versions.{highest_in};
 ghost use Rattle.ep_rules.specs.Cells.{is_committed, is_done_at, is_settled_at, voted, voted_ballot};
 ghost use Rattle.ep_rules.specs.InterferenceSet.{interference};
@@ -290,6 +291,7 @@ impl Space {
     /// up to the highest number of the version.
     pub fn free_number(&self, replica: ReplicaId) -> Result<u16, SpaceFull>
         ensures free { IfOk result (λ n. (1 ≤ n) × (n ≤ highest_in self.now.version) × (free_number self.now.records replica ≡ Some (n - 1))) }
+        ensures number { IfOk result (λ n. n ≤ highest_number) }
         ensures full { IsErr result → (n : ℕ) → free_number self.now.records replica ≡ Some n → highest_in self.now.version ≤ n }
     {
         let taken = self.table.taken_by(replica);

@@ -1,15 +1,9 @@
 use Rattle.std.proofs.Common.{◌≡◌, ◌≤◌, ◌<◌, ◌∙◌, ◌+◌, ◌-◌, ap, sym, arith, Some}
 use Rattle.ep_base.specs.Versions.{highest_in}
-use Rattle.ep_base.specs.declared.version.Version.{Version}
-use Rattle.ep_base.specs.declared.version.Version.TheVariants.{V1, V2}
 use Rattle.ep_rules.specs.Counting.{least}
 use Rattle.ep_rules.specs.States.{is_free}
-use Rattle.ep_space.proofs.Least.{free_first, free_past, least_none}
+use Rattle.ep_space.proofs.Least.{free_first, free_past, least_none, highest_low}
 use Rattle.ep_space.proofs.space.Space.free_number.Goals as goal
-
-low : (v : Version) → highest_in v ≤ 2000
-low V1 = omega arith
-low V2 = omega arith
 
 pub loop-place-init : goal.loop-place-init
 loop-place-init c = record {
@@ -20,7 +14,7 @@ pub returns-then-is_free-clause-free : goal.returns-then-is_free-clause-free
 returns-then-is_free-clause-free c =
     let k = c.loop-place.place in
     let place : k + 1 - 1 ≡ k = omega arith in
-    let most = low c.args.self.now.version in
+    let most = highest_low c.args.self.now.version in
     (omega arith, omega (arith, c.loop-place-test.true), free_first _ _ k _ c.loop-place.invariant.none (sym c.is_free.ensures ∙ c.if-is_free.true) c.loop-place-test.true most ∙ ap Some (sym place))
 
 pub returns-clause-full : goal.returns-clause-full
