@@ -149,11 +149,11 @@ pub fn turn(alloc: Global, table: &mut Table, keys: &KeyPair) -> Result<Option<V
 {
     let own = copied(alloc, value_of(table, keys.first().as_slice()))?;
     let other = copied(alloc, value_of(table, keys.second().as_slice()))?;
-    let first = Vec::from_slice(alloc, keys.first().as_slice())?;
-    let second = Vec::from_slice(alloc, keys.second().as_slice())?;
+    let name = Vec::from_slice(alloc, keys.first().as_slice())?;
+    let other_name = Vec::from_slice(alloc, keys.second().as_slice())?;
     make_places(alloc, table, keys)?;
-    let was = put_back(table, first, other);
-    done(put_back(table, second, own));
+    let was = put_back(table, name, other);
+    done(put_back(table, other_name, own));
     sweep(table, keys.first().as_slice());
     sweep(table, keys.second().as_slice());
     Ok(was)
@@ -216,10 +216,10 @@ pub fn exchange(
 {
     let own = copied(alloc, value_of(table, keys.first().as_slice()))?;
     let other = copied(alloc, value_of(table, keys.second().as_slice()))?;
-    let first = note(alloc, table, undo, keys.first().as_slice())?;
-    let second = note(alloc, table, undo, keys.second().as_slice())?;
-    let was = put_back(table, first, other);
-    done(put_back(table, second, own));
+    let name = note(alloc, table, undo, keys.first().as_slice())?;
+    let other_name = note(alloc, table, undo, keys.second().as_slice())?;
+    let was = put_back(table, name, other);
+    done(put_back(table, other_name, own));
     Ok(was)
 }
 

@@ -1,4 +1,4 @@
-use Rattle.std.proofs.Common.{◌≡◌, ◌∙◌, ap, sym, subst}
+use Rattle.std.proofs.Common.{◌≡◌, ◌∙◌, ◌∷◌, [], ap, sym, subst}
 use Rattle.ep_base.specs.Deps.{IsRising, AreInstances, union}
 use Rattle.ep_base.specs.Instances.{IsInstance}
 use Rattle.ep_base.proofs.Members.{all_union}
@@ -23,7 +23,7 @@ returns-clause-rising c =
     let q = c.args.keys.now.second in
     let a : c.key_run-first.result.now ≡ holders p m = c.key_run-first.ensures.value ∙ ap (λ k. holders k m) (c.as_slice.ensures.value ∙ c.first.ensures.value) in
     let b : c.key_run-second.result.now ≡ holders q m = c.key_run-second.ensures.value ∙ ap (λ k. holders k m) (c.as_slice-2.ensures.value ∙ c.second.ensures.value) in
-    on_value c.merged.result (λ v e. subst IsRising (sym (e ∙ (λ d. union (a d) (b d)) ∙ holders-two p q m)) (rising-holders_of _ m)) c.merged.ensures
+    on_value c.merged.result (λ v e. subst IsRising (sym (e ∙ (λ d. union (a d) (b d)) ∙ holders-two p q m)) (rising-holders_of (p ∷ q ∷ []) m)) c.merged.ensures
 
 pub returns-clause-instances : goal.returns-clause-instances
 returns-clause-instances c =

@@ -14,8 +14,15 @@ pub returns-then-is_free-clause-free : goal.returns-then-is_free-clause-free
 returns-then-is_free-clause-free c =
     let k = c.loop-place.place in
     let place : k + 1 - 1 ≡ k = omega arith in
-    let most = highest_low c.args.self.now.version in
-    (omega arith, omega (arith, c.loop-place-test.true), free_first _ _ k _ c.loop-place.invariant.none (sym c.is_free.ensures ∙ c.if-is_free.true) c.loop-place-test.true most ∙ ap Some (sym place))
+    let top : c.highest_number-place-end.result ≡ highest_in c.args.self.now.version = c.highest_number-place-end.ensures ∙ ap (λ s. highest_in s.version) c.self.view_is in
+    let most = highest_low c.args.self.now.version in (
+      omega arith,
+      omega (arith, c.loop-place-test.true, top),
+      free_first _ _ k c.highest_number-place-end.result c.loop-place.invariant.none (sym c.is_free.ensures ∙ c.if-is_free.true) c.loop-place-test.true (omega (arith, top, most)) ∙ ap Some (sym place),
+    )
 
 pub returns-clause-full : goal.returns-clause-full
-returns-clause-full c = λ _ n is. free_past _ _ c.loop-place.place _ n c.loop-place.invariant.none c.loop-place-test.false is
+returns-clause-full c = λ _ n is.
+    let top : c.highest_number-place-end.result ≡ highest_in c.args.self.now.version = c.highest_number-place-end.ensures ∙ ap (λ s. highest_in s.version) c.self.view_is in
+    let past = free_past _ _ c.loop-place.place c.highest_number-place-end.result n c.loop-place.invariant.none c.loop-place-test.false is in
+    omega (arith, past, top)
