@@ -12,7 +12,7 @@ use Rattle.std.proofs.lemmas.Cmp.{ranked}
 use Rattle.std.proofs.lemmas.Option.{none-some}
 use Rattle.ep_base.specs.Deps.{IsRising, IsBelowFirst, AreInstances, union}
 use Rattle.ep_base.specs.Instances.{IsInstance}
-use Rattle.ep_base.specs.Interference.{has_key, share_key}
+use Rattle.ep_base.specs.Interference.{has_key}
 use Rattle.ep_base.specs.Places.{Has}
 use Rattle.ep_base.proofs.Keys.{or_false}
 use Rattle.ep_base.proofs.Members.{same_members, union-cases, Has-union}

@@ -2,7 +2,7 @@ use Rattle.std.proofs.Common.{◌≡◌, ◌∙◌, ◌∷◌, [], ap, sym, subs
 use Rattle.ep_base.specs.Deps.{IsRising, AreInstances, union}
 use Rattle.ep_base.specs.Instances.{IsInstance}
 use Rattle.ep_base.proofs.Members.{all_union}
-use Rattle.ep_space.specs.Keys.{holders, holders_of}
+use Rattle.ep_space.specs.Keys.{holders}
 use Rattle.ep_space.proofs.Bringing.{on_value}
 use Rattle.ep_space.proofs.Holders.{holders-two, rising-holders_of}
 use Rattle.ep_space.proofs.gathered.joined_runs.Goals as goal

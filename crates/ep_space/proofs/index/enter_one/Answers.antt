@@ -1,6 +1,6 @@
 use Rattle.ep_space.specs.Index.{run, with_instance}
 use Rattle.ep_space.specs.Keys.{keys_at}
-use Rattle.ep_space.proofs.Bringing.{on_ok, one_step, no_room_one}
+use Rattle.ep_space.proofs.Bringing.{on_ok, one_step}
 use Rattle.ep_space.proofs.Kept.{rising-runs}
 use Rattle.ep_space.proofs.index.enter_one.Goals as goal
 

@@ -1,4 +1,4 @@
-use Rattle.std.proofs.Common.{◌≡◌, ◌≤◌, ◌<◌, ◌∙◌, ◌+◌, ◌-◌, ap, sym, arith, Some}
+use Rattle.std.proofs.Common.{◌≡◌, ◌∙◌, ◌+◌, ◌-◌, ap, sym, arith, Some}
 use Rattle.ep_base.specs.Versions.{highest_in}
 use Rattle.ep_rules.specs.Counting.{least}
 use Rattle.ep_rules.specs.States.{is_free}
