@@ -1,6 +1,6 @@
 //! Phase 1.
 
-ghost use Rattle.std.specs.Prelude.{◌≡◌, ℕ, ◌+◌, Bool, [], Some, None, Ok, IfOk, IfErr, IsErr};
+ghost use Rattle.std.specs.Prelude.{◌≡◌, ◌≤◌, ◌<◌, ℕ, ◌+◌, Bool, [], Some, None, Ok, IfOk, IfErr, IsErr};
 ghost use Rattle.ep_base.specs.Instances.{instance_of};
 ghost use Rattle.ep_base.specs.declared.message.Message.TheVariants.{PreAccept};
 ghost use Rattle.ep_base.specs.declared.vote.Status.TheVariants.{PreAccepted};
