@@ -1,6 +1,6 @@
 """Scripts that are made from a rule, with the reports that the rule asks for, scripts with weather, and scripts that are refused at a line."""
 
-LIMIT = 1000
+LIMIT = 2000
 NOTHING = ["verdict accepted", "committed 0", "history 0", "receipts 0", "refused 0"]
 ONE_PUT = ["verdict accepted", "committed 1", "0.1 seq 1 deps - put x 1", "history 1", "1 0.1 put x 1 -> absent", "receipts 1", "client 1 request 1 0.1 absent", "refused 0"]
 
@@ -76,7 +76,7 @@ def every():
     """Names, scripts and their reports."""
     for name, (script, report) in (
         ("300 puts on one key, one execution", three_hundred()),
-        ("all 1,000 numbers of a replica, one execution", all_numbers()),
+        ("all 2,000 numbers of a replica, one execution", all_numbers()),
         ("long frames at seven replicas", long_frames()),
         ("the longest line", (["replicas 3", "#" * 8192], NOTHING)),
         ("the longest script", (["replicas 3", *[""] * 99_999], NOTHING)),

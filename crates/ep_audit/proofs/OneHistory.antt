@@ -1,6 +1,5 @@
 -- Journals that are accepted make one history.
-use Rattle.std.proofs.Common.{◌≡◌, ℕ, ◌+◌, ◌<◌, ◌≤◌, List, ◌++◌, Some, sym, subst, refl, arith}
-use Rattle.ep_base.specs.Quorums.{size}
+use Rattle.std.proofs.Common.{◌≡◌, ℕ, ◌≤◌, List, ◌++◌, Some, sym, subst, refl, arith}
 use Rattle.ep_base.specs.declared.decree.Decree.{Decree}
 use Rattle.ep_rules.specs.Audits.{IsAccepted}
 use Rattle.ep_rules.specs.Journals.{Entry, Journals, Scheduled, AreLocalRuns, left}
@@ -14,7 +13,7 @@ use Rattle.ep_rules.proofs.JournalsKeep.{journals_keep_lem}
 use Rattle.ep_rules.proofs.JournalsOrders.{journals_order_lem}
 use Rattle.ep_rules.proofs.JournalsReplies.{each_reply_lem}
 use Rattle.ep_rules.proofs.Merged.{merged_is_a_run_lem}
-use Rattle.ep_verdict.specs.Verdicts.{instances_in, IsVerdict}
+use Rattle.ep_verdict.specs.Verdicts.{IsVerdict}
 use Rattle.ep_verdict.specs.declared.verdict.Verdict.{Verdict}
 use Rattle.ep_audit.specs.Audited.{IsOneHistory, IsAudited}
 

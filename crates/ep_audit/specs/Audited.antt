@@ -13,7 +13,7 @@ use Rattle.ep_rules.specs.Verdicts.{committed_by, command_at, history_of, IsRepl
 use Rattle.ep_rules.specs.Worlds.{In, IsRun, opening}
 use Rattle.ep_rules.specs.declared.receipt.Receipt.{Receipt}
 use Rattle.ep_report.specs.Refusals.{fault_of}
-use Rattle.ep_verdict.specs.Verdicts.{places_of, instances_in, IsVerdict}
+use Rattle.ep_verdict.specs.Verdicts.{instances_in, IsVerdict}
 use Rattle.ep_verdict.specs.declared.verdict.Verdict.{Verdict}
 use Rattle.ep_audit.specs.declared.refusal.Refusal.{Refusal}
 use Rattle.ep_audit.specs.declared.refusal.Refusal.TheVariants.{Memory, Fault}

@@ -1,7 +1,7 @@
 //! Audits of journals that hold nothing: each call that finds no memory is made again.
 
 use ep_audit::{AuditFault, Refusal, Verdict, audit};
-use ep_base::{Answer, InstanceId, ReplicaId, Size};
+use ep_base::{Answer, InstanceId, ReplicaId, Size, Version};
 use ep_journal::{Journal, Journals};
 use ep_rules::Receipt;
 use std::alloc::Global;
@@ -12,7 +12,7 @@ pub(crate) fn empty_journal(rt: &impl Abort, alloc: Global, index: u8) -> Journa
     let size = Size::new(3).expect(rt, "a size");
     let replica = ReplicaId::new(index).expect(rt, "a replica");
     assert!(rt; replica.index() < size.count());
-    Journal::new(alloc, size, replica)
+    Journal::new(alloc, size, Version::V2, replica)
 }
 
 /// The journals of three replicas that took no event.

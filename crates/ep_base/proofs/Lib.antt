@@ -4,6 +4,7 @@ pub mod Members
 pub mod Joins
 pub mod Rising
 pub mod Bound
+pub mod Versions
 pub mod Keys
 pub mod Same
 pub mod Interfering

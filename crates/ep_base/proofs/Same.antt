@@ -7,14 +7,15 @@ use Rattle.std.proofs.lemmas.Bool.{false≢true, eqb-false}
 use Rattle.std.proofs.lemmas.Bool.Decides.{Decides-like, Decides-and, Decides-eqb}
 use Rattle.ep_base.specs.declared.attrs.Attrs.{Attrs}
 use Rattle.ep_base.specs.declared.command.Command.{Command}
-use Rattle.ep_base.specs.declared.command.Command.TheVariants.{Noop, Get, Put, Del}
+use Rattle.ep_base.specs.declared.command.Command.TheVariants.{Noop, Get, Put, Del, Swap}
 use Rattle.ep_base.specs.declared.decree.Decree.{Decree}
 use Rattle.ep_base.specs.declared.reply.Reply.{Reply}
 use Rattle.ep_base.specs.declared.reply.Reply.TheVariants.{Absent, Present}
 use Rattle.ep_base.specs.declared.reply.Answer.{Answer}
 use Rattle.ep_base.specs.declared.reply.Answer.TheVariants.{Lost, Told}
 use Rattle.ep_base.specs.Attributes.{same_list, same_attrs}
-use Rattle.ep_base.specs.Sameness.{same_command, same_decree, same_reply, same_answer}
+use Rattle.ep_base.specs.Sameness.{same_keys, same_command, same_decree, same_reply, same_answer}
+use Rattle.ep_base.specs.TwoKeys.{TwoKeys}
 
 pub Decides-same_list : (xs ys : List ℕ) → Decides (same_list xs ys) (xs ≡ ys)
 Decides-same_list xs ys = pointwise_decides Decides-eqb xs ys
@@ -39,18 +40,42 @@ kind Noop = 0
 kind (Get k) = 1
 kind (Put k v) = 2
 kind (Del k) = 3
+kind (Swap p) = 4
 
 abbrev key_or_none : Command → List ℕ
 key_or_none Noop = []
 key_or_none (Get k) = k
 key_or_none (Put k v) = k
 key_or_none (Del k) = k
+key_or_none (Swap p) = p.first
 
 abbrev value_or_none : Command → List ℕ
 value_or_none Noop = []
 value_or_none (Get k) = []
 value_or_none (Put k v) = v
 value_or_none (Del k) = []
+value_or_none (Swap p) = []
+
+abbrev no_keys : TwoKeys
+no_keys = record { first = []; second = [] }
+
+abbrev keys_or_none : Command → TwoKeys
+keys_or_none Noop = no_keys
+keys_or_none (Get k) = no_keys
+keys_or_none (Put k v) = no_keys
+keys_or_none (Del k) = no_keys
+keys_or_none (Swap p) = p
+
+keys_from_parts : (p q : TwoKeys) → p.first ≡ q.first → p.second ≡ q.second → p ≡ q
+keys_from_parts p q f s =
+    let first : TwoKeys → List ℕ → TwoKeys = λ x k. record { first = k; second = x.second } in
+    let second : TwoKeys → List ℕ → TwoKeys = λ x k. record { first = x.first; second = k } in
+    ap (first p) f ∙ ap (second q) s
+
+pub Decides-same_keys : (p q : TwoKeys) → Decides (same_keys p q) (p ≡ q)
+Decides-same_keys p q =
+    let parts = Decides-and (same_list p.first q.first) (same_list p.second q.second) (Decides-same_list p.first q.first) (Decides-same_list p.second q.second) in
+    Decides-like (same_keys p q) (λ h. keys_from_parts p q h.0 h.1) (λ e. (ap (λ (x : TwoKeys). x.first) e, ap (λ (x : TwoKeys). x.second) e)) parts
 
 pub Decides-same_command : (a b : Command) → Decides (same_command a b) (a ≡ b)
 Decides-same_command Noop Noop = (λ _. refl, λ _. refl)
@@ -59,6 +84,7 @@ Decides-same_command (Put k v) (Put l w) =
     let parts = Decides-and (same_list k l) (same_list v w) (Decides-same_list k l) (Decides-same_list v w) in
     Decides-like (same_list k l && same_list v w) (λ h. cc) (λ e. (ap key_or_none e, ap value_or_none e)) parts
 Decides-same_command (Del k) (Del l) = Decides-like (same_list k l) (ap Del) (ap key_or_none) (Decides-same_list k l)
+Decides-same_command (Swap p) (Swap q) = Decides-like (same_keys p q) (ap Swap) (ap keys_or_none) (Decides-same_keys p q)
 Decides-same_command a b = apart kind refl
 
 pub decree_from_parts : (d e : Decree) → d.command ≡ e.command → d.attrs ≡ e.attrs → d ≡ e

@@ -1,7 +1,7 @@
 -- Which commands interfere (EPaxos, section 4.1): those whose order matters.
 use Rattle.std.specs.Prelude.{ℕ, List, [], ◌∷◌, Option, Some, None, Bool, true, false, not, ◌&&◌, ◌||◌, IsTrue, Contains}
 use Rattle.ep_base.specs.declared.command.Command.{Command}
-use Rattle.ep_base.specs.declared.command.Command.TheVariants.{Noop, Get, Put, Del}
+use Rattle.ep_base.specs.declared.command.Command.TheVariants.{Noop, Get, Put, Del, Swap}
 use Rattle.ep_base.specs.Attributes.{same_list}
 
 -- the keys that the command names
@@ -10,6 +10,7 @@ keys_of Noop = []
 keys_of (Get key) = key ∷ []
 keys_of (Put key value) = key ∷ []
 keys_of (Del key) = key ∷ []
+keys_of (Swap keys) = keys.first ∷ keys.second ∷ []
 
 -- the first of them
 abbrev pub key_of : Command → Option (List ℕ)
@@ -17,12 +18,29 @@ key_of Noop = None
 key_of (Get key) = Some key
 key_of (Put key value) = Some key
 key_of (Del key) = Some key
+key_of (Swap keys) = Some keys.first
+
+-- the second of them
+abbrev pub second_key_of : Command → Option (List ℕ)
+second_key_of Noop = None
+second_key_of (Get key) = None
+second_key_of (Put key value) = None
+second_key_of (Del key) = None
+second_key_of (Swap keys) = Some keys.second
 
 abbrev pub is_get : Command → Bool
 is_get Noop = false
 is_get (Get key) = true
 is_get (Put key value) = false
 is_get (Del key) = false
+is_get (Swap keys) = false
+
+abbrev pub is_swap : Command → Bool
+is_swap Noop = false
+is_swap (Get key) = false
+is_swap (Put key value) = false
+is_swap (Del key) = false
+is_swap (Swap keys) = true
 
 abbrev pub has_key : List ℕ → List (List ℕ) → Bool
 has_key k [] = false

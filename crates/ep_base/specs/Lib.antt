@@ -1,6 +1,7 @@
 pub mod Instances
 pub mod Ballots
 pub mod Quorums
+pub mod TwoKeys
 pub mod Interference
 pub mod Places
 pub mod Deps
@@ -8,4 +9,5 @@ pub mod Attributes
 pub mod Messages
 pub mod Sameness
 pub mod Devices
+pub mod Versions
 pub mod Fitting

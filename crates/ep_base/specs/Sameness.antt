@@ -1,19 +1,24 @@
 -- Tests of equality, by cases. That they decide it is proved.
 use Rattle.std.specs.Prelude.{Bool, true, false, ◌&&◌}
 use Rattle.ep_base.specs.declared.command.Command.{Command}
-use Rattle.ep_base.specs.declared.command.Command.TheVariants.{Noop, Get, Put, Del}
+use Rattle.ep_base.specs.declared.command.Command.TheVariants.{Noop, Get, Put, Del, Swap}
 use Rattle.ep_base.specs.declared.decree.Decree.{Decree}
 use Rattle.ep_base.specs.declared.reply.Reply.{Reply}
 use Rattle.ep_base.specs.declared.reply.Reply.TheVariants.{Absent, Present}
 use Rattle.ep_base.specs.declared.reply.Answer.{Answer}
 use Rattle.ep_base.specs.declared.reply.Answer.TheVariants.{Lost, Told}
 use Rattle.ep_base.specs.Attributes.{same_list, same_attrs}
+use Rattle.ep_base.specs.TwoKeys.{TwoKeys}
+
+abbrev pub same_keys : TwoKeys → TwoKeys → Bool
+same_keys p q = same_list p.first q.first && same_list p.second q.second
 
 abbrev pub same_command : Command → Command → Bool
 same_command Noop Noop = true
 same_command (Get k) (Get l) = same_list k l
 same_command (Put k v) (Put l w) = same_list k l && same_list v w
 same_command (Del k) (Del l) = same_list k l
+same_command (Swap p) (Swap q) = same_keys p q
 same_command _ _ = false
 
 abbrev pub same_decree : Decree → Decree → Bool
@@ -34,3 +39,4 @@ is_noop Noop = true
 is_noop (Get k) = false
 is_noop (Put k v) = false
 is_noop (Del k) = false
+is_noop (Swap p) = false

@@ -2,11 +2,12 @@
 
 ghost use Rattle.std.specs.Prelude.{◌≡◌, ◌<◌, ◌↔◌, ◌⊎◌, IsTrue, IfOk, List, ℕ, length};
 ghost use Rattle.std.specs.Option.{option_copied};
-ghost use Rattle.ep_base.specs.Interference.{interfere, Interferes, InterferenceLaw, is_get, key_of};
+ghost use Rattle.ep_base.specs.Interference.{interfere, Interferes, InterferenceLaw, is_get, keys_of, key_of, second_key_of, has_key, share_key};
 ghost use Rattle.ep_base.specs.Sameness.{same_command};
 
 use crate::command_fault::CommandFault;
 use crate::key::Key;
+use crate::key_pair::KeyPair;
 use crate::value::Value;
 use std::alloc::{AllocError, Global};
 
@@ -21,6 +22,8 @@ pub enum Command {
     Put(Key, Value),
     /// Removes the key.
     Del(Key),
+    /// Exchanges what two keys have, be it a value or none.
+    Swap(KeyPair),
 }
 
 impl Command {
@@ -53,6 +56,14 @@ impl Command {
         Ok(Command::Del(Key::new(alloc, key)?))
     }
 
+    /// The swap of these two keys; `OutOfRange` unless each has 1 to 255 bytes, and they differ.
+    pub fn swap(alloc: Global, first: &[u8], second: &[u8]) -> Result<Command, CommandFault>
+        ensures ok { IfOk result (λ c. c ≡ Command.Swap (record { first = first.now; second = second.now })) }
+        ensures out_of_range { result ≡ Err CommandFault.OutOfRange ↔ ((length first.now ≡ 0) ⊎ (255 < length first.now) ⊎ (length second.now ≡ 0) ⊎ (255 < length second.now) ⊎ (first.now ≡ second.now)) }
+    {
+        Ok(Command::Swap(KeyPair::new(alloc, first, second)?))
+    }
+
     /// The no-op.
     pub fn noop() -> Command
         ensures { result ≡ Command.Noop }
@@ -69,16 +80,31 @@ impl Command {
             Command::Get(key) => Ok(Command::Get(key.copy(alloc)?)),
             Command::Put(key, value) => Ok(Command::Put(key.copy(alloc)?, value.copy(alloc)?)),
             Command::Del(key) => Ok(Command::Del(key.copy(alloc)?)),
+            Command::Swap(keys) => Ok(Command::Swap(keys.copy(alloc)?)),
         }
     }
 
-    /// The key that the command names; none for a no-op.
-    pub fn key(&self) -> Option<&Key>
-        ensures { option_copied result ≡ key_of self.now }
+    /// The keys that the command names, in order: none for a no-op, two for a swap, else one.
+    pub fn keys(&self) -> (Option<&Key>, Option<&Key>)
+        ensures first { option_copied result.0 ≡ key_of self.now }
+        ensures second { option_copied result.1 ≡ second_key_of self.now }
     {
         match self {
-            Command::Noop => None,
-            Command::Get(key) | Command::Put(key, _) | Command::Del(key) => Some(key),
+            Command::Noop => (None, None),
+            Command::Get(key) | Command::Put(key, _) | Command::Del(key) => (Some(key), None),
+            Command::Swap(keys) => (Some(keys.first()), Some(keys.second())),
+        }
+    }
+
+    /// Whether the command names the key.
+    #[tactic(auto, using(crate::proofs::Keys::or_false))]
+    pub fn names(&self, key: &Key) -> bool
+        ensures { result ≡ has_key key.now (keys_of self.now) }
+    {
+        match self {
+            Command::Noop => false,
+            Command::Get(own) | Command::Put(own, _) | Command::Del(own) => key.is_same(own),
+            Command::Swap(own) => key.is_same(own.first()) || key.is_same(own.second()),
         }
     }
 
@@ -101,22 +127,35 @@ impl Command {
                 key.is_same(other_key) && value.is_same(other_value)
             }
             (Command::Del(key), Command::Del(other_key)) => key.is_same(other_key),
+            (Command::Swap(keys), Command::Swap(other_keys)) => keys.is_same(other_keys),
             _ => false,
         }
     }
 }
 
-/// Whether the order of the two matters: they have the same key, and are not both gets (EPaxos, section 4.1).
-#[tactic(auto, using(crate::proofs::Keys::interfere_by_key))]
+/// Whether the order of the two matters: they name a key in common, and are not both gets (EPaxos, section 4.1).
 pub fn interferes(a: &Command, b: &Command) -> bool
     ensures test { result ≡ interfere a.now b.now }
     ensures relation { IsTrue result ↔ Interferes a.now b.now }
 {
-    match (a.key(), b.key()) {
-        (Some(first), Some(second)) => {
-            first.as_slice() == second.as_slice() && !(a.is_get() && b.is_get())
-        }
-        _ => false,
+    meet(a, b)
+}
+
+fn meet(a: &Command, b: &Command) -> bool
+    ensures { result ≡ interfere a.now b.now }
+{
+    share_key(a, b) && !(a.is_get() && b.is_get())
+}
+
+// Whether both name some key.
+#[tactic(auto, using(crate::proofs::Keys::or_false))]
+fn share_key(a: &Command, b: &Command) -> bool
+    ensures { result ≡ share_key (keys_of a.now) (keys_of b.now) }
+{
+    match a {
+        Command::Noop => false,
+        Command::Get(key) | Command::Put(key, _) | Command::Del(key) => b.names(key),
+        Command::Swap(keys) => b.names(keys.first()) || b.names(keys.second()),
     }
 }
 

@@ -8,7 +8,7 @@ pub enum CommandFault {
     /// Memory was refused.
     #[error("out of memory")]
     Memory,
-    /// The key has not 1 to 255 bytes, or the value has more than 1,024.
+    /// A key has not 1 to 255 bytes, the value has more than 1,024, or two keys are one.
     #[error("out of range")]
     OutOfRange,
 }

@@ -6,6 +6,8 @@
 //! Start with `command.rt` (what a replica may be asked, and which two commands interfere), `decree.rt` (what replicas vote
 //! on) and `message.rt`. `Source` and `Sink` are how crates read and write without knowing what.
 //!
+//! What each version of the formats has room for stands in `version.rt` alone.
+//!
 //! How instances and ballots are packed into numbers is known to specs/Instances.antt and specs/Ballots.antt alone. A change
 //! of a public type or clause here has all crates proved anew.
 #![tactic(auto)]
@@ -19,6 +21,7 @@ mod deps;
 mod fail_at;
 mod instance_id;
 mod key;
+mod key_pair;
 mod message;
 mod noted;
 mod out_of_range;
@@ -31,6 +34,7 @@ mod size;
 mod source;
 mod stamp;
 mod value;
+mod version;
 mod vote;
 mod write_failed;
 
@@ -43,6 +47,7 @@ pub use deps::Deps;
 pub use fail_at::FailAt;
 pub use instance_id::InstanceId;
 pub use key::Key;
+pub use key_pair::KeyPair;
 pub use message::Message;
 pub use noted::Noted;
 pub use out_of_range::OutOfRange;
@@ -55,5 +60,6 @@ pub use size::{BadSize, Size, fast_member};
 pub use source::Source;
 pub use stamp::Stamp;
 pub use value::Value;
+pub use version::Version;
 pub use vote::{Status, Vote};
 pub use write_failed::WriteFailed;

@@ -92,6 +92,10 @@ fn put(rt: &impl Abort, alloc: Global, key: &[u8], value: &[u8]) -> Command {
     Command::put(alloc, key, value).expect(rt, "a put")
 }
 
+fn swap(rt: &impl Abort, alloc: Global, first: &[u8], second: &[u8]) -> Command {
+    Command::swap(alloc, first, second).expect(rt, "a swap")
+}
+
 fn del(rt: &impl Abort, alloc: Global, key: &[u8]) -> Command {
     Command::del(alloc, key).expect(rt, "a del")
 }
@@ -109,16 +113,30 @@ fn assert_no_del(rt: &impl Abort, alloc: Global, key: usize) {
     assert_refused(rt, Command::del(alloc, sevens(key)).err(), key, 0);
 }
 
+fn assert_no_swap(rt: &impl Abort, alloc: Global, first: usize, second: usize) {
+    let fault = Command::swap(alloc, sevens(first), sevens(second)).err();
+    assert_refused(rt, fault, first, second);
+}
+
+/// The bytes of a command's two keys, 0 where there is none.
+fn key_lengths(command: &Command) -> (usize, usize) {
+    let (first, second) = command.keys();
+    (
+        first.map_or(0, |key| key.as_slice().len()),
+        second.map_or(0, |key| key.as_slice().len()),
+    )
+}
+
 /// The bytes of a command's key and of its value, 0 where there is none.
 fn lengths(command: &Command) -> (usize, usize) {
-    let key = command.key().map_or(0, |key| key.as_slice().len());
+    let (key, _) = key_lengths(command);
     match command {
         Command::Put(_, value) => (key, value.as_slice().len()),
         _ => (key, 0),
     }
 }
 
-/// Six commands, no two of them the same.
+/// Nine commands, no two of them the same.
 fn command(rt: &impl Abort, alloc: Global, place: usize) -> Command {
     match place {
         0 => Command::noop(),
@@ -126,7 +144,10 @@ fn command(rt: &impl Abort, alloc: Global, place: usize) -> Command {
         2 => put(rt, alloc, b"x", b"1"),
         3 => put(rt, alloc, b"x", b"2"),
         4 => del(rt, alloc, b"x"),
-        _ => del(rt, alloc, b"y"),
+        5 => del(rt, alloc, b"y"),
+        6 => swap(rt, alloc, b"x", b"y"),
+        7 => swap(rt, alloc, b"y", b"x"),
+        _ => swap(rt, alloc, b"x", b"z"),
     }
 }
 
@@ -135,11 +156,11 @@ fn is_same_command(rt: &impl Abort, alloc: Global, first: &Command, second: &Com
     first.is_same(&copy)
 }
 
-/// Of the six, the one at this place is the same as its own copy alone.
+/// Of the nine, the one at this place is the same as its own copy alone.
 fn assert_one_command(rt: &impl Abort, alloc: Global, place: usize) {
     let this = command(rt, alloc, place);
     assert!(rt; this.is_get() == (place == 1), "at {place}");
-    for other in 0..6 {
+    for other in 0..9 {
         assert!(rt;
             is_same_command(rt, alloc, &this, &command(rt, alloc, other)) == (place == other),
             "{place} and {other}"
@@ -158,12 +179,17 @@ fn commands(rt: HostRuntime) {
     }
     let longest = put(&rt, rt.alloc(), sevens(255), sevens(1024));
     assert_eq!(rt; lengths(&longest), (255, 1024));
-    for place in 0..6 {
+    for (first, second) in [(0, 1), (256, 1), (1, 0), (1, 256), (1, 1), (255, 255)] {
+        assert_no_swap(&rt, rt.alloc(), first, second);
+    }
+    let longest = swap(&rt, rt.alloc(), sevens(255), sevens(254));
+    assert_eq!(rt; key_lengths(&longest), (255, 254));
+    for place in 0..9 {
         assert_one_command(&rt, rt.alloc(), place);
     }
 }
 
-/// Six commands of two keys.
+/// Eight commands of four keys.
 fn command_on(rt: &impl Abort, alloc: Global, place: usize) -> Command {
     match place {
         0 => Command::noop(),
@@ -171,12 +197,14 @@ fn command_on(rt: &impl Abort, alloc: Global, place: usize) -> Command {
         2 => put(rt, alloc, b"x", b"1"),
         3 => del(rt, alloc, b"x"),
         4 => get(rt, alloc, b"y"),
-        _ => put(rt, alloc, b"y", b"1"),
+        5 => put(rt, alloc, b"y", b"1"),
+        6 => swap(rt, alloc, b"z", b"y"),
+        _ => swap(rt, alloc, b"z", b"w"),
     }
 }
 
-/// The command at this place interferes with these of the six.
-fn assert_interferes(rt: &impl Abort, alloc: Global, place: usize, with: [bool; 6]) {
+/// The command at this place interferes with these of the eight.
+fn assert_interferes(rt: &impl Abort, alloc: Global, place: usize, with: [bool; 8]) {
     let this = command_on(rt, alloc, place);
     for (other, want) in with.iter().enumerate() {
         assert!(rt;
@@ -190,12 +218,14 @@ fn assert_interferes(rt: &impl Abort, alloc: Global, place: usize, with: [bool; 
 fn interference(rt: HostRuntime) {
     interference_law();
     let expected = [
-        [false, false, false, false, false, false],
-        [false, false, true, true, false, false],
-        [false, true, true, true, false, false],
-        [false, true, true, true, false, false],
-        [false, false, false, false, false, true],
-        [false, false, false, false, true, true],
+        [false; 8],
+        [false, false, true, true, false, false, false, false],
+        [false, true, true, true, false, false, false, false],
+        [false, true, true, true, false, false, false, false],
+        [false, false, false, false, false, true, true, false],
+        [false, false, false, false, true, true, true, false],
+        [false, false, false, false, true, true, true, true],
+        [false, false, false, false, false, false, true, true],
     ];
     for (place, with) in expected.iter().enumerate() {
         assert_interferes(&rt, rt.alloc(), place, *with);

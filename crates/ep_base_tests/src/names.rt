@@ -1,6 +1,8 @@
 //! Names at their bounds, and the fast quorum.
 
-use ep_base::{BadSize, Ballot, InstanceId, OutOfRange, ReplicaId, Seq, Size, Stamp, fast_member};
+use ep_base::{
+    BadSize, Ballot, InstanceId, OutOfRange, ReplicaId, Seq, Size, Stamp, Version, fast_member,
+};
 use std::process::Abort;
 
 pub(super) fn replica(rt: &impl Abort, index: u8) -> ReplicaId {
@@ -66,15 +68,15 @@ fn assert_instance(rt: &impl Abort, leader: ReplicaId, number: u16) {
 #[test]
 fn instances(rt: HostRuntime) {
     let leader = replica(&rt, 2);
-    for number in [1, 2, 999, 1000] {
+    for number in [1, 2, 1000, 1001, 1999, 2000] {
         assert_instance(&rt, leader, number);
     }
-    for number in [0, 1001, 65535] {
+    for number in [0, 2001, 65535] {
         assert_out_of_range(&rt, InstanceId::new(leader, number).err(), number.into());
     }
 
     // The replica comes first in the order.
-    let last_of_first = instance(&rt, 0, 1000);
+    let last_of_first = instance(&rt, 0, 2000);
     let first_of_last = instance(&rt, 6, 1);
     assert!(rt; last_of_first < first_of_last);
     assert!(rt; instance(&rt, 2, 1) < instance(&rt, 2, 2));
@@ -154,5 +156,21 @@ fn fast_quorums(rt: HostRuntime) {
         let member = replica(&rt, index);
         assert!(rt; !fast_member(five, replica(&rt, 5), member));
         assert!(rt; !fast_member(five, replica(&rt, 6), member));
+    }
+}
+
+fn assert_version(rt: &impl Abort, number: u8, version: Version, highest: u16, most_deps: u16) {
+    assert_eq!(rt; Version::of_number(number), Some(version));
+    assert_eq!(rt; version.number(), number);
+    assert_eq!(rt; version.highest_number(), highest);
+    assert_eq!(rt; version.most_deps(), most_deps);
+}
+
+#[test]
+fn versions(rt: HostRuntime) {
+    assert_version(&rt, 1, Version::V1, 1000, 7000);
+    assert_version(&rt, 2, Version::V2, 2000, 14_000);
+    for number in [0, 3, 255] {
+        assert_eq!(rt; Version::of_number(number), None, "at {number}");
     }
 }

@@ -61,13 +61,13 @@ fn insertions(rt: HostRuntime) {
             (0, 9),
             (1, 2),
             (1, 1),
-            (6, 1000),
+            (6, 2000),
             (0, 1),
             (2, 5),
             (3, 1),
         ],
     );
-    let rising = [(0, 1), (0, 9), (1, 1), (1, 2), (2, 5), (3, 1), (6, 1000)];
+    let rising = [(0, 1), (0, 9), (1, 1), (1, 2), (2, 5), (3, 1), (6, 2000)];
     assert_names(&rt, rt.alloc(), &deps, &rising);
     assert!(rt; deps.len() == 7);
 }

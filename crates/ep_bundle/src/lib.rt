@@ -13,6 +13,7 @@
 
 mod bundle;
 mod bundle_fault;
+mod bundle_header;
 mod draft;
 mod draft_event;
 mod draft_frames;

@@ -4,12 +4,14 @@ ghost use Rattle.std.specs.Prelude.{◌≡◌, ℕ, List, Some, IfOk, IfErr};
 ghost use Rattle.ep_base.specs.Devices.{FailsAsTold};
 ghost use Rattle.ep_bundle.specs.declared.bundle_fault.BundleFault.TheVariants.{Memory};
 ghost use Rattle.ep_base.specs.Quorums.{size};
+ghost use Rattle.ep_base.specs.Versions.{highest_in};
+ghost use Rattle.ep_frame.specs.Faults.{highest_op};
 ghost use Rattle.ep_bundle.specs.Reading.{field, is_read_failed, Reads};
-ghost use Rattle.ep_bundle.specs.Stages.{answer, command, command_of, instance, most_value, replica, reply_by, texts, value};
+ghost use Rattle.ep_bundle.specs.Stages.{answer, command, command_of, has_same_keys, instance, least_value, most_value, replica, reply_by, texts, value};
 
 use crate::bundle_fault::BundleFault;
 use crate::fields::{field_u8, field_u16, read_run};
-use ep_base::{Answer, Command, InstanceId, ReplicaId, Reply, Size, Source, Value};
+use ep_base::{Answer, Command, InstanceId, ReplicaId, Reply, Size, Source, Value, Version};
 use std::alloc::Global;
 
 /// A replica of the cluster.
@@ -26,18 +28,31 @@ pub(crate) fn read_replica<S: Source>(
     ReplicaId::new(index).map_err(|_| BundleFault::BadBundle(at))
 }
 
-/// An instance that a replica of the cluster leads.
+/// The number of an instance of the version.
+fn read_number<S: Source>(
+    source: &mut S,
+    place: &mut u64,
+    version: Version,
+) -> Result<u16, BundleFault>
+    ensures bytes { (zs : List ℕ) → S.left source.old ≡ Some zs → Reads (field 2 1 (highest_in version) (record { at = place.old; bytes = zs })) result place.new (S.left source.new) }
+    ensures told { FailsAsTold is_read_failed result (S.has_failed source.old) (S.has_failed source.new) }
+{
+    field_u16(source, place, 1, version.highest_number())
+}
+
+/// An instance of the version that a replica of the cluster leads.
 pub(crate) fn read_instance<S: Source>(
     source: &mut S,
     place: &mut u64,
+    version: Version,
     cluster: Size,
 ) -> Result<InstanceId, BundleFault>
-    ensures bytes { (zs : List ℕ) → S.left source.old ≡ Some zs → Reads (instance (size cluster) (record { at = place.old; bytes = zs })) result place.new (S.left source.new) }
+    ensures bytes { (zs : List ℕ) → S.left source.old ≡ Some zs → Reads (instance version (size cluster) (record { at = place.old; bytes = zs })) result place.new (S.left source.new) }
     ensures told { FailsAsTold is_read_failed result (S.has_failed source.old) (S.has_failed source.new) }
 {
     let replica = read_replica(source, place, cluster)?;
     let at = *place;
-    let number = field_u16(source, place, 1, 1000)?;
+    let number = read_number(source, place, version)?;
     InstanceId::new(replica, number).map_err(|_| BundleFault::BadBundle(at))
 }
 
@@ -89,62 +104,104 @@ pub(crate) fn read_answer<S: Source>(
     read_reply(alloc, source, place, code)
 }
 
-/// The command of this operation, key and value, whose lengths are in range: so only memory can be refused.
-fn command_from(alloc: Global, op: u8, key: &[u8], value: &[u8]) -> Result<Command, BundleFault>
-    ensures ok { IfOk result (λ c. c ≡ command_of op key.now value.now) }
+/// The command of this operation, key and value or second key, which are in range: so only memory can be refused.
+fn command_from(alloc: Global, op: u8, key: &[u8], text: &[u8]) -> Result<Command, BundleFault>
+    ensures ok { IfOk result (λ c. c ≡ command_of op key.now text.now) }
     ensures memory { IfErr result (λ e. e ≡ Memory) }
 {
     let command = match op {
         2 => Command::get(alloc, key),
-        3 => Command::put(alloc, key, value),
-        _ => Command::del(alloc, key),
+        3 => Command::put(alloc, key, text),
+        4 => Command::del(alloc, key),
+        _ => Command::swap(alloc, key, text),
     };
     command.map_err(|_| BundleFault::Memory)
 }
 
-/// The key and the value of a command.
+/// Whether it is a swap, and its two keys are one.
+fn has_same_keys(op: u8, key: &[u8], text: &[u8]) -> bool
+    ensures { result ≡ has_same_keys op key.now text.now }
+{
+    op == 5 && key == text
+}
+
+/// The key of a command, and its value or second key; that is at fault where it is the key again.
 fn read_texts<S: Source>(
     alloc: Global,
     source: &mut S,
     place: &mut u64,
     op: u8,
     key_len: u8,
-    value_len: u16,
+    text_len: u16,
 ) -> Result<Command, BundleFault>
-    ensures bytes { (zs : List ℕ) → S.left source.old ≡ Some zs → Reads (texts op key_len value_len (record { at = place.old; bytes = zs })) result place.new (S.left source.new) }
+    ensures bytes { (zs : List ℕ) → S.left source.old ≡ Some zs → Reads (texts op key_len text_len (record { at = place.old; bytes = zs })) result place.new (S.left source.new) }
     ensures told { FailsAsTold is_read_failed result (S.has_failed source.old) (S.has_failed source.new) }
 {
     let key = read_run(alloc, source, place, key_len as usize)?;
-    let value = read_run(alloc, source, place, value_len as usize)?;
-    command_from(alloc, op, &key, &value)
+    let at = *place;
+    let text = read_run(alloc, source, place, text_len as usize)?;
+    if has_same_keys(op, &key, &text) {
+        return Err(BundleFault::BadBundle(at));
+    }
+    command_from(alloc, op, &key, &text)
 }
 
-/// The most bytes that the operation's value may have.
+/// The fewest bytes that the operation's value, or second key, may have.
+fn least_value(op: u8) -> u16
+    ensures { result ≡ least_value op }
+{
+    if op == 5 { 1 } else { 0 }
+}
+
+/// The most.
 fn most_value(op: u8) -> u16
     ensures { result ≡ most_value op }
 {
-    if op == 3 { 1024 } else { 0 }
+    match op {
+        3 => 1024,
+        5 => 255,
+        _ => 0,
+    }
 }
 
-/// The length of the operation's value.
-fn read_value_len<S: Source>(source: &mut S, place: &mut u64, op: u8) -> Result<u16, BundleFault>
-    ensures bytes { (zs : List ℕ) → S.left source.old ≡ Some zs → Reads (field 2 0 (most_value op) (record { at = place.old; bytes = zs })) result place.new (S.left source.new) }
+/// The length of the operation's value or second key.
+fn read_text_len<S: Source>(source: &mut S, place: &mut u64, op: u8) -> Result<u16, BundleFault>
+    ensures bytes { (zs : List ℕ) → S.left source.old ≡ Some zs → Reads (field 2 (least_value op) (most_value op) (record { at = place.old; bytes = zs })) result place.new (S.left source.new) }
     ensures told { FailsAsTold is_read_failed result (S.has_failed source.old) (S.has_failed source.new) }
 {
-    field_u16(source, place, 0, most_value(op))
+    field_u16(source, place, least_value(op), most_value(op))
 }
 
-/// A command.
+/// The highest operation: version 1 has no swap, which is 5.
+fn highest_op(version: Version) -> u8
+    ensures { result ≡ highest_op version }
+{
+    match version {
+        Version::V1 => 4,
+        Version::V2 => 5,
+    }
+}
+
+/// The operation of a command of the version; a no-op isn't proposed.
+fn read_op<S: Source>(source: &mut S, place: &mut u64, version: Version) -> Result<u8, BundleFault>
+    ensures bytes { (zs : List ℕ) → S.left source.old ≡ Some zs → Reads (field 1 2 (highest_op version) (record { at = place.old; bytes = zs })) result place.new (S.left source.new) }
+    ensures told { FailsAsTold is_read_failed result (S.has_failed source.old) (S.has_failed source.new) }
+{
+    field_u8(source, place, 2, highest_op(version))
+}
+
+/// A command of the version.
 pub(crate) fn read_command<S: Source>(
     alloc: Global,
     source: &mut S,
     place: &mut u64,
+    version: Version,
 ) -> Result<Command, BundleFault>
-    ensures bytes { (zs : List ℕ) → S.left source.old ≡ Some zs → Reads (command (record { at = place.old; bytes = zs })) result place.new (S.left source.new) }
+    ensures bytes { (zs : List ℕ) → S.left source.old ≡ Some zs → Reads (command version (record { at = place.old; bytes = zs })) result place.new (S.left source.new) }
     ensures told { FailsAsTold is_read_failed result (S.has_failed source.old) (S.has_failed source.new) }
 {
-    let op = field_u8(source, place, 2, 4)?;
+    let op = read_op(source, place, version)?;
     let key_len = field_u8(source, place, 1, 255)?;
-    let value_len = read_value_len(source, place, op)?;
-    read_texts(alloc, source, place, op, key_len, value_len)
+    let text_len = read_text_len(source, place, op)?;
+    read_texts(alloc, source, place, op, key_len, text_len)
 }

@@ -10,7 +10,7 @@ use crate::bundle_fault::BundleFault;
 use crate::events::read_counted;
 use crate::fields::{read_u32, read_u64};
 use crate::parts::{read_answer, read_instance, read_replica};
-use ep_base::{Size, Source};
+use ep_base::{Size, Source, Version};
 use ep_rules::Receipt;
 use std::alloc::Global;
 
@@ -18,14 +18,15 @@ fn read_receipt<S: Source>(
     alloc: Global,
     source: &mut S,
     place: &mut u64,
+    version: Version,
     cluster: Size,
 ) -> Result<Receipt, BundleFault>
-    ensures bytes { (zs : List ℕ) → S.left source.old ≡ Some zs → Reads (receipt (size cluster) (record { at = place.old; bytes = zs })) result place.new (S.left source.new) }
+    ensures bytes { (zs : List ℕ) → S.left source.old ≡ Some zs → Reads (receipt version (size cluster) (record { at = place.old; bytes = zs })) result place.new (S.left source.new) }
     ensures told { FailsAsTold is_read_failed result (S.has_failed source.old) (S.has_failed source.new) }
 {
     let client = read_counted(source, place)?;
     let request = read_counted(source, place)?;
-    let instance = read_instance(source, place, cluster)?;
+    let instance = read_instance(source, place, version, cluster)?;
     let seen = read_u64(source, place)?;
     let replica = read_replica(source, place, cluster)?;
     let entry = read_u32(source, place)?;
@@ -48,15 +49,16 @@ pub(crate) fn read_receipts<S: Source>(
     alloc: Global,
     source: &mut S,
     place: &mut u64,
+    version: Version,
     cluster: Size,
     count: u32,
 ) -> Result<Vec<Receipt>, BundleFault>
-    ensures bytes { (zs : List ℕ) → S.left source.old ≡ Some zs → Reads (many (receipt (size cluster)) count [] (record { at = place.old; bytes = zs })) (map_ok (λ v. v.items) result) place.new (S.left source.new) }
+    ensures bytes { (zs : List ℕ) → S.left source.old ≡ Some zs → Reads (many (receipt version (size cluster)) count [] (record { at = place.old; bytes = zs })) (map_ok (λ v. v.items) result) place.new (S.left source.new) }
     ensures told { FailsAsTold is_read_failed result (S.has_failed source.old) (S.has_failed source.new) }
 {
     let mut receipts = Vec::new(alloc);
     for _ in 0..count {
-        let receipt = read_receipt(alloc, source, place, cluster)?;
+        let receipt = read_receipt(alloc, source, place, version, cluster)?;
         receipts.push(receipt)?;
     }
     Ok(receipts)

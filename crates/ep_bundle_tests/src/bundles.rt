@@ -1,6 +1,6 @@
 //! Bundles as bytes: read, written, and refused where one of their bytes is changed.
 
-use ep_base::{FailAt, Noted, ReplicaId, Size, Source, WriteFailed};
+use ep_base::{FailAt, Noted, ReplicaId, Size, Source, Version, WriteFailed};
 use ep_bundle::{Bundle, BundleFault, read_bundle, read_journal, write_bundle, write_journal};
 use ep_journal::Journal;
 use std::alloc::Global;
@@ -37,6 +37,21 @@ const PROPOSAL: [u8; 31] = [
     1, 0, 0, 0, 0, 0, 0, 0, 1, 0, 0, 0, 1, 0, 0, 0, 1, 0, 0, 0, 0, 0, 0, 0, 0, 3, 1, 0, 1, 0x78,
     0x31,
 ];
+
+/// Client 1 proposes its request 1, `swap x y`, with stamp 1.
+const SWAP: [u8; 31] = [
+    1, 0, 0, 0, 0, 0, 0, 0, 1, 0, 0, 0, 1, 0, 0, 0, 1, 0, 0, 0, 0, 0, 0, 0, 0, 5, 1, 0, 1, 0x78,
+    0x79,
+];
+
+/// The PreAccept from 0 to 1 of `swap x y` in 0.1.
+const PRE_ACCEPT_SWAP: [u8; 42] = [
+    0x45, 0x50, 2, 1, 0, 1, 0, 0, 0, 0, 0, 1, 0, 0, 0, 0, 0, 0, 0, 1, 0, 0, 1, 0, 0, 0, 0, 0, 0, 0,
+    0, 0, 0, 1, 5, 1, 0, 1, 0, 0, 0x78, 0x79,
+];
+
+/// The places of the versions in `executed`: the bundle's, and each frame's.
+const VERSIONS: [usize; 7] = [4, 54, 111, 157, 203, 285, 333];
 
 /// The journals 1 and 2, without entries.
 const OTHERS: [u8; 10] = [1, 0, 0, 0, 0, 2, 0, 0, 0, 0];
@@ -79,7 +94,21 @@ fn one_put(rt: &impl Abort, alloc: Global) -> Vec<u8> {
     bytes
 }
 
-/// The bundle of that put, committed on the fast path and executed, with its receipt.
+/// The bundle of one swap, in version 2.
+fn one_swap(rt: &impl Abort, alloc: Global) -> Vec<u8> {
+    let mut bytes = Vec::new(alloc);
+    append(rt, &mut bytes, &START);
+    set(bytes.as_mut_slice(), 4, 2);
+    append(rt, &mut bytes, &[0, 0, 0, 1]);
+    append(rt, &mut bytes, &SWAP);
+    append(rt, &mut bytes, &[0, 1, 0, 0, 0, 42]);
+    append(rt, &mut bytes, &PRE_ACCEPT_SWAP);
+    append(rt, &mut bytes, &[0, 0]);
+    append(rt, &mut bytes, &OTHERS);
+    bytes
+}
+
+/// The bundle of the put, committed on the fast path and executed, with its receipt.
 fn executed(rt: &impl Abort, alloc: Global) -> Vec<u8> {
     let mut bytes = Vec::new(alloc);
     append(rt, &mut bytes, &START);
@@ -139,6 +168,20 @@ fn fault_with(alloc: Global, bytes: &mut [u8], place: usize, byte: u8) -> Option
     fault
 }
 
+/// Why the bytes are no bundle, once the number of two bytes at this place is another one.
+fn fault_with_number(
+    alloc: Global,
+    bytes: &mut [u8],
+    place: usize,
+    number: [u8; 2],
+) -> Option<BundleFault> {
+    let before = byte_at(bytes, place);
+    set(bytes, place, number[0]);
+    let fault = fault_with(alloc, bytes, place.saturating_add(1), number[1]);
+    set(bytes, place, before);
+    fault
+}
+
 /// The fault of an entry of replica 0.
 fn not_a_run(entry: u32) -> Option<BundleFault> {
     Some(BundleFault::NotARun(ReplicaId::first(), entry))
@@ -175,6 +218,18 @@ fn assert_no_run_with(
     assert_eq!(*rt; fault, not_a_run(entry));
 }
 
+/// With this number in the bytes 255 and 256, which entry 3 executes, they are no bundle, from the number on.
+fn assert_bad_number(rt: &impl Abort, alloc: Global, bytes: &mut [u8], number: [u8; 2]) {
+    let fault = fault_with_number(alloc, bytes, 255, number);
+    assert_eq!(*rt; fault, Some(BundleFault::BadBundle(255)));
+}
+
+/// With this number there the entry is read, and isn't a step.
+fn assert_no_run_of_number(rt: &impl Abort, alloc: Global, bytes: &mut [u8], number: [u8; 2]) {
+    let fault = fault_with_number(alloc, bytes, 255, number);
+    assert_eq!(*rt; fault, not_a_run(3));
+}
+
 /// The bundle as it is written again.
 fn written(rt: &impl Abort, alloc: Global, bundle: &Bundle) -> Vec<u8> {
     let mut sink = Noted::new(Vec::new(alloc));
@@ -200,9 +255,12 @@ fn empty_journals(rt: HostRuntime) {
     assert_bad_with(&rt, alloc, &mut bytes, 5, 4, 5);
     assert_bad(&rt, alloc, &EMPTY[..24], 21);
     assert_bad_with(&rt, alloc, &mut bytes, 3, 4, 0);
-    assert_bad_with(&rt, alloc, &mut bytes, 4, 2, 4);
+    assert_bad_with(&rt, alloc, &mut bytes, 4, 0, 4);
+    assert_bad_with(&rt, alloc, &mut bytes, 4, 3, 4);
     assert_bad_with(&rt, alloc, &mut bytes, 15, 0, 15);
     assert_bad(&rt, alloc, &[], 0);
+    set(&mut bytes, 4, 2);
+    assert_same_when_written(&rt, alloc, &bytes);
 }
 
 #[test]
@@ -220,6 +278,41 @@ fn one_proposal(rt: HostRuntime) {
     assert_bad_with(&rt, alloc, &mut bytes, 40, 2, 42);
     append(&rt, &mut bytes, &[0]);
     assert_bad(&rt, alloc, bytes.as_slice(), 106);
+    drop(bytes);
+}
+
+#[test]
+fn one_proposal_in_version_2(rt: HostRuntime) {
+    let alloc = rt.alloc();
+    let mut bytes = one_put(&rt, alloc);
+
+    // Neither version sends the other one's frames.
+    assert_no_run_with(&rt, alloc, &mut bytes, 4, 2, 1);
+    assert_no_run_with(&rt, alloc, &mut bytes, 54, 2, 1);
+    set(bytes.as_mut_slice(), 4, 2);
+    set(bytes.as_mut_slice(), 54, 2);
+    assert_same_when_written(&rt, alloc, bytes.as_slice());
+    drop(bytes);
+}
+
+#[test]
+fn one_proposed_swap(rt: HostRuntime) {
+    let alloc = rt.alloc();
+    let mut bytes = one_swap(&rt, alloc);
+    assert_same_when_written(&rt, alloc, bytes.as_slice());
+
+    // Both keys are `x`; the second one is cut, has no byte, and has 256; there is no operation 6, and no swap in version 1.
+    assert_bad_with(&rt, alloc, &mut bytes, 45, 0x78, 45);
+    assert_bad(&rt, alloc, part(bytes.as_slice(), 0, 45), 45);
+    assert_bad_with(&rt, alloc, &mut bytes, 43, 0, 42);
+    let fault = fault_with_number(alloc, &mut bytes, 42, [1, 0]);
+    assert_eq!(rt; fault, Some(BundleFault::BadBundle(42)));
+    assert_bad_with(&rt, alloc, &mut bytes, 40, 6, 40);
+    assert_bad_with(&rt, alloc, &mut bytes, 4, 1, 40);
+
+    // A put of `y` is another step; so is a swap with `z`.
+    assert_no_run_with(&rt, alloc, &mut bytes, 40, 3, 1);
+    assert_no_run_with(&rt, alloc, &mut bytes, 45, 0x7a, 1);
     drop(bytes);
 }
 
@@ -243,6 +336,39 @@ fn executions_and_receipts(rt: HostRuntime) {
     drop(bytes);
 }
 
+#[test]
+fn numbers_of_version_1(rt: HostRuntime) {
+    let alloc = rt.alloc();
+    let mut bytes = executed(&rt, alloc);
+    assert_no_run_of_number(&rt, alloc, &mut bytes, [3, 0xe8]);
+    assert_bad_number(&rt, alloc, &mut bytes, [3, 0xe9]);
+
+    // So is the number in the receipt; and a frame of version 2 is handled by nobody.
+    let fault = fault_with_number(alloc, &mut bytes, 387, [3, 0xe9]);
+    assert_eq!(rt; fault, Some(BundleFault::BadBundle(387)));
+    assert_no_run_with(&rt, alloc, &mut bytes, 111, 2, 2);
+    drop(bytes);
+}
+
+#[test]
+fn numbers_of_version_2(rt: HostRuntime) {
+    let alloc = rt.alloc();
+    let mut bytes = executed(&rt, alloc);
+    for place in VERSIONS {
+        set(bytes.as_mut_slice(), place, 2);
+    }
+    assert_same_when_written(&rt, alloc, bytes.as_slice());
+    assert_no_run_of_number(&rt, alloc, &mut bytes, [7, 0xd0]);
+    assert_bad_number(&rt, alloc, &mut bytes, [7, 0xd1]);
+
+    // A receipt may name an instance that nobody has proposed.
+    assert_eq!(rt; fault_with_number(alloc, &mut bytes, 387, [7, 0xd0]), None);
+    let fault = fault_with_number(alloc, &mut bytes, 387, [7, 0xd1]);
+    assert_eq!(rt; fault, Some(BundleFault::BadBundle(387)));
+    assert_no_run_with(&rt, alloc, &mut bytes, 111, 1, 2);
+    drop(bytes);
+}
+
 /// The journal as it is written again.
 fn journal_written(rt: &impl Abort, alloc: Global, journal: &Journal) -> Vec<u8> {
     let mut sink = Noted::new(Vec::new(alloc));
@@ -250,13 +376,15 @@ fn journal_written(rt: &impl Abort, alloc: Global, journal: &Journal) -> Vec<u8>
     sink.into_inner()
 }
 
-/// Replica 0's journal of three, at place 10 of the bytes: it ends at byte 96, before those of the others.
-fn assert_read_alone(rt: &impl Abort, alloc: Global, bytes: &[u8]) {
+/// Replica 0's journal of three, of this version, at place 10 of the bytes: it ends at byte 96, before those of the others.
+fn assert_read_alone(rt: &impl Abort, alloc: Global, bytes: &[u8], version: Version) {
     let mut source = Noted::new(part(bytes, 10, 106));
     let mut place = 10;
     let size = Size::new(3).expect(rt, "a size");
-    let read = read_journal(alloc, size, ReplicaId::first(), &mut source, &mut place);
+    let replica = ReplicaId::first();
+    let read = read_journal(alloc, size, version, replica, &mut source, &mut place);
     let journal = read.expect(rt, "a journal");
+    assert!(*rt; journal.version() == version);
     assert_eq!(*rt; place, 96);
     assert_eq!(*rt; source.into_inner(), OTHERS.as_slice());
     let again = journal_written(rt, alloc, &journal);
@@ -268,7 +396,10 @@ fn assert_read_alone(rt: &impl Abort, alloc: Global, bytes: &[u8]) {
 #[test]
 fn one_journal_is_read_from_its_place(rt: HostRuntime) {
     let bytes = one_put(&rt, rt.alloc());
-    assert_read_alone(&rt, rt.alloc(), bytes.as_slice());
+    assert_read_alone(&rt, rt.alloc(), bytes.as_slice(), Version::V1);
+    drop(bytes);
+    let bytes = one_swap(&rt, rt.alloc());
+    assert_read_alone(&rt, rt.alloc(), bytes.as_slice(), Version::V2);
     drop(bytes);
 }
 
@@ -326,11 +457,12 @@ fn assert_journal_again(rt: &impl Abort, alloc: Global, bytes: &[u8]) {
     let mut source = FailAt::new(Noted::new(part(bytes, 10, 106)), 1);
     let mut place = 10;
     let size = Size::new(3).expect(rt, "a size");
-    let failed = read_journal(alloc, size, ReplicaId::first(), &mut source, &mut place);
+    let (version, replica) = (Version::V1, ReplicaId::first());
+    let failed = read_journal(alloc, size, version, replica, &mut source, &mut place);
     let fault = failed.err();
     assert_eq!(*rt; fault, Some(BundleFault::ReadFailed));
     assert_eq!(*rt; place, 10);
-    let read = read_journal(alloc, size, ReplicaId::first(), &mut source, &mut place);
+    let read = read_journal(alloc, size, version, replica, &mut source, &mut place);
     let journal = read.expect(rt, "a journal");
     let mut sink = FailAt::new(Noted::new(Vec::new(alloc)), 1);
     let first = write_journal(&journal, &mut sink).is_ok();

@@ -117,3 +117,29 @@ drop_here es k x h =
     let cons = drop-cons es k x (slice_get_within es k x h) in
     let place : suc k ≡ k + 1 = omega arith in
     cons ∙ (λ t. get_or_from_slice_get es k x x h t ∷ drop (place t) es)
+
+-- an exchange is taken back by what both keys had
+pub swap_back : (m : Contents) (k l : List ℕ) (o p : Option (List ℕ)) → with_key (with_key (with_key (with_key m k o) l p) l (value_at m l)) k (value_at m k) ≡ m
+swap_back m k l o p =
+    ap (λ n. with_key n k (value_at m k)) (with_key_again (with_key m k o) l p (value_at m l))
+    ∙ same_contents _ _ (λ q.
+    value_with (with_key (with_key m k o) l (value_at m l)) k (value_at m k) q
+    ∙ ap (cond (is_key q k) (value_at m k)) (value_with (with_key m k o) l (value_at m l) q)
+    ∙ ap (λ v. cond (is_key q k) (value_at m k) (cond (is_key q l) (value_at m l) v)) (value_with m k o q)
+    ∙ at q (is_key q k) (is_key q l) refl refl)
+  where
+    at : (q : List ℕ) (a b : Bool) → is_key q k ≡ a → is_key q l ≡ b → cond a (value_at m k) (cond b (value_at m l) (cond a o (value_at m q))) ≡ value_at m q
+    at q true b e f = ap (value_at m) (sym (tells_apart exact_bytes q k e))
+    at q false true e f = ap (value_at m) (sym (tells_apart exact_bytes q l f))
+    at q false false e f = refl
+
+-- so it is by what is noted of both before the first is written
+pub exchange_back : (us one two : List Entry) (m n r : Contents) (k l : List ℕ) (o p : Option (List ℕ))
+    → ((x : Contents) → restored one x ≡ restored us (with_key x k (value_at m k)))
+    → ((x : Contents) → restored two x ≡ restored one (with_key x l (value_at n l)))
+    → n ≡ m → r ≡ with_key (with_key n k o) l p → restored two r ≡ restored us m
+exchange_back us one two m n r k l o p f g e h =
+    let own : m ≡ n = sym e in
+    g r
+    ∙ f (with_key r l (value_at n l))
+    ∙ ap (restored us) ((λ t. with_key (with_key (h t) l (value_at n l)) k (value_at (own t) k)) ∙ swap_back n k l o p ∙ e)

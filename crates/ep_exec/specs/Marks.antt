@@ -10,4 +10,4 @@ AreMarks is ms = (i : ℕ) → IsInstance i → Has is i ↔ (slice_index_or ms 
 
 -- how many more instances a list has room for that has so many marks, this capacity and this length: none before all marks are there
 abbrev pub room_of : ℕ → ℕ → ℕ → ℕ
-room_of marks capacity length = cond (nat_lt marks 8008) 0 (capacity - length)
+room_of marks capacity length = cond (nat_lt marks 16008) 0 (capacity - length)

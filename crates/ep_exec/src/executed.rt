@@ -76,7 +76,7 @@ impl Executed {
         ensures room { OnOk result (more ≤ self.new.room) }
         ensures kept { self.old.room ≤ self.new.room }
     {
-        widen(&mut self.marks, 8007)?;
+        widen(&mut self.marks, 16007)?;
         self.list.reserve(more)
     }
 
@@ -93,7 +93,7 @@ impl Executed {
 
 /// Adds an instance to both, unless it is there.
 fn add(list: &mut Vec<InstanceId>, marks: &mut Vec<bool>, instance: InstanceId)
-    requires all { 8008 ≤ length marks.old.items }
+    requires all { 16008 ≤ length marks.old.items }
     requires room { vec_len list.old < vec_capacity list.old }
     requires marks { AreMarks list.old.items marks.old.items }
     ensures new { (¬ Has list.old.items instance) → list.new.items ≡ list.old.items ++ instance ∷ [] }

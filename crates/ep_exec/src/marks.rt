@@ -10,7 +10,7 @@ use std::alloc::AllocError;
 /// Where the instance's mark is.
 pub fn slot_of(instance: InstanceId) -> usize
     ensures value { result ≡ slot instance }
-    ensures small { result < 8008 }
+    ensures small { result < 16008 }
     ensures in_range { IsInstance instance }
 {
     usize::from(instance.number()) * 8 + usize::from(instance.replica().index())
@@ -31,7 +31,7 @@ pub fn is_marked(marks: &[bool], instance: InstanceId) -> bool
 
 /// Makes the marks long enough to have this slot. What is marked stays so.
 pub fn widen(marks: &mut Vec<bool>, slot: usize) -> Result<(), AllocError>
-    requires { slot < 8008 }
+    requires { slot < 16008 }
     ensures slot { OnOk result (slot < length marks.new.items) }
     ensures same { (k : ℕ) → slice_index_or marks.new.items k false ≡ slice_index_or marks.old.items k false }
     ensures longer { length marks.old.items ≤ length marks.new.items }

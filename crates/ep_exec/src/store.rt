@@ -6,7 +6,7 @@ ghost use Rattle.ep_base.specs.Sameness.{is_noop};
 ghost use Rattle.ep_rules.specs.OneMap.{empty, value_at, after, reply};
 ghost use Rattle.ep_exec.specs.Table.{contents_of};
 
-use crate::table::{self, Table, copied, remove, set, told, value_of};
+use crate::table::{self, Table, copied, remove, set, swap, told, value_of};
 use crate::trial::Trial;
 use ep_base::{Command, Key, Reply, Value};
 use indexmap::IndexMap;
@@ -49,7 +49,7 @@ impl Store {
         value_of(&self.table, key.as_slice())
     }
 
-    /// Does a command other than a no-op: the reply says what its key had. At want of memory the map stays as it was.
+    /// Does a command other than a no-op: the reply says what its key had, of a swap the first one. At want of memory the map stays as it was.
     pub fn apply(&mut self, command: &Command) -> Result<Reply, AllocError>
         requires { is_noop command.now ≡ false }
         ensures reply { IfOk result (λ r. r ≡ reply self.old command.now) }
@@ -65,6 +65,7 @@ impl Store {
                 Ok(told(set(&mut self.table, name, Some(value))?))
             }
             Command::Del(key) => Ok(told(remove(&mut self.table, key.as_slice()))),
+            Command::Swap(keys) => Ok(told(swap(self.alloc, &mut self.table, keys)?)),
         }
     }
 

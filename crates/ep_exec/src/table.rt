@@ -2,10 +2,11 @@
 
 ghost use Rattle.std.specs.Prelude.{◌≡◌, ℕ, List, None, true, false, IfOk, OnOk, OnErr};
 ghost use Rattle.std.specs.Option.{option_copied, option_flatten};
-ghost use Rattle.ep_rules.specs.OneMap.{value_at, with_key, told};
+ghost use Rattle.ep_base.specs.declared.command.Command.{Command};
+ghost use Rattle.ep_rules.specs.OneMap.{Contents, value_at, with_key, after, told};
 ghost use Rattle.ep_exec.specs.Table.{HavePlaces, contents_of, has_place, restored};
 
-use ep_base::{Reply, Value};
+use ep_base::{KeyPair, Reply, Value};
 use indexmap::IndexMap;
 use std::alloc::{AllocError, Global};
 
@@ -129,6 +130,76 @@ pub fn put_back(table: &mut Table, key: Vec<u8>, value: Option<Value>) -> Option
     }
 }
 
+/// Makes a place for both keys.
+fn make_places(alloc: Global, table: &mut Table, keys: &KeyPair) -> Result<(), AllocError>
+    ensures contents { contents_of table.new.entries ≡ contents_of table.old.entries }
+    ensures first { OnOk result (has_place table.new.entries keys.now.first ≡ true) }
+    ensures second { OnOk result (has_place table.new.entries keys.now.second ≡ true) }
+{
+    make_place(alloc, table, keys.first().as_slice())?;
+    make_place(alloc, table, keys.second().as_slice())
+}
+
+/// Sets what two keys have that have places, and gives what the first one had.
+fn put_both(
+    table: &mut Table,
+    first: Vec<u8>,
+    value: Option<Value>,
+    second: Vec<u8>,
+    other: Option<Value>,
+) -> Option<Value>
+    requires first { has_place table.old.entries first.items ≡ true }
+    requires second { has_place table.old.entries second.items ≡ true }
+    ensures was { result ≡ value_at (contents_of table.old.entries) first.items }
+    ensures contents { contents_of table.new.entries ≡ with_key (with_key (contents_of table.old.entries) first.items value) second.items other }
+    ensures places { (q : List ℕ) → has_place table.old.entries q ≡ true → has_place table.new.entries q ≡ true }
+{
+    let was = put_back(table, first, value);
+    done(put_back(table, second, other));
+    was
+}
+
+/// Exchanges what two keys have, and gives what the first one had. Both places are made, and all memory is taken, before either key is
+/// written.
+pub fn swap(alloc: Global, table: &mut Table, keys: &KeyPair) -> Result<Option<Value>, AllocError>
+    ensures was { IfOk result (λ was. was ≡ value_at (contents_of table.old.entries) keys.now.first) }
+    ensures ok { OnOk result (contents_of table.new.entries ≡ after (contents_of table.old.entries) (Command.Swap keys.now)) }
+    ensures err { OnErr result (contents_of table.new.entries ≡ contents_of table.old.entries) }
+{
+    let own = copied(alloc, value_of(table, keys.first().as_slice()))?;
+    let other = copied(alloc, value_of(table, keys.second().as_slice()))?;
+    let name = Vec::from_slice(alloc, keys.first().as_slice())?;
+    let other_name = Vec::from_slice(alloc, keys.second().as_slice())?;
+    make_places(alloc, table, keys)?;
+    let was = put_both(table, name, other, other_name, own);
+    sweep(table, keys.first().as_slice());
+    sweep(table, keys.second().as_slice());
+    Ok(was)
+}
+
+/// Makes a place for the key, and notes what it has to be put back: the key again, with which `put_back` writes.
+pub fn note(
+    alloc: Global,
+    table: &mut Table,
+    undo: &mut Vec<(Vec<u8>, Option<Value>)>,
+    key: &[u8],
+) -> Result<Vec<u8>, AllocError>
+    ensures name { IfOk result (λ name. name.items ≡ key.now) }
+    ensures place { OnOk result (has_place table.new.entries key.now ≡ true) }
+    ensures contents { contents_of table.new.entries ≡ contents_of table.old.entries }
+    ensures kept { (q : List ℕ) → has_place table.old.entries q ≡ true → has_place table.new.entries q ≡ true }
+    ensures undo { OnOk result ((m : Contents) → restored undo.new.items m ≡ restored undo.old.items (with_key m key.now (value_at (contents_of table.old.entries) key.now))) }
+    ensures err { OnErr result (undo.new.items ≡ undo.old.items) }
+    ensures places { HavePlaces table.old.entries undo.old.items → HavePlaces table.new.entries undo.new.items }
+{
+    make_place(alloc, table, key)?;
+    let was = copied(alloc, value_of(table, key))?;
+    let name = Vec::from_slice(alloc, key)?;
+    let noted = Vec::from_slice(alloc, key)?;
+    undo.push((noted, was))?;
+    Ok(name)
+}
+
 /// Sets what the key has, gives what it had, and notes it to be put back.
 pub fn write(
     alloc: Global,
@@ -143,12 +214,29 @@ pub fn write(
     ensures undo { restored undo.new.items (contents_of table.new.entries) ≡ restored undo.old.items (contents_of table.old.entries) }
     ensures places { HavePlaces table.old.entries undo.old.items → HavePlaces table.new.entries undo.new.items }
 {
-    make_place(alloc, table, key)?;
-    let was = copied(alloc, value_of(table, key))?;
-    let name = Vec::from_slice(alloc, key)?;
-    let noted = Vec::from_slice(alloc, key)?;
-    undo.push((noted, was))?;
+    let name = note(alloc, table, undo, key)?;
     Ok(put_back(table, name, value))
+}
+
+/// Exchanges what two keys have, gives what the first one had, and notes both to be put back. Both places are made, and all memory is
+/// taken, before either key is written.
+pub fn exchange(
+    alloc: Global,
+    table: &mut Table,
+    undo: &mut Vec<(Vec<u8>, Option<Value>)>,
+    keys: &KeyPair,
+) -> Result<Option<Value>, AllocError>
+    ensures was { IfOk result (λ was. was ≡ value_at (contents_of table.old.entries) keys.now.first) }
+    ensures ok { OnOk result (contents_of table.new.entries ≡ after (contents_of table.old.entries) (Command.Swap keys.now)) }
+    ensures err { OnErr result (contents_of table.new.entries ≡ contents_of table.old.entries) }
+    ensures undo { restored undo.new.items (contents_of table.new.entries) ≡ restored undo.old.items (contents_of table.old.entries) }
+    ensures places { HavePlaces table.old.entries undo.old.items → HavePlaces table.new.entries undo.new.items }
+{
+    let own = copied(alloc, value_of(table, keys.first().as_slice()))?;
+    let other = copied(alloc, value_of(table, keys.second().as_slice()))?;
+    let name = note(alloc, table, undo, keys.first().as_slice())?;
+    let other_name = note(alloc, table, undo, keys.second().as_slice())?;
+    Ok(put_both(table, name, other, other_name, own))
 }
 
 /// Takes all that is noted back, the last change first.

@@ -6,7 +6,7 @@ ghost use Rattle.ep_exec.specs.Table.{contents_of};
 ghost use Rattle.ep_exec.specs.Tries.{tried};
 
 use crate::store::Store;
-use crate::table::{Table, copied, sweep_all, take_back, told, value_of, write};
+use crate::table::{Table, copied, exchange, sweep_all, take_back, told, value_of, write};
 use ep_base::{Answer, Command, Value};
 use std::alloc::{AllocError, Global};
 use std::marker::Model;
@@ -46,7 +46,8 @@ impl Trial {
         }
     }
 
-    /// Does one more command. A no-op answers lost; any other command's reply says what its key had. At want of memory nothing changes.
+    /// Does one more command. A no-op answers lost; any other command's reply says what its key had, of a swap the first one. At want of
+    /// memory nothing changes.
     pub fn apply(&mut self, command: &Command) -> Result<Answer, AllocError>
         ensures answer { IfOk result (λ a. a ≡ answer self.old.current command.now) }
         ensures ok { OnOk result (self.new ≡ tried self.old command.now) }
@@ -74,6 +75,12 @@ impl Trial {
                 &mut self.undo,
                 key.as_slice(),
                 None,
+            )?))),
+            Command::Swap(keys) => Ok(Answer::Told(told(exchange(
+                self.alloc,
+                &mut self.table,
+                &mut self.undo,
+                keys,
             )?))),
         }
     }

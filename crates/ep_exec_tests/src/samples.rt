@@ -3,7 +3,7 @@
 ghost use Rattle.std.specs.Prelude.{◌≡◌, ◌<◌};
 
 use crate::closed::is_closed;
-use ep_base::{Attrs, Command, Decree, Deps, InstanceId, ReplicaId, Seq, Size};
+use ep_base::{Attrs, Command, Decree, Deps, InstanceId, ReplicaId, Seq, Size, Version};
 use ep_exec::{Executed, PlanFault, plan, plan_left};
 use ep_space::Space;
 use std::alloc::{AllocError, Global};
@@ -97,7 +97,7 @@ pub fn commit(
 }
 
 pub fn space(rt: &impl Abort, alloc: Global) -> Space {
-    Space::new(alloc, Size::new(3).expect(rt, "a size"))
+    Space::new(alloc, Size::new(3).expect(rt, "a size"), Version::V2)
 }
 
 pub fn space_of(rt: &impl Abort, alloc: Global, rows: &[Row<'_>]) -> Space {

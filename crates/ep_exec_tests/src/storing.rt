@@ -8,7 +8,8 @@ use ep_exec::{Store, Trial};
 use std::alloc::Global;
 use std::process::Abort;
 
-/// A get, put or del (g, p, d) of a key of one byte, with the value for a put; and what is told, of one byte, or that nothing was there.
+/// A get, put, del or swap (g, p, d, s) of a key of one byte, with the value for a put and the second key for a swap; and what is told, of
+/// one byte, or that nothing was there.
 type Step = (u8, u8, u8, Option<u8>);
 
 fn command_once(alloc: Global, step: Step) -> Result<Command, CommandFault>
@@ -17,6 +18,7 @@ fn command_once(alloc: Global, step: Step) -> Result<Command, CommandFault>
     match step.0 {
         b'g' => Command::get(alloc, &[step.1]),
         b'p' => Command::put(alloc, &[step.1], &[step.2]),
+        b's' => Command::swap(alloc, &[step.1], &[step.2]),
         _ => Command::del(alloc, &[step.1]),
     }
 }
@@ -177,4 +179,122 @@ fn a_noop_answers_lost(rt: HostRuntime) {
     assert!(rt; matches!(answer, Answer::Lost));
     drop(answer);
     drop(trial);
+}
+
+/// After the first steps and these, each key has this.
+fn assert_left(rt: &impl Abort, alloc: Global, steps: &[Step], pairs: &[(u8, Option<u8>)]) {
+    let mut store = first_store(rt, alloc);
+    assert_replies(rt, alloc, &mut store, steps);
+    assert_has(rt, alloc, &store, pairs);
+    drop(store);
+}
+
+#[test]
+fn a_swap_exchanges_two_values(rt: HostRuntime) {
+    let steps = [(b's', b'a', b'b', Some(b'1'))];
+    let left = [(b'a', Some(b'2')), (b'b', Some(b'1')), (b'c', None)];
+    assert_left(&rt, rt.alloc(), &steps, &left);
+}
+
+#[test]
+fn a_swap_takes_a_value_to_an_absent_second_key(rt: HostRuntime) {
+    let steps = [(b's', b'a', b'c', Some(b'1'))];
+    let left = [(b'a', None), (b'b', Some(b'2')), (b'c', Some(b'1'))];
+    assert_left(&rt, rt.alloc(), &steps, &left);
+}
+
+#[test]
+fn a_swap_takes_absence_to_the_second_key(rt: HostRuntime) {
+    let steps = [(b's', b'c', b'a', None)];
+    let left = [(b'a', None), (b'b', Some(b'2')), (b'c', Some(b'1'))];
+    assert_left(&rt, rt.alloc(), &steps, &left);
+}
+
+#[test]
+fn a_swap_of_absent_keys_changes_nothing(rt: HostRuntime) {
+    let steps = [(b's', b'c', b'd', None)];
+    assert_left(&rt, rt.alloc(), &steps, &EARLIER);
+    assert_left(&rt, rt.alloc(), &steps, &[(b'd', None)]);
+}
+
+#[test]
+fn a_swap_done_twice_changes_nothing(rt: HostRuntime) {
+    let present = [
+        (b's', b'a', b'b', Some(b'1')),
+        (b's', b'a', b'b', Some(b'2')),
+    ];
+    let absent = [(b's', b'a', b'c', Some(b'1')), (b's', b'a', b'c', None)];
+    assert_left(&rt, rt.alloc(), &present, &EARLIER);
+    assert_left(&rt, rt.alloc(), &absent, &EARLIER);
+}
+
+const SWAPS: [Step; 6] = [
+    (b's', b'a', b'b', Some(b'1')),
+    (b's', b'c', b'a', None),
+    (b's', b'd', b'e', None),
+    (b'p', b'a', b'3', None),
+    (b's', b'b', b'a', Some(b'1')),
+    (b's', b'b', b'c', Some(b'3')),
+];
+
+/// What the keys have after the first steps and the swaps, and after the first steps alone.
+const SWAPPED: [(u8, Option<u8>); 5] = [
+    (b'a', Some(b'1')),
+    (b'b', Some(b'2')),
+    (b'c', Some(b'3')),
+    (b'd', None),
+    (b'e', None),
+];
+
+const UNSWAPPED: [(u8, Option<u8>); 5] = [
+    (b'a', Some(b'1')),
+    (b'b', Some(b'2')),
+    (b'c', None),
+    (b'd', None),
+    (b'e', None),
+];
+
+#[test]
+fn swaps_follow_each_other(rt: HostRuntime) {
+    assert_left(&rt, rt.alloc(), &SWAPS, &SWAPPED);
+}
+
+fn swapped_trial(rt: &impl Abort, alloc: Global) -> Trial {
+    let mut trial = first_store(rt, alloc).try_out();
+    assert_answers(rt, alloc, &mut trial, &SWAPS);
+    trial
+}
+
+#[test]
+fn tried_swaps_are_taken_back(rt: HostRuntime) {
+    let store = swapped_trial(&rt, rt.alloc()).take_back();
+    assert_has(&rt, rt.alloc(), &store, &UNSWAPPED);
+    drop(store);
+}
+
+#[test]
+fn tried_swaps_are_kept(rt: HostRuntime) {
+    let store = swapped_trial(&rt, rt.alloc()).keep();
+    assert_has(&rt, rt.alloc(), &store, &SWAPPED);
+    drop(store);
+}
+
+/// A swap that is refused memory is made no second time.
+fn assert_swap_or_nothing(rt: &impl Abort, alloc: Global, store: &mut Store) {
+    let command = command(rt, alloc, (b's', b'c', b'a', None));
+    let is_done = match store.apply(&command) {
+        Ok(reply) => is_told(&reply, None),
+        Err(_) => false,
+    };
+    let first = if is_done { Some(b'1') } else { None };
+    let second = if is_done { None } else { Some(b'1') };
+    assert_has(rt, alloc, store, &[(b'c', first), (b'a', second)]);
+    drop(command);
+}
+
+#[test]
+fn a_swap_writes_both_keys_or_none(rt: HostRuntime) {
+    let mut store = first_store(&rt, rt.alloc());
+    assert_swap_or_nothing(&rt, rt.alloc(), &mut store);
+    drop(store);
 }

@@ -18,6 +18,10 @@ follow (Some i) is = precedes_first i is && are_deps is
 pub rest_of : (p : ℕ) (b : List ℕ) → take (length b - p) (drop p b) ≡ drop p b
 rest_of p b = take_all (length b - p) (drop p b) (omega (arith, length-drop p b))
 
+-- what `&b[i..i + n]` is
+pub part_of : (i n : ℕ) (b : List ℕ) → take (i + n - i) (drop i b) ≡ take n (drop i b)
+part_of i n b = let e : i + n - i ≡ n = omega arith in ap (λ k. take k (drop i b)) e
+
 -- a dependency in the middle is an instance
 pub is_dep : (xs : List ℕ) (i : ℕ) (ys : List ℕ) → are_deps (xs ++ (i ∷ ys)) ≡ true → is_instance i ≡ true
 is_dep [] i ys e = let p = and_parts (is_instance i && precedes_first i ys) (are_deps ys) e in let q = and_parts (is_instance i) (precedes_first i ys) p.0 in q.0

@@ -1,31 +1,42 @@
 -- A frame without a fault is the frame of the message that its parts stand for.
 use Rattle.std.proofs.Common.{◌≡◌, ℕ, zero, suc, ◌^◌, ◌≤◌, ◌<◌, true, false, cond, eqb, leb, List, [], ◌∷◌, length, refl, sym, ap, ◌∙◌, arith}
 use Rattle.std.specs.Prelude.{◌&&◌, not, Some}
+use Rattle.ep_base.specs.Attributes.{same_list}
 use Rattle.std.specs.List.{AllByRecursion}
 use Rattle.std.proofs.lemmas.Bool.{eqb-true, leb-true, ltb-true, eq-eqb, and_parts}
 use Rattle.std.proofs.lemmas.List.{nil_from_length}
 use Rattle.ep_base.specs.Instances.{leader_of, number_of, IsInstance}
 use Rattle.ep_base.specs.Ballots.{counter_of, owner_of, ballot_of}
 use Rattle.ep_base.specs.Deps.{IsRising, IsBelowFirst}
+use Rattle.ep_base.specs.Versions.{version_number, version_of, highest_in, most_deps_in, IsEarlyInstance, AreEarlyDeps, IsEarlyDecree, CanSay}
+use Rattle.ep_base.specs.declared.version.Version.{Version}
+use Rattle.ep_base.specs.declared.version.Version.TheVariants.{V1}
 use Rattle.ep_base.specs.declared.vote.Status.{Status}
 use Rattle.ep_base.specs.declared.vote.Status.TheVariants.{PreAccepted, Accepted, Committed}
 use Rattle.ep_base.specs.declared.message.Message.{Message}
 use Rattle.ep_base.specs.declared.message.Message.TheVariants.{PrepareOk}
-use Rattle.ep_frame.specs.Faults.{names_rows, ballot_rows, vote_rows, body_rows, within, are_deps, is_instance, precedes_first}
+use Rattle.ep_base.proofs.Versions.{version_found}
+use Rattle.ep_frame.specs.Faults.{names_rows, ballot_rows, vote_rows, body_rows, within, highest_op, are_deps, are_in, deps_allowed, is_instance, precedes_first}
 use Rattle.ep_frame.specs.Spelling.{Parts, parts_of, op_code, key_in, value_in, status_code, IsBallot, IsCommand, AreAttrs, AreBytes, IsDecree, IsMessage, IsOrigin}
 use Rattle.ep_frame.specs.Meaning.{origin_in, instance_in, ballot_in, other_in, attrs_of, command_of, decree_of, message_of}
 use Rattle.ep_frame.proofs.Packing.{leader_again, number_again, counter_again, owner_again}
 use Rattle.ep_frame.proofs.Rows.{AllPass, within-is, apart-is, chosen, other_chosen}
+use Rattle.ep_frame.proofs.Saying.{number_low, op_low, count_low, number_early, op_early, no_swap, deps_early, said, differ}
+
+-- the version that the header names
+abbrev pub version_in : Parts → Version
+version_in p = version_of p.header.version
 
 pub record Good (p : Parts) : Type 0 where
   pub names : AllPass (names_rows p.header)
-  pub ballot : AllPass (ballot_rows p.header)
+  pub ballot : AllPass (ballot_rows (version_in p) p.header)
   pub vote : AllPass (vote_rows p.header)
-  pub body : AllPass (body_rows p.header)
+  pub body : AllPass (body_rows (version_in p) p.header)
   pub key : length p.key ≡ p.header.key_len
   pub value : length p.value ≡ p.header.value_len
   pub count : length p.deps ≡ p.header.count
-  pub deps : are_deps p.deps ≡ true
+  pub deps : deps_allowed (version_in p) p.deps ≡ true
+  pub keys_differ : (eqb p.header.op 5 && same_list p.key p.value) ≡ false
   pub key_bytes : AreBytes p.key
   pub value_bytes : AreBytes p.value
   pub out : p.header.out < 2 ^ 16
@@ -34,7 +45,8 @@ pub record Good (p : Parts) : Type 0 where
 pub record Found (p : Parts) : Type 0 where
   pub origin : IsOrigin p.header.from (origin_in p.header)
   pub message : IsMessage (message_of p)
-  pub is : parts_of p.header.from (origin_in p.header) (message_of p) ≡ p
+  pub sayable : CanSay (version_in p) (message_of p)
+  pub is : parts_of (version_in p) p.header.from (origin_in p.header) (message_of p) ≡ p
 
 abbrev with_kind : ℕ → Parts → Parts
 with_kind k p = record p { header = record p.header { kind = k } }
@@ -72,20 +84,22 @@ made q magic version leader number counter replica status other_counter other_re
 record Front (p : Parts) : Type 0 where
   origin : IsOrigin p.header.from (origin_in p.header)
   magic : 17744 ≡ p.header.magic
-  version : 1 ≡ p.header.version
+  version : version_number (version_in p) ≡ p.header.version
   instance : IsInstance (instance_in p.header)
+  early : version_in p ≡ V1 → IsEarlyInstance (instance_in p.header)
   leader : leader_of (instance_in p.header) ≡ p.header.leader
   number : number_of (instance_in p.header) ≡ p.header.number
   leader_small : p.header.leader ≤ 6
 
-front : (p : Parts) (k : ℕ) → AllPass (names_rows (with_kind k p).header) → leb p.header.leader 6 ≡ true → within 1 1000 p.header.number ≡ true → p.header.out < 2 ^ 16 → p.header.entry < 2 ^ 32 → Front p
+front : (p : Parts) (k : ℕ) → AllPass (names_rows (with_kind k p).header) → leb p.header.leader 6 ≡ true → within 1 (highest_in (version_in p)) p.header.number ≡ true → p.header.out < 2 ^ 16 → p.header.entry < 2 ^ 32 → Front p
 front p k n l m out entry =
     let to = and_parts (leb p.header.to 6) (not (eqb p.header.to p.header.from)) n.1.1.1.1.0 in
     let stamp = within-is 1 281474976710655 p.header.stamp n.1.1.1.1.1.1.0 in
     let small : p.header.leader ≤ 6 = leb-true _ _ l in
-    let number = within-is 1 1000 p.header.number m in
-    let is_leader = leader_again p.header.leader p.header.number (omega (arith, number.1)) in
-    let is_number = number_again p.header.leader p.header.number (omega (arith, number.1)) in
+    let number = within-is 1 (highest_in (version_in p)) p.header.number m in
+    let high : p.header.number ≤ 2000 = let most = number_low (version_in p) in omega (arith, number.1, most) in
+    let is_leader = leader_again p.header.leader p.header.number (omega (arith, high)) in
+    let is_number = number_again p.header.leader p.header.number (omega (arith, high)) in
     record {
       origin = record {
         sender = leb-true _ _ n.1.1.1.0;
@@ -98,8 +112,9 @@ front p k n l m out entry =
         stamp_high = omega (arith, stamp.1);
       };
       magic = sym (eqb-true p.header.magic 17744 n.0);
-      version = sym (eqb-true p.header.version 1 n.1.0);
-      instance = (omega (arith, is_leader, small), omega (arith, is_number, number.0), omega (arith, is_number, number.1));
+      version = version_found p.header.version n.1.0;
+      instance = (omega (arith, is_leader, small), omega (arith, is_number, number.0), omega (arith, is_number, high));
+      early = λ e. let le = number_early (version_in p) p.header.number number.1 e in omega (arith, is_number, le);
       leader = is_leader;
       number = is_number;
       leader_small = small;
@@ -146,22 +161,32 @@ record CommandIs (op : ℕ) (key value : List ℕ) : Type 0 where
   key_is : key_in (command_of op key value) ≡ key
   value_is : value_in (command_of op key value) ≡ value
 
-command_found : (op kl vl : ℕ) (key value : List ℕ) → 1 ≤ op → op ≤ 4 → cond (within 2 4 op) (within 1 255 kl) (eqb kl 0) ≡ true → cond (eqb op 3) (leb vl 1024) (eqb vl 0) ≡ true
+command_found : (op kl vl : ℕ) (key value : List ℕ) → 1 ≤ op → op ≤ 5 → cond (within 2 5 op) (within 1 255 kl) (eqb kl 0) ≡ true
+    → cond (eqb op 3) (leb vl 1024) (cond (eqb op 5) (within 1 255 vl) (eqb vl 0)) ≡ true → (eqb op 5 && same_list key value) ≡ false
     → length key ≡ kl → length value ≡ vl → AreBytes key → AreBytes value → CommandIs op key value
-command_found zero kl vl key value lo hi k v lk lv bk bv = absurd (omega arith)
-command_found (suc zero) kl vl key value lo hi k v lk lv bk bv =
+command_found zero kl vl key value lo hi k v a lk lv bk bv = absurd (omega arith)
+command_found (suc zero) kl vl key value lo hi k v a lk lv bk bv =
     record { is = tt; op_is = refl; key_is = sym (nil_from_length key (lk ∙ eqb-true kl 0 k)); value_is = sym (nil_from_length value (lv ∙ eqb-true vl 0 v)) }
-command_found (suc (suc zero)) kl vl key value lo hi k v lk lv bk bv =
+command_found (suc (suc zero)) kl vl key value lo hi k v a lk lv bk bv =
     let n = within-is 1 255 kl k in
     record { is = (omega (arith, n.0, lk), omega (arith, n.1, lk), bk); op_is = refl; key_is = refl; value_is = sym (nil_from_length value (lv ∙ eqb-true vl 0 v)) }
-command_found (suc (suc (suc zero))) kl vl key value lo hi k v lk lv bk bv =
+command_found (suc (suc (suc zero))) kl vl key value lo hi k v a lk lv bk bv =
     let n = within-is 1 255 kl k in
     let m = leb-true vl 1024 v in
     record { is = ((omega (arith, n.0, lk), omega (arith, n.1, lk), bk), omega (arith, m, lv), bv); op_is = refl; key_is = refl; value_is = refl }
-command_found (suc (suc (suc (suc zero)))) kl vl key value lo hi k v lk lv bk bv =
+command_found (suc (suc (suc (suc zero)))) kl vl key value lo hi k v a lk lv bk bv =
     let n = within-is 1 255 kl k in
     record { is = (omega (arith, n.0, lk), omega (arith, n.1, lk), bk); op_is = refl; key_is = refl; value_is = sym (nil_from_length value (lv ∙ eqb-true vl 0 v)) }
-command_found (suc (suc (suc (suc (suc op))))) kl vl key value lo hi k v lk lv bk bv = absurd (omega arith)
+command_found (suc (suc (suc (suc (suc zero))))) kl vl key value lo hi k v a lk lv bk bv =
+    let n = within-is 1 255 kl k in
+    let m = within-is 1 255 vl v in
+    record {
+      is = ((omega (arith, n.0, lk), omega (arith, n.1, lk), bk), (omega (arith, m.0, lv), omega (arith, m.1, lv), bv), differ key value a);
+      op_is = refl;
+      key_is = refl;
+      value_is = refl;
+    }
+command_found (suc (suc (suc (suc (suc (suc op)))))) kl vl key value lo hi k v a lk lv bk bv = absurd (omega arith)
 
 record NoCommand (op kl vl : ℕ) (key value : List ℕ) : Type 0 where
   op_is : 0 ≡ op
@@ -170,7 +195,8 @@ record NoCommand (op kl vl : ℕ) (key value : List ℕ) : Type 0 where
   key_is : [] ≡ key
   value_is : [] ≡ value
 
-no_command : (op kl vl : ℕ) (key value : List ℕ) → eqb op 0 ≡ true → cond (within 2 4 op) (within 1 255 kl) (eqb kl 0) ≡ true → cond (eqb op 3) (leb vl 1024) (eqb vl 0) ≡ true
+no_command : (op kl vl : ℕ) (key value : List ℕ) → eqb op 0 ≡ true → cond (within 2 5 op) (within 1 255 kl) (eqb kl 0) ≡ true
+    → cond (eqb op 3) (leb vl 1024) (cond (eqb op 5) (within 1 255 vl) (eqb vl 0)) ≡ true
     → length key ≡ kl → length value ≡ vl → NoCommand op kl vl key value
 no_command zero kl vl key value o k v lk lv =
     let ek = eqb-true kl 0 k in let ev = eqb-true vl 0 v in
@@ -182,8 +208,8 @@ rising_found [] e = (tt, tt)
 rising_found (i ∷ is) e =
     let p = and_parts (is_instance i && precedes_first i is) (are_deps is) e in
     let q = and_parts (is_instance i) (precedes_first i is) p.0 in
-    let r = and_parts (leb (leader_of i) 6) (within 1 1000 (number_of i)) q.0 in
-    let n = within-is 1 1000 (number_of i) r.1 in
+    let r = and_parts (leb (leader_of i) 6) (within 1 2000 (number_of i)) q.0 in
+    let n = within-is 1 2000 (number_of i) r.1 in
     let rest = rising_found is p.1 in
     ((below is q.1, rest.0), ((leb-true _ _ r.0, n.0, n.1), rest.1))
   where
@@ -191,10 +217,17 @@ rising_found (i ∷ is) e =
     below [] e = tt
     below (j ∷ js) e = ltb-true _ _ e
 
-attrs_found : (p : Parts) → within 1 1000000 p.header.seq ≡ true → leb p.header.count 7000 ≡ true → length p.deps ≡ p.header.count → are_deps p.deps ≡ true → AreAttrs (attrs_of p)
+attrs_found : (p : Parts) → within 1 1000000 p.header.seq ≡ true → leb p.header.count (most_deps_in (version_in p)) ≡ true → length p.deps ≡ p.header.count → deps_allowed (version_in p) p.deps ≡ true → AreAttrs (attrs_of p)
 attrs_found p s c len d =
-    let n = within-is 1 1000000 p.header.seq s in let few = leb-true p.header.count 7000 c in let r = rising_found p.deps d in
-    record { low = n.0; high = n.1; few = omega (arith, few, len); rising = r.0; instances = r.1 }
+    let n = within-is 1 1000000 p.header.seq s in
+    let few = leb-true p.header.count (most_deps_in (version_in p)) c in
+    let most = count_low (version_in p) in
+    let both = and_parts (are_deps p.deps) (are_in (version_in p) p.deps) d in
+    let r = rising_found p.deps both.0 in
+    record { low = n.0; high = n.1; few = omega (arith, few, most, len); rising = r.0; instances = r.1 }
+
+attrs_early : (p : Parts) → deps_allowed (version_in p) p.deps ≡ true → version_in p ≡ V1 → AreEarlyDeps p.deps
+attrs_early p d e = deps_early (version_in p) p.deps (and_parts (are_deps p.deps) (are_in (version_in p) p.deps) d).1 e
 
 record NoAttrs (seq count : ℕ) (deps : List ℕ) : Type 0 where
   seq_is : 0 ≡ seq
@@ -206,20 +239,25 @@ no_attrs seq count deps s c len = let ec = eqb-true count 0 c in record { seq_is
 
 record DecreeIs (p : Parts) : Type 0 where
   is : IsDecree (decree_of p)
+  early : version_in p ≡ V1 → IsEarlyDecree (decree_of p)
   op_is : op_code (decree_of p).command ≡ p.header.op
   kl_is : length (key_in (decree_of p).command) ≡ p.header.key_len
   vl_is : length (value_in (decree_of p).command) ≡ p.header.value_len
   key_is : key_in (decree_of p).command ≡ p.key
   value_is : value_in (decree_of p).command ≡ p.value
 
-decree_found : (p : Parts) → within 1 1000000 p.header.seq ≡ true → within 1 4 p.header.op ≡ true → cond (within 2 4 p.header.op) (within 1 255 p.header.key_len) (eqb p.header.key_len 0) ≡ true
-    → cond (eqb p.header.op 3) (leb p.header.value_len 1024) (eqb p.header.value_len 0) ≡ true → leb p.header.count 7000 ≡ true
-    → length p.key ≡ p.header.key_len → length p.value ≡ p.header.value_len → length p.deps ≡ p.header.count → are_deps p.deps ≡ true → AreBytes p.key → AreBytes p.value → DecreeIs p
-decree_found p s o k v n lk lv ld d bk bv =
-    let op = within-is 1 4 p.header.op o in
-    let c = command_found p.header.op p.header.key_len p.header.value_len p.key p.value op.0 op.1 k v lk lv bk bv in
+decree_found : (p : Parts) → within 1 1000000 p.header.seq ≡ true → within 1 (highest_op (version_in p)) p.header.op ≡ true → cond (within 2 5 p.header.op) (within 1 255 p.header.key_len) (eqb p.header.key_len 0) ≡ true
+    → cond (eqb p.header.op 3) (leb p.header.value_len 1024) (cond (eqb p.header.op 5) (within 1 255 p.header.value_len) (eqb p.header.value_len 0)) ≡ true → leb p.header.count (most_deps_in (version_in p)) ≡ true
+    → length p.key ≡ p.header.key_len → length p.value ≡ p.header.value_len → length p.deps ≡ p.header.count → deps_allowed (version_in p) p.deps ≡ true
+    → (eqb p.header.op 5 && same_list p.key p.value) ≡ false → AreBytes p.key → AreBytes p.value → DecreeIs p
+decree_found p s o k v n lk lv ld d a bk bv =
+    let op = within-is 1 (highest_op (version_in p)) p.header.op o in
+    let most = op_low (version_in p) in
+    let c = command_found p.header.op p.header.key_len p.header.value_len p.key p.value op.0 (omega (arith, op.1, most)) k v a lk lv bk bv in
+    let same : op_code (decree_of p).command ≡ p.header.op = c.op_is in
     record {
       is = record { command = c.is; attrs = attrs_found p s n ld d };
+      early = λ e. (no_swap (decree_of p).command (let le = op_early (version_in p) p.header.op op.1 e in omega (arith, same, le)), attrs_early p d e);
       op_is = c.op_is;
       kl_is = ap length c.key_is ∙ lk;
       vl_is = ap length c.value_is ∙ lv;
@@ -233,11 +271,12 @@ kind1 : (p : Parts) → Good (with_kind 1 p) → Found (with_kind 1 p)
 kind1 p g =
     let f = front p 1 g.names g.ballot.0 g.ballot.1.0 g.out g.entry in
     let b = any_ballot p f g.ballot.1.1.0 g.ballot.1.1.1.0 in
-    let x = decree_found p g.body.0 g.body.1.0 g.body.1.1.0 g.body.1.1.1.0 g.body.1.1.1.1.0 g.key g.value g.count g.deps g.key_bytes g.value_bytes in
+    let x = decree_found p g.body.0 g.body.1.0 g.body.1.1.0 g.body.1.1.1.0 g.body.1.1.1.1.0 g.key g.value g.count g.deps g.keys_differ g.key_bytes g.value_bytes in
     let es = eqb-true p.header.status 0 g.vote.0 in let ec = eqb-true p.header.other_counter 0 g.vote.1.0 in let er = eqb-true p.header.other_replica 0 g.vote.1.1.0 in
     record {
       origin = f.origin;
       message = (f.instance, b.is, x.is);
+      sayable = said (version_in p) (message_of (with_kind 1 p)) (λ e. (f.early e, x.early e));
       is = λ t. made (with_kind 1 p) (f.magic t) (f.version t) (f.leader t) (f.number t) (b.counter_is t) (b.replica_is t) (sym es t) (sym ec t) (sym er t)
           p.header.seq (x.op_is t) (x.kl_is t) (x.vl_is t) (g.count t) (x.key_is t) (x.value_is t) p.deps;
     }
@@ -251,6 +290,7 @@ kind2 p g =
     record {
       origin = f.origin;
       message = (f.instance, b.is, attrs_found p g.body.0 g.body.1.1.1.1.0 g.count g.deps);
+      sayable = said (version_in p) (message_of (with_kind 2 p)) (λ e. (f.early e, attrs_early p g.deps e));
       is = λ t. made (with_kind 2 p) (f.magic t) (f.version t) (f.leader t) (f.number t) (b.counter_is t) (b.replica_is t) (sym es t) (sym ec t) (sym er t)
           p.header.seq (c.op_is t) (c.kl_is t) (c.vl_is t) (g.count t) (c.key_is t) (c.value_is t) p.deps;
     }
@@ -259,11 +299,12 @@ kind3 : (p : Parts) → Good (with_kind 3 p) → Found (with_kind 3 p)
 kind3 p g =
     let f = front p 3 g.names g.ballot.0 g.ballot.1.0 g.out g.entry in
     let b = any_ballot p f g.ballot.1.1.0 g.ballot.1.1.1.0 in
-    let x = decree_found p g.body.0 g.body.1.0 g.body.1.1.0 g.body.1.1.1.0 g.body.1.1.1.1.0 g.key g.value g.count g.deps g.key_bytes g.value_bytes in
+    let x = decree_found p g.body.0 g.body.1.0 g.body.1.1.0 g.body.1.1.1.0 g.body.1.1.1.1.0 g.key g.value g.count g.deps g.keys_differ g.key_bytes g.value_bytes in
     let es = eqb-true p.header.status 0 g.vote.0 in let ec = eqb-true p.header.other_counter 0 g.vote.1.0 in let er = eqb-true p.header.other_replica 0 g.vote.1.1.0 in
     record {
       origin = f.origin;
       message = (f.instance, b.is, x.is);
+      sayable = said (version_in p) (message_of (with_kind 3 p)) (λ e. (f.early e, x.early e));
       is = λ t. made (with_kind 3 p) (f.magic t) (f.version t) (f.leader t) (f.number t) (b.counter_is t) (b.replica_is t) (sym es t) (sym ec t) (sym er t)
           p.header.seq (x.op_is t) (x.kl_is t) (x.vl_is t) (g.count t) (x.key_is t) (x.value_is t) p.deps;
     }
@@ -278,6 +319,7 @@ kind4 p g =
     record {
       origin = f.origin;
       message = (f.instance, b.is);
+      sayable = said (version_in p) (message_of (with_kind 4 p)) (λ e. f.early e);
       is = λ t. made (with_kind 4 p) (f.magic t) (f.version t) (f.leader t) (f.number t) (b.counter_is t) (b.replica_is t) (sym es t) (sym ec t) (sym er t)
           (a.seq_is t) (c.op_is t) (c.kl_is t) (c.vl_is t) (a.count_is t) (c.key_is t) (c.value_is t) (a.deps_is t);
     }
@@ -285,12 +327,13 @@ kind4 p g =
 kind5 : (p : Parts) → Good (with_kind 5 p) → Found (with_kind 5 p)
 kind5 p g =
     let f = front p 5 g.names g.ballot.0 g.ballot.1.0 g.out g.entry in
-    let x = decree_found p g.body.0 g.body.1.0 g.body.1.1.0 g.body.1.1.1.0 g.body.1.1.1.1.0 g.key g.value g.count g.deps g.key_bytes g.value_bytes in
+    let x = decree_found p g.body.0 g.body.1.0 g.body.1.1.0 g.body.1.1.1.0 g.body.1.1.1.1.0 g.key g.value g.count g.deps g.keys_differ g.key_bytes g.value_bytes in
     let es = eqb-true p.header.status 0 g.vote.0 in let ec = eqb-true p.header.other_counter 0 g.vote.1.0 in let er = eqb-true p.header.other_replica 0 g.vote.1.1.0 in
     let bc = eqb-true p.header.counter 0 g.ballot.1.1.0 in let br = eqb-true p.header.replica 0 g.ballot.1.1.1.0 in
     record {
       origin = f.origin;
       message = (f.instance, x.is);
+      sayable = said (version_in p) (message_of (with_kind 5 p)) (λ e. (f.early e, x.early e));
       is = λ t. made (with_kind 5 p) (f.magic t) (f.version t) (f.leader t) (f.number t) (sym bc t) (sym br t) (sym es t) (sym ec t) (sym er t)
           p.header.seq (x.op_is t) (x.kl_is t) (x.vl_is t) (g.count t) (x.key_is t) (x.value_is t) p.deps;
     }
@@ -305,6 +348,7 @@ kind6 p g =
     record {
       origin = f.origin;
       message = (f.instance, b.is);
+      sayable = said (version_in p) (message_of (with_kind 6 p)) (λ e. f.early e);
       is = λ t. made (with_kind 6 p) (f.magic t) (f.version t) (f.leader t) (f.number t) (b.counter_is t) (b.replica_is t) (sym es t) (sym ec t) (sym er t)
           (a.seq_is t) (c.op_is t) (c.kl_is t) (c.vl_is t) (a.count_is t) (c.key_is t) (c.value_is t) (a.deps_is t);
     }
@@ -321,6 +365,7 @@ kind8 p g =
     record {
       origin = f.origin;
       message = (f.instance, b.is, omega (arith, pc, n.0), omega (arith, pc, n.1), omega (arith, pr, r));
+      sayable = said (version_in p) (message_of (with_kind 8 p)) (λ e. f.early e);
       is = λ t. made (with_kind 8 p) (f.magic t) (f.version t) (f.leader t) (f.number t) (b.counter_is t) (b.replica_is t) (sym es t) (pc t) (pr t)
           (a.seq_is t) (c.op_is t) (c.kl_is t) (c.vl_is t) (a.count_is t) (c.key_is t) (c.value_is t) (a.deps_is t);
     }
@@ -336,6 +381,7 @@ status0 p g =
     record {
       origin = f.origin;
       message = (f.instance, b.is, tt);
+      sayable = said (version_in p) (message_of (with_status 0 p)) (λ e. (f.early e, tt));
       is = λ t. made (with_status 0 p) (f.magic t) (f.version t) (f.leader t) (f.number t) (b.counter_is t) (b.replica_is t) 0 (sym ec t) ((f.leader ∙ sym er) t)
           (a.seq_is t) (c.op_is t) (c.kl_is t) (c.vl_is t) (a.count_is t) (c.key_is t) (c.value_is t) (a.deps_is t);
     }
@@ -347,28 +393,30 @@ voted p st = PrepareOk (instance_in p.header) (ballot_in p.header) (Some (record
 record FoundVote (p : Parts) (s : ℕ) (st : Status) : Type 0 where
   origin : IsOrigin p.header.from (origin_in p.header)
   message : IsMessage (voted p st)
-  is : parts_of p.header.from (origin_in p.header) (voted p st) ≡ with_status s p
+  sayable : CanSay (version_in p) (voted p st)
+  is : parts_of (version_in p) p.header.from (origin_in p.header) (voted p st) ≡ with_status s p
 
 vote_found : (p : Parts) (s : ℕ) (st : Status) → status_code st ≡ s → eqb s 0 ≡ false → Good (with_status s p) → FoundVote p s st
 vote_found p s st code e g =
     let has = ap not e in
     let f = front p 7 g.names g.ballot.0 g.ballot.1.0 g.out g.entry in
     let b = joined_ballot p f g.ballot.1.1.0 g.ballot.1.1.1.0 in
-    let x = decree_found p (chosen _ _ _ has g.body.0) (chosen _ _ _ has g.body.1.0) g.body.1.1.0 g.body.1.1.1.0 (chosen _ _ _ has g.body.1.1.1.1.0) g.key g.value g.count g.deps g.key_bytes g.value_bytes in
+    let x = decree_found p (chosen _ _ _ has g.body.0) (chosen _ _ _ has g.body.1.0) g.body.1.1.0 g.body.1.1.1.0 (chosen _ _ _ has g.body.1.1.1.1.0) g.key g.value g.count g.deps g.keys_differ g.key_bytes g.value_bytes in
     let v =
     ballot_found (instance_in p.header) p.header.leader 0 p.header.other_counter p.header.other_replica f.leader f.leader_small (omega arith) (leb-true _ _ (other_chosen _ _ _ e g.vote.1.0)) g.vote.1.1.0 in
     record {
       origin = f.origin;
       message = (f.instance, b.is, (v.is, x.is));
+      sayable = said (version_in p) (voted p st) (λ e. (f.early e, x.early e));
       is = λ t. made (with_status s p) (f.magic t) (f.version t) (f.leader t) (f.number t) (b.counter_is t) (b.replica_is t) (code t) (v.counter_is t) (v.replica_is t)
           p.header.seq (x.op_is t) (x.kl_is t) (x.vl_is t) (g.count t) (x.key_is t) (x.value_is t) p.deps;
     }
 
 at_status : (p : Parts) (s : ℕ) → s ≤ 3 → Good (with_status s p) → Found (with_status s p)
 at_status p zero le g = status0 p g
-at_status p (suc zero) le g = let v = vote_found p 1 PreAccepted refl refl g in record { origin = v.origin; message = v.message; is = v.is }
-at_status p (suc (suc zero)) le g = let v = vote_found p 2 Accepted refl refl g in record { origin = v.origin; message = v.message; is = v.is }
-at_status p (suc (suc (suc zero))) le g = let v = vote_found p 3 Committed refl refl g in record { origin = v.origin; message = v.message; is = v.is }
+at_status p (suc zero) le g = let v = vote_found p 1 PreAccepted refl refl g in record { origin = v.origin; message = v.message; sayable = v.sayable; is = v.is }
+at_status p (suc (suc zero)) le g = let v = vote_found p 2 Accepted refl refl g in record { origin = v.origin; message = v.message; sayable = v.sayable; is = v.is }
+at_status p (suc (suc (suc zero))) le g = let v = vote_found p 3 Committed refl refl g in record { origin = v.origin; message = v.message; sayable = v.sayable; is = v.is }
 at_status p (suc (suc (suc (suc s)))) le g = absurd (omega arith)
 
 at_kind : (p : Parts) (k : ℕ) → 1 ≤ k → k ≤ 8 → Good (with_kind k p) → Found (with_kind k p)

@@ -1,22 +1,24 @@
 -- Bytes without a fault spell a message.
 use Rattle.std.proofs.Common.{◌≡◌, ℕ, ◌+◌, ◌*◌, ◌^◌, ◌≤◌, ◌<◌, Bool, true, false, cond, eqb, ltb, leb, List, length, drop, Result, Ok, Err, refl, sym, ap, ◌∙◌, arith}
 use Rattle.std.specs.Prelude.{not}
+use Rattle.ep_base.specs.Versions.{version_of, highest_in}
 use Rattle.std.proofs.lemmas.Bool.{eqb-true, ltb-false, leb-true, and_parts}
 use Rattle.std.proofs.lemmas.List.{length-take, length-drop}
 use Rattle.ep_frame.specs.declared.fault.FrameFault.{FrameFault}
-use Rattle.ep_frame.specs.declared.fault.FrameFault.TheVariants.{Short, Length, Order}
+use Rattle.ep_frame.specs.declared.fault.FrameFault.TheVariants.{Short, Length, Order, SameKey}
 use Rattle.ep_frame.specs.declared.header.Header.{Header}
 use Rattle.ep_frame.specs.Fields.{header_at, deps_in, number_at}
-use Rattle.ep_frame.specs.Faults.{◌>>◌, checked, names_rows, ballot_rows, vote_rows, body_rows, deps_place, frame_len, are_deps, header_fault, rest_fault, fault_of}
+use Rattle.ep_frame.specs.Faults.{◌>>◌, checked, names_rows, ballot_rows, vote_rows, body_rows, deps_place, frame_len, are_deps, are_in, deps_allowed, has_same_keys, header_fault, rest_fault, fault_of}
 use Rattle.ep_frame.specs.Spelling.{parts_at, parts_bytes, Spells}
 use Rattle.ep_frame.specs.DepBytes.{AreDepBytes}
 use Rattle.ep_frame.specs.Ranges.{InRange, Readable}
-use Rattle.ep_frame.specs.Meaning.{sender_at, origin_at, message_at}
+use Rattle.ep_frame.specs.Meaning.{version_at, sender_at, origin_at, message_at}
 use Rattle.ep_frame.proofs.BigEndian.{IsBytes, IsBytes-drop, IsBytes-take}
 use Rattle.ep_frame.proofs.Headers.{parts-found, length-deps_in}
 use Rattle.ep_frame.proofs.Rows.{AllPass, fine, passes, within-is}
 use Rattle.ep_frame.proofs.Found.{Good, found, rising_found}
 use Rattle.ep_frame.proofs.Reading.{readable}
+use Rattle.ep_frame.proofs.Saying.{number_low}
 
 then_fine : (r next : Result (Unit {0}) FrameFault) → (r >> next) ≡ fine → (r ≡ fine) × (next ≡ fine)
 then_fine (Ok x) next e = (refl, e)
@@ -32,33 +34,38 @@ if_fine false f r e = absurd cc
 
 record HeaderPasses (h : Header) : Type 0 where
   names : AllPass (names_rows h)
-  ballot : AllPass (ballot_rows h)
+  ballot : AllPass (ballot_rows (version_of h.version) h)
   vote : AllPass (vote_rows h)
-  body : AllPass (body_rows h)
+  body : AllPass (body_rows (version_of h.version) h)
 
 header_passes : (h : Header) → header_fault h ≡ fine → HeaderPasses h
 unfolding header_fault
 header_passes h e =
-    let a = then_fine (checked (names_rows h)) (checked (ballot_rows h) >> (checked (vote_rows h) >> checked (body_rows h))) e in
-    let b = then_fine (checked (ballot_rows h)) (checked (vote_rows h) >> checked (body_rows h)) a.1 in
-    let c = then_fine (checked (vote_rows h)) (checked (body_rows h)) b.1 in
-    record { names = passes (names_rows h) a.0; ballot = passes (ballot_rows h) b.0; vote = passes (vote_rows h) c.0; body = passes (body_rows h) c.1 }
+    let x = ballot_rows (version_of h.version) h in let z = body_rows (version_of h.version) h in
+    let a = then_fine (checked (names_rows h)) (checked x >> (checked (vote_rows h) >> checked z)) e in
+    let b = then_fine (checked x) (checked (vote_rows h) >> checked z) a.1 in
+    let c = then_fine (checked (vote_rows h)) (checked z) b.1 in
+    record { names = passes (names_rows h) a.0; ballot = passes x b.0; vote = passes (vote_rows h) c.0; body = passes z c.1 }
 
 record Passes (b : List ℕ) : Type 0 where
   long : 40 ≤ length b
   header : HeaderPasses (header_at b)
   len : length b ≡ frame_len (header_at b)
-  deps : are_deps (deps_in (drop (deps_place (header_at b)) b)) ≡ true
+  deps : deps_allowed (version_of (header_at b).version) (deps_in (drop (deps_place (header_at b)) b)) ≡ true
+  keys_differ : has_same_keys (header_at b) b ≡ false
 
 frame_passes : (b : List ℕ) → fault_of b ≡ fine → Passes b
 unfolding fault_of rest_fault
 frame_passes b e =
     let h = header_at b in
+    let ds = deps_allowed (version_of h.version) (deps_in (drop (deps_place h) b)) in
+    let last : Result (Unit {0}) FrameFault = cond (has_same_keys h b) (Err SameKey) (Ok tt) in
     let a = unless_fine (ltb (length b) 40) Short (header_fault h >> rest_fault h b) e in
     let c = then_fine (header_fault h) (rest_fault h b) a.1 in
-    let d = if_fine (eqb (length b) (frame_len h)) Length (cond (are_deps (deps_in (drop (deps_place h) b))) (Ok tt) (Err Order)) c.1 in
-    let f = if_fine (are_deps (deps_in (drop (deps_place h) b))) Order (Ok tt) d.1 in
-    record { long = ltb-false _ _ a.0; header = header_passes h c.0; len = eqb-true _ _ d.0; deps = f.0 }
+    let d = if_fine (eqb (length b) (frame_len h)) Length (cond ds last (Err Order)) c.1 in
+    let f = if_fine ds Order last d.1 in
+    let k = unless_fine (has_same_keys h b) SameKey (Ok tt) f.1 in
+    record { long = ltb-false _ _ a.0; header = header_passes h c.0; len = eqb-true _ _ d.0; deps = f.0; keys_differ = k.0 }
 
 out_fits : (b : List ℕ) → IsBytes b → number_at 6 2 b < 2 ^ 16
 unfolding number_at
@@ -81,17 +88,18 @@ is_good b fits p =
       value = omega (arith, len, length-take h.value_len (drop (40 + h.key_len) b), length-drop (40 + h.key_len) b);
       count = length-deps_in (drop (deps_place h) b) h.count (omega (arith, len, length-drop (deps_place h) b));
       deps = p.deps;
+      keys_differ = p.keys_differ;
       key_bytes = IsBytes-take h.key_len (drop 40 b) (IsBytes-drop 40 b fits);
       value_bytes = IsBytes-take h.value_len (drop (40 + h.key_len) b) (IsBytes-drop (40 + h.key_len) b fits);
       out = out_fits b fits;
       entry = entry_fits b fits;
     }
 
-pub frame_found : (b : List ℕ) → IsBytes b → fault_of b ≡ fine → Spells b (sender_at b) (origin_at b) (message_at b)
+pub frame_found : (b : List ℕ) → IsBytes b → fault_of b ≡ fine → Spells (version_at b) b (sender_at b) (origin_at b) (message_at b)
 frame_found b fits e =
     let p = frame_passes b e in
     let f = found (parts_at b) (is_good b fits p) in
-    record { origin = f.origin; message = f.message; is = sym (parts-found b fits p.long p.len) ∙ sym (ap parts_bytes f.is) }
+    record { origin = f.origin; message = f.message; sayable = f.sayable; is = sym (parts-found b fits p.long p.len) ∙ sym (ap parts_bytes f.is) }
 
 pub frame_long : (b : List ℕ) → fault_of b ≡ fine → 40 ≤ length b
 frame_long b e = (frame_passes b e).long
@@ -106,7 +114,8 @@ frame_ranges b e =
     let n = p.header.names in
     let to = and_parts (leb h.to 6) (not (eqb h.to h.from)) n.1.1.1.1.0 in
     let stamp = within-is 1 281474976710655 h.stamp n.1.1.1.1.1.1.0 in
-    let number = within-is 1 1000 h.number p.header.ballot.1.0 in
+    let number = within-is 1 (highest_in (version_of h.version)) h.number p.header.ballot.1.0 in
+    let most = number_low (version_of h.version) in
     record {
       long = p.long;
       sender = leb-true _ _ n.1.1.1.0;
@@ -116,7 +125,7 @@ frame_ranges b e =
       stamp_high = stamp.1;
       leader = leb-true _ _ p.header.ballot.0;
       number_low = number.0;
-      number_high = number.1;
+      number_high = omega (arith, number.1, most);
     }
 
 pub frame_readable : (b : List ℕ) → IsBytes b → fault_of b ≡ fine → Readable (parts_at b)
@@ -129,5 +138,6 @@ frame_deps b e =
     let rest = drop (deps_place h) b in
     let len : length rest ≡ 3 * h.count = omega (arith, p.len, length-drop (deps_place h) b) in
     let count : length (deps_in rest) ≡ h.count = length-deps_in rest h.count len in
-    let r = rising_found (deps_in rest) p.deps in
+    let both = and_parts (are_deps (deps_in rest)) (are_in (version_of h.version) (deps_in rest)) p.deps in
+    let r = rising_found (deps_in rest) both.0 in
     record { whole = omega (arith, len, count); deps = record { rising = r.0; instances = r.1 } }

@@ -4,6 +4,7 @@ pub mod BigEndian
 pub mod Headers
 pub mod Again
 pub mod Rows
+pub mod Saying
 pub mod Sound
 pub mod Found
 pub mod Reading

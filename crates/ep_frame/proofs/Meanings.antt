@@ -3,19 +3,23 @@ use Rattle.std.proofs.Common.{◌≡◌, ℕ, List, Bool, true, false, cond, eqb
 use Rattle.std.specs.Prelude.{Some, None, Option}
 use Rattle.ep_base.specs.Ballots.{counter_of, owner_of, ballot_of}
 use Rattle.ep_base.specs.Messages.{instance_of_message}
+use Rattle.ep_base.specs.Versions.{version_number, version_of}
+use Rattle.ep_base.proofs.Versions.{version_again}
 use Rattle.ep_base.specs.declared.decree.Decree.{Decree}
 use Rattle.ep_base.specs.declared.command.Command.{Command}
-use Rattle.ep_base.specs.declared.command.Command.TheVariants.{Noop, Get, Put, Del}
+use Rattle.ep_base.specs.declared.command.Command.TheVariants.{Noop, Get, Put, Del, Swap}
+use Rattle.ep_base.specs.declared.version.Version.{Version}
 use Rattle.ep_base.specs.declared.vote.Vote.{Vote}
 use Rattle.ep_base.specs.declared.vote.Status.{Status}
 use Rattle.ep_base.specs.declared.vote.Status.TheVariants.{PreAccepted, Accepted, Committed}
 use Rattle.ep_base.specs.declared.message.Message.{Message}
 use Rattle.ep_base.specs.declared.message.Message.TheVariants.{PreAccept, PreAcceptOk, Accept, AcceptOk, Commit, Prepare, PrepareOk, Nack}
 use Rattle.ep_frame.specs.declared.origin.Origin.{Origin}
-use Rattle.ep_frame.specs.Meaning.{origin_in, instance_in, instance_at, command_of, status_of, message_of, sender_at, origin_at, message_at}
+use Rattle.ep_frame.specs.Meaning.{origin_in, instance_in, instance_at, command_of, status_of, message_of, version_at, sender_at, origin_at, message_at}
 use Rattle.ep_frame.specs.Spelling.{Parts, parts_at, parts_of, Spells, op_code, key_in, value_in, status_code}
 use Rattle.ep_frame.proofs.Packing.{instance_again, ballot_again}
 use Rattle.ep_frame.proofs.Again.{parts_again}
+use Rattle.ep_frame.proofs.Saying.{early_of}
 use Rattle.ep_frame.proofs.Sound.{sound, has_status}
 
 command_again : (c : Command) → command_of (op_code c) (key_in c) (value_in c) ≡ c
@@ -23,6 +27,7 @@ command_again Noop = refl
 command_again (Get k) = refl
 command_again (Put k v) = refl
 command_again (Del k) = refl
+command_again (Swap p) = refl
 
 status_again : (s : Status) → status_of (status_code s) ≡ s
 status_again PreAccepted = refl
@@ -41,51 +46,65 @@ vote_again : (v : Vote) → cond (eqb (status_code v.status) 0) None
 vote_again v =
     (λ t. cond (has_status v.status t) None (vote_made (status_again v.status t) (ballot_again v.ballot t) (decree_again v.decree t)))
 
-pub message_again : (from : ℕ) (o : Origin) (m : Message) → message_of (parts_of from o m) ≡ m
-message_again from o (PreAccept i b x) = λ t. PreAccept (instance_again i t) (ballot_again b t) (decree_again x t)
-message_again from o (PreAcceptOk i b a) = λ t. PreAcceptOk (instance_again i t) (ballot_again b t) a
-message_again from o (Accept i b x) = λ t. Accept (instance_again i t) (ballot_again b t) (decree_again x t)
-message_again from o (AcceptOk i b) = λ t. AcceptOk (instance_again i t) (ballot_again b t)
-message_again from o (Commit i x) = λ t. Commit (instance_again i t) (decree_again x t)
-message_again from o (Prepare i b) = λ t. Prepare (instance_again i t) (ballot_again b t)
-message_again from o (PrepareOk i b None) = λ t. PrepareOk (instance_again i t) (ballot_again b t) None
-message_again from o (PrepareOk i b (Some v)) = λ t. PrepareOk (instance_again i t) (ballot_again b t) (vote_again v t)
-message_again from o (Nack i p q) = λ t. Nack (instance_again i t) (ballot_again p t) (ballot_again q t)
+pub message_again : (v : Version) (from : ℕ) (o : Origin) (m : Message) → message_of (parts_of v from o m) ≡ m
+message_again v from o (PreAccept i b x) = λ t. PreAccept (instance_again i t) (ballot_again b t) (decree_again x t)
+message_again v from o (PreAcceptOk i b a) = λ t. PreAcceptOk (instance_again i t) (ballot_again b t) a
+message_again v from o (Accept i b x) = λ t. Accept (instance_again i t) (ballot_again b t) (decree_again x t)
+message_again v from o (AcceptOk i b) = λ t. AcceptOk (instance_again i t) (ballot_again b t)
+message_again v from o (Commit i x) = λ t. Commit (instance_again i t) (decree_again x t)
+message_again v from o (Prepare i b) = λ t. Prepare (instance_again i t) (ballot_again b t)
+message_again v from o (PrepareOk i b None) = λ t. PrepareOk (instance_again i t) (ballot_again b t) None
+message_again v from o (PrepareOk i b (Some x)) = λ t. PrepareOk (instance_again i t) (ballot_again b t) (vote_again x t)
+message_again v from o (Nack i p q) = λ t. Nack (instance_again i t) (ballot_again p t) (ballot_again q t)
 
-origin_again : (from : ℕ) (o : Origin) (m : Message) → origin_in (parts_of from o m).header ≡ o
-origin_again from o (PreAccept i b x) = refl
-origin_again from o (PreAcceptOk i b a) = refl
-origin_again from o (Accept i b x) = refl
-origin_again from o (AcceptOk i b) = refl
-origin_again from o (Commit i x) = refl
-origin_again from o (Prepare i b) = refl
-origin_again from o (PrepareOk i b None) = refl
-origin_again from o (PrepareOk i b (Some v)) = refl
-origin_again from o (Nack i p q) = refl
+origin_again : (v : Version) (from : ℕ) (o : Origin) (m : Message) → origin_in (parts_of v from o m).header ≡ o
+origin_again v from o (PreAccept i b x) = refl
+origin_again v from o (PreAcceptOk i b a) = refl
+origin_again v from o (Accept i b x) = refl
+origin_again v from o (AcceptOk i b) = refl
+origin_again v from o (Commit i x) = refl
+origin_again v from o (Prepare i b) = refl
+origin_again v from o (PrepareOk i b None) = refl
+origin_again v from o (PrepareOk i b (Some x)) = refl
+origin_again v from o (Nack i p q) = refl
 
-sender_again : (from : ℕ) (o : Origin) (m : Message) → (parts_of from o m).header.from ≡ from
-sender_again from o (PreAccept i b x) = refl
-sender_again from o (PreAcceptOk i b a) = refl
-sender_again from o (Accept i b x) = refl
-sender_again from o (AcceptOk i b) = refl
-sender_again from o (Commit i x) = refl
-sender_again from o (Prepare i b) = refl
-sender_again from o (PrepareOk i b None) = refl
-sender_again from o (PrepareOk i b (Some v)) = refl
-sender_again from o (Nack i p q) = refl
+sender_again : (v : Version) (from : ℕ) (o : Origin) (m : Message) → (parts_of v from o m).header.from ≡ from
+sender_again v from o (PreAccept i b x) = refl
+sender_again v from o (PreAcceptOk i b a) = refl
+sender_again v from o (Accept i b x) = refl
+sender_again v from o (AcceptOk i b) = refl
+sender_again v from o (Commit i x) = refl
+sender_again v from o (Prepare i b) = refl
+sender_again v from o (PrepareOk i b None) = refl
+sender_again v from o (PrepareOk i b (Some x)) = refl
+sender_again v from o (Nack i p q) = refl
 
-parts_spelled : (b : List ℕ) (from : ℕ) (o : Origin) (m : Message) → Spells b from o m → parts_at b ≡ parts_of from o m
-parts_spelled b from o m s = ap parts_at s.is ∙ parts_again (parts_of from o m) (sound from o m s.origin s.message).fits
+version_kept : (v : Version) (from : ℕ) (o : Origin) (m : Message) → (parts_of v from o m).header.version ≡ version_number v
+version_kept v from o (PreAccept i b x) = refl
+version_kept v from o (PreAcceptOk i b a) = refl
+version_kept v from o (Accept i b x) = refl
+version_kept v from o (AcceptOk i b) = refl
+version_kept v from o (Commit i x) = refl
+version_kept v from o (Prepare i b) = refl
+version_kept v from o (PrepareOk i b None) = refl
+version_kept v from o (PrepareOk i b (Some x)) = refl
+version_kept v from o (Nack i p q) = refl
+
+parts_spelled : (v : Version) (b : List ℕ) (from : ℕ) (o : Origin) (m : Message) → Spells v b from o m → parts_at b ≡ parts_of v from o m
+parts_spelled v b from o m s = ap parts_at s.is ∙ parts_again (parts_of v from o m) (sound v from o m s.origin s.message (early_of v m s.sayable)).fits
 
 -- the bytes that spell a message stand for it
-pub sender_spelled : (b : List ℕ) (from : ℕ) (o : Origin) (m : Message) → Spells b from o m → sender_at b ≡ from
-sender_spelled b from o m s = ap (λ (p : Parts). p.header.from) (parts_spelled b from o m s) ∙ sender_again from o m
+pub version_spelled : (v : Version) (b : List ℕ) (from : ℕ) (o : Origin) (m : Message) → Spells v b from o m → version_at b ≡ v
+version_spelled v b from o m s = ap (λ (p : Parts). version_of p.header.version) (parts_spelled v b from o m s) ∙ ap version_of (version_kept v from o m) ∙ version_again v
 
-pub origin_spelled : (b : List ℕ) (from : ℕ) (o : Origin) (m : Message) → Spells b from o m → origin_at b ≡ o
-origin_spelled b from o m s = ap (λ (p : Parts). origin_in p.header) (parts_spelled b from o m s) ∙ origin_again from o m
+pub sender_spelled : (v : Version) (b : List ℕ) (from : ℕ) (o : Origin) (m : Message) → Spells v b from o m → sender_at b ≡ from
+sender_spelled v b from o m s = ap (λ (p : Parts). p.header.from) (parts_spelled v b from o m s) ∙ sender_again v from o m
 
-pub message_spelled : (b : List ℕ) (from : ℕ) (o : Origin) (m : Message) → Spells b from o m → message_at b ≡ m
-message_spelled b from o m s = ap message_of (parts_spelled b from o m s) ∙ message_again from o m
+pub origin_spelled : (v : Version) (b : List ℕ) (from : ℕ) (o : Origin) (m : Message) → Spells v b from o m → origin_at b ≡ o
+origin_spelled v b from o m s = ap (λ (p : Parts). origin_in p.header) (parts_spelled v b from o m s) ∙ origin_again v from o m
+
+pub message_spelled : (v : Version) (b : List ℕ) (from : ℕ) (o : Origin) (m : Message) → Spells v b from o m → message_at b ≡ m
+message_spelled v b from o m s = ap message_of (parts_spelled v b from o m s) ∙ message_again v from o m
 
 by_test : (i : ℕ) (b : Bool) (m n : Message) → instance_of_message m ≡ i → instance_of_message n ≡ i → instance_of_message (cond b m n) ≡ i
 by_test i true m n d e = d

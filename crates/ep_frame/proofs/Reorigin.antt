@@ -4,6 +4,7 @@ use Rattle.std.specs.Prelude.{Some, None, slice_index}
 use Rattle.std.specs.List.{flat_map}
 use Rattle.std.proofs.lemmas.List.{take_at, drop_at, length-append, append-nil, take-append-le, get_or_append_left}
 use Rattle.ep_base.specs.declared.message.Message.{Message}
+use Rattle.ep_base.specs.declared.version.Version.{Version}
 use Rattle.ep_base.specs.declared.message.Message.TheVariants.{PreAccept, PreAcceptOk, Accept, AcceptOk, Commit, Prepare, PrepareOk, Nack}
 use Rattle.ep_frame.specs.declared.origin.Origin.{Origin}
 use Rattle.ep_frame.specs.Fields.{spelled, number_at, number_bytes, start_fields, origin_fields, ballot_fields, vote_fields, body_fields, dep_bytes}
@@ -15,16 +16,16 @@ use Rattle.ep_frame.proofs.Meanings.{sender_spelled}
 abbrev reorigin : Origin → Parts → Parts
 reorigin o p = record p { header = record p.header { to = o.to; out = o.out; entry = o.entry; stamp = o.stamp } }
 
-reorigin_is : (from : ℕ) (o n : Origin) (m : Message) → parts_of from n m ≡ reorigin n (parts_of from o m)
-reorigin_is from o n (PreAccept i b x) = refl
-reorigin_is from o n (PreAcceptOk i b a) = refl
-reorigin_is from o n (Accept i b x) = refl
-reorigin_is from o n (AcceptOk i b) = refl
-reorigin_is from o n (Commit i x) = refl
-reorigin_is from o n (Prepare i b) = refl
-reorigin_is from o n (PrepareOk i b None) = refl
-reorigin_is from o n (PrepareOk i b (Some v)) = refl
-reorigin_is from o n (Nack i p q) = refl
+reorigin_is : (v : Version) (from : ℕ) (o n : Origin) (m : Message) → parts_of v from n m ≡ reorigin n (parts_of v from o m)
+reorigin_is v from o n (PreAccept i b x) = refl
+reorigin_is v from o n (PreAcceptOk i b a) = refl
+reorigin_is v from o n (Accept i b x) = refl
+reorigin_is v from o n (AcceptOk i b) = refl
+reorigin_is v from o n (Commit i x) = refl
+reorigin_is v from o n (Prepare i b) = refl
+reorigin_is v from o n (PrepareOk i b None) = refl
+reorigin_is v from o n (PrepareOk i b (Some x)) = refl
+reorigin_is v from o n (Nack i p q) = refl
 
 abbrev tail_of : Parts → List ℕ
 tail_of p = spelled (ballot_fields p.header) ++ (spelled (vote_fields p.header) ++ (spelled (body_fields p.header) ++ (p.key ++ (p.value ++ flat_map dep_bytes p.deps))))
@@ -56,9 +57,9 @@ unfolding number_at
 sender_in_front old body len = let e = front_again old body 4 (omega (arith, len)) in omega (arith, e)
 
 pub keeps_message : (old : List ℕ) (n : Origin) → length old ≡ 20 → n.to ≢ number_at 4 1 old → OriginFits n → KeepsMessage old (take 5 old ++ origin_bytes n) n
-keeps_message old n len apart fits body from o m s =
-    let b = spelling from o m in
-    let sender : number_at 4 1 old ≡ from = sym (sender_in_front old body len) ∙ sender_spelled (old ++ body) from o m s in
+keeps_message old n len apart fits v body from o m s =
+    let b = spelling v from o m in
+    let sender : number_at 4 1 old ≡ from = sym (sender_in_front old body len) ∙ sender_spelled v (old ++ body) from o m s in
     let front : take 5 old ≡ take 5 b = sym (take-append-le 5 old body (omega (arith, len))) ∙ ap (take 5) s.is in
     let rest : body ≡ drop 20 b = sym (drop_at old body 20 len) ∙ ap (drop 20) s.is in
     record {
@@ -73,5 +74,6 @@ keeps_message old n len apart fits body from o m s =
         stamp_high = fits.stamp_high;
       };
       message = s.message;
-      is = (λ t. (front t ++ origin_bytes n) ++ rest t) ∙ sym (changed n (parts_of from o m)) ∙ ap parts_bytes (sym (reorigin_is from o n m));
+      sayable = s.sayable;
+      is = (λ t. (front t ++ origin_bytes n) ++ rest t) ∙ sym (changed n (parts_of v from o m)) ∙ ap parts_bytes (sym (reorigin_is v from o n m));
     }

@@ -1,34 +1,41 @@
 -- The frame of a message has no fault.
 use Rattle.std.proofs.Common.{◌≡◌, ℕ, ◌≤◌, Bool, true, false, cond, eqb, leb, List, [], ◌∷◌, length, drop, Ok, Err, refl, sym, ap, ◌∙◌, arith}
-use Rattle.std.specs.Prelude.{◌&&◌, not, Some, None}
+use Rattle.std.specs.Prelude.{◌&&◌, ◌||◌, not, Some, None}
 use Rattle.std.specs.List.{AllByRecursion}
 use Rattle.std.proofs.lemmas.Bool.{eqb-true, eq-eqb, le-leb, lt-ltb, and_from, le-ltb}
 use Rattle.ep_base.specs.Instances.{leader_of, number_of, IsInstance}
 use Rattle.ep_base.specs.Ballots.{counter_of, owner_of}
+use Rattle.ep_base.specs.Attributes.{same_list}
 use Rattle.ep_base.specs.Deps.{IsRising, IsBelowFirst}
+use Rattle.ep_base.specs.Interference.{is_swap}
+use Rattle.ep_base.specs.Versions.{version_number, version_of, highest_in, most_deps_in, IsEarlyInstance, AreEarlyDeps, IsEarlyDecree, IsEarly}
+use Rattle.ep_base.specs.declared.version.Version.{Version}
+use Rattle.ep_base.specs.declared.version.Version.TheVariants.{V1, V2}
+use Rattle.ep_base.proofs.Versions.{version_again}
 use Rattle.ep_base.specs.declared.attrs.Attrs.{Attrs}
 use Rattle.ep_base.specs.declared.decree.Decree.{Decree}
 use Rattle.ep_base.specs.declared.command.Command.{Command}
-use Rattle.ep_base.specs.declared.command.Command.TheVariants.{Noop, Get, Put, Del}
+use Rattle.ep_base.specs.declared.command.Command.TheVariants.{Noop, Get, Put, Del, Swap}
 use Rattle.ep_base.specs.declared.vote.Status.{Status}
 use Rattle.ep_base.specs.declared.vote.Status.TheVariants.{PreAccepted, Accepted, Committed}
 use Rattle.ep_base.specs.declared.message.Message.{Message}
 use Rattle.ep_base.specs.declared.message.Message.TheVariants.{PreAccept, PreAcceptOk, Accept, AcceptOk, Commit, Prepare, PrepareOk, Nack}
 use Rattle.ep_frame.specs.declared.fault.FrameFault.{FrameFault}
-use Rattle.ep_frame.specs.declared.fault.FrameFault.TheVariants.{Short, Field, Length, Order}
+use Rattle.ep_frame.specs.declared.fault.FrameFault.TheVariants.{Short, Field, Length, Order, SameKey}
 use Rattle.ep_frame.specs.declared.origin.Origin.{Origin}
 use Rattle.ep_frame.specs.Fields.{header_at, deps_in}
-use Rattle.ep_frame.specs.Faults.{◌>>◌, names_rows, ballot_rows, vote_rows, body_rows, within, are_deps, is_instance, precedes_first, header_fault, rest_fault, fault_of, frame_len, deps_place}
+use Rattle.ep_frame.specs.Faults.{◌>>◌, names_rows, ballot_rows, vote_rows, body_rows, within, checked, highest_op, are_deps, are_in, deps_allowed, has_same_keys, is_instance, precedes_first, header_fault, rest_fault, fault_of, frame_len, deps_place}
 use Rattle.ep_frame.specs.Spelling.{Parts, parts_at, parts_of, op_code, key_in, value_in, status_code, IsBallot, IsCommand, AreAttrs, IsDecree, IsMessage, IsOrigin, Spells}
 use Rattle.ep_frame.proofs.Rows.{AllPass, fine, all_pass, within-from, apart-from, choose, choose_other}
 use Rattle.ep_frame.proofs.Again.{PartsFit, parts_again, length-parts_bytes}
+use Rattle.ep_frame.proofs.Saying.{version_low, op_low, count_low, number_within, op_within, count_within, deps_within, early_of, differ_again}
 
 -- parts with these fields
-abbrev frame : (k from : ℕ) (o : Origin) (i counter replica status other_counter other_replica seq op : ℕ) (key value deps : List ℕ) → Parts
-frame k from o i counter replica status other_counter other_replica seq op key value deps = record {
+abbrev frame : (v : Version) (k from : ℕ) (o : Origin) (i counter replica status other_counter other_replica seq op : ℕ) (key value deps : List ℕ) → Parts
+frame v k from o i counter replica status other_counter other_replica seq op key value deps = record {
   header = record {
     magic = 17744;
-    version = 1;
+    version = version_number v;
     kind = k;
     from = from;
     to = o.to;
@@ -57,7 +64,8 @@ pub record Sound (p : Parts) : Type 0 where
   pub header : header_fault p.header ≡ fine
   pub fits : PartsFit p
   pub count : length p.deps ≡ p.header.count
-  pub deps : are_deps p.deps ≡ true
+  pub deps : deps_allowed (version_of p.header.version) p.deps ≡ true
+  pub keys_differ : (eqb p.header.op 5 && same_list p.key p.value) ≡ false
 
 -- three groups of fields, each with its rows
 
@@ -72,36 +80,45 @@ record VotePart (rows : List (FrameFault × Bool)) (status counter replica : ℕ
   counter_small : counter ≤ 60000
   replica_small : replica ≤ 6
 
-record BodyPart (rows : List (FrameFault × Bool)) (seq op : ℕ) (key value deps : List ℕ) : Type 0 where
+record BodyPart (v : Version) (rows : List (FrameFault × Bool)) (seq op : ℕ) (key value deps : List ℕ) : Type 0 where
   pass : AllPass rows
   seq_small : seq ≤ 1000000
-  op_small : op ≤ 4
+  op_small : op ≤ 5
   key_small : length key ≤ 255
   value_small : length value ≤ 1024
-  deps_small : length deps ≤ 7000
-  rising : are_deps deps ≡ true
+  deps_small : length deps ≤ 14000
+  rising : deps_allowed v deps ≡ true
+  keys_differ : (eqb op 5 && same_list key value) ≡ false
   instances : AllByRecursion IsInstance deps
 
-sound_frame : (k from : ℕ) (o : Origin) (i counter replica status other_counter other_replica seq op : ℕ) (key value deps : List ℕ) → IsOrigin from o → IsInstance i → 1 ≤ k → k ≤ 8
-    → BallotPart (ballot_rows (frame k from o i counter replica status other_counter other_replica seq op key value deps).header) counter replica
-    → VotePart (vote_rows (frame k from o i counter replica status other_counter other_replica seq op key value deps).header) status other_counter other_replica
-    → BodyPart (body_rows (frame k from o i counter replica status other_counter other_replica seq op key value deps).header) seq op key value deps
-    → Sound (frame k from o i counter replica status other_counter other_replica seq op key value deps)
+is_version : (v : Version) → (eqb (version_number v) 1 || eqb (version_number v) 2) ≡ true
+is_version V1 = refl
+is_version V2 = refl
+
+sound_frame : (v : Version) (k from : ℕ) (o : Origin) (i counter replica status other_counter other_replica seq op : ℕ) (key value deps : List ℕ) → IsOrigin from o → IsInstance i → 1 ≤ k → k ≤ 8
+    → BallotPart (ballot_rows v (frame v k from o i counter replica status other_counter other_replica seq op key value deps).header) counter replica
+    → VotePart (vote_rows (frame v k from o i counter replica status other_counter other_replica seq op key value deps).header) status other_counter other_replica
+    → BodyPart v (body_rows v (frame v k from o i counter replica status other_counter other_replica seq op key value deps).header) seq op key value deps
+    → Sound (frame v k from o i counter replica status other_counter other_replica seq op key value deps)
 unfolding header_fault
-sound_frame k from o i counter replica status other_counter other_replica seq op key value deps g n low high a v y =
-    let h = (frame k from o i counter replica status other_counter other_replica seq op key value deps).header in
+sound_frame v k from o i counter replica status other_counter other_replica seq op key value deps g n low high a w y =
+    let h = (frame v k from o i counter replica status other_counter other_replica seq op key value deps).header in
     let to : (leb o.to 6 && not (eqb o.to from)) ≡ true = and_from _ _ (le-leb _ _ g.receiver) (apart-from o.to from g.apart) in
     let stamp : within 1 281474976710655 o.stamp ≡ true = within-from 1 281474976710655 o.stamp g.stamp_low (omega (arith, g.stamp_high)) in
-    let names : AllPass (names_rows h) = (refl, (refl, (within-from 1 8 k low high, (le-leb _ _ g.sender, (to, (le-leb _ _ g.entry_low, (stamp, tt))))))) in
-    let e0 = all_pass (names_rows h) names in let e1 = all_pass (ballot_rows h) a.pass in let e2 = all_pass (vote_rows h) v.pass in let e3 = all_pass (body_rows h) y.pass in
+    let names : AllPass (names_rows h) = (refl, (is_version v, (within-from 1 8 k low high, (le-leb _ _ g.sender, (to, (le-leb _ _ g.entry_low, (stamp, tt))))))) in
+    let e0 = all_pass (names_rows h) names in
+    let e1 = ap (λ (u : Version). checked (ballot_rows u h)) (version_again v) ∙ all_pass (ballot_rows v h) a.pass in
+    let e2 = all_pass (vote_rows h) w.pass in
+    let e3 = ap (λ (u : Version). checked (body_rows u h)) (version_again v) ∙ all_pass (body_rows v h) y.pass in
+    let lowest = version_low v in
     record {
       header = λ t. e0 t >> (e1 t >> (e2 t >> e3 t));
       fits = record {
         header = record {
-          start = (omega arith, (omega arith, (omega arith, (omega (arith, g.sender), tt))));
+          start = (omega arith, (omega (arith, lowest), (omega arith, (omega (arith, g.sender), tt))));
           origin = (omega (arith, g.receiver), (omega (arith, g.out), (omega (arith, g.entry_high), (omega (arith, g.stamp_high), tt))));
           ballot = (omega (arith, n.0), (omega (arith, n.2), (omega (arith, a.counter_small), (omega (arith, a.replica_small), tt))));
-          vote = (omega (arith, v.status_small), (omega (arith, v.counter_small), (omega (arith, v.replica_small), tt)));
+          vote = (omega (arith, w.status_small), (omega (arith, w.counter_small), (omega (arith, w.replica_small), tt)));
           body = (omega (arith, y.seq_small), (omega (arith, y.op_small), (omega (arith, y.key_small), (omega (arith, y.value_small), (omega (arith, y.deps_small), tt)))));
         };
         key = refl;
@@ -109,7 +126,8 @@ sound_frame k from o i counter replica status other_counter other_replica seq op
         deps = y.instances;
       };
       count = refl;
-      deps = y.rising;
+      deps = ap (λ (u : Version). deps_allowed u deps) (version_again v) ∙ y.rising;
+      keys_differ = y.keys_differ;
     }
 
 -- ---- ballots
@@ -121,24 +139,32 @@ replica_from i least b h =
       | false ↦ λ t. le-leb _ _ h.replica
     ] refl
 
-abbrev ballot_rows_of : ℕ → Bool → Bool → List (FrameFault × Bool)
-ballot_rows_of i counter replica = (Field 20, leb (leader_of i) 6) ∷ (Field 21, within 1 1000 (number_of i)) ∷ (Field 23, counter) ∷ (Field 25, replica) ∷ []
+abbrev ballot_rows_of : Version → ℕ → Bool → Bool → List (FrameFault × Bool)
+ballot_rows_of v i counter replica = (Field 20, leb (leader_of i) 6) ∷ (Field 21, within 1 (highest_in v) (number_of i)) ∷ (Field 23, counter) ∷ (Field 25, replica) ∷ []
 
-ballot_rows_pass : (i : ℕ) (counter replica : Bool) → IsInstance i → counter ≡ true → replica ≡ true → AllPass (ballot_rows_of i counter replica)
-ballot_rows_pass i counter replica n c r = (le-leb _ _ n.0, (within-from 1 1000 (number_of i) n.1 n.2, (c, (r, tt))))
+-- an instance of the version
+record InstanceIs (v : Version) (i : ℕ) : Type 0 where
+  is : IsInstance i
+  high : number_of i ≤ highest_in v
+
+instance_is : (v : Version) (i : ℕ) → IsInstance i → (v ≡ V1 → IsEarlyInstance i) → InstanceIs v i
+instance_is v i h e = record { is = h; high = number_within v i h e }
+
+ballot_rows_pass : (v : Version) (i : ℕ) (counter replica : Bool) → InstanceIs v i → counter ≡ true → replica ≡ true → AllPass (ballot_rows_of v i counter replica)
+ballot_rows_pass v i counter replica n c r = (le-leb _ _ n.is.0, (within-from 1 (highest_in v) (number_of i) n.is.1 n.high, (c, (r, tt))))
 
 -- any ballot
-any_ballot : (i b : ℕ) → IsInstance i → IsBallot i 0 b
-    → BallotPart (ballot_rows_of i (leb (counter_of b) 60000) (cond (eqb (counter_of b) 0) (eqb (owner_of b) (leader_of i)) (leb (owner_of b) 6))) (counter_of b) (owner_of b)
-any_ballot i b n h = record { pass = ballot_rows_pass i _ _ n (le-leb _ _ h.high) (replica_from i 0 b h); counter_small = h.high; replica_small = h.replica }
+any_ballot : (v : Version) (i b : ℕ) → InstanceIs v i → IsBallot i 0 b
+    → BallotPart (ballot_rows_of v i (leb (counter_of b) 60000) (cond (eqb (counter_of b) 0) (eqb (owner_of b) (leader_of i)) (leb (owner_of b) 6))) (counter_of b) (owner_of b)
+any_ballot v i b n h = record { pass = ballot_rows_pass v i _ _ n (le-leb _ _ h.high) (replica_from i 0 b h); counter_small = h.high; replica_small = h.replica }
 
 -- one of a counter of 1 or more
-joined_ballot : (i b : ℕ) → IsInstance i → IsBallot i 1 b
-    → BallotPart (ballot_rows_of i (within 1 60000 (counter_of b)) (cond (eqb (counter_of b) 0) (eqb (owner_of b) (leader_of i)) (leb (owner_of b) 6))) (counter_of b) (owner_of b)
-joined_ballot i b n h = record { pass = ballot_rows_pass i _ _ n (within-from 1 60000 (counter_of b) h.low h.high) (replica_from i 1 b h); counter_small = h.high; replica_small = h.replica }
+joined_ballot : (v : Version) (i b : ℕ) → InstanceIs v i → IsBallot i 1 b
+    → BallotPart (ballot_rows_of v i (within 1 60000 (counter_of b)) (cond (eqb (counter_of b) 0) (eqb (owner_of b) (leader_of i)) (leb (owner_of b) 6))) (counter_of b) (owner_of b)
+joined_ballot v i b n h = record { pass = ballot_rows_pass v i _ _ n (within-from 1 60000 (counter_of b) h.low h.high) (replica_from i 1 b h); counter_small = h.high; replica_small = h.replica }
 
-no_ballot : (i : ℕ) → IsInstance i → BallotPart (ballot_rows_of i true true) 0 0
-no_ballot i n = record { pass = ballot_rows_pass i true true n refl refl; counter_small = omega arith; replica_small = omega arith }
+no_ballot : (v : Version) (i : ℕ) → InstanceIs v i → BallotPart (ballot_rows_of v i true true) 0 0
+no_ballot v i n = record { pass = ballot_rows_pass v i true true n refl refl; counter_small = omega arith; replica_small = omega arith }
 
 -- ---- votes
 
@@ -174,68 +200,88 @@ some_vote i s b h =
 rising_again : (ds : List ℕ) → IsRising ds → AllByRecursion IsInstance ds → are_deps ds ≡ true
 rising_again [] r h = refl
 rising_again (i ∷ is) r h =
-    let one : is_instance i ≡ true = and_from (leb (leader_of i) 6) (within 1 1000 (number_of i)) (le-leb _ _ h.0.0) (within-from 1 1000 (number_of i) h.0.1 h.0.2) in
+    let one : is_instance i ≡ true = and_from (leb (leader_of i) 6) (within 1 2000 (number_of i)) (le-leb _ _ h.0.0) (within-from 1 2000 (number_of i) h.0.1 h.0.2) in
     and_from (is_instance i && precedes_first i is) (are_deps is) (and_from (is_instance i) (precedes_first i is) one (first is r.0)) (rising_again is r.1 h.1)
   where
     first : (is : List ℕ) → IsBelowFirst i is → precedes_first i is ≡ true
     first [] h = refl
     first (j ∷ js) h = lt-ltb _ _ h
 
-record CommandPart (op : ℕ) (key value : List ℕ) : Type 0 where
+allowed_again : (v : Version) (ds : List ℕ) → IsRising ds → AllByRecursion IsInstance ds → (v ≡ V1 → AreEarlyDeps ds) → deps_allowed v ds ≡ true
+allowed_again v ds r h e = and_from (are_deps ds) (are_in v ds) (rising_again ds r h) (deps_within v ds e)
+
+record CommandPart (v : Version) (op : ℕ) (key value : List ℕ) : Type 0 where
   low : 1 ≤ op
-  high : op ≤ 4
-  key_row : cond (within 2 4 op) (within 1 255 (length key)) (eqb (length key) 0) ≡ true
-  value_row : cond (eqb op 3) (leb (length value) 1024) (eqb (length value) 0) ≡ true
+  high : op ≤ highest_op v
+  key_row : cond (within 2 5 op) (within 1 255 (length key)) (eqb (length key) 0) ≡ true
+  value_row : cond (eqb op 3) (leb (length value) 1024) (cond (eqb op 5) (within 1 255 (length value)) (eqb (length value) 0)) ≡ true
   key_small : length key ≤ 255
   value_small : length value ≤ 1024
+  keys_differ : (eqb op 5 && same_list key value) ≡ false
 
-command_part : (c : Command) → IsCommand c → CommandPart (op_code c) (key_in c) (value_in c)
-command_part Noop h = record { low = omega arith; high = omega arith; key_row = refl; value_row = refl; key_small = omega arith; value_small = omega arith }
-command_part (Get k) h = record { low = omega arith; high = omega arith; key_row = within-from 1 255 (length k) h.0 h.1; value_row = refl; key_small = h.1; value_small = omega arith }
-command_part (Put k v) h = record { low = omega arith; high = omega arith; key_row = within-from 1 255 (length k) h.0.0 h.0.1; value_row = le-leb _ _ h.1; key_small = h.0.1; value_small = h.1 }
-command_part (Del k) h = record { low = omega arith; high = omega arith; key_row = within-from 1 255 (length k) h.0 h.1; value_row = refl; key_small = h.1; value_small = omega arith }
+command_part : (v : Version) (c : Command) → IsCommand c → op_code c ≤ highest_op v → CommandPart v (op_code c) (key_in c) (value_in c)
+command_part v Noop h high = record { low = omega arith; high = high; key_row = refl; value_row = refl; key_small = omega arith; value_small = omega arith; keys_differ = refl }
+command_part v (Get k) h high = record { low = omega arith; high = high; key_row = within-from 1 255 (length k) h.0 h.1; value_row = refl; key_small = h.1; value_small = omega arith; keys_differ = refl }
+command_part v (Put k x) h high = record { low = omega arith; high = high; key_row = within-from 1 255 (length k) h.0.0 h.0.1; value_row = le-leb _ _ h.1; key_small = h.0.1; value_small = h.1; keys_differ = refl }
+command_part v (Del k) h high = record { low = omega arith; high = high; key_row = within-from 1 255 (length k) h.0 h.1; value_row = refl; key_small = h.1; value_small = omega arith; keys_differ = refl }
+command_part v (Swap p) h high = record {
+  low = omega arith;
+  high = high;
+  key_row = within-from 1 255 (length p.first) h.0.0 h.0.1;
+  value_row = within-from 1 255 (length p.second) h.1.0 h.1.1;
+  key_small = h.0.1;
+  value_small = omega (arith, h.1.1);
+  keys_differ = differ_again p.first p.second h.2;
+}
 
 -- the rows of a frame that has attributes or not, and a command or not
-abbrev body_rows_of : (attributes command : Bool) (seq op kl vl count : ℕ) → List (FrameFault × Bool)
-body_rows_of attributes command seq op kl vl count =
-    (Field 30, cond attributes (within 1 1000000 seq) (eqb seq 0)) ∷ (Field 34, cond command (within 1 4 op) (eqb op 0))
-    ∷ (Field 35, cond (within 2 4 op) (within 1 255 kl) (eqb kl 0)) ∷ (Field 36, cond (eqb op 3) (leb vl 1024) (eqb vl 0))
-    ∷ (Field 38, cond attributes (leb count 7000) (eqb count 0)) ∷ []
+abbrev body_rows_of : (v : Version) (attributes command : Bool) (seq op kl vl count : ℕ) → List (FrameFault × Bool)
+body_rows_of v attributes command seq op kl vl count =
+    (Field 30, cond attributes (within 1 1000000 seq) (eqb seq 0)) ∷ (Field 34, cond command (within 1 (highest_op v) op) (eqb op 0))
+    ∷ (Field 35, cond (within 2 5 op) (within 1 255 kl) (eqb kl 0)) ∷ (Field 36, cond (eqb op 3) (leb vl 1024) (cond (eqb op 5) (within 1 255 vl) (eqb vl 0)))
+    ∷ (Field 38, cond attributes (leb count (most_deps_in v)) (eqb count 0)) ∷ []
 
-decree_body : (attributes command : Bool) → attributes ≡ true → command ≡ true → (x : Decree) → IsDecree x
-    → BodyPart (body_rows_of attributes command x.attrs.seq (op_code x.command) (length (key_in x.command)) (length (value_in x.command)) (length x.attrs.deps))
+decree_body : (v : Version) (attributes command : Bool) → attributes ≡ true → command ≡ true → (x : Decree) → IsDecree x → (v ≡ V1 → IsEarlyDecree x)
+    → BodyPart v (body_rows_of v attributes command x.attrs.seq (op_code x.command) (length (key_in x.command)) (length (value_in x.command)) (length x.attrs.deps))
     x.attrs.seq (op_code x.command) (key_in x.command) (value_in x.command) x.attrs.deps
-decree_body attributes command ta tc x h =
-    let c = command_part x.command h.command in let a = h.attrs in
+decree_body v attributes command ta tc x h e =
+    let high : op_code x.command ≤ highest_op v = op_within v x.command (λ u. (e u).0) in
+    let c = command_part v x.command h.command high in let a = h.attrs in
+    let most = op_low v in
     record {
       pass = (
         choose _ _ _ ta (within-from 1 1000000 x.attrs.seq a.low a.high),
-        (choose _ _ _ tc (within-from 1 4 (op_code x.command) c.low c.high), (c.key_row, (c.value_row, (choose _ _ _ ta (le-leb _ _ a.few), tt)))),
+        (
+          choose _ _ _ tc (within-from 1 (highest_op v) (op_code x.command) c.low c.high),
+          (c.key_row, (c.value_row, (choose _ _ _ ta (le-leb _ _ (count_within v x.attrs.deps a.rising a.instances a.few (λ u. (e u).1))), tt))),
+        ),
       );
       seq_small = a.high;
-      op_small = c.high;
+      op_small = omega (arith, high, most);
       key_small = c.key_small;
       value_small = c.value_small;
       deps_small = a.few;
-      rising = rising_again x.attrs.deps a.rising a.instances;
+      rising = allowed_again v x.attrs.deps a.rising a.instances (λ u. (e u).1);
+      keys_differ = c.keys_differ;
       instances = a.instances;
     }
 
-attrs_body : (x : Attrs) → AreAttrs x → BodyPart (body_rows_of true false x.seq 0 0 0 (length x.deps)) x.seq 0 [] [] x.deps
-attrs_body x a =
+attrs_body : (v : Version) (x : Attrs) → AreAttrs x → (v ≡ V1 → AreEarlyDeps x.deps) → BodyPart v (body_rows_of v true false x.seq 0 0 0 (length x.deps)) x.seq 0 [] [] x.deps
+attrs_body v x a e =
     record {
-      pass = (within-from 1 1000000 x.seq a.low a.high, (refl, (refl, (refl, (le-leb _ _ a.few, tt)))));
+      pass = (within-from 1 1000000 x.seq a.low a.high, (refl, (refl, (refl, (le-leb _ _ (count_within v x.deps a.rising a.instances a.few e), tt)))));
       seq_small = a.high;
       op_small = omega arith;
       key_small = omega arith;
       value_small = omega arith;
       deps_small = a.few;
-      rising = rising_again x.deps a.rising a.instances;
+      rising = allowed_again v x.deps a.rising a.instances e;
+      keys_differ = refl;
       instances = a.instances;
     }
 
-no_body : BodyPart (body_rows_of false false 0 0 0 0 0) 0 0 [] [] []
-no_body =
+no_body : (v : Version) → BodyPart v (body_rows_of v false false 0 0 0 0 0) 0 0 [] [] []
+no_body v =
     record {
       pass = (refl, (refl, (refl, (refl, (refl, tt)))));
       seq_small = omega arith;
@@ -243,44 +289,61 @@ no_body =
       key_small = omega arith;
       value_small = omega arith;
       deps_small = omega arith;
-      rising = refl;
+      rising = allowed_again v [] tt tt (λ u. tt);
+      keys_differ = refl;
       instances = tt;
     }
 
 -- ---- messages
 
-pub sound : (from : ℕ) (o : Origin) (m : Message) → IsOrigin from o → IsMessage m → Sound (parts_of from o m)
-sound from o (PreAccept i b x) g m = sound_frame 1 from o i _ _ 0 0 0 _ _ _ _ _ g m.0 (omega arith) (omega arith) (any_ballot i b m.0 m.1) no_vote (decree_body true true refl refl x m.2)
-sound from o (PreAcceptOk i b a) g m = sound_frame 2 from o i _ _ 0 0 0 _ 0 [] [] _ g m.0 (omega arith) (omega arith) (any_ballot i b m.0 m.1) no_vote (attrs_body a m.2)
-sound from o (Accept i b x) g m = sound_frame 3 from o i _ _ 0 0 0 _ _ _ _ _ g m.0 (omega arith) (omega arith) (any_ballot i b m.0 m.1) no_vote (decree_body true true refl refl x m.2)
-sound from o (AcceptOk i b) g m = sound_frame 4 from o i _ _ 0 0 0 0 0 [] [] [] g m.0 (omega arith) (omega arith) (any_ballot i b m.0 m.1) no_vote no_body
-sound from o (Commit i x) g m = sound_frame 5 from o i 0 0 0 0 0 _ _ _ _ _ g m.0 (omega arith) (omega arith) (no_ballot i m.0) no_vote (decree_body true true refl refl x m.1)
-sound from o (Prepare i b) g m = sound_frame 6 from o i _ _ 0 0 0 0 0 [] [] [] g m.0 (omega arith) (omega arith) (joined_ballot i b m.0 m.1) no_vote no_body
-sound from o (PrepareOk i b None) g m =
-    sound_frame 7 from o i _ _ 0 0 (leader_of i) 0 0 [] [] [] g m.0 (omega arith) (omega arith) (joined_ballot i b m.0 m.1)
-    (record { pass = (refl, (refl, (eq-eqb (leader_of i) (leader_of i) refl, tt))); status_small = omega arith; counter_small = omega arith; replica_small = m.0.0 }) no_body
-sound from o (PrepareOk i b (Some v)) g m =
-    let has = ap not (has_status v.status) in
-    sound_frame 7 from o i _ _ (status_code v.status) (counter_of v.ballot) (owner_of v.ballot) _ _ _ _ _ g m.0 (omega arith) (omega arith) (joined_ballot i b m.0 m.1)
-    (some_vote i v.status v.ballot m.2.0) (decree_body (not (eqb (status_code v.status) 0)) (not (eqb (status_code v.status) 0)) has has v.decree m.2.1)
-sound from o (Nack i b p) g m =
-    sound_frame 8 from o i _ _ 0 (counter_of p) (owner_of p) 0 0 [] [] [] g m.0 (omega arith) (omega arith) (any_ballot i b m.0 m.1)
-    (record { pass = (refl, (within-from 1 60000 (counter_of p) m.2 m.3, (le-leb _ _ m.4, tt))); status_small = omega arith; counter_small = m.3; replica_small = m.4 }) no_body
+pub sound : (v : Version) (from : ℕ) (o : Origin) (m : Message) → IsOrigin from o → IsMessage m → (v ≡ V1 → IsEarly m) → Sound (parts_of v from o m)
+sound v from o (PreAccept i b x) g m e =
+    let n = instance_is v i m.0 (λ u. (e u).0) in
+    sound_frame v 1 from o i _ _ 0 0 0 _ _ _ _ _ g m.0 (omega arith) (omega arith) (any_ballot v i b n m.1) no_vote (decree_body v true true refl refl x m.2 (λ u. (e u).1))
+sound v from o (PreAcceptOk i b a) g m e =
+    let n = instance_is v i m.0 (λ u. (e u).0) in
+    sound_frame v 2 from o i _ _ 0 0 0 _ 0 [] [] _ g m.0 (omega arith) (omega arith) (any_ballot v i b n m.1) no_vote (attrs_body v a m.2 (λ u. (e u).1))
+sound v from o (Accept i b x) g m e =
+    let n = instance_is v i m.0 (λ u. (e u).0) in
+    sound_frame v 3 from o i _ _ 0 0 0 _ _ _ _ _ g m.0 (omega arith) (omega arith) (any_ballot v i b n m.1) no_vote (decree_body v true true refl refl x m.2 (λ u. (e u).1))
+sound v from o (AcceptOk i b) g m e =
+    let n = instance_is v i m.0 e in sound_frame v 4 from o i _ _ 0 0 0 0 0 [] [] [] g m.0 (omega arith) (omega arith) (any_ballot v i b n m.1) no_vote (no_body v)
+sound v from o (Commit i x) g m e =
+    let n = instance_is v i m.0 (λ u. (e u).0) in
+    sound_frame v 5 from o i 0 0 0 0 0 _ _ _ _ _ g m.0 (omega arith) (omega arith) (no_ballot v i n) no_vote (decree_body v true true refl refl x m.1 (λ u. (e u).1))
+sound v from o (Prepare i b) g m e =
+    let n = instance_is v i m.0 e in sound_frame v 6 from o i _ _ 0 0 0 0 0 [] [] [] g m.0 (omega arith) (omega arith) (joined_ballot v i b n m.1) no_vote (no_body v)
+sound v from o (PrepareOk i b None) g m e =
+    let n = instance_is v i m.0 (λ u. (e u).0) in
+    sound_frame v 7 from o i _ _ 0 0 (leader_of i) 0 0 [] [] [] g m.0 (omega arith) (omega arith) (joined_ballot v i b n m.1)
+    (record { pass = (refl, (refl, (eq-eqb (leader_of i) (leader_of i) refl, tt))); status_small = omega arith; counter_small = omega arith; replica_small = m.0.0 }) (no_body v)
+sound v from o (PrepareOk i b (Some x)) g m e =
+    let n = instance_is v i m.0 (λ u. (e u).0) in
+    let has = ap not (has_status x.status) in
+    sound_frame v 7 from o i _ _ (status_code x.status) (counter_of x.ballot) (owner_of x.ballot) _ _ _ _ _ g m.0 (omega arith) (omega arith) (joined_ballot v i b n m.1)
+    (some_vote i x.status x.ballot m.2.0) (decree_body v (not (eqb (status_code x.status) 0)) (not (eqb (status_code x.status) 0)) has has x.decree m.2.1 (λ u. (e u).1))
+sound v from o (Nack i b p) g m e =
+    let n = instance_is v i m.0 e in
+    sound_frame v 8 from o i _ _ 0 (counter_of p) (owner_of p) 0 0 [] [] [] g m.0 (omega arith) (omega arith) (any_ballot v i b n m.1)
+    (record { pass = (refl, (within-from 1 60000 (counter_of p) m.2 m.3, (le-leb _ _ m.4, tt))); status_small = omega arith; counter_small = m.3; replica_small = m.4 }) (no_body v)
 
-no_fault : (b : List ℕ) (p : Parts) → parts_at b ≡ p → 40 ≤ length b → length b ≡ frame_len p.header → header_fault p.header ≡ fine → are_deps p.deps ≡ true → fault_of b ≡ fine
+no_fault : (b : List ℕ) (p : Parts) → parts_at b ≡ p → 40 ≤ length b → length b ≡ frame_len p.header → header_fault p.header ≡ fine → deps_allowed (version_of p.header.version) p.deps ≡ true
+    → (eqb p.header.op 5 && same_list p.key p.value) ≡ false → fault_of b ≡ fine
 unfolding fault_of rest_fault
-no_fault b p is long len header deps =
+no_fault b p is long len header deps apart =
     let h : header_at b ≡ p.header = ap (λ q. q.header) is in
-    let d : are_deps (deps_in (drop (deps_place (header_at b)) b)) ≡ true = ap (λ q. are_deps q.deps) is ∙ deps in
+    let d : deps_allowed (version_of (header_at b).version) (deps_in (drop (deps_place (header_at b)) b)) ≡ true = ap (λ q. deps_allowed (version_of q.header.version) q.deps) is ∙ deps in
+    let k : has_same_keys (header_at b) b ≡ false = ap (λ q. eqb q.header.op 5 && same_list q.key q.value) is ∙ apart in
     let l : eqb (length b) (frame_len (header_at b)) ≡ true = eq-eqb _ _ (len ∙ ap frame_len (sym h)) in
-    ap (λ x. cond x (Err Short) (header_fault (header_at b) >> cond (eqb (length b) (frame_len (header_at b))) (cond (are_deps (deps_in (drop (deps_place (header_at b)) b))) (Ok tt) (Err Order)) (Err Length))) (le-ltb _ _ long)
-    ∙ (λ t. (ap header_fault h ∙ header) t >> cond (l t) (cond (d t) (Ok tt) (Err Order)) (Err Length))
+    ap (λ x. cond x (Err Short) (header_fault (header_at b) >> cond (eqb (length b) (frame_len (header_at b)))
+    (cond (deps_allowed (version_of (header_at b).version) (deps_in (drop (deps_place (header_at b)) b))) (cond (has_same_keys (header_at b) b) (Err SameKey) (Ok tt)) (Err Order)) (Err Length))) (le-ltb _ _ long)
+    ∙ (λ t. (ap header_fault h ∙ header) t >> cond (l t) (cond (d t) (cond (k t) (Err SameKey) (Ok tt)) (Err Order)) (Err Length))
 
 -- what is spelled has no fault
-pub frame_again : (b : List ℕ) (from : ℕ) (o : Origin) (m : Message) → Spells b from o m → fault_of b ≡ fine
-frame_again b from o m s =
-    let p = parts_of from o m in
-    let q = sound from o m s.origin s.message in
+pub frame_again : (v : Version) (b : List ℕ) (from : ℕ) (o : Origin) (m : Message) → Spells v b from o m → fault_of b ≡ fine
+frame_again v b from o m s =
+    let p = parts_of v from o m in
+    let q = sound v from o m s.origin s.message (early_of v m s.sayable) in
     let at : parts_at b ≡ p = ap parts_at s.is ∙ parts_again p q.fits in
     let len = ap length s.is ∙ length-parts_bytes p q.fits q.count in
-    no_fault b p at (omega (arith, len)) len q.header q.deps
+    no_fault b p at (omega (arith, len)) len q.header q.deps q.keys_differ

@@ -1,9 +1,13 @@
 -- What is wrong with the bytes of a frame: the first fault, from left to right.
-use Rattle.std.specs.Prelude.{ℕ, ◌+◌, ◌*◌, List, [], ◌∷◌, Bool, true, ◌&&◌, ◌||◌, not, ◌==◌, nat_le, nat_lt, if◌then◌else◌, length, drop, Result, Ok, Err, ◌≡◌}
-use Rattle.ep_base.specs.Instances.{leader_of, number_of}
+use Rattle.std.specs.Prelude.{ℕ, ◌+◌, ◌*◌, List, [], ◌∷◌, Bool, true, ◌&&◌, ◌||◌, not, ◌==◌, nat_le, nat_lt, if◌then◌else◌, length, take, drop, Result, Ok, Err, ◌≡◌}
+use Rattle.ep_base.specs.Attributes.{same_list}
+use Rattle.ep_base.specs.Instances.{leader_of, number_of, highest_number}
+use Rattle.ep_base.specs.Versions.{version_of, highest_in, most_deps_in}
+use Rattle.ep_base.specs.declared.version.Version.{Version}
+use Rattle.ep_base.specs.declared.version.Version.TheVariants.{V1, V2}
 use Rattle.ep_frame.specs.declared.header.Header.{Header}
 use Rattle.ep_frame.specs.declared.fault.FrameFault.{FrameFault}
-use Rattle.ep_frame.specs.declared.fault.FrameFault.TheVariants.{Short, Magic, Version, Kind, Field, Length, Order}
+use Rattle.ep_frame.specs.declared.fault.FrameFault.TheVariants.{Short, Magic, Version as OtherVersion, Kind, Field, Length, Order, SameKey}
 use Rattle.ep_frame.specs.Fields.{header_at, deps_in}
 
 abbrev pub within : ℕ → ℕ → ℕ → Bool
@@ -47,38 +51,43 @@ other_replica_allowed h =
 abbrev pub seq_allowed : Header → Bool
 seq_allowed h = if has_attributes h then within 1 1000000 h.seq else h.seq == 0
 
-abbrev pub op_allowed : Header → Bool
-op_allowed h = if has_command h then within 1 4 h.op else h.op == 0
+-- version 1 has no swap, which is 5
+abbrev pub highest_op : Version → ℕ
+highest_op V1 = 4
+highest_op V2 = 5
+
+abbrev pub op_allowed : Version → Header → Bool
+op_allowed v h = if has_command h then within 1 (highest_op v) h.op else h.op == 0
 
 abbrev pub key_len_allowed : Header → Bool
-key_len_allowed h = if within 2 4 h.op then within 1 255 h.key_len else h.key_len == 0
+key_len_allowed h = if within 2 5 h.op then within 1 255 h.key_len else h.key_len == 0
 
 abbrev pub value_len_allowed : Header → Bool
-value_len_allowed h = if h.op == 3 then nat_le h.value_len 1024 else h.value_len == 0
+value_len_allowed h = if h.op == 3 then nat_le h.value_len 1024 else if h.op == 5 then within 1 255 h.value_len else h.value_len == 0
 
-abbrev pub count_allowed : Header → Bool
-count_allowed h = if has_attributes h then nat_le h.count 7000 else h.count == 0
+abbrev pub count_allowed : Version → Header → Bool
+count_allowed v h = if has_attributes h then nat_le h.count (most_deps_in v) else h.count == 0
 
 -- the fields of the header in their order, each with whether it is allowed
 abbrev pub names_rows : Header → List (FrameFault × Bool)
 names_rows h =
-    (Magic, h.magic == 0x4550) ∷ (Version, h.version == 1) ∷ (Kind, within 1 8 h.kind)
+    (Magic, h.magic == 0x4550) ∷ (OtherVersion, h.version == 1 || h.version == 2) ∷ (Kind, within 1 8 h.kind)
     ∷ (Field 4, nat_le h.from 6) ∷ (Field 5, nat_le h.to 6 && not (h.to == h.from))
     ∷ (Field 8, nat_le 1 h.entry) ∷ (Field 12, within 1 281474976710655 h.stamp) ∷ []
 
-abbrev pub ballot_rows : Header → List (FrameFault × Bool)
-ballot_rows h =
-    (Field 20, nat_le h.leader 6) ∷ (Field 21, within 1 1000 h.number)
+abbrev pub ballot_rows : Version → Header → List (FrameFault × Bool)
+ballot_rows v h =
+    (Field 20, nat_le h.leader 6) ∷ (Field 21, within 1 (highest_in v) h.number)
     ∷ (Field 23, counter_allowed h) ∷ (Field 25, replica_allowed h) ∷ []
 
 abbrev pub vote_rows : Header → List (FrameFault × Bool)
 vote_rows h =
     (Field 26, status_allowed h) ∷ (Field 27, other_counter_allowed h) ∷ (Field 29, other_replica_allowed h) ∷ []
 
-abbrev pub body_rows : Header → List (FrameFault × Bool)
-body_rows h =
-    (Field 30, seq_allowed h) ∷ (Field 34, op_allowed h) ∷ (Field 35, key_len_allowed h)
-    ∷ (Field 36, value_len_allowed h) ∷ (Field 38, count_allowed h) ∷ []
+abbrev pub body_rows : Version → Header → List (FrameFault × Bool)
+body_rows v h =
+    (Field 30, seq_allowed h) ∷ (Field 34, op_allowed v h) ∷ (Field 35, key_len_allowed h)
+    ∷ (Field 36, value_len_allowed h) ∷ (Field 38, count_allowed v h) ∷ []
 
 -- the second where the first finds no fault
 infixr 10 ◌>>◌
@@ -94,9 +103,9 @@ checked (row ∷ rows) = if row.1 then checked rows else Err row.0
 unfoldable pub header_fault : Header → Result (Unit {0}) FrameFault
 header_fault h = do
   checked (names_rows h)
-  checked (ballot_rows h)
+  checked (ballot_rows (version_of h.version) h)
   checked (vote_rows h)
-  checked (body_rows h)
+  checked (body_rows (version_of h.version) h)
 
 abbrev pub deps_place : Header → ℕ
 deps_place h = 40 + h.key_len + h.value_len
@@ -105,7 +114,7 @@ abbrev pub frame_len : Header → ℕ
 frame_len h = deps_place h + 3 * h.count
 
 abbrev pub is_instance : ℕ → Bool
-is_instance i = nat_le (leader_of i) 6 && within 1 1000 (number_of i)
+is_instance i = nat_le (leader_of i) 6 && within 1 highest_number (number_of i)
 
 abbrev pub precedes_first : ℕ → List ℕ → Bool
 precedes_first i [] = true
@@ -116,10 +125,29 @@ abbrev pub are_deps : List ℕ → Bool
 are_deps [] = true
 are_deps (i ∷ is) = is_instance i && precedes_first i is && are_deps is
 
--- the length is that of the fields, and the deps are in order
+abbrev pub are_early : List ℕ → Bool
+are_early [] = true
+are_early (i ∷ is) = nat_le (number_of i) (highest_in V1) && are_early is
+
+-- the version has these instances: version 2 has all
+abbrev pub are_in : Version → List ℕ → Bool
+are_in V1 is = are_early is
+are_in V2 is = true
+
+-- the command is a swap, and both its keys are the same
+abbrev pub has_same_keys : Header → List ℕ → Bool
+has_same_keys h b = h.op == 5 && same_list (take h.key_len (drop 40 b)) (take h.value_len (drop (40 + h.key_len) b))
+
+-- the deps are in order, and of the version
+abbrev pub deps_allowed : Version → List ℕ → Bool
+deps_allowed v is = are_deps is && are_in v is
+
+-- the length is that of the fields, the deps are in order, and two keys differ
 unfoldable pub rest_fault : Header → List ℕ → Result (Unit {0}) FrameFault
 rest_fault h b =
-    if length b == frame_len h then (if are_deps (deps_in (drop (deps_place h) b)) then Ok tt else Err Order) else Err Length
+    if length b == frame_len h then
+    (if deps_allowed (version_of h.version) (deps_in (drop (deps_place h) b)) then (if has_same_keys h b then Err SameKey else Ok tt) else Err Order)
+    else Err Length
 
 unfoldable pub fault_of : List ℕ → Result (Unit {0}) FrameFault
 fault_of b = if nat_lt (length b) 40 then Err Short else do

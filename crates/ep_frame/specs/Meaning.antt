@@ -2,10 +2,12 @@
 use Rattle.std.specs.Prelude.{ℕ, List, Option, Some, None, ◌==◌, if◌then◌else◌}
 use Rattle.ep_base.specs.Instances.{instance_of}
 use Rattle.ep_base.specs.Ballots.{ballot_of}
+use Rattle.ep_base.specs.Versions.{version_of}
 use Rattle.ep_base.specs.declared.attrs.Attrs.{Attrs}
 use Rattle.ep_base.specs.declared.decree.Decree.{Decree}
 use Rattle.ep_base.specs.declared.command.Command.{Command}
-use Rattle.ep_base.specs.declared.command.Command.TheVariants.{Noop, Get, Put, Del}
+use Rattle.ep_base.specs.declared.command.Command.TheVariants.{Noop, Get, Put, Del, Swap}
+use Rattle.ep_base.specs.declared.version.Version.{Version}
 use Rattle.ep_base.specs.declared.vote.Vote.{Vote}
 use Rattle.ep_base.specs.declared.vote.Status.{Status}
 use Rattle.ep_base.specs.declared.vote.Status.TheVariants.{PreAccepted, Accepted, Committed}
@@ -32,8 +34,14 @@ other_in h = ballot_of h.other_counter h.other_replica
 abbrev pub attrs_of : Parts → Attrs
 attrs_of p = record { seq = p.header.seq; deps = p.deps }
 
+-- the second text is a put's value, or a swap's second key
 abbrev pub command_of : ℕ → List ℕ → List ℕ → Command
-command_of op key value = if op == 1 then Noop else if op == 2 then Get key else if op == 3 then Put key value else Del key
+command_of op key text =
+    if op == 1 then Noop
+    else if op == 2 then Get key
+    else if op == 3 then Put key text
+    else if op == 4 then Del key
+    else Swap (record { first = key; second = text })
 
 abbrev pub decree_of : Parts → Decree
 decree_of p = record { command = command_of p.header.op p.key p.value; attrs = attrs_of p }
@@ -57,6 +65,9 @@ message_of p =
     else Nack (instance_in p.header) (ballot_in p.header) (other_in p.header)
 
 -- what a frame's bytes stand for
+
+abbrev pub version_at : List ℕ → Version
+version_at b = version_of (parts_at b).header.version
 
 abbrev pub sender_at : List ℕ → ℕ
 sender_at b = (parts_at b).header.from

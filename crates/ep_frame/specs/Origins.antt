@@ -2,6 +2,7 @@
 use Rattle.std.specs.Prelude.{ℕ, ◌≤◌, ◌<◌, ◌^◌, List, ◌++◌}
 use Rattle.ep_frame.specs.declared.origin.Origin.{Origin}
 use Rattle.ep_base.specs.declared.message.Message.{Message}
+use Rattle.ep_base.specs.declared.version.Version.{Version}
 use Rattle.ep_frame.specs.Fields.{number_bytes}
 use Rattle.ep_frame.specs.Spelling.{Spells}
 
@@ -17,6 +18,6 @@ pub record OriginFits (o : Origin) : Type 0 where
   pub stamp_low : 1 ≤ o.stamp
   pub stamp_high : o.stamp < 2 ^ 48
 
--- whatever body follows: where the old front and the body spell a message, the new front and the body spell it, from the same sender and with this origin
+-- whatever body follows: where the old front and the body spell a message, the new front and the body spell it, in the same version, from the same sender and with this origin
 abbrev pub KeepsMessage : List ℕ → List ℕ → Origin → Type 0
-KeepsMessage old new n = (body : List ℕ) (from : ℕ) (o : Origin) (m : Message) → Spells (old ++ body) from o m → Spells (new ++ body) from n m
+KeepsMessage old new n = (v : Version) (body : List ℕ) (from : ℕ) (o : Origin) (m : Message) → Spells v (old ++ body) from o m → Spells v (new ++ body) from n m

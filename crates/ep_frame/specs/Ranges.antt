@@ -1,5 +1,5 @@
 -- The ranges of the fields that all kinds of frame have.
-use Rattle.std.specs.Prelude.{ℕ, ◌≡◌, ◌≤◌, List, length, true}
+use Rattle.std.specs.Prelude.{ℕ, ◌≡◌, ◌≢◌, ◌≤◌, List, length, true}
 use Rattle.ep_base.specs.Instances.{highest_number}
 use Rattle.ep_base.specs.Ballots.{highest_counter}
 use Rattle.ep_frame.specs.Faults.{has_attributes, has_command, are_deps}
@@ -15,7 +15,7 @@ pub record InRange (b : List ℕ) : Type 0 where
   pub stamp_high : number_at 12 8 b ≤ 281474976710655
   pub leader : number_at 20 1 b ≤ 6
   pub number_low : 1 ≤ number_at 21 2 b
-  pub number_high : number_at 21 2 b ≤ 1000
+  pub number_high : number_at 21 2 b ≤ highest_number
 
 -- what is known of the parts of a frame without a fault
 pub record Readable (p : Parts) : Type 0 where
@@ -29,8 +29,9 @@ pub record Readable (p : Parts) : Type 0 where
   pub seq_low : has_attributes p.header ≡ true → 1 ≤ p.header.seq
   pub seq_high : has_attributes p.header ≡ true → p.header.seq ≤ 1000000
   pub op_low : has_command p.header ≡ true → 1 ≤ p.header.op
-  pub op_high : p.header.op ≤ 4
+  pub op_high : p.header.op ≤ 5
   pub key_low : 2 ≤ p.header.op → 1 ≤ length p.key
   pub key_high : length p.key ≤ 255
   pub value : length p.value ≤ 1024
+  pub swap : p.header.op ≡ 5 → (1 ≤ length p.value) × (length p.value ≤ 255) × (p.key ≢ p.value)
   pub deps : are_deps p.deps ≡ true

@@ -1,15 +1,17 @@
--- The one spelling of each message.
-use Rattle.std.specs.Prelude.{ℕ, ◌+◌, ◌≡◌, ◌≢◌, ◌≤◌, ◌<◌, ◌^◌, List, [], ◌++◌, length, take, drop, Option, Some, None, slice_index, slice_range}
+-- The one spelling of each message, in each version.
+use Rattle.std.specs.Prelude.{ℕ, ◌+◌, ◌≡◌, ◌≢◌, ◌≤◌, ◌<◌, ◌^◌, List, [], ◌++◌, length, take, drop, Option, Some, None, ◌==◌, if◌then◌else◌, slice_index, slice_range}
 use Rattle.std.specs.List.{flat_map}
 use Rattle.ep_base.specs.Instances.{leader_of, number_of, IsInstance}
 use Rattle.ep_base.specs.Ballots.{counter_of, owner_of, highest_counter}
 use Rattle.ep_base.specs.Deps.{IsRising, AreInstances, most_deps}
+use Rattle.ep_base.specs.Versions.{version_number, CanSay}
 use Rattle.ep_base.specs.declared.command.Command.{Command}
-use Rattle.ep_base.specs.declared.command.Command.TheVariants.{Noop, Get, Put, Del}
+use Rattle.ep_base.specs.declared.command.Command.TheVariants.{Noop, Get, Put, Del, Swap}
 use Rattle.ep_base.specs.declared.attrs.Attrs.{Attrs}
 use Rattle.ep_base.specs.declared.decree.Decree.{Decree}
 use Rattle.ep_base.specs.declared.message.Message.{Message}
 use Rattle.ep_base.specs.declared.message.Message.TheVariants.{PreAccept, PreAcceptOk, Accept, AcceptOk, Commit, Prepare, PrepareOk, Nack}
+use Rattle.ep_base.specs.declared.version.Version.{Version}
 use Rattle.ep_base.specs.declared.vote.Vote.{Vote}
 use Rattle.ep_base.specs.declared.vote.Status.{Status}
 use Rattle.ep_base.specs.declared.vote.Status.TheVariants.{PreAccepted, Accepted, Committed}
@@ -17,7 +19,7 @@ use Rattle.ep_frame.specs.declared.header.Header.{Header}
 use Rattle.ep_frame.specs.declared.origin.Origin.{Origin}
 use Rattle.ep_frame.specs.Fields.{header_bytes, header_at, dep_bytes, deps_in}
 
--- a frame's fields, and the bytes and instances after them
+-- a frame's fields, and the bytes and instances after them. The value of a swap is its second key
 pub record Parts : Type 0 where
   pub header : Header
   pub key : List ℕ
@@ -27,12 +29,18 @@ pub record Parts : Type 0 where
 abbrev pub parts_bytes : Parts → List ℕ
 parts_bytes p = header_bytes p.header ++ p.key ++ p.value ++ flat_map dep_bytes p.deps
 
--- where the key and the value lie
+-- where the key lies, and what is after it: a put's value, or a swap's second key
 abbrev pub key_at : List ℕ → List ℕ
 key_at b = slice_range b 40 (40 + (header_at b).key_len)
 
+abbrev pub text_at : List ℕ → List ℕ
+text_at b = slice_range b (40 + (header_at b).key_len) (40 + (header_at b).key_len + (header_at b).value_len)
+
 abbrev pub value_at : List ℕ → List ℕ
-value_at b = slice_range b (40 + (header_at b).key_len) (40 + (header_at b).key_len + (header_at b).value_len)
+value_at b = if (header_at b).op == 5 then [] else text_at b
+
+abbrev pub second_key_at : List ℕ → List ℕ
+second_key_at b = if (header_at b).op == 5 then text_at b else []
 
 -- the parts of a frame's bytes
 abbrev pub parts_at : List ℕ → Parts
@@ -40,12 +48,12 @@ parts_at b =
     let h = header_at b in
     record { header = h; key = take h.key_len (drop 40 b); value = take h.value_len (drop (40 + h.key_len) b); deps = deps_in (drop (40 + h.key_len + h.value_len) b) }
 
--- a frame of this kind in which all that a kind may leave out is zero
-abbrev pub blank : ℕ → Origin → ℕ → ℕ → Parts
-blank from o kind i = record {
+-- a frame of this version and kind in which all that a kind may leave out is zero
+abbrev pub blank : Version → ℕ → Origin → ℕ → ℕ → Parts
+blank v from o kind i = record {
   header = record {
     magic = 0x4550;
-    version = 1;
+    version = version_number v;
     kind = kind;
     from = from;
     to = o.to;
@@ -87,18 +95,21 @@ op_code Noop = 1
 op_code (Get key) = 2
 op_code (Put key value) = 3
 op_code (Del key) = 4
+op_code (Swap keys) = 5
 
 abbrev pub key_in : Command → List ℕ
 key_in Noop = []
 key_in (Get key) = key
 key_in (Put key value) = key
 key_in (Del key) = key
+key_in (Swap keys) = keys.first
 
 abbrev pub value_in : Command → List ℕ
 value_in Noop = []
 value_in (Get key) = []
 value_in (Put key value) = value
 value_in (Del key) = []
+value_in (Swap keys) = keys.second
 
 abbrev pub with_decree : Decree → Parts → Parts
 with_decree x p = with_attrs x.attrs (with_op (op_code x.command) (key_in x.command) (value_in x.command) p)
@@ -114,19 +125,19 @@ with_vote i None p = with_other 0 0 (leader_of i) p
 with_vote i (Some v) p = with_decree v.decree (with_other (status_code v.status) (counter_of v.ballot) (owner_of v.ballot) p)
 
 -- the parts of the message's frame
-abbrev pub parts_of : ℕ → Origin → Message → Parts
-parts_of from o (PreAccept i b x) = with_decree x (with_ballot b (blank from o 1 i))
-parts_of from o (PreAcceptOk i b a) = with_attrs a (with_ballot b (blank from o 2 i))
-parts_of from o (Accept i b x) = with_decree x (with_ballot b (blank from o 3 i))
-parts_of from o (AcceptOk i b) = with_ballot b (blank from o 4 i)
-parts_of from o (Commit i x) = with_decree x (blank from o 5 i)
-parts_of from o (Prepare i b) = with_ballot b (blank from o 6 i)
-parts_of from o (PrepareOk i b v) = with_vote i v (with_ballot b (blank from o 7 i))
-parts_of from o (Nack i refused promised) = with_other 0 (counter_of promised) (owner_of promised) (with_ballot refused (blank from o 8 i))
+abbrev pub parts_of : Version → ℕ → Origin → Message → Parts
+parts_of v from o (PreAccept i b x) = with_decree x (with_ballot b (blank v from o 1 i))
+parts_of v from o (PreAcceptOk i b a) = with_attrs a (with_ballot b (blank v from o 2 i))
+parts_of v from o (Accept i b x) = with_decree x (with_ballot b (blank v from o 3 i))
+parts_of v from o (AcceptOk i b) = with_ballot b (blank v from o 4 i)
+parts_of v from o (Commit i x) = with_decree x (blank v from o 5 i)
+parts_of v from o (Prepare i b) = with_ballot b (blank v from o 6 i)
+parts_of v from o (PrepareOk i b x) = with_vote i x (with_ballot b (blank v from o 7 i))
+parts_of v from o (Nack i refused promised) = with_other 0 (counter_of promised) (owner_of promised) (with_ballot refused (blank v from o 8 i))
 
 -- the bytes of the message's frame
-abbrev pub spelling : ℕ → Origin → Message → List ℕ
-spelling from o m = parts_bytes (parts_of from o m)
+abbrev pub spelling : Version → ℕ → Origin → Message → List ℕ
+spelling v from o m = parts_bytes (parts_of v from o m)
 
 -- what has a spelling
 
@@ -148,6 +159,7 @@ IsCommand Noop = Unit {0}
 IsCommand (Get key) = IsKey key
 IsCommand (Put key value) = IsKey key × (length value ≤ 1024) × AreBytes value
 IsCommand (Del key) = IsKey key
+IsCommand (Swap keys) = IsKey keys.first × IsKey keys.second × (keys.first ≢ keys.second)
 
 pub record AreAttrs (a : Attrs) : Type 0 where
   pub low : 1 ≤ a.seq
@@ -184,12 +196,13 @@ pub record IsOrigin (from : ℕ) (o : Origin) : Type 0 where
   pub stamp_low : 1 ≤ o.stamp
   pub stamp_high : o.stamp < 2 ^ 48
 
--- the bytes are the frame that the sender `from` sends with this origin for the message m
-pub record Spells (bytes : List ℕ) (from : ℕ) (o : Origin) (m : Message) : Type 0 where
+-- the bytes are the frame of version v that the sender `from` sends with this origin for the message m
+pub record Spells (v : Version) (bytes : List ℕ) (from : ℕ) (o : Origin) (m : Message) : Type 0 where
   pub origin : IsOrigin from o
   pub message : IsMessage m
-  pub is : bytes ≡ spelling from o m
+  pub sayable : CanSay v m
+  pub is : bytes ≡ spelling v from o m
 
--- the bytes are the frame of some message
+-- the bytes are the frame of some message, in some version
 abbrev pub IsFrame : List ℕ → Type 0
-IsFrame b = (from : ℕ) × (o : Origin) × (m : Message) × Spells b from o m
+IsFrame b = (v : Version) × (from : ℕ) × (o : Origin) × (m : Message) × Spells v b from o m

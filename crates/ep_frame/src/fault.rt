@@ -11,7 +11,7 @@ pub enum FrameFault {
     /// The first two bytes are not `EP`.
     #[error("not a frame")]
     Magic,
-    /// Byte 2 is not 1.
+    /// Byte 2 is neither 1 nor 2.
     #[error("unknown version")]
     Version,
     /// Byte 3 is not 1 to 8.
@@ -23,7 +23,10 @@ pub enum FrameFault {
     /// The length is not that of the header, the key, the value and three bytes to each dependency.
     #[error("wrong length")]
     Length,
-    /// A dependency is no instance, or is not above the one before it.
+    /// A dependency is no instance of the version, or is not above the one before it.
     #[error("the dependencies are not in order")]
     Order,
+    /// The two keys of a swap are the same.
+    #[error("the two keys are the same")]
+    SameKey,
 }

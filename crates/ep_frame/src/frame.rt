@@ -3,19 +3,19 @@
 ghost use Rattle.std.specs.Prelude.{◌≡◌, Ok, Err, IfOk, IsOk, MatchResult};
 ghost use Rattle.ep_base.specs.Messages.{instance_of_message};
 ghost use Rattle.ep_frame.specs.Faults.{HasNoFault, fault_of};
-ghost use Rattle.ep_frame.specs.Meaning.{sender_at, origin_at, instance_at, message_at};
+ghost use Rattle.ep_frame.specs.Meaning.{version_at, sender_at, origin_at, instance_at, message_at};
 ghost use Rattle.ep_frame.specs.Spelling.{IsFrame, Spells};
 
 use crate::fault::FrameFault;
 use crate::origin::Origin;
 use crate::view::FrameView;
 use bytes::Bytes;
-use ep_base::{InstanceId, ReplicaId};
+use ep_base::{InstanceId, ReplicaId, Version};
 use std::alloc::AllocError;
 use std::marker::Model;
 
-/// A frame: shared bytes that spell one message, from one sender and with one origin. The bytes are checked once, when it
-/// is read.
+/// A frame: shared bytes that spell one message, in one version, from one sender and with one origin. The bytes are checked
+/// once, when it is read.
 #[derive(Drop)]
 pub struct Frame {
     bytes: Bytes,
@@ -37,7 +37,7 @@ impl Frame {
     pub fn read(bytes: Bytes) -> Result<Frame, FrameFault>
         ensures exact { MatchResult result (λ f. fault_of bytes ≡ Ok tt) (λ f. fault_of bytes ≡ Err f) }
         // What is read spells the message that its fields tell.
-        ensures found { IfOk result (λ _. Spells bytes (sender_at bytes) (origin_at bytes) (message_at bytes)) }
+        ensures found { IfOk result (λ _. Spells (version_at bytes) bytes (sender_at bytes) (origin_at bytes) (message_at bytes)) }
         // What spells a message is read.
         ensures only { IsFrame bytes → IsOk result }
         ensures frame { IfOk result (λ f. f ≡ bytes) }
@@ -57,7 +57,7 @@ impl Frame {
     /// The frame, borrowed. Nothing is checked again.
     pub fn view(&self) -> FrameView<'_>
         ensures value { result ≡ self.now }
-        ensures spelled { Spells self.now (sender_at self.now) (origin_at self.now) (message_at self.now) }
+        ensures spelled { Spells (version_at self.now) self.now (sender_at self.now) (origin_at self.now) (message_at self.now) }
         ensures frame { IsFrame self.now }
     {
         FrameView::known(self.bytes.as_slice())
@@ -75,6 +75,13 @@ impl Frame {
         ensures { result ≡ self }
     {
         self.bytes
+    }
+
+    /// The version that the frame is of.
+    pub fn version(&self) -> Version
+        ensures { result ≡ version_at self.now }
+    {
+        self.view().version()
     }
 
     /// The replica that sent the frame.

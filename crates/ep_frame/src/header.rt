@@ -1,18 +1,20 @@
 //! The header of a frame.
 
 ghost use Rattle.std.specs.Prelude.{◌≡◌, ◌≤◌, ◌<◌, ◌^◌, [], ◌∷◌, length};
+ghost use Rattle.ep_base.specs.Versions.{version_of};
 ghost use Rattle.ep_frame.specs.Fields.{header_at};
-ghost use Rattle.ep_frame.specs.Faults.{checked, names_rows, ballot_rows, vote_rows, body_rows, has_attributes, has_command, counter_allowed, replica_allowed, status_allowed, other_counter_allowed, other_replica_allowed, seq_allowed, op_allowed, key_len_allowed, value_len_allowed, count_allowed, header_fault, deps_place, frame_len};
+ghost use Rattle.ep_frame.specs.Faults.{checked, names_rows, ballot_rows, vote_rows, body_rows, has_attributes, has_command, counter_allowed, replica_allowed, status_allowed, other_counter_allowed, other_replica_allowed, seq_allowed, highest_op, op_allowed, key_len_allowed, value_len_allowed, count_allowed, header_fault, deps_place, frame_len};
 
 use crate::fault::FrameFault;
 use crate::numbers::{u8_at, u16_at, u32_at, u64_at};
+use ep_base::Version;
 
 /// The fields of a frame's first 40 bytes, in their order. All numbers stand with their highest byte first.
 #[derive(Clone, Copy, Debug, PartialEq, Eq)]
 pub struct Header {
     /// The bytes `EP`, 0x4550.
     pub magic: u16,
-    /// The version, 1.
+    /// The version, 1 or 2.
     pub version: u8,
     /// The kind of message, 1 to 8.
     pub kind: u8,
@@ -28,7 +30,7 @@ pub struct Header {
     pub stamp: u64,
     /// The instance's leader, 0 to 6.
     pub leader: u8,
-    /// The instance's number, 1 to 1,000.
+    /// The instance's number, 1 to 2,000; in version 1 to 1,000.
     pub number: u16,
     /// The counter of the ballot that is led, answered or refused, 0 to 60,000; 0 in a commit.
     pub counter: u16,
@@ -42,13 +44,13 @@ pub struct Header {
     pub other_replica: u8,
     /// The sequence number, 1 to 1,000,000; 0 in a message without attributes.
     pub seq: u32,
-    /// The command: 1 no-op, 2 get, 3 put, 4 del; 0 in a message without a command.
+    /// The command: 1 no-op, 2 get, 3 put, 4 del, and in version 2 also 5 swap; 0 in a message without a command.
     pub op: u8,
-    /// How many bytes the key has, 1 to 255; 0 without a key.
+    /// How many bytes the key, of a swap the first one, has, 1 to 255; 0 without a key.
     pub key_len: u8,
-    /// How many bytes the value has, 0 to 1,024.
+    /// How many bytes a put's value has, 0 to 1,024, or a swap's second key, 1 to 255; else 0.
     pub value_len: u16,
-    /// How many dependencies there are, 0 to 7,000.
+    /// How many dependencies there are, 0 to 14,000; in version 1 to 7,000.
     pub count: u16,
 }
 
@@ -56,6 +58,16 @@ fn check(allowed: bool, fault: FrameFault) -> Result<(), FrameFault>
     ensures { result ≡ checked ((fault, allowed) ∷ []) }
 {
     if allowed { Ok(()) } else { Err(fault) }
+}
+
+// The last command of the version.
+fn highest_op(version: Version) -> u8
+    ensures { result ≡ highest_op version }
+{
+    match version {
+        Version::V1 => 4,
+        Version::V2 => 5,
+    }
 }
 
 impl Header {
@@ -87,6 +99,17 @@ impl Header {
         }
     }
 
+    /// The version that the frame is of.
+    pub fn version(&self) -> Version
+        ensures { result ≡ version_of self.now.version }
+    {
+        if self.version == 1 {
+            Version::V1
+        } else {
+            Version::V2
+        }
+    }
+
     /// Whether the message carries attributes: a pre-accept, its answer, an accept, a commit, or an answer to a Prepare with a vote.
     pub fn has_attributes(&self) -> bool
         ensures { result ≡ has_attributes self.now }
@@ -105,7 +128,7 @@ impl Header {
         ensures { result ≡ checked (names_rows self.now) }
     {
         check(self.magic == 0x4550, FrameFault::Magic)?;
-        check(self.version == 1, FrameFault::Version)?;
+        check(self.version == 1 || self.version == 2, FrameFault::Version)?;
         check(self.kind >= 1 && self.kind <= 8, FrameFault::Kind)?;
         check(self.from <= 6, FrameFault::Field(4))?;
         check(self.to <= 6 && self.to != self.from, FrameFault::Field(5))?;
@@ -136,12 +159,12 @@ impl Header {
         }
     }
 
-    fn check_ballot(&self) -> Result<(), FrameFault>
-        ensures { result ≡ checked (ballot_rows self.now) }
+    fn check_ballot(&self, version: Version) -> Result<(), FrameFault>
+        ensures { result ≡ checked (ballot_rows version self.now) }
     {
         check(self.leader <= 6, FrameFault::Field(20))?;
         check(
-            self.number >= 1 && self.number <= 1000,
+            self.number >= 1 && self.number <= version.highest_number(),
             FrameFault::Field(21),
         )?;
         check(self.counter_allowed(), FrameFault::Field(23))?;
@@ -197,11 +220,11 @@ impl Header {
         }
     }
 
-    fn op_allowed(&self) -> bool
-        ensures { result ≡ op_allowed self.now }
+    fn op_allowed(&self, version: Version) -> bool
+        ensures { result ≡ op_allowed version self.now }
     {
         if self.has_command() {
-            self.op >= 1 && self.op <= 4
+            self.op >= 1 && self.op <= highest_op(version)
         } else {
             self.op == 0
         }
@@ -210,7 +233,7 @@ impl Header {
     fn key_len_allowed(&self) -> bool
         ensures { result ≡ key_len_allowed self.now }
     {
-        if self.op >= 2 && self.op <= 4 {
+        if self.op >= 2 && self.op <= 5 {
             self.key_len >= 1
         } else {
             self.key_len == 0
@@ -220,31 +243,31 @@ impl Header {
     fn value_len_allowed(&self) -> bool
         ensures { result ≡ value_len_allowed self.now }
     {
-        if self.op == 3 {
-            self.value_len <= 1024
-        } else {
-            self.value_len == 0
+        match self.op {
+            3 => self.value_len <= 1024,
+            5 => self.value_len >= 1 && self.value_len <= 255,
+            _ => self.value_len == 0,
         }
     }
 
-    fn count_allowed(&self) -> bool
-        ensures { result ≡ count_allowed self.now }
+    fn count_allowed(&self, version: Version) -> bool
+        ensures { result ≡ count_allowed version self.now }
     {
         if self.has_attributes() {
-            self.count <= 7000
+            self.count <= version.most_deps()
         } else {
             self.count == 0
         }
     }
 
-    fn check_body(&self) -> Result<(), FrameFault>
-        ensures { result ≡ checked (body_rows self.now) }
+    fn check_body(&self, version: Version) -> Result<(), FrameFault>
+        ensures { result ≡ checked (body_rows version self.now) }
     {
         check(self.seq_allowed(), FrameFault::Field(30))?;
-        check(self.op_allowed(), FrameFault::Field(34))?;
+        check(self.op_allowed(version), FrameFault::Field(34))?;
         check(self.key_len_allowed(), FrameFault::Field(35))?;
         check(self.value_len_allowed(), FrameFault::Field(36))?;
-        check(self.count_allowed(), FrameFault::Field(38))
+        check(self.count_allowed(version), FrameFault::Field(38))
     }
 
     /// The first field that isn't allowed.
@@ -253,9 +276,10 @@ impl Header {
         ensures { result ≡ header_fault self.now }
     {
         self.check_names()?;
-        self.check_ballot()?;
+        let version = self.version();
+        self.check_ballot(version)?;
         self.check_vote()?;
-        self.check_body()
+        self.check_body(version)
     }
 
     /// Where the dependencies begin.

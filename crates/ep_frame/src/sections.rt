@@ -1,6 +1,6 @@
 //! What a frame's bytes have, on the way to its message.
 
-ghost use Rattle.std.specs.Prelude.{◌≡◌, ◌≤◌, IfOk, true, length};
+ghost use Rattle.std.specs.Prelude.{◌≡◌, ◌≢◌, ◌≤◌, IfOk, true, length};
 ghost use Rattle.ep_base.specs.Instances.{highest_number};
 ghost use Rattle.ep_base.specs.Ballots.{ballot_of, highest_counter};
 ghost use Rattle.ep_frame.specs.Fields.{deps_in};
@@ -57,18 +57,21 @@ fn made_status(status: u8) -> Status
     }
 }
 
-fn made_command(alloc: Global, op: u8, key: &[u8], value: &[u8]) -> Result<Command, AllocError>
+fn made_command(alloc: Global, op: u8, key: &[u8], text: &[u8]) -> Result<Command, AllocError>
     requires low { 1 ≤ op }
+    requires high { op ≤ 5 }
     requires key_low { 2 ≤ op → 1 ≤ length key.now }
     requires key_high { length key.now ≤ 255 }
-    requires value { length value.now ≤ 1024 }
-    ensures { IfOk result (λ c. c ≡ command_of op key.now value.now) }
+    requires text { length text.now ≤ 1024 }
+    requires swap { op ≡ 5 → (1 ≤ length text.now) × (length text.now ≤ 255) × (key.now ≢ text.now) }
+    ensures { IfOk result (λ c. c ≡ command_of op key.now text.now) }
 {
     let made = match op {
         1 => Ok(Command::noop()),
         2 => Command::get(alloc, key),
-        3 => Command::put(alloc, key, value),
-        _ => Command::del(alloc, key),
+        3 => Command::put(alloc, key, text),
+        4 => Command::del(alloc, key),
+        _ => Command::swap(alloc, key, text),
     };
     match made {
         Ok(command) => Ok(command),

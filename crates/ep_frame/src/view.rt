@@ -3,13 +3,13 @@
 ghost use Rattle.std.specs.Prelude.{◌≡◌, ◌≤◌, ◌+◌, ◌*◌, ◌↔◌, Ok, Err, IfOk, IsOk, IfSome, IsSome, IsTrue, MatchResult, length, drop};
 ghost use Rattle.ep_base.specs.Instances.{instance_of, highest_number};
 ghost use Rattle.ep_base.specs.Messages.{instance_of_message};
-ghost use Rattle.ep_frame.specs.Faults.{HasNoFault, are_deps, fault_of, is_instance, rest_fault, deps_place, frame_len};
+ghost use Rattle.ep_frame.specs.Faults.{HasNoFault, are_deps, are_early, are_in, deps_allowed, has_same_keys, fault_of, is_instance, rest_fault, deps_place, frame_len};
 ghost use Rattle.ep_frame.specs.DepBytes.{deps_at};
 ghost use Rattle.ep_frame.specs.Fields.{deps_in, header_at, number_at};
-ghost use Rattle.ep_frame.specs.Spelling.{IsFrame, Spells, key_at, value_at, parts_at};
+ghost use Rattle.ep_frame.specs.Spelling.{IsFrame, Spells, key_at, text_at, value_at, second_key_at, parts_at};
 ghost use Rattle.ep_frame.specs.Layouts.{parts_read};
 ghost use Rattle.ep_frame.specs.Ranges.{InRange};
-ghost use Rattle.ep_frame.specs.Meaning.{sender_at, origin_at, instance_at, message_at};
+ghost use Rattle.ep_frame.specs.Meaning.{version_at, sender_at, origin_at, instance_at, message_at};
 
 use crate::deps_view::DepsView;
 use crate::fault::FrameFault;
@@ -17,11 +17,11 @@ use crate::header::Header;
 use crate::numbers::{u8_at, u16_at, u32_at, u64_at};
 use crate::origin::Origin;
 use crate::sections::Sections;
-use ep_base::{InstanceId, Message, ReplicaId, Stamp};
+use ep_base::{InstanceId, Message, ReplicaId, Stamp, Version};
 use std::alloc::{AllocError, Global};
 use std::marker::Model;
 
-/// The bytes of a frame, borrowed. A frame spells one message, from one sender and with one origin.
+/// The bytes of a frame, borrowed. A frame spells one message, in one version, from one sender and with one origin.
 #[derive(Drop)]
 pub struct FrameView<'a> {
     bytes: &'a [u8],
@@ -70,7 +70,50 @@ fn deps_rise(bytes: &[u8]) -> bool
     true
 }
 
-/// Whether the length is that of the fields, and the dependencies are in order.
+// Whether all of these dependencies are numbered to 1,000.
+fn are_early(bytes: &[u8]) -> bool
+    ensures { result ≡ are_early (deps_in bytes.now) }
+{
+    let mut rest = bytes;
+    while let [_, high, low, after @ ..] = rest {
+        if u16::from_be_bytes([*high, *low]) > 1000 {
+            return false;
+        }
+        rest = after;
+    }
+    true
+}
+
+// Whether the version has these dependencies, all of which are instances.
+fn are_in(version: Version, bytes: &[u8]) -> bool
+    ensures { result ≡ are_in version (deps_in bytes.now) }
+{
+    match version {
+        Version::V1 => are_early(bytes),
+        Version::V2 => true,
+    }
+}
+
+// Whether they are dependencies of the version, in rising order.
+fn deps_allowed(version: Version, bytes: &[u8]) -> bool
+    ensures { result ≡ deps_allowed version (deps_in bytes.now) }
+{
+    deps_rise(bytes) && are_in(version, bytes)
+}
+
+// Whether the command is a swap, and both its keys are the same.
+#[tactic(auto, using(crate::proofs::Deps::part_of))]
+fn has_same_keys(header: &Header, bytes: &[u8]) -> bool
+    requires { length bytes.now ≡ frame_len header.now }
+    ensures { result ≡ has_same_keys header.now bytes.now }
+{
+    let place = 40 + header.key_len as usize;
+    let key = &bytes[40..place];
+    let text = &bytes[place..header.deps_place()];
+    header.op == 5 && key == text
+}
+
+/// Whether the length is that of the fields, the dependencies are in order, and two keys differ.
 #[tactic(auto, using(crate::proofs::Deps::rest_of), unfolding(crate::specs::Faults::rest_fault))]
 fn check_rest(header: &Header, bytes: &[u8]) -> Result<(), FrameFault>
     ensures { result ≡ rest_fault header.now bytes.now }
@@ -78,8 +121,11 @@ fn check_rest(header: &Header, bytes: &[u8]) -> Result<(), FrameFault>
     if bytes.len() != header.len() {
         return Err(FrameFault::Length);
     }
-    if !deps_rise(&bytes[header.deps_place()..]) {
+    if !deps_allowed(header.version(), &bytes[header.deps_place()..]) {
         return Err(FrameFault::Order);
+    }
+    if has_same_keys(header, bytes) {
+        return Err(FrameFault::SameKey);
     }
     Ok(())
 }
@@ -106,14 +152,39 @@ fn key_in(bytes: &[u8]) -> &[u8]
     &bytes[40..end]
 }
 
+// What stands after the key: a put's value, or a swap's second key.
+fn text_in(bytes: &[u8]) -> &[u8]
+    requires long { 40 ≤ length bytes.now }
+    requires whole { length bytes.now ≡ frame_len (header_at bytes.now) }
+    ensures { result.now ≡ text_at bytes.now }
+{
+    let start = 40 + u8_at(bytes, 35) as usize;
+    let end = start + u16_at(bytes, 36) as usize;
+    &bytes[start..end]
+}
+
 fn value_in(bytes: &[u8]) -> &[u8]
     requires long { 40 ≤ length bytes.now }
     requires whole { length bytes.now ≡ frame_len (header_at bytes.now) }
     ensures { result.now ≡ value_at bytes.now }
 {
-    let start = 40 + u8_at(bytes, 35) as usize;
-    let end = start + u16_at(bytes, 36) as usize;
-    &bytes[start..end]
+    if u8_at(bytes, 34) == 5 {
+        &[]
+    } else {
+        text_in(bytes)
+    }
+}
+
+fn second_key_in(bytes: &[u8]) -> &[u8]
+    requires long { 40 ≤ length bytes.now }
+    requires whole { length bytes.now ≡ frame_len (header_at bytes.now) }
+    ensures { result.now ≡ second_key_at bytes.now }
+{
+    if u8_at(bytes, 34) == 5 {
+        text_in(bytes)
+    } else {
+        &[]
+    }
 }
 
 /// The replica of this number.
@@ -196,7 +267,7 @@ fn sections_in(bytes: &[u8]) -> Sections<'_>
     Sections {
         header,
         key: key_in(bytes),
-        value: value_in(bytes),
+        value: text_in(bytes),
         deps: &bytes[header.deps_place()..],
     }
 }
@@ -216,7 +287,7 @@ fn rest_in(bytes: &[u8]) -> &[u8]
 fn message_in(alloc: Global, bytes: &[u8]) -> Result<Message, AllocError>
     requires { HasNoFault bytes.now }
     ensures value { IfOk result (λ m. m ≡ message_at bytes.now) }
-    ensures spelled { IfOk result (λ m. Spells bytes.now (sender_at bytes.now) (origin_at bytes.now) m) }
+    ensures spelled { IfOk result (λ m. Spells (version_at bytes.now) bytes.now (sender_at bytes.now) (origin_at bytes.now) m) }
 {
     let message = sections_in(bytes).message(alloc)?;
     Ok(message)
@@ -227,7 +298,7 @@ impl<'a> FrameView<'a> {
     pub fn read(bytes: &'a [u8]) -> Result<FrameView<'a>, FrameFault>
         ensures exact { MatchResult result (λ v. fault_of bytes.now ≡ Ok tt) (λ f. fault_of bytes.now ≡ Err f) }
         // What is read spells the message that its fields tell.
-        ensures found { IfOk result (λ _. Spells bytes.now (sender_at bytes.now) (origin_at bytes.now) (message_at bytes.now)) }
+        ensures found { IfOk result (λ _. Spells (version_at bytes.now) bytes.now (sender_at bytes.now) (origin_at bytes.now) (message_at bytes.now)) }
         // What spells a message is read.
         ensures only { IsFrame bytes.now → IsOk result }
         ensures view { IfOk result (λ v. v ≡ bytes.now) }
@@ -240,10 +311,17 @@ impl<'a> FrameView<'a> {
     pub(crate) fn known(bytes: &'a [u8]) -> FrameView<'a>
         requires { HasNoFault bytes.now }
         ensures value { result ≡ bytes.now }
-        ensures spelled { Spells bytes.now (sender_at bytes.now) (origin_at bytes.now) (message_at bytes.now) }
+        ensures spelled { Spells (version_at bytes.now) bytes.now (sender_at bytes.now) (origin_at bytes.now) (message_at bytes.now) }
         ensures frame { IsFrame bytes.now }
     {
         FrameView { bytes }
+    }
+
+    /// The version that the frame is of.
+    pub fn version(&self) -> Version
+        ensures { result ≡ version_at self.now }
+    {
+        self.header().version()
     }
 
     /// The fields of the first 40 bytes.
@@ -278,18 +356,26 @@ impl<'a> FrameView<'a> {
         instance_in(self.bytes)
     }
 
-    /// The bytes of the key: those from place 40 on that the header counts. None where the frame has no key.
+    /// The bytes of the key, of a swap the first one: those from place 40 on that the header counts. None where the frame has
+    /// no key.
     pub fn key(&self) -> &'a [u8]
         ensures { result.now ≡ key_at self.now }
     {
         key_in(self.bytes)
     }
 
-    /// The bytes of the value: those after the key that the header counts.
+    /// The bytes of the value: those after the key that the header counts. None in a swap.
     pub fn value(&self) -> &'a [u8]
         ensures { result.now ≡ value_at self.now }
     {
         value_in(self.bytes)
+    }
+
+    /// The bytes of a swap's second key, which stand in the value's place. None where the frame has no swap.
+    pub fn second_key(&self) -> &'a [u8]
+        ensures { result.now ≡ second_key_at self.now }
+    {
+        second_key_in(self.bytes)
     }
 
     #[tactic(auto, using(crate::proofs::Frames::frame_long, crate::proofs::Frames::frame_whole, crate::proofs::Frames::frame_deps))]
@@ -303,7 +389,7 @@ impl<'a> FrameView<'a> {
     /// The message that the bytes spell.
     pub fn to_message(&self, alloc: Global) -> Result<Message, AllocError>
         ensures value { IfOk result (λ m. m ≡ message_at self.now) }
-        ensures spelled { IfOk result (λ m. Spells self.now (sender_at self.now) (origin_at self.now) m) }
+        ensures spelled { IfOk result (λ m. Spells (version_at self.now) self.now (sender_at self.now) (origin_at self.now) m) }
     {
         message_in(alloc, self.bytes)
     }

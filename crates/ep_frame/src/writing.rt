@@ -5,6 +5,7 @@ ghost use Rattle.std.specs.List.{flat_map};
 ghost use Rattle.ep_frame.specs.Fields.{spelled, start_fields, origin_fields, ballot_fields, vote_fields, body_fields, header_bytes, dep_bytes};
 ghost use Rattle.ep_frame.specs.Spelling.{Spells, parts_bytes};
 ghost use Rattle.ep_base.specs.Fitting.{BallotsFit};
+ghost use Rattle.ep_base.specs.Versions.{CanSay};
 ghost use Rattle.ep_frame.specs.Layouts.{parts_in};
 
 use crate::frame::Frame;
@@ -13,7 +14,7 @@ use crate::layout::Layout;
 use crate::numbers::{put_u8, put_u16, put_u32, put_u64};
 use crate::origin::Origin;
 use bytes::BytesMut;
-use ep_base::{InstanceId, Message, ReplicaId};
+use ep_base::{InstanceId, Message, ReplicaId, Version};
 use std::alloc::{AllocError, Global};
 
 fn put_start(out: &mut BytesMut, header: &Header) -> Result<(), AllocError>
@@ -97,12 +98,14 @@ fn put_parts(out: &mut BytesMut, parts: &Layout<'_>) -> Result<(), AllocError>
     put_deps(out, parts.deps)
 }
 
-/// The frame of the message, from this sender and with this origin.
+/// The frame of the message in this version, from this sender and with this origin.
 ///
 /// The caller sees to what the types leave open: the receiver is another replica than the sender, entries are numbered
-/// from 1, a ballot of counter 0 is the instance's leader's, and no such ballot is prepared or promised.
+/// from 1, a ballot of counter 0 is the instance's leader's, no such ballot is prepared or promised, and the version can
+/// say the message.
 pub fn write(
     alloc: Global,
+    version: Version,
     from: ReplicaId,
     message: &Message,
     origin: Origin,
@@ -110,9 +113,10 @@ pub fn write(
     requires apart { origin.to ≢ from }
     requires entry { 1 ≤ origin.entry }
     requires ballots { BallotsFit message.now }
-    ensures { IfOk result (λ f. Spells f from origin message.now) }
+    requires sayable { CanSay version message.now }
+    ensures { IfOk result (λ f. Spells version f from origin message.now) }
 {
-    let parts = Layout::of(from, origin, message);
+    let parts = Layout::of(version, from, origin, message);
     let mut out = BytesMut::with_capacity(alloc, parts.header.len())?;
     put_parts(&mut out, &parts)?;
     Ok(Frame::written(out.freeze()?))

@@ -2,44 +2,52 @@ ghost use Rattle.std.specs.Prelude.{◌≡◌, ◌≢◌, ◌≤◌, ◌<◌};
 ghost use Rattle.ep_base.specs.Fitting.{BallotsFit};
 ghost use Rattle.ep_base.specs.Instances.{instance_of};
 ghost use Rattle.ep_base.specs.Ballots.{ballot_of};
+ghost use Rattle.ep_base.specs.Versions.{CanSay};
 
 use bytes::Bytes;
 use ep_base::{
-    Attrs, Ballot, Command, Decree, Deps, InstanceId, Message, ReplicaId, Seq, Stamp, Status, Vote,
+    Attrs, Ballot, Command, Decree, Deps, InstanceId, Message, ReplicaId, Seq, Stamp, Status,
+    Version, Vote,
 };
 use ep_frame::*;
 use std::alloc::Global;
 use std::process::Abort;
 use std::test::*;
 
-// `put x 1` proposed at replica 0 in instance 0.1 and told to replica 1.
+// In version 2: `put x 1` proposed at replica 0 in instance 0.1 and told to replica 1.
 const PRE_ACCEPT: [u8; 42] = [
-    0x45, 0x50, 1, 1, 0, 1, 0, 0, 0, 0, 0, 1, 0, 0, 0, 0, 0, 0, 0, 1, 0, 0, 1, 0, 0, 0, 0, 0, 0, 0,
+    0x45, 0x50, 2, 1, 0, 1, 0, 0, 0, 0, 0, 1, 0, 0, 0, 0, 0, 0, 0, 1, 0, 0, 1, 0, 0, 0, 0, 0, 0, 0,
     0, 0, 0, 1, 3, 1, 0, 1, 0, 0, 0x78, 0x31,
 ];
 
 // Replica 1's answer to it.
 const PRE_ACCEPT_OK: [u8; 40] = [
-    0x45, 0x50, 1, 2, 1, 0, 0, 0, 0, 0, 0, 1, 0, 0, 0, 0, 0, 0, 0, 2, 0, 0, 1, 0, 0, 0, 0, 0, 0, 0,
+    0x45, 0x50, 2, 2, 1, 0, 0, 0, 0, 0, 0, 1, 0, 0, 0, 0, 0, 0, 0, 2, 0, 0, 1, 0, 0, 0, 0, 0, 0, 0,
     0, 0, 0, 1, 0, 0, 0, 0, 0, 0,
 ];
 
 // Its answer where it knows of an interfering command in 1.1.
 const WITH_DEP: [u8; 43] = [
-    0x45, 0x50, 1, 2, 1, 0, 0, 0, 0, 0, 0, 2, 0, 0, 0, 0, 0, 0, 0, 2, 0, 0, 1, 0, 0, 0, 0, 0, 0, 0,
+    0x45, 0x50, 2, 2, 1, 0, 0, 0, 0, 0, 0, 2, 0, 0, 0, 0, 0, 0, 0, 2, 0, 0, 1, 0, 0, 0, 0, 0, 0, 0,
     0, 0, 0, 2, 0, 0, 0, 0, 0, 1, 1, 0, 1,
 ];
 
 // Its refusal, where it has promised the ballot of counter 1 that replica 2 leads.
 const NACK: [u8; 40] = [
-    0x45, 0x50, 1, 8, 1, 0, 0, 0, 0, 0, 0, 4, 0, 0, 0, 0, 0, 0, 0, 7, 0, 0, 1, 0, 0, 0, 0, 0, 1, 2,
+    0x45, 0x50, 2, 8, 1, 0, 0, 0, 0, 0, 0, 4, 0, 0, 0, 0, 0, 0, 0, 7, 0, 0, 1, 0, 0, 0, 0, 0, 1, 2,
     0, 0, 0, 0, 0, 0, 0, 0, 0, 0,
 ];
 
 // Replica 3's answer to replica 2's Prepare.
 const PREPARE_OK: [u8; 42] = [
-    0x45, 0x50, 1, 7, 3, 2, 0, 0, 0, 0, 0, 3, 0, 0, 0, 0, 0, 0, 0, 4, 0, 0, 1, 0, 1, 2, 1, 0, 0, 0,
+    0x45, 0x50, 2, 7, 3, 2, 0, 0, 0, 0, 0, 3, 0, 0, 0, 0, 0, 0, 0, 4, 0, 0, 1, 0, 1, 2, 1, 0, 0, 0,
     0, 0, 0, 1, 3, 1, 0, 1, 0, 0, 0x78, 0x31,
+];
+
+// `swap x y` there.
+const SWAP: [u8; 42] = [
+    0x45, 0x50, 2, 1, 0, 1, 0, 0, 0, 0, 0, 1, 0, 0, 0, 0, 0, 0, 0, 1, 0, 0, 1, 0, 0, 0, 0, 0, 0, 0,
+    0, 0, 0, 1, 5, 1, 0, 1, 0, 0, 0x78, 0x79,
 ];
 
 fn fault(bytes: &[u8]) -> Option<FrameFault> {
@@ -111,7 +119,8 @@ fn pre_accept_ok(rt: &impl Abort, attrs: Attrs) -> Message
 }
 
 fn nack(rt: &impl Abort) -> Message
-    ensures { BallotsFit result }
+    ensures ballots { BallotsFit result }
+    ensures early { CanSay Version.V1 result }
 {
     Message::Nack {
         instance: instance(rt, 0, 1),
@@ -153,7 +162,10 @@ fn assert_written(
     requires entry { 1 ≤ origin.entry }
     requires ballots { BallotsFit message }
 {
-    let frame = write(alloc, replica(rt, from), &message, origin).expect(rt, "memory for a frame");
+    let frame = write(alloc, Version::V2, replica(rt, from), &message, origin).expect(
+        rt,
+        "memory for a frame",
+    );
     assert_eq!(rt; frame.as_slice(), expected);
 }
 
@@ -256,6 +268,104 @@ fn nack_is_written(rt: HostRuntime) {
     assert_written(&rt, rt.alloc(), 1, origin(&rt, 0, 4, 7), nack(&rt), &NACK);
 }
 
+/// A frame of version 1.
+fn assert_first_version(rt: &impl Abort, alloc: Global) {
+    let message = nack(rt);
+    let frame = write(
+        alloc,
+        Version::V1,
+        replica(rt, 1),
+        &message,
+        origin(rt, 0, 4, 7),
+    )
+    .expect(rt, "memory for a frame");
+    assert_eq!(rt; frame.version(), Version::V1);
+    let mut expected = NACK;
+    expected[2] = 1;
+    assert_eq!(rt; frame.as_slice(), &expected[..]);
+}
+
+#[test]
+fn a_frame_of_version_1_is_written(rt: HostRuntime) {
+    assert_first_version(&rt, rt.alloc());
+}
+
+fn swap(rt: &impl Abort, alloc: Global) -> Message
+    ensures { BallotsFit result }
+{
+    let command = Command::swap(alloc, b"x", b"y").expect(rt, "a command");
+    Message::PreAccept {
+        instance: instance(rt, 0, 1),
+        ballot: ballot(rt, 0, 0),
+        decree: Decree {
+            command,
+            attrs: attrs(rt, alloc, 1),
+        },
+    }
+}
+
+#[test]
+fn a_swap_is_written(rt: HostRuntime) {
+    let message = swap(&rt, rt.alloc());
+    assert_written(&rt, rt.alloc(), 0, origin(&rt, 1, 1, 1), message, &SWAP);
+}
+
+#[test]
+fn a_swap_is_read(rt: HostRuntime) {
+    let view = view(&rt, &SWAP);
+    assert_eq!(rt; view.version(), Version::V2);
+    assert_eq!(rt; view.second_key(), b"y".as_slice());
+    assert_pair(&rt, view, b"x", b"");
+}
+
+/// The swap with other bytes at these places.
+fn swap_with(changes: &[(usize, u8)]) -> [u8; 42] {
+    let mut bytes = SWAP;
+    for (place, byte) in changes {
+        if *place < 42 {
+            bytes[*place] = *byte;
+        }
+    }
+    bytes
+}
+
+#[test]
+fn a_wrong_swap_is_told(rt: HostRuntime) {
+    assert_eq!(rt; fault(&swap_with(&[(41, 0x78)])), Some(FrameFault::SameKey));
+    assert_eq!(rt; fault(&swap_with(&[(2, 1)])), Some(FrameFault::Field(34)));
+    assert_eq!(rt; fault(&swap_with(&[(35, 0)])), Some(FrameFault::Field(35)));
+    assert_eq!(rt; fault(&swap_with(&[(37, 0)])), Some(FrameFault::Field(36)));
+    assert_eq!(rt; fault(&swap_with(&[(36, 1)])), Some(FrameFault::Field(36)));
+    assert_eq!(rt; fault(&swap_with(&[(34, 6)])), Some(FrameFault::Field(34)));
+    assert_eq!(rt; fault(&swap_with(&[(39, 1)])), Some(FrameFault::Length));
+}
+
+// The number 1,001 stands in version 2 alone.
+#[test]
+fn a_number_is_of_its_version(rt: HostRuntime) {
+    assert_eq!(rt; fault(&swap_with(&[(21, 3), (22, 0xe9)])), None);
+    let mut first = PRE_ACCEPT_OK;
+    first[2] = 1;
+    assert_eq!(rt; fault(&first), None);
+    first[21] = 3;
+    first[22] = 0xe8;
+    assert_eq!(rt; fault(&first), None);
+    first[22] = 0xe9;
+    assert_eq!(rt; fault(&first), Some(FrameFault::Field(21)));
+}
+
+#[test]
+fn a_dependency_is_of_its_version(rt: HostRuntime) {
+    let mut bytes = WITH_DEP;
+    bytes[41] = 3;
+    bytes[42] = 0xe9;
+    assert_eq!(rt; fault(&bytes), None);
+    bytes[2] = 1;
+    assert_eq!(rt; fault(&bytes), Some(FrameFault::Order));
+    bytes[42] = 0xe8;
+    assert_eq!(rt; fault(&bytes), None);
+}
+
 #[test]
 fn prepare_ok_is_written(rt: HostRuntime) {
     let message = prepare_ok(&rt, rt.alloc());
@@ -288,7 +398,7 @@ fn longest(rt: &impl Abort, alloc: Global, key: &[u8], value: &[u8]) -> Message
     let command = Command::put(alloc, key, value).expect(rt, "a command");
     let attrs = attrs(rt, alloc, 1_000_000);
     Message::Commit {
-        instance: instance(rt, 6, 1000),
+        instance: instance(rt, 6, 2000),
         decree: Decree { command, attrs },
     }
 }
@@ -304,10 +414,14 @@ fn assert_read_whole(
 )
     requires { BallotsFit message }
 {
-    let frame = write(alloc, replica(rt, 6), &message, origin(rt, 5, 1, 1)).expect(
-        rt,
-        "memory for a frame",
-    );
+    let frame = write(
+        alloc,
+        Version::V2,
+        replica(rt, 6),
+        &message,
+        origin(rt, 5, 1, 1),
+    )
+    .expect(rt, "memory for a frame");
     assert_eq!(rt; frame.as_slice().len(), count);
     assert_pair(rt, frame.view(), key, value);
 }
@@ -368,7 +482,7 @@ fn equal_dependencies_are_told(rt: HostRuntime) {
 
 // An answer with the dependencies 0.2, 1.1 and 6.1000.
 const THREE_DEPS: [u8; 49] = [
-    0x45, 0x50, 1, 2, 1, 0, 0, 0, 0, 0, 0, 2, 0, 0, 0, 0, 0, 0, 0, 2, 0, 0, 1, 0, 0, 0, 0, 0, 0, 0,
+    0x45, 0x50, 2, 2, 1, 0, 0, 0, 0, 0, 0, 2, 0, 0, 0, 0, 0, 0, 0, 2, 0, 0, 1, 0, 0, 0, 0, 0, 0, 0,
     0, 0, 0, 2, 0, 0, 0, 0, 0, 3, 0, 0, 2, 1, 0, 1, 6, 3, 0xe8,
 ];
 
@@ -434,7 +548,8 @@ fn vote_told(message: &Message) -> Option<(u8, usize)> {
             vote: Some(vote),
             ..
         } => {
-            let key = vote.decree.command.key()?;
+            let (key, _) = vote.decree.command.keys();
+            let key = key?;
             Some((vote.ballot.replica().index(), key.as_slice().len()))
         }
         _ => None,
@@ -495,7 +610,8 @@ fn wrong_at(place: usize, byte: u8) -> [u8; 42]
 #[test]
 fn a_wrong_header_is_left(rt: HostRuntime) {
     assert_left(&rt, wrong_at(1, 0x51), FrameFault::Magic);
-    assert_left(&rt, wrong_at(2, 2), FrameFault::Version);
+    assert_left(&rt, wrong_at(2, 0), FrameFault::Version);
+    assert_left(&rt, wrong_at(2, 3), FrameFault::Version);
     assert_left(&rt, wrong_at(3, 9), FrameFault::Kind);
     assert_left(&rt, wrong_at(4, 7), FrameFault::Field(4));
     assert_left(&rt, wrong_at(26, 1), FrameFault::Field(26));

@@ -1,11 +1,13 @@
 -- A host's journals and receipts are accepted.
-use Rattle.std.proofs.Common.{◌≡◌, ℕ, zero, suc, ◌+◌, ◌<◌, ◌≤◌, List, [], ◌∷◌, ◌++◌, ◌⊎◌, inl, inr, Some, Result, Ok, Err, length, get_or, slice_get, refl, sym, ap, subst, ◌∙◌, arith, Contains, All, append_assoc, ⊎_elim, IfOk}
+use Rattle.std.proofs.Common.{◌≡◌, ℕ, zero, suc, ◌+◌, ◌<◌, ◌≤◌, List, [], ◌∷◌, ◌++◌, ◌⊎◌, inl, inr, Result, Ok, Err, length, get_or, refl, sym, ap, subst, ◌∙◌, arith, Contains, All, append_assoc, ⊎_elim, IfOk}
 use Rattle.std.proofs.lemmas.List.{append-nil}
 use Rattle.std.proofs.lemmas.List.Elements.{Contains-append_cases, Contains-push_cases, Contains-push, Contains-append_left, Contains-append_right}
 use Rattle.std.proofs.lemmas.Bool.{cases_lt}
 use Rattle.std.specs.declared.alloc.AllocError.{AllocError}
 use Rattle.ep_audit.specs.Audited.{IsAudited}
 use Rattle.ep_base.specs.Quorums.{size}
+use Rattle.ep_base.specs.declared.version.Version.{Version}
+use Rattle.ep_base.specs.declared.version.Version.TheVariants.{V2}
 use Rattle.ep_rules.specs.Audits.{IsAccepted}
 use Rattle.ep_rules.specs.Steps.{Frame, Handle as Handles}
 use Rattle.ep_rules.specs.Worlds.{In}
@@ -90,10 +92,10 @@ module _ (f : ℕ) (nodes : List Node) (host : IsHost f nodes) (know : All Knows
   journal_is : (r : ℕ) → their_journals (replicas_in nodes) r ≡ entries_of (get_or nodes r blank).replica.entries
   journal_is r = ap entries_of (entries_is nodes r)
 
-  runs_at : (r : ℕ) → r < length nodes → IsJournal f r (get_or nodes r blank).replica.entries
+  runs_at : (r : ℕ) → r < length nodes → IsJournal V2 f r (get_or nodes r blank).replica.entries
   runs_at r low = let j = (know r blank low).journal in
-      subst (λ (q : ℕ). IsJournal f q (get_or nodes r blank).replica.entries) (host.me r blank low)
-      (subst (λ (q : ℕ). IsJournal q (get_or nodes r blank).replica.me (get_or nodes r blank).replica.entries) (host.faults r blank low) j)
+      subst (λ (q : ℕ). IsJournal V2 f q (get_or nodes r blank).replica.entries) (host.me r blank low)
+      (subst (λ (q : ℕ). IsJournal V2 q (get_or nodes r blank).replica.me (get_or nodes r blank).replica.entries) (host.faults r blank low) j)
 
   clocked_at : (r : ℕ) → AreClocked 0 (their_journals (replicas_in nodes) r)
   clocked_at r = ⊎_elim
@@ -169,39 +171,39 @@ receipts_more nodes n receipts more was is =
     is ∙ ap (λ (l : List Receipt). l ++ own) was ∙ ap (λ (l : List Receipt). their_receipts (replicas_in nodes) ++ l) (sym (append-nil own)) ∙ sym (receipts_both (replicas_in nodes) (n.replica ∷ [])) ∙ ap their_receipts (sym (replicas_both nodes (n ∷ [])))
 
 -- the journal of one node more
-pub logs_more : (nodes : List Node) (n : Node) (l : Log) (logs more : List Log) → logs ≡ logs_of (replicas_in nodes) → l.faults ≡ n.replica.faults → l.me ≡ n.replica.me → l.entries ≡ n.replica.entries → more ≡ logs ++ l ∷ [] → more ≡ logs_of (replicas_in (nodes ++ n ∷ []))
-logs_more nodes n l logs more was faults me entries is =
-    let same : l ≡ log_of n.replica = (λ t. record { faults = faults t; me = me t; entries = entries t }) in
+pub logs_more : (nodes : List Node) (n : Node) (l : Log) (logs more : List Log) → logs ≡ logs_of (replicas_in nodes) → l.version ≡ V2 → l.faults ≡ n.replica.faults → l.me ≡ n.replica.me → l.entries ≡ n.replica.entries → more ≡ logs ++ l ∷ [] → more ≡ logs_of (replicas_in (nodes ++ n ∷ []))
+logs_more nodes n l logs more was version faults me entries is =
+    let same : l ≡ log_of n.replica = (λ t. record { version = version t; faults = faults t; me = me t; entries = entries t }) in
     is ∙ ap (λ (ls : List Log). ls ++ l ∷ []) was ∙ ap (λ (x : Log). logs_of (replicas_in nodes) ++ x ∷ []) same ∙ sym (logs_both (replicas_in nodes) (n.replica ∷ [])) ∙ ap logs_of (sym (replicas_both nodes (n ∷ [])))
 
-in_order : (f r : ℕ) (nodes : List Node) → ((i : ℕ) → i < length nodes → IsOf f (r + i) (log_of (get_or nodes i blank).replica)) → r + length nodes ≡ size f → AreInOrder f r (logs_of (replicas_in nodes))
+in_order : (f r : ℕ) (nodes : List Node) → ((i : ℕ) → i < length nodes → IsOf V2 f (r + i) (log_of (get_or nodes i blank).replica)) → r + length nodes ≡ size f → AreInOrder V2 f r (logs_of (replicas_in nodes))
 in_order f r [] h count = (let z : r + 0 ≡ r = omega arith in sym z ∙ count)
 in_order f r (n ∷ ns) h count =
     let z : r + 0 ≡ r = omega arith in (
-      subst (λ (q : ℕ). IsOf f q (log_of n.replica)) z (h 0 (omega arith)),
-      in_order f (suc r) ns (λ i low. let e : r + suc i ≡ suc r + i = omega arith in subst (λ (q : ℕ). IsOf f q (log_of (get_or ns i blank).replica)) e (h (suc i) (omega arith)))
+      subst (λ (q : ℕ). IsOf V2 f q (log_of n.replica)) z (h 0 (omega arith)),
+      in_order f (suc r) ns (λ i low. let e : r + suc i ≡ suc r + i = omega arith in subst (λ (q : ℕ). IsOf V2 f q (log_of (get_or ns i blank).replica)) e (h (suc i) (omega arith)))
           (let s : suc r + length ns ≡ r + length (n ∷ ns) = omega arith in s ∙ count),
     )
 
 -- they are the journals of a cluster, in order
-pub host_in_order : (f : ℕ) (nodes : List Node) → IsHost f nodes → All Knows nodes → AreInOrder f 0 (logs_of (replicas_in nodes))
+pub host_in_order : (f : ℕ) (nodes : List Node) → IsHost f nodes → All Knows nodes → AreInOrder V2 f 0 (logs_of (replicas_in nodes))
 host_in_order f nodes host know = in_order f 0 nodes
-    (λ i low. let e : 0 + i ≡ i = omega arith in rw e record { faults = host.faults i blank low; me = host.me i blank low; journal = runs_at f nodes host know i low })
+    (λ i low. let e : 0 + i ≡ i = omega arith in rw e record { version = refl; faults = host.faults i blank low; me = host.me i blank low; journal = runs_at f nodes host know i low })
     (let z : 0 + length nodes ≡ length nodes = omega arith in z ∙ host.count)
 
 entries_each : (ks : List Kept) → all_entries (logs_of ks) ≡ entries_in ks
 entries_each [] = refl
 entries_each (k ∷ ks) = ap (λ (l : List (List Entry)). k.entries ∷ l) (entries_each ks)
 
-first_faults : (f g : ℕ) (nodes : List Node) → length nodes ≡ size f → IsHost f nodes → AreInOrder g 0 (logs_of (replicas_in nodes)) → g ≡ f
-first_faults f g [] count host h = absurd (omega arith)
-first_faults f g (n ∷ ns) count host h = sym h.0.faults ∙ host.faults 0 blank (omega arith)
+first_is : (v : Version) (f g : ℕ) (nodes : List Node) → length nodes ≡ size f → IsHost f nodes → AreInOrder v g 0 (logs_of (replicas_in nodes)) → (v ≡ V2) × (g ≡ f)
+first_is v f g [] count host h = absurd (omega arith)
+first_is v f g (n ∷ ns) count host h = (sym h.0.version, sym h.0.faults ∙ host.faults 0 blank (omega arith))
 
 -- what is collected is theirs
-pub collected_is : (f g : ℕ) (nodes : List Node) (entries : List (List Entry)) (ls : List Log) → IsHost f nodes → ls ≡ logs_of (replicas_in nodes) → AreInOrder g 0 ls → entries ≡ all_entries ls →
+pub collected_is : (v : Version) (f g : ℕ) (nodes : List Node) (entries : List (List Entry)) (ls : List Log) → IsHost f nodes → ls ≡ logs_of (replicas_in nodes) → AreInOrder v g 0 ls → entries ≡ all_entries ls →
     (g ≡ f) × ((λ r. entries_of (get_or entries r [])) ≡ their_journals (replicas_in nodes))
-collected_is f g nodes entries ls host is h e = (
-  first_faults f g nodes host.count host (subst (λ (l : List Log). AreInOrder g 0 l) is h),
+collected_is v f g nodes entries ls host is h e = (
+  (first_is v f g nodes host.count host (subst (λ (l : List Log). AreInOrder v g 0 l) is h)).1,
   ap (λ (es : List (List Entry)). λ (r : ℕ). entries_of (get_or es r [])) (e ∙ ap all_entries is ∙ entries_each (replicas_in nodes)),
 )
 
@@ -212,15 +214,15 @@ pub record IsEnd (f : ℕ) (nodes : List Node) (j : Collected) (receipts : List 
   pub told : receipts ≡ their_receipts (replicas_in nodes)
 
 pub is_end :
-    (f : ℕ) (nodes after : List Node) (j : Collected) (ls : List Log) (receipts : List Receipt) → IsHost f nodes → Each Looked nodes after → ls ≡ logs_of (replicas_in after) → AreInOrder j.faults 0 ls →
+    (f : ℕ) (nodes after : List Node) (j : Collected) (ls : List Log) (receipts : List Receipt) → IsHost f nodes → Each Looked nodes after → ls ≡ logs_of (replicas_in after) → AreInOrder j.version j.faults 0 ls →
     j.entries ≡ all_entries ls → receipts ≡ their_receipts (replicas_in after) → IsEnd f nodes j receipts
 is_end f nodes after j ls receipts host looked logs order entries are =
     let same = looked_replicas nodes after looked in
-    let both = collected_is f j.faults nodes j.entries ls host (logs ∙ ap logs_of same) order entries in
+    let both = collected_is j.version f j.faults nodes j.entries ls host (logs ∙ ap logs_of same) order entries in
     record { faults = both.0; journals = both.1; told = are ∙ ap their_receipts same }
 
-pub end_in_order : (f : ℕ) (nodes after : List Node) (ls : List Log) → IsHost f nodes → All Knows nodes → Each Looked nodes after → ls ≡ logs_of (replicas_in after) → AreInOrder f 0 ls
-end_in_order f nodes after ls host know looked logs = subst (λ (l : List Log). AreInOrder f 0 l) (sym (logs ∙ ap logs_of (looked_replicas nodes after looked))) (host_in_order f nodes host know)
+pub end_in_order : (f : ℕ) (nodes after : List Node) (ls : List Log) → IsHost f nodes → All Knows nodes → Each Looked nodes after → ls ≡ logs_of (replicas_in after) → AreInOrder V2 f 0 ls
+end_in_order f nodes after ls host know looked logs = subst (λ (l : List Log). AreInOrder V2 f 0 l) (sym (logs ∙ ap logs_of (looked_replicas nodes after looked))) (host_in_order f nodes host know)
 
 pub end_accepted : (f : ℕ) (nodes : List Node) (j : Collected) (receipts : List Receipt) → IsHost f nodes → All Knows nodes → AllSent nodes → IsEnd f nodes j receipts → IsAccepted j.faults (journals_of j) receipts
 end_accepted f nodes j receipts host know sent e =
@@ -239,14 +241,21 @@ end_audited f nodes j receipts e (Ok v) h =
 
 -- the journals at the end of a host, with receipts of its nodes' own
 pub ended :
-    (f : ℕ) (nodes after : List Node) (j : Collected) (ls : List Log) → IsHost f nodes → Each Looked nodes after → ls ≡ logs_of (replicas_in after) → AreInOrder j.faults 0 ls → j.entries ≡ all_entries ls →
+    (f : ℕ) (nodes after : List Node) (j : Collected) (ls : List Log) → IsHost f nodes → Each Looked nodes after → ls ≡ logs_of (replicas_in after) → AreInOrder j.version j.faults 0 ls → j.entries ≡ all_entries ls →
     (j.faults ≡ f) × (j.entries ≡ entries_in (replicas_in nodes))
 ended f nodes after j ls host looked logs order entries =
     let same = looked_replicas nodes after looked in
     let is = logs ∙ ap logs_of same in (
-      first_faults f j.faults nodes host.count host (subst (λ (l : List Log). AreInOrder j.faults 0 l) is order),
+      (first_is j.version f j.faults nodes host.count host (subst (λ (l : List Log). AreInOrder j.version j.faults 0 l) is order)).1,
       entries ∙ ap all_entries is ∙ entries_each (replicas_in nodes),
     )
+
+-- they are of version 2
+pub ended_version :
+    (f : ℕ) (nodes after : List Node) (j : Collected) (ls : List Log) → IsHost f nodes → Each Looked nodes after → ls ≡ logs_of (replicas_in after) → AreInOrder j.version j.faults 0 ls → j.version ≡ V2
+ended_version f nodes after j ls host looked logs order =
+    let is = logs ∙ ap logs_of (looked_replicas nodes after looked) in
+    (first_is j.version f j.faults nodes host.count host (subst (λ (l : List Log). AreInOrder j.version j.faults 0 l) is order)).0
 
 pub ended_accepted :
     (f : ℕ) (nodes : List Node) (j : Collected) (ts : List Receipt) → IsHost f nodes → All Knows nodes → AllSent nodes → (j.faults ≡ f) × (j.entries ≡ entries_in (replicas_in nodes)) →

@@ -1,5 +1,5 @@
 -- The nodes of a host: their links, and that turns keep them a host.
-use Rattle.std.proofs.Common.{Result, Ok, Err, OnOk, OnErr, ◌≡◌, ◌≢◌, ℕ, ◌<◌, ◌≤◌, ◌+◌, ◌-◌, List, [], length, get_or, set, refl, sym, ap, ◌∙◌, subst, arith, All, Contains, ⊎_elim, ◌++◌, length-append}
+use Rattle.std.proofs.Common.{Result, Ok, Err, OnOk, OnErr, ◌≡◌, ◌≢◌, ℕ, ◌<◌, ◌≤◌, ◌+◌, ◌-◌, List, length, get_or, set, refl, sym, ap, ◌∙◌, subst, arith, All, Contains, ⊎_elim, ◌++◌, length-append}
 use Rattle.std.proofs.lemmas.List.{get_or_default, get_or_append_left, get_or-append_right}
 use Rattle.std.proofs.lemmas.List.Elements.{Contains-append_left, All-contains}
 use Rattle.std.proofs.lemmas.Bool.{cases_lt}

@@ -1,3 +1,4 @@
+pub mod Versioned
 pub mod Copying
 pub mod Pumping
 pub mod Seating

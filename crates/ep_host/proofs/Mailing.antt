@@ -1,11 +1,10 @@
 -- Outlets: what goes through them, what is held there and let go, and that each held frame stays in the outlet of its receiver.
-use Rattle.std.proofs.Common.{◌≡◌, ℕ, zero, suc, ◌+◌, ◌<◌, ◌≤◌, eqb, Bool, true, false, cond, List, [], ◌∷◌, ◌++◌, length, get_or, set, take, Option, refl, sym, ap, ◌∙◌, subst, arith, length-append, append_assoc, ⊎_elim, All}
+use Rattle.std.proofs.Common.{◌≡◌, ℕ, ◌+◌, ◌<◌, ◌≤◌, eqb, Bool, true, false, cond, List, [], ◌∷◌, ◌++◌, length, get_or, set, take, Option, refl, sym, ap, ◌∙◌, subst, arith, length-append, append_assoc, All}
 use Rattle.std.proofs.lemmas.List.{append-nil, set-get_or, take_more}
-use Rattle.std.proofs.lemmas.Bool.Decides.{eqb_tells}
 use Rattle.std.proofs.lemmas.List.Elements.{All-nil, All-push, All-append, All-weaker, All-same}
 use Rattle.ep_frame.specs.Meaning.{origin_at}
-use Rattle.ep_host.specs.Fates.{Fate, fate, frames_in, held_of, count_of, lost_of, held_for, counted_for, lost_in, counted_up, Keeps, Obeys}
-use Rattle.ep_host.specs.Outboxes.{Outbox, AreFresh, AreAddressed, empty_outlet, Posts, Passes, IsLostPast, Mails, IsMailed, CountsFromNone, LetsGo}
+use Rattle.ep_host.specs.Fates.{Fate, fate, held_of, count_of, lost_of, held_for, counted_for, lost_in, counted_up, Keeps, Obeys}
+use Rattle.ep_host.specs.Outboxes.{Outbox, AreFresh, AreAddressed, Posts, Passes, IsLostPast, Mails, IsMailed, CountsFromNone, LetsGo}
 use Rattle.ep_host.specs.Pointwise.{Each, EachAt}
 use Rattle.ep_host.specs.Setting.{LosesAll}
 use Rattle.ep_host.specs.Tasks.{next}

@@ -1,10 +1,9 @@
 -- The weather of a frame, and whether a weather is one.
-use Rattle.std.proofs.Common.{◌≡◌, ℕ, ◌+◌, ◌<◌, ◌≤◌, Bool, true, false, not, eqb, ◌&&◌, List, [], ◌∷◌, length, get_or, take, drop, Option, Some, None, refl, sym, ap, ◌∙◌, subst, arith, ⊎_elim, All}
+use Rattle.std.proofs.Common.{◌≡◌, ℕ, ◌+◌, ◌<◌, ◌≤◌, Bool, true, false, not, eqb, ◌&&◌, List, ◌∷◌, length, get_or, take, drop, Some, None, refl, sym, ap, ◌∙◌, subst, arith, ⊎_elim}
 use Rattle.std.proofs.lemmas.List.{get_or_default, get_or-take, length-take-le, at_drop_more, at_drop_all}
 use Rattle.std.proofs.lemmas.Bool.Decides.{eqb_tells}
 use Rattle.ep_host.specs.Weathers.{kind_at, NameOne, IsFrameIn, IsWeather}
 use Rattle.ep_host.specs.declared.weather.Weather.{Weather}
-use Rattle.ep_host.specs.declared.weather_kind.WeatherKind.{WeatherKind}
 
 pub eqb_same : (n m : ℕ) → n ≡ m → eqb n m ≡ true
 eqb_same n m e = ⊎_elim (λ (t : _). t.0) (λ (t : _). absurd (t.1 e)) (eqb_tells n m)

@@ -1,8 +1,15 @@
--- The journals of a cluster are as many as its replicas.
-use Rattle.std.proofs.Common.{◌≡◌, ℕ, suc, ◌+◌, List, [], ◌∷◌, length, arith}
+-- The journals of a cluster are as many as its replicas, and of the version of the first one.
+use Rattle.std.proofs.Common.{◌≡◌, ℕ, suc, ◌+◌, List, [], ◌∷◌, length, arith, sym, ◌∙◌}
 use Rattle.ep_base.specs.Quorums.{size}
+use Rattle.ep_base.specs.declared.version.Version.{Version}
+use Rattle.ep_base.specs.declared.version.Version.TheVariants.{V2}
 use Rattle.ep_journal.specs.Entries.{Log, AreInOrder}
+use Rattle.ep_host.specs.Finishing.{AreVersion2}
 
-pub counted : (f r : ℕ) (ls : List Log) → AreInOrder f r ls → r + length ls ≡ size f
-counted f r [] h = let e : r ≡ size f = h in omega arith
-counted f r (l ∷ ls) h = let e : suc r + length ls ≡ size f = counted f (suc r) ls h.1 in omega arith
+pub counted : (v : Version) (f r : ℕ) (ls : List Log) → AreInOrder v f r ls → r + length ls ≡ size f
+counted v f r [] h = let e : r ≡ size f = h in omega arith
+counted v f r (l ∷ ls) h = let e : suc r + length ls ≡ size f = counted v f (suc r) ls h.1 in omega arith
+
+pub version_is : (v : Version) (f : ℕ) (ls : List Log) → AreInOrder v f 0 ls → AreVersion2 ls → v ≡ V2
+version_is v f [] h are = let e : 0 ≡ size f = h in absurd (omega arith)
+version_is v f (l ∷ ls) h are = sym h.0.version ∙ are 0 l (omega arith)

@@ -1,7 +1,8 @@
 -- What a call on a host tells. A lock hides which state a replica is in, so it is said of some replica's journal.
-use Rattle.std.specs.Prelude.{◌≡◌, ℕ, ◌<◌, ◌≤◌, Bool, true, false, List, Option, Some}
+use Rattle.std.specs.Prelude.{◌≡◌, ℕ, ◌<◌, ◌≤◌, Bool, true, false, List, Option, Some, IfSome}
 use Rattle.ep_base.specs.Instances.{leader_of}
 use Rattle.ep_base.specs.Quorums.{size}
+use Rattle.ep_base.specs.declared.version.Version.TheVariants.{V2}
 use Rattle.ep_journal.specs.Entries.{entries_of, IsJournal}
 use Rattle.ep_journal.specs.declared.entry.Entry.{Entry}
 use Rattle.ep_journal.specs.declared.event.Event.{Event}
@@ -12,6 +13,7 @@ use Rattle.ep_replica.specs.Pending.{Submits}
 use Rattle.ep_replica.specs.Receipts.{outcome_of, receipts_after}
 use Rattle.ep_rules.specs.Verdicts.{IsOwn}
 use Rattle.ep_rules.specs.declared.receipt.Receipt.{Receipt}
+use Rattle.ep_host.specs.HostFrames.{IsHostFrame}
 use Rattle.ep_host.specs.Tending.{Tends}
 use Rattle.ep_host.specs.declared.host_fault.HostFault.{HostFault}
 use Rattle.ep_host.specs.declared.host_fault.HostFault.TheVariants.{Memory, OutOfRange, Replica}
@@ -19,9 +21,9 @@ use Rattle.ep_host.specs.declared.tended.Tended.{Tended}
 use Rattle.ep_host.specs.declared.turn.Turn.{Turn}
 use Rattle.ep_host.specs.declared.turn.Turn.TheVariants.{Moved, Idle}
 
--- a replica's journal
+-- a replica's journal, which is of version 2
 abbrev pub IsKept : Kept → Type 0
-IsKept k = IsJournal k.faults k.me k.entries
+IsKept k = IsJournal V2 k.faults k.me k.entries
 
 -- some replica took the event
 pub record IsTaken (event : Event) : Type 0 where
@@ -43,12 +45,13 @@ abbrev pub turn_of : Bool → Turn
 turn_of true = Moved
 turn_of false = Idle
 
--- some replica was tended
+-- some replica was tended, with a frame of its version or none
 pub record IsPumped (turn : Turn) : Type 0 where
   pub old : Kept
   pub new : Kept
   pub run : IsKept old
   pub given : Option (List ℕ)
+  pub versioned : IfSome given IsHostFrame
   pub tended : Tended
   pub tends : Tends given old new tended
   pub told : turn ≡ turn_of tended.moved

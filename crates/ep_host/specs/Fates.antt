@@ -1,5 +1,5 @@
 -- What became of frames out: each was put into the ring, or the inbox, of its receiver, or is lost, or what the weather says.
-use Rattle.std.specs.Prelude.{◌≡◌, ◌⊎◌, ℕ, ◌+◌, ◌^◌, ◌-◌, ⊤, Bool, eqb, zero, suc, cond, List, [], ◌∷◌, ◌++◌, Option, Some, None}
+use Rattle.std.specs.Prelude.{◌≡◌, ◌⊎◌, ℕ, ◌+◌, ◌^◌, ◌-◌, ⊤, eqb, zero, suc, cond, List, [], ◌∷◌, ◌++◌, Option, Some, None}
 use mathlib.Core.List.{IsPrefix}
 use Rattle.ep_frame.specs.Meaning.{origin_at}
 use Rattle.rtrb.specs.Ring.{sent, received}

@@ -2,6 +2,7 @@
 use Rattle.std.specs.Prelude.{◌≡◌, ℕ, ◌+◌, ◌<◌, List, [], length, slice_index_or, Contains}
 use mathlib.Core.List.{IsPrefix}
 use Rattle.ep_base.specs.Quorums.{size}
+use Rattle.ep_base.specs.declared.version.Version.TheVariants.{V2}
 use Rattle.ep_rules.specs.Journals.{AreClocked}
 use Rattle.ep_journal.specs.Entries.{entries_of, IsJournal}
 use Rattle.rtrb.specs.Ring.{sent, received, IsPair}
@@ -69,7 +70,7 @@ AllBegin nodes = (i j : ℕ) (d : Node) → j < i → i < length nodes → Begin
 -- what each node knows by itself
 pub record Knows (n : Node) : Type 0 where
   pub booked : IsBooked n.replica.me n.replica.entries n.links
-  pub journal : IsJournal n.replica.faults n.replica.me n.replica.entries
+  pub journal : IsJournal V2 n.replica.faults n.replica.me n.replica.entries
   pub clocked : AreClocked 0 (entries_of n.replica.entries)
   pub some : 0 < n.replica.faults
 

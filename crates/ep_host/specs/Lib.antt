@@ -1,4 +1,5 @@
 pub mod Sent
+pub mod HostFrames
 pub mod Tending
 pub mod Finishing
 pub mod Asking

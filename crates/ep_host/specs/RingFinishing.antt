@@ -1,5 +1,6 @@
 -- The journals and the receipts of a host's nodes.
 use Rattle.std.specs.Prelude.{List, [], ◌∷◌, ◌++◌, slice_index_or}
+use Rattle.ep_base.specs.declared.version.Version.TheVariants.{V2}
 use Rattle.ep_rules.specs.Journals.{Journals}
 use Rattle.ep_rules.specs.declared.receipt.Receipt.{Receipt}
 use Rattle.ep_journal.specs.Entries.{entries_of, Log}
@@ -12,8 +13,9 @@ abbrev pub replicas_in : List Node → List Kept
 replicas_in [] = []
 replicas_in (n ∷ ns) = n.replica ∷ replicas_in ns
 
+-- its journal, which is of version 2
 abbrev pub log_of : Kept → Log
-log_of k = record { faults = k.faults; me = k.me; entries = k.entries }
+log_of k = record { version = V2; faults = k.faults; me = k.me; entries = k.entries }
 
 abbrev pub logs_of : List Kept → List Log
 logs_of [] = []

@@ -1,10 +1,11 @@
 -- The ends of a node's rings, and their account against its journal.
-use Rattle.std.specs.Prelude.{◌≡◌, ℕ, ◌+◌, ◌-◌, ◌<◌, ltb, cond, List, [], ◌∷◌, ◌++◌, All, Any, Contains, length, slice_index_or, slice_set, Option, option_to_list}
+use Rattle.std.specs.Prelude.{◌≡◌, ℕ, ◌+◌, ◌-◌, ◌<◌, ltb, cond, List, [], ◌∷◌, ◌++◌, All, Any, Contains, length, slice_index_or, slice_set, Option, option_to_list, IfSome}
 use Rattle.ep_frame.specs.Meaning.{origin_at}
 use Rattle.ep_journal.specs.declared.entry.Entry.{Entry}
 use Rattle.ep_journal.specs.declared.event.Event.{Event}
 use Rattle.ep_journal.specs.declared.event.Event.TheVariants.{Propose, Handle, GiveUp, Recover, Execute}
 use Rattle.rtrb.specs.Ring.{sent, received, SameProducer, SameConsumer}
+use Rattle.ep_host.specs.HostFrames.{IsHostFrame}
 use Rattle.ep_host.specs.Sent.{frames_of}
 use Rattle.ep_host.specs.declared.link.Link.{Link}
 
@@ -26,9 +27,10 @@ pub record KeepsLink (a b : Link) : Type 0 where
   pub to : SameProducer a.to b.to
   pub from : SameConsumer a.from b.from
 
--- the frame, or none, was taken from the ring at a place, and no other link changed
+-- the frame, which is of version 2, or none, was taken from the ring at a place, and no other link changed
 pub record PopsAt (place : ℕ) (frame : Option (List ℕ)) (xs ys : List Link) : Type 0 where
   pub link : Link
+  pub versioned : IfSome frame IsHostFrame
   pub is : ys ≡ slice_set xs place link
   pub keeps : (d : Link) → KeepsLink (slice_index_or xs place d) link
   pub put : (d : Link) → sent link.to ≡ sent (slice_index_or xs place d).to

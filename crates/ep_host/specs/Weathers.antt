@@ -1,5 +1,5 @@
 -- The weather: what is to become of which frames.
-use Rattle.std.specs.Prelude.{◌≡◌, ◌≢◌, ℕ, ◌<◌, ◌≤◌, ◌&&◌, eqb, cond, List, [], ◌∷◌, length, All, Any, Option, Some, None, slice_index_or}
+use Rattle.std.specs.Prelude.{◌≡◌, ◌≢◌, ℕ, ◌<◌, ◌≤◌, ◌&&◌, eqb, cond, List, [], ◌∷◌, length, All, Option, Some, None, slice_index_or}
 use Rattle.ep_base.specs.Quorums.{size}
 use Rattle.ep_host.specs.declared.weather.Weather.{Weather}
 use Rattle.ep_host.specs.declared.weather_kind.WeatherKind.{WeatherKind}

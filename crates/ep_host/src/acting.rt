@@ -3,6 +3,7 @@
 ghost use Rattle.std.specs.Prelude.{◌≡◌, ◌<◌, ◌++◌, ◌∷◌, [], List, length, IfOk, IfErr, OnErr};
 ghost use Rattle.ep_journal.specs.declared.entry.Entry.{Entry};
 ghost use Rattle.ep_replica.specs.Applied.{IsDeclined};
+ghost use Rattle.ep_host.specs.HostFrames.{AreHostFrames};
 ghost use Rattle.ep_host.specs.Rings.{ArePeers, PopsAt};
 ghost use Rattle.ep_host.specs.Acts.{Made, IsHandled};
 
@@ -17,7 +18,8 @@ use ep_replica::Replica;
 /// The frames of the last entry.
 fn last_frames(replica: &Replica) -> &[Frame]
     requires { 0 < length replica.now.entries }
-    ensures { (before : List Entry) (e : Entry) → replica.now.entries ≡ before ++ e ∷ [] → result.now ≡ e.frames }
+    ensures frames { (before : List Entry) (e : Entry) → replica.now.entries ≡ before ++ e ∷ [] → result.now ≡ e.frames }
+    ensures version { AreHostFrames result.now }
 {
     let entries = replica.journal().entries();
     entries[entries.len() - 1].frames.as_slice()

@@ -2,7 +2,8 @@
 
 ghost use Rattle.std.specs.Prelude.{◌≡◌, IfOk, vec_len};
 ghost use Rattle.ep_base.specs.Quorums.{size};
-ghost use Rattle.ep_host.specs.Finishing.{IsFinished};
+ghost use Rattle.ep_base.specs.declared.version.Version.TheVariants.{V2};
+ghost use Rattle.ep_host.specs.Finishing.{IsFinished, AreVersion2};
 
 use crate::finished::Finished;
 use ep_audit::{Refusal, audit};
@@ -14,6 +15,7 @@ use std::alloc::{AllocError, Global};
 fn audited(alloc: Global, journals: Journals, receipts: &[Receipt]) -> Result<Finished, AllocError>
     ensures audited { IfOk result (IsFinished receipts.now) }
     ensures size { IfOk result (λ f. f.journals.faults ≡ journals.faults) }
+    ensures version { IfOk result (λ f. f.journals.version ≡ journals.version) }
 {
     match audit(alloc, &journals, receipts) {
         Ok(verdict) => Ok(Finished {
@@ -28,14 +30,16 @@ fn audited(alloc: Global, journals: Journals, receipts: &[Receipt]) -> Result<Fi
     }
 }
 
-/// The same of the journals of a cluster, one for each replica, in replica order. A host's always are these.
+/// The same of version 2 journals of a cluster, one for each replica, in replica order. A host's always are these.
 pub fn finished(
     alloc: Global,
     journals: Vec<Journal>,
     receipts: &[Receipt],
 ) -> Result<Finished, AllocError>
+    requires { AreVersion2 journals.items }
     ensures audited { IfOk result (IsFinished receipts.now) }
     ensures size { IfOk result (λ f. size f.journals.faults ≡ vec_len journals) }
+    ensures version { IfOk result (λ f. f.journals.version ≡ V2) }
 {
     match Journals::new(journals) {
         Ok(journals) => audited(alloc, journals, receipts),

@@ -2,7 +2,7 @@
 
 ghost use Rattle.std.specs.Prelude.{◌≡◌};
 
-use ep_frame::Frame;
+use crate::host_frame::HostFrame;
 use std::alloc::{AllocError, Global};
 use std::collections::VecDeque;
 use std::marker::Model;
@@ -10,7 +10,7 @@ use std::marker::Model;
 /// Frames that are held, in order. The room for more isn't seen.
 #[derive(Drop)]
 pub struct Held {
-    frames: VecDeque<Frame>,
+    frames: VecDeque<HostFrame>,
 }
 
 impl Model for Held {
@@ -49,7 +49,7 @@ impl Held {
     }
 
     /// Holds one more.
-    pub fn push(&mut self, frame: Frame) -> Result<(), AllocError>
+    pub fn push(&mut self, frame: HostFrame) -> Result<(), AllocError>
         ensures ok { OnOk result (self.new ≡ self.old ++ frame ∷ []) }
         ensures err { OnErr result (self.new ≡ self.old) }
     {
@@ -58,7 +58,7 @@ impl Held {
     }
 
     /// Takes the first.
-    pub fn pop(&mut self) -> Option<Frame>
+    pub fn pop(&mut self) -> Option<HostFrame>
         ensures items { self.old ≡ option_to_list result ++ self.new }
         ensures none { IfNone result (self.old ≡ []) }
     {

@@ -4,8 +4,8 @@
 //! hands it a frame of its inbox and lets it execute, `outcome` and `receipts_after` tell what came of it, and `finish` audits what
 //! the threads left. Start with specs/Tending.antt and `tending.rt`, which say exactly what one pump does to a replica, then
 //! specs/Asking.antt, which says what a call tells, and `lock_host.rt`.
-//! A `Replica` behind a lock is what its journal leaves, by its type, whatever threads do, and an inbox holds frames
-//! alone, by the type of its items. No lock of a replica is held while frames are sent. Whether the journals fit together no lock
+//! A `Replica` behind a lock is what its journal leaves, by its type, whatever threads do, and an inbox holds frames of
+//! version 2 alone, by the type of its items. No lock of a replica is held while frames are sent. Whether the journals fit together no lock
 //! knows: `finish` asks the audit. What a replica sends by is a `Sender` behind a lock of its own: the weather of its frames, and an outlet for
 //! each replica of the cluster, which counts and holds them (specs/Outboxes.antt).
 //!
@@ -13,7 +13,7 @@
 //! `section` gives each of them its turns in a thread of its own, `settle` gives turns in rounds, and `finish` audits the nodes. Start with
 //! specs/Turns.antt (one turn, exactly), specs/Follows.antt (what any turns leave) and specs/Host.antt (the nodes of one host), then
 //! `ring_node.rt`. What a node put into a ring is a frame out of an entry of its journal, and what it handled it took from one of its rings,
-//! by its type. Both ends of all rings together then say that all that was handled was sent, so `finish` never finds a fault.
+//! by its type; its rings hold frames of version 2 alone. Both ends of all rings together then say that all that was handled was sent, so `finish` never finds a fault.
 //!
 //! A node, or a replica behind its lock, may have a weather (specs/Weathers.antt): frames for a peer are counted, and those that it names are
 //! dropped, held or put twice (specs/Fates.antt). What is held is put once the host releases it (specs/Setting.antt).
@@ -31,6 +31,7 @@ mod gate;
 mod gate_unpassed;
 mod held;
 mod host_fault;
+mod host_frame;
 mod link;
 mod lock_host;
 mod outlet;
@@ -60,6 +61,7 @@ pub use finished::Finished;
 pub use gate::Gate;
 pub use gate_unpassed::GateUnpassed;
 pub use host_fault::HostFault;
+pub use host_frame::none_is_refused_for_its_version;
 pub use lock_host::LockHost;
 pub use ring_finishing::{finish, finish_with};
 pub use ring_host::RingHost;

@@ -2,6 +2,7 @@
 
 use crate::delivery::Delivery;
 use crate::held::Held;
+use crate::host_frame::{HostFrame, frame_in};
 use crate::weather_kind::WeatherKind;
 use ep_base::ReplicaId;
 use ep_frame::Frame;
@@ -11,21 +12,22 @@ use rtrb::{Consumer, Producer};
 #[derive(Drop)]
 pub struct Link {
     pub peer: ReplicaId,
-    pub to: Producer<Frame>,
-    pub from: Consumer<Frame>,
+    pub to: Producer<HostFrame>,
+    pub from: Consumer<HostFrame>,
     pub count: u64,
     pub held: Held,
 }
 
 impl Link {
-    ghost use Rattle.std.specs.Prelude.{◌≡◌, ◌∷◌, ◌++◌, [], cond, option_to_list, None, Some};
+    ghost use Rattle.std.specs.Prelude.{◌≡◌, ◌∷◌, ◌++◌, [], cond, option_to_list, None, Some, IfSome};
     ghost use Rattle.rtrb.specs.Ring.{sent, received};
     ghost use Rattle.ep_host.specs.Fates.{Delivers, Releases};
+    ghost use Rattle.ep_host.specs.HostFrames.{IsHostFrame};
     ghost use Rattle.ep_host.specs.Rings.{KeepsLink};
     ghost use Rattle.ep_host.specs.declared.weather_kind.WeatherKind.TheVariants.{Hold, Repeat};
 
     /// Puts the frame into the ring to the peer. `false` where it is full.
-    fn put(&mut self, frame: Frame) -> bool
+    fn put(&mut self, frame: HostFrame) -> bool
         ensures keeps { KeepsLink self.old self.new }
         ensures put { sent self.new.to ≡ sent self.old.to ++ cond result (frame ∷ []) [] }
         ensures same { (received self.new.from ≡ received self.old.from) × (self.new.count ≡ self.old.count) × (self.new.held ≡ self.old.held) }
@@ -35,11 +37,12 @@ impl Link {
 
     /// Puts the frame once more, where there is memory for that and room.
     fn put_again(&mut self, frame: &Frame) -> bool
+        requires { IsHostFrame frame.now }
         ensures keeps { KeepsLink self.old self.new }
         ensures put { sent self.new.to ≡ sent self.old.to ++ cond result (frame.now ∷ []) [] }
         ensures same { (received self.new.from ≡ received self.old.from) × (self.new.count ≡ self.old.count) × (self.new.held ≡ self.old.held) }
     {
-        match frame.clone() {
+        match HostFrame::copied(frame) {
             Ok(frame) => self.put(frame),
             Err(_) => false,
         }
@@ -47,9 +50,10 @@ impl Link {
 
     /// Puts the frame once.
     fn put_once(&mut self, frame: &Frame) -> Delivery
+        requires { IsHostFrame frame.now }
         ensures { Delivers None frame.now result self.old self.new }
     {
-        let Ok(frame) = frame.clone() else {
+        let Ok(frame) = HostFrame::copied(frame) else {
             return Delivery::Short;
         };
         self.count = self.count.saturating_add(1);
@@ -58,9 +62,10 @@ impl Link {
 
     /// Puts the frame twice.
     fn put_twice(&mut self, frame: &Frame) -> Delivery
+        requires { IsHostFrame frame.now }
         ensures { Delivers (Some Repeat) frame.now result self.old self.new }
     {
-        let Ok(copy) = frame.clone() else {
+        let Ok(copy) = HostFrame::copied(frame) else {
             return Delivery::Short;
         };
         self.count = self.count.saturating_add(1);
@@ -71,9 +76,10 @@ impl Link {
 
     /// Holds the frame.
     fn hold(&mut self, frame: &Frame) -> Delivery
+        requires { IsHostFrame frame.now }
         ensures { Delivers (Some Hold) frame.now result self.old self.new }
     {
-        let Ok(frame) = frame.clone() else {
+        let Ok(frame) = HostFrame::copied(frame) else {
             return Delivery::Short;
         };
         match self.held.push(frame) {
@@ -87,6 +93,7 @@ impl Link {
 
     /// Does with a frame for the peer what the weather says.
     pub fn send(&mut self, kind: Option<WeatherKind>, frame: &Frame) -> Delivery
+        requires { IsHostFrame frame.now }
         ensures { Delivers kind frame.now result self.old self.new }
     {
         match kind {
@@ -121,8 +128,9 @@ impl Link {
         ensures keeps { KeepsLink self.old self.new }
         ensures put { sent self.new.to ≡ sent self.old.to }
         ensures taken { received self.new.from ≡ received self.old.from ++ option_to_list result }
+        ensures version { IfSome result IsHostFrame }
         ensures same { (self.new.count ≡ self.old.count) × (self.new.held ≡ self.old.held) }
     {
-        self.from.pop().ok()
+        frame_in(self.from.pop().ok())
     }
 }

@@ -4,11 +4,14 @@ ghost use Rattle.std.specs.Prelude.{◌≡◌, ◌≤◌, IfOk, IfSome, IfErr, O
 ghost use Rattle.ep_base.specs.Quorums.{size};
 ghost use Rattle.ep_journal.specs.declared.event.Event.TheVariants.{Propose};
 ghost use Rattle.ep_host.specs.Asking.{AreTold, IsTaken, IsSubmitted, IsDeclinedThere, IsPumped, IsOutcome, turn_of};
+ghost use Rattle.ep_host.specs.Finishing.{AreVersion2};
+ghost use Rattle.ep_host.specs.HostFrames.{AreHostFrames};
 
 use crate::act::Act;
 use crate::finished::Finished;
 use crate::finishing::finished;
 use crate::host_fault::HostFault;
+use crate::host_frame::{HostFrame, frame_in};
 use crate::seat::{Seat, send};
 use crate::sending::{Sending, sent_last};
 use crate::tended::Tended;
@@ -16,7 +19,6 @@ use crate::tending::tend;
 use crate::turn::Turn;
 use crate::weather::{Weather, is_weather};
 use ep_base::{Command, InstanceId, ReplicaId, Size};
-use ep_frame::Frame;
 use ep_journal::{Event, Journal, StepFault};
 use ep_replica::Replica;
 use ep_rules::Receipt;
@@ -74,24 +76,27 @@ fn submit(
 /// The replica takes the event, and what its entry sends is to be sent.
 fn direct(alloc: Global, replica: &mut Replica, event: Event) -> Result<Sending, StepFault>
     ensures ok { OnOk result (IsTaken event) }
+    ensures version { IfOk result (λ s. AreHostFrames s.frames.items) }
     ensures declined { IfErr result (IsDeclinedThere event) }
 {
     let _run = replica.journal().entries();
     replica.take(event)?;
-    Ok(sent_last(alloc, replica.journal().entries()))
+    Ok(sent_last(alloc, replica))
 }
 
 /// The replica is tended.
-fn pump(alloc: Global, replica: &mut Replica, frame: Option<Frame>) -> Tended
-    ensures { IsPumped (turn_of result.moved) }
+fn pump(alloc: Global, replica: &mut Replica, frame: Option<HostFrame>) -> Tended
+    ensures pumped { IsPumped (turn_of result.moved) }
+    ensures version { AreHostFrames result.frames.items }
 {
     let _run = replica.journal().entries();
-    tend(alloc, replica, frame)
+    tend(alloc, replica, frame_in(frame))
 }
 
-/// The journals of the replicas.
+/// The journals of the replicas, which are of version 2.
 fn journals_of(alloc: Global, seats: Vec<Seat>) -> Result<Vec<Journal>, AllocError>
-    ensures { IfOk result (λ journals. vec_len journals ≡ vec_len seats) }
+    ensures version { IfOk result (λ journals. AreVersion2 journals.items) }
+    ensures count { IfOk result (λ journals. vec_len journals ≡ vec_len seats) }
 {
     let mut journals = Vec::new(alloc);
     for seat in seats {
@@ -108,6 +113,7 @@ fn journals_of(alloc: Global, seats: Vec<Seat>) -> Result<Vec<Journal>, AllocErr
 impl LockHost {
     ghost use Rattle.std.specs.Prelude.{◌≡◌, ◌≤◌, ◌<◌, IfOk, IfErr, IfSome, OnOk};
     ghost use Rattle.ep_base.specs.Quorums.{size};
+    ghost use Rattle.ep_base.specs.declared.version.Version.TheVariants.{V2};
     ghost use Rattle.ep_journal.specs.declared.event.Event.TheVariants.{Propose};
     ghost use Rattle.ep_host.specs.Asking.{IsTaken, IsSubmitted, IsPumped, IsRefused, IsUntold, AreTold, IsOutcomeIn};
     ghost use Rattle.ep_host.specs.Finishing.{IsFinished};
@@ -168,7 +174,7 @@ impl LockHost {
         let (instance, sending) = {
             let mut replica = seat.cell.lock(rt);
             let instance = submit(&mut replica, client, request, command, seen)?;
-            (instance, sent_last(self.alloc, replica.journal().entries()))
+            (instance, sent_last(self.alloc, &replica))
         };
         send(rt, &self.seats, seat, sending);
         Ok(instance)
@@ -273,10 +279,11 @@ impl LockHost {
         sum
     }
 
-    /// The journals that the replicas leave, and what the audit says of them with these receipts. Want of memory drops the host.
+    /// The journals that the replicas leave, which are of version 2, and what the audit says of them with these receipts. Want of memory drops the host.
     pub fn finish(self, receipts: &[Receipt]) -> Result<Finished, AllocError>
         ensures audited { IfOk result (IsFinished receipts.now) }
         ensures size { IfOk result (λ f. f.journals.faults ≡ self.cluster) }
+        ensures version { IfOk result (λ f. f.journals.version ≡ V2) }
     {
         let LockHost {
             cluster: _,

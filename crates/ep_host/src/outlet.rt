@@ -2,9 +2,9 @@
 
 use crate::delivery::Delivery;
 use crate::held::Held;
+use crate::host_frame::HostFrame;
 use crate::seat::{Seat, put, put_copy};
 use crate::weather_kind::WeatherKind;
-use ep_frame::Frame;
 use std::alloc::Global;
 use std::sync::Wait;
 
@@ -31,7 +31,7 @@ impl Outlet {
     }
 
     /// Puts the frame once.
-    fn put_once<R: Wait>(&mut self, rt: &R, seats: &[Seat], frame: Frame) -> Delivery
+    fn put_once<R: Wait>(&mut self, rt: &R, seats: &[Seat], frame: HostFrame) -> Delivery
         ensures { Posts None frame result self.old self.new }
     {
         self.count = self.count.saturating_add(1);
@@ -39,7 +39,7 @@ impl Outlet {
     }
 
     /// Puts the frame twice, or once where there is no memory for a copy.
-    fn put_twice<R: Wait>(&mut self, rt: &R, seats: &[Seat], frame: Frame) -> Delivery
+    fn put_twice<R: Wait>(&mut self, rt: &R, seats: &[Seat], frame: HostFrame) -> Delivery
         ensures { Posts (Some Repeat) frame result self.old self.new }
     {
         self.count = self.count.saturating_add(1);
@@ -49,7 +49,7 @@ impl Outlet {
     }
 
     /// Holds the frame.
-    fn hold(&mut self, frame: Frame) -> Delivery
+    fn hold(&mut self, frame: HostFrame) -> Delivery
         ensures { Posts (Some Hold) frame result self.old self.new }
     {
         match self.held.push(frame) {
@@ -67,7 +67,7 @@ impl Outlet {
         rt: &R,
         seats: &[Seat],
         kind: Option<WeatherKind>,
-        frame: Frame,
+        frame: HostFrame,
     ) -> Delivery
         ensures { Posts kind frame result self.old self.new }
     {

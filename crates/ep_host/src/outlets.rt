@@ -9,12 +9,12 @@ ghost use Rattle.ep_host.specs.Setting.{LosesAll};
 ghost use Rattle.ep_host.specs.declared.delivery.Delivery.TheVariants.{Put};
 
 use crate::delivery::Delivery;
+use crate::host_frame::HostFrame;
 use crate::outlet::Outlet;
 use crate::seat::Seat;
 use crate::setting::holds;
 use crate::weather::{Weather, kind_at};
 use ep_base::Size;
-use ep_frame::Frame;
 use std::alloc::{AllocError, Global};
 use std::sync::Wait;
 
@@ -35,7 +35,7 @@ pub fn deliver<R: Wait>(
     seats: &[Seat],
     outlets: &mut Vec<Outlet>,
     weather: &[Weather],
-    frame: Frame,
+    frame: HostFrame,
 ) -> Delivery
     ensures outlets { EachAt (Passes weather.now (fate frame result ∷ [])) outlets.old.items outlets.new.items }
     ensures stray { length outlets.old.items ≤ (origin_at frame).to → result ≡ Put false }

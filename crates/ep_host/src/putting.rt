@@ -4,6 +4,7 @@ ghost use Rattle.std.specs.Prelude.{◌≡◌, ◌∷◌, []};
 ghost use Rattle.ep_host.specs.Pointwise.{Each};
 ghost use Rattle.ep_host.specs.Rings.{ArePeers, place};
 ghost use Rattle.ep_host.specs.Fates.{fate, Sends, IsSent};
+ghost use Rattle.ep_host.specs.HostFrames.{IsHostFrame, AreHostFrames};
 
 use crate::delivery::Delivery;
 use crate::link::Link;
@@ -25,7 +26,8 @@ pub fn place(me: ReplicaId, peer: ReplicaId) -> usize
 
 /// Does with the frame what the weather says, by the ring to its receiver. Where there is no such ring, it is lost.
 fn send_one(me: ReplicaId, links: &mut Vec<Link>, weather: &[Weather], frame: &Frame) -> Delivery
-    requires { ArePeers me links.old.items }
+    requires version { IsHostFrame frame.now }
+    requires peers { ArePeers me links.old.items }
     ensures { Each (Sends weather.now (fate frame.now result ∷ [])) links.old.items links.new.items }
 {
     let peer = frame.origin().to;
@@ -39,7 +41,8 @@ fn send_one(me: ReplicaId, links: &mut Vec<Link>, weather: &[Weather], frame: &F
 
 /// Does with the frames, in order, what the weather says, and counts those that are lost.
 pub fn send(me: ReplicaId, links: &mut Vec<Link>, weather: &[Weather], frames: &[Frame]) -> u64
-    requires { ArePeers me links.old.items }
+    requires version { AreHostFrames frames.now }
+    requires peers { ArePeers me links.old.items }
     ensures { IsSent weather.now frames.now result links.old.items links.new.items }
 {
     let mut lost = 0u64;

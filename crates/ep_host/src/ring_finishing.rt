@@ -1,6 +1,7 @@
 //! The audit of the nodes of a host.
 
 ghost use Rattle.std.specs.Prelude.{◌≡◌, ◌++◌, [], ℕ, IfOk, IsOk, OnOk};
+ghost use Rattle.ep_base.specs.declared.version.Version.TheVariants.{V2};
 ghost use Rattle.ep_rules.specs.Audits.{IsAccepted};
 ghost use Rattle.ep_journal.specs.Entries.{journals_of};
 ghost use Rattle.ep_audit.specs.Audited.{IsAudited};
@@ -63,7 +64,7 @@ pub fn finish(alloc: Global, mut nodes: Vec<RingNode>) -> Result<Verdict, AllocE
     accepted(alloc, &journals, &receipts)
 }
 
-/// The journals of the nodes of one host, and their audit with receipts of which each is one of a node's own. It never finds a fault. Want of
+/// The journals of the nodes of one host, which are of version 2, and their audit with receipts of which each is one of a node's own. It never finds a fault. Want of
 /// memory drops the nodes.
 pub fn finish_with(
     alloc: Global,
@@ -73,6 +74,7 @@ pub fn finish_with(
     requires { (f : ℕ) × IsHost f nodes.items × AreOwn f (their_journals (replicas_in nodes.items)) receipts.now }
     ensures finished { IfOk result (IsFinished receipts.now) }
     ensures accepted { IfOk result (λ r. IsOk r.verdict) }
+    ensures version { IfOk result (λ r. r.journals.version ≡ V2) }
     ensures journals { (f : ℕ) → IsHost f nodes.items → IfOk result (λ r. (r.journals.faults ≡ f) × (r.journals.entries ≡ entries_in (replicas_in nodes.items))) }
 {
     taken_was_sent(nodes.as_mut_slice());

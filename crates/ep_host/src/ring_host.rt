@@ -77,6 +77,7 @@ impl RingHost {
     pub fn assign(nodes: &mut [RingNode], node: usize, task: Task) -> Result<(), AllocError>
         requires { node < length nodes.old }
         ensures ok { OnOk result (AssignsAt node task nodes.old nodes.new) }
+        ensures err { OnErr result (nodes.new ≡ nodes.old) }
         ensures host { (f : ℕ) → IsHost f nodes.old → IsHost f nodes.new }
     {
         nodes[node].assign(task)

@@ -50,6 +50,7 @@ impl Model for RingNode {
 
 impl RingNode {
     ghost use Rattle.std.specs.Prelude.{◌≡◌, ◌<◌, ◌++◌, ◌∷◌, [], false, length, IfOk, IfErr, OnOk, OnErr};
+    ghost use Rattle.ep_base.specs.declared.version.Version.TheVariants.{V2};
     ghost use Rattle.ep_journal.specs.Entries.{entries_of};
     ghost use Rattle.ep_replica.specs.Receipts.{receipts_after};
     ghost use Rattle.ep_rules.specs.Verdicts.{IsOwn};
@@ -115,8 +116,9 @@ impl RingNode {
         self.refused.as_slice()
     }
 
-    /// The journal alone.
+    /// The journal alone, which is of version 2.
     pub fn into_journal(self) -> Journal
+        ensures version { result.version ≡ V2 }
         ensures entries { result.entries ≡ self.replica.entries }
         ensures faults { result.faults ≡ self.replica.faults }
         ensures me { result.me ≡ self.replica.me }

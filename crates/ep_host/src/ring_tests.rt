@@ -64,6 +64,15 @@ fn put(rt: &impl Abort, alloc: Global, client: u32, request: u32, key: &[u8]) ->
     }
 }
 
+fn swap(rt: &impl Abort, alloc: Global, client: u32, request: u32) -> Task {
+    Task::Propose {
+        client,
+        request,
+        command: Command::swap(alloc, b"x", b"y").expect(rt, "a command"),
+        seen: 0,
+    }
+}
+
 /// Twenty puts of x for each node.
 fn assign_all(rt: &impl Abort, alloc: Global, nodes: &mut [RingNode])
     ensures { (f : ℕ) → IsHost f nodes.old → IsHost f nodes.new }
@@ -126,6 +135,12 @@ fn receipts(rt: &impl Abort, alloc: Global, node: &RingNode) -> usize {
 fn assign_two(rt: &impl Abort, alloc: Global, node: &mut RingNode) {
     assert!(rt; node.assign(put(rt, alloc, 1, 1, b"x")).is_ok());
     assert!(rt; node.assign(put(rt, alloc, 1, 2, b"y")).is_ok());
+}
+
+/// A put of x, and a swap of x and y.
+fn assign_swap(rt: &impl Abort, alloc: Global, node: &mut RingNode) {
+    assert!(rt; node.assign(put(rt, alloc, 1, 1, b"x")).is_ok());
+    assert!(rt; node.assign(swap(rt, alloc, 1, 2)).is_ok());
 }
 
 /// Whether the first task was refused for this reason, and no other.
@@ -238,6 +253,19 @@ fn a_full_ring_loses_a_frame(rt: HostRuntime) {
     assert!(&rt; has_committed(&rt, &nodes[0], 1));
     assert!(&rt; !has_committed(&rt, &nodes[0], 2));
     assert_eq!(&rt; receipts(&rt, alloc, &nodes[0]), 1);
+}
+
+#[test]
+fn a_swap_follows_a_put(rt: HostRuntime) {
+    let alloc = rt.alloc();
+    let mut nodes = host(&rt, alloc, 16);
+    assert!(&rt; nodes.len() == 3);
+    assign_swap(&rt, alloc, &mut nodes[0]);
+    settle(nodes.as_mut_slice(), 100);
+    assert!(&rt; nodes.len() == 3);
+    assert_eq!(&rt; lost(&nodes), 0);
+    assert!(&rt; has_committed(&rt, &nodes[0], 2));
+    assert_eq!(&rt; receipts(&rt, alloc, &nodes[0]), 2);
 }
 
 #[test]

@@ -2,12 +2,13 @@
 
 ghost use Rattle.std.specs.Prelude.{◌<◌};
 ghost use Rattle.ep_base.specs.Quorums.{size};
+ghost use Rattle.ep_host.specs.HostFrames.{AreHostFrames};
 
+use crate::host_frame::HostFrame;
 use crate::sender::Sender;
 use crate::sending::Sending;
 use crossbeam_queue::ArrayQueue;
 use ep_base::{ReplicaId, Size};
-use ep_frame::Frame;
 use ep_replica::Replica;
 use std::alloc::{AllocError, Global};
 use std::sync::{Mutex, Wait};
@@ -19,7 +20,7 @@ pub type ReplicaCell = Mutex<Replica>;
 #[derive(Drop)]
 pub struct Seat {
     pub cell: ReplicaCell,
-    pub inbox: ArrayQueue<Frame>,
+    pub inbox: ArrayQueue<HostFrame>,
     pub sender: Mutex<Sender>,
 }
 
@@ -45,7 +46,7 @@ impl Seat {
 }
 
 /// Puts the frame into its receiver's inbox. It is lost where there is no such replica, and where its inbox is full.
-pub fn put<R: Wait>(rt: &R, seats: &[Seat], frame: Frame) -> bool {
+pub fn put<R: Wait>(rt: &R, seats: &[Seat], frame: HostFrame) -> bool {
     match seats.get(frame.origin().to.index() as usize) {
         Some(seat) => seat.inbox.push(rt, frame).is_ok(),
         None => false,
@@ -53,14 +54,16 @@ pub fn put<R: Wait>(rt: &R, seats: &[Seat], frame: Frame) -> bool {
 }
 
 /// Puts a copy of the frame, where there is memory for one.
-pub fn put_copy<R: Wait>(rt: &R, seats: &[Seat], frame: &Frame) -> bool {
-    match frame.clone() {
+pub fn put_copy<R: Wait>(rt: &R, seats: &[Seat], frame: &HostFrame) -> bool {
+    match frame.copy() {
         Ok(copy) => put(rt, seats, copy),
         Err(_) => false,
     }
 }
 
 /// Sends frames of the replica of this seat, in order, under its sending lock, in its weather.
-pub fn send<R: Wait>(rt: &R, seats: &[Seat], from: &Seat, sending: Sending) {
+pub fn send<R: Wait>(rt: &R, seats: &[Seat], from: &Seat, sending: Sending)
+    requires { AreHostFrames sending.frames.items }
+{
     from.sender.lock(rt).send(rt, seats, sending);
 }

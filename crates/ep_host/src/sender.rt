@@ -3,6 +3,7 @@
 ghost use Rattle.std.specs.Prelude.{◌≡◌};
 
 use crate::delivery::Delivery;
+use crate::host_frame::HostFrame;
 use crate::outlet::Outlet;
 use crate::outlets::{count_anew, deliver, make_room, outlets_of, release_all};
 use crate::seat::Seat;
@@ -39,6 +40,7 @@ impl Model for Sender {
 impl Sender {
     ghost use Rattle.std.specs.Prelude.{◌≡◌, ◌∷◌, [], IfOk, OnOk, OnErr};
     ghost use Rattle.ep_host.specs.Fates.{fate, counted_up};
+    ghost use Rattle.ep_host.specs.HostFrames.{AreHostFrames};
     ghost use Rattle.ep_host.specs.Outboxes.{IsFreshOutbox, Mails, IsMailed, SetsOwn, IsLetGo};
 
     /// Without weather. Nothing is held, counted or lost.
@@ -69,7 +71,7 @@ impl Sender {
     }
 
     /// Does with the frame what the weather says, and counts it where it is lost.
-    fn send_one<R: Wait>(&mut self, rt: &R, seats: &[Seat], frame: Frame) -> Delivery
+    fn send_one<R: Wait>(&mut self, rt: &R, seats: &[Seat], frame: HostFrame) -> Delivery
         ensures { Mails (fate frame result ∷ []) 0 self.old self.new }
     {
         let weather = self.weather.as_slice();
@@ -80,15 +82,17 @@ impl Sender {
 
     /// Does with frames, in order, what the weather says, and counts those that are lost.
     fn send_all<R: Wait>(&mut self, rt: &R, seats: &[Seat], frames: Vec<Frame>)
+        requires { AreHostFrames frames.items }
         ensures { IsMailed frames.items 0 self.old self.new }
     {
         for frame in frames {
-            self.send_one(rt, seats, frame);
+            self.send_one(rt, seats, HostFrame::new(frame));
         }
     }
 
     /// Does with frames, in order, what the weather says, and counts those that are lost with those that were lost before.
     pub fn send<R: Wait>(&mut self, rt: &R, seats: &[Seat], sending: Sending)
+        requires { AreHostFrames sending.frames.items }
         ensures { IsMailed sending.frames.items sending.lost self.old self.new }
     {
         let Sending { frames, lost } = sending;

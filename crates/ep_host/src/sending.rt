@@ -2,10 +2,11 @@
 
 ghost use Rattle.std.specs.Prelude.{◌≡◌, ◌+◌, ◌∷◌, ◌++◌, [], List, IsTrue, IsFalse};
 ghost use Rattle.ep_journal.specs.declared.entry.Entry.{Entry as Written};
+ghost use Rattle.ep_host.specs.HostFrames.{AreHostFrames};
 ghost use Rattle.ep_host.specs.Sent.{IsCopied};
 
 use ep_frame::Frame;
-use ep_journal::Entry;
+use ep_replica::Replica;
 use std::alloc::Global;
 
 /// Frames to be sent, and how many were lost for want of memory.
@@ -39,7 +40,9 @@ fn add(frames: &mut Vec<Frame>, frame: &Frame) -> bool
 
 /// The frames once more, in order, and how many of them were lost.
 fn copied(alloc: Global, out: &[Frame]) -> Sending
-    ensures { IsCopied out.now result.frames.items result.lost }
+    requires { AreHostFrames out.now }
+    ensures copied { IsCopied out.now result.frames.items result.lost }
+    ensures version { AreHostFrames result.frames.items }
 {
     let mut frames = Vec::new(alloc);
     let mut lost = 0u64;
@@ -51,11 +54,12 @@ fn copied(alloc: Global, out: &[Frame]) -> Sending
     Sending { frames, lost }
 }
 
-/// The frames that the last entry sends.
-pub fn sent_last(alloc: Global, entries: &[Entry]) -> Sending
-    ensures { (before : List Written) (e : Written) → entries.now ≡ before ++ e ∷ [] → IsCopied e.frames result.frames.items result.lost }
+/// The frames that the replica's last entry sends.
+pub fn sent_last(alloc: Global, replica: &Replica) -> Sending
+    ensures copied { (before : List Written) (e : Written) → replica.now.entries ≡ before ++ e ∷ [] → IsCopied e.frames result.frames.items result.lost }
+    ensures version { AreHostFrames result.frames.items }
 {
-    match entries.last() {
+    match replica.journal().entries().last() {
         Some(entry) => copied(alloc, entry.frames.as_slice()),
         None => nothing(alloc, 0),
     }

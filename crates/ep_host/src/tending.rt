@@ -1,6 +1,7 @@
 //! One pump's work under a replica's lock. It waits for nobody.
 
 ghost use Rattle.std.specs.Prelude.{◌≡◌};
+ghost use Rattle.ep_host.specs.HostFrames.{AreHostFrames};
 ghost use Rattle.ep_host.specs.Tending.{lost_by, Handles, Tends};
 
 use crate::sending::{Sending, nothing, sent_last};
@@ -22,22 +23,24 @@ pub fn lost_by(fault: &StepFault) -> u64
 
 /// The frame is handled, if there is one; what its entry sends is to be sent.
 fn handle(alloc: Global, replica: &mut Replica, frame: Option<Frame>) -> Sending
-    ensures { Handles frame replica.old result.frames.items result.lost replica.new }
+    ensures handles { Handles frame replica.old result.frames.items result.lost replica.new }
+    ensures version { AreHostFrames result.frames.items }
 {
     let Some(frame) = frame else {
         return nothing(alloc, 0);
     };
     match replica.take(Event::Handle(frame)) {
-        Ok(()) => sent_last(alloc, replica.journal().entries()),
+        Ok(()) => sent_last(alloc, replica),
         Err(fault) => nothing(alloc, lost_by(&fault)),
     }
 }
 
 /// Handles the frame, if there is one, and then executes the next ready instance of the replica's own, if there is one.
 ///
-/// A frame that is refused is dropped, and is lost where it was refused for want of memory.
+/// A frame that is refused is dropped, and is lost where it was refused for want of memory. The frames to be sent are of version 2.
 pub fn tend(alloc: Global, replica: &mut Replica, frame: Option<Frame>) -> Tended
-    ensures { Tends frame replica.old replica.new result }
+    ensures tends { Tends frame replica.old replica.new result }
+    ensures version { AreHostFrames result.frames.items }
 {
     let given = frame.is_some();
     let Sending { frames, lost } = handle(alloc, replica, frame);

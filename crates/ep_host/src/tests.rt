@@ -3,7 +3,7 @@
 ghost use Rattle.std.specs.Prelude.{◌≤◌};
 
 use crate::{HostFault, LockHost, Turn, Weather, WeatherKind};
-use ep_base::{Command, InstanceId, ReplicaId, Size};
+use ep_base::{Answer, Command, InstanceId, ReplicaId, Reply, Size};
 use ep_rules::Receipt;
 use std::alloc::Global;
 use std::marker::Sync;
@@ -110,6 +110,21 @@ fn submit_put<R: Wait + Abort>(rt: &R, alloc: Global, host: &LockHost, request: 
     assert!(rt; told.is_ok());
 }
 
+/// A swap of x and y at replica 0.
+fn submit_swap<R: Wait + Abort>(rt: &R, alloc: Global, host: &LockHost, request: u32) {
+    let command = Command::swap(alloc, b"x", b"y").expect(rt, "a command");
+    let told = host.submit(rt, replica_at(rt, 0), 1, request, command, 0);
+    assert!(rt; told.is_ok());
+}
+
+/// Whether the reply is that the first key had this value.
+fn is_present(receipt: &Receipt, value: &[u8]) -> bool {
+    match &receipt.answer {
+        Answer::Told(Reply::Present(told)) => told.as_slice() == value,
+        _ => false,
+    }
+}
+
 /// What is to become of a frame.
 fn named(rt: &impl Abort, from: u8, to: u8, count: u32, kind: WeatherKind) -> Weather {
     Weather {
@@ -153,6 +168,16 @@ fn executes<R: Wait + Abort>(rt: &R, host: &LockHost, number: u16) -> bool {
     host.outcome(rt, instance).expect(rt, "memory").is_some()
 }
 
+/// Lets each replica act, and tells whether replica 0 has executed its instance with this number where the first key had this value.
+fn finds<R: Wait + Abort>(rt: &R, host: &LockHost, number: u16, value: &[u8]) -> bool {
+    settle(rt, host);
+    let instance = InstanceId::new(replica_at(rt, 0), number).expect(rt, "an instance");
+    match host.outcome(rt, instance).expect(rt, "memory") {
+        Some(receipt) => is_present(&receipt, value),
+        None => false,
+    }
+}
+
 /// How many of four pumps of replica 1 move it.
 fn moves<R: Wait + Abort>(rt: &R, host: &LockHost) -> u8 {
     let mut moves = 0u8;
@@ -179,6 +204,18 @@ fn forty_puts_in_threads(rt: HostRuntime) {
     let finished = host.finish(&receipts).expect(&rt, "memory");
     let verdict = finished.verdict.expect(&rt, "a verdict");
     assert_eq!(rt; (verdict.committed.len(), verdict.history.len()), (40, 40));
+}
+
+#[test]
+fn a_swap_moves_what_was_put(rt: HostRuntime) {
+    let alloc = rt.alloc();
+    let host = host(&rt, alloc);
+    submit_put(&rt, alloc, &host, 1, b"x");
+    submit_swap(&rt, alloc, &host, 2);
+    submit_put(&rt, alloc, &host, 3, b"y");
+    assert!(rt; finds(&rt, &host, 2, b"1"));
+    assert!(rt; finds(&rt, &host, 3, b"1"));
+    drop(host);
 }
 
 #[test]

@@ -1,3 +1,5 @@
+pub mod Early
+pub mod EarlyExecution
 pub mod Fresh
 pub mod DoneBy
 pub mod Spelling

@@ -13,7 +13,7 @@ use Rattle.ep_space.specs.declared.interference_fault.InterferenceFault.{Interfe
 use Rattle.ep_space.specs.declared.interference_fault.InterferenceFault.TheVariants.{Memory as Unfound, SeqExhausted as Limit}
 use Rattle.ep_journal.specs.Refused.{of_limit, of_phase, of_prepare, IsRefused}
 use Rattle.ep_journal.specs.declared.step_fault.StepFault.{StepFault}
-use Rattle.ep_journal.specs.declared.step_fault.StepFault.TheVariants.{Memory, OutOfRange, NotMine, StampFull, SpaceFull, SeqExhausted, NotLeading, TooFewAnswers, AlreadyCommitted, BallotsExhausted, NotCommitted}
+use Rattle.ep_journal.specs.declared.step_fault.StepFault.TheVariants.{Memory, OutOfRange, NotMine, OtherVersion, StampFull, SpaceFull, SeqExhausted, NotLeading, TooFewAnswers, AlreadyCommitted, BallotsExhausted, NotCommitted}
 
 pub refused_limit : (o : Outcome) (e : InterferenceFault) → IsLimited o e → IsRefused o (of_limit e)
 refused_limit o Unfound h = tt
@@ -35,6 +35,7 @@ pub refused_at : (i : ℕ) (o : Outcome) (e : StepFault) → IsRefused o e → I
 refused_at i o Memory h = tt
 refused_at i o OutOfRange h = h
 refused_at i o NotMine h = h
+refused_at i o OtherVersion h = h
 refused_at i o StampFull h = h
 refused_at i o SpaceFull h = ap (at i) h
 refused_at i o SeqExhausted h = ap (at i) h

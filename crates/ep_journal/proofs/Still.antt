@@ -1,7 +1,9 @@
 -- A refusal that is remembered holds.
-use Rattle.std.proofs.Common.{◌≡◌, inl, inr, ℕ, List, Option, Some, None, Result, Ok, Err, IfOk, IfErr, OnErr, refl, sym, ap, subst, ◌∙◌}
+use Rattle.std.proofs.Common.{◌≡◌, inl, inr, ℕ, Bool, true, false, cond, leb, List, Option, Some, None, Result, Ok, Err, IfOk, IfErr, OnErr, refl, sym, ap, subst, ◌∙◌}
 use Rattle.ep_base.specs.declared.attrs.Attrs.{Attrs}
+use Rattle.ep_base.specs.Instances.{number_of}
 use Rattle.ep_base.specs.Places.{Has}
+use Rattle.ep_base.specs.Versions.{highest_in}
 use Rattle.ep_rules.specs.Cells as rules
 use Rattle.ep_rules.specs.Cells.{Refusal}
 use Rattle.ep_rules.specs.Graph.{Graph, Reaches}
@@ -10,7 +12,7 @@ use Rattle.ep_rules.specs.Order.{IsBlocked, IsClosed}
 use Rattle.ep_rules.specs.States.{graph_in}
 use Rattle.ep_rules.specs.Steps.{Refuses, screened, leaves, Execute as Executes}
 use Rattle.ep_journal.specs.Blocks.{IsStill, root_of, IsKnown, kept_by, IsRemembered}
-use Rattle.ep_journal.specs.Events.{event_of}
+use Rattle.ep_journal.specs.Events.{event_of, numbered_in}
 use Rattle.ep_journal.specs.Standing.{Standing, Advances, IsRefused, IsSound}
 use Rattle.ep_journal.specs.Stepping.{MarkedBy}
 use Rattle.ep_journal.specs.declared.blocked.Blocked.{Blocked}
@@ -19,7 +21,7 @@ use Rattle.ep_journal.specs.declared.event.Event.{Event as Happening}
 use Rattle.ep_journal.specs.declared.event.Event.TheVariants.{Propose, Handle, GiveUp, Recover, Execute}
 use Rattle.ep_journal.specs.declared.mark.Mark.{Mark}
 use Rattle.ep_journal.specs.declared.step_fault.StepFault.{StepFault}
-use Rattle.ep_journal.specs.declared.step_fault.StepFault.TheVariants.{NotCommitted}
+use Rattle.ep_journal.specs.declared.step_fault.StepFault.TheVariants.{OutOfRange, NotCommitted}
 
 is_execute : (event : Happening) (r : ℕ) → root_of event ≡ Some r → event ≡ Execute r
 is_execute (Propose client request c seen) r e = absurd (cc)
@@ -31,7 +33,7 @@ is_execute (Execute i) r e = let same : i ≡ r = cc in ap Execute same
 -- Asked again.
 
 refused_again : (s : Standing) (b : Blocked) (m : Mark) → IsStill s (Some b) → IsRefused s (Execute b.root) (Some m) (NotCommitted b.missing)
-refused_again s b m h = inr (inr (rules.NotCommitted b.missing, record { readable = tt; named = refl; refuses = h; marked = λ is. absurd (cc) }))
+refused_again s b m h = inr (inr (inr (inr (rules.NotCommitted b.missing, record { readable = tt; versioned = h.0; room = λ _. tt; named = refl; refuses = h.1; marked = λ is. absurd (cc) }))))
 
 pub known_refused : (s : Standing) (last : Option Blocked) (event : Happening) (mark : Option Mark) (i : ℕ) → IsStill s last → IsKnown last (root_of event) mark i → IsRefused s event mark (NotCommitted i)
 known_refused s last event mark i h k =
@@ -45,10 +47,21 @@ known_refused s last event mark i h k =
 
 -- Remembered.
 
+-- a version lacks a number by another fault
+numbered_by : (b : Bool) (i : ℕ) → cond {A = Option StepFault} b None (Some OutOfRange) ≡ Some (NotCommitted i) → ⊥
+numbered_by true i e = absurd (cc)
+numbered_by false i e = absurd (cc)
+
 refused_then : (s : Standing) (b : Blocked) (mark : Option Mark) → IsRefused s (Execute b.root) mark (NotCommitted b.missing) → IsStill s (Some b)
 refused_then s b mark (inl e) = absurd (cc)
-refused_then s b mark (inr (inl h)) = let e = h.0 in absurd (cc)
-refused_then s b mark (inr (inr h)) = let why : Refusal = h.0 in let e : Some (rules.NotCommitted b.missing) ≡ Some why = h.1.named in let same : rules.NotCommitted b.missing ≡ why = cc in subst (Refuses s.faults s.me s.state (Executes b.root)) (sym same) h.1.refuses
+refused_then s b mark (inr (inl h)) = absurd (numbered_by (leb (number_of b.root) (highest_in s.version)) b.missing h.1)
+refused_then s b mark (inr (inr (inl h))) = let e = h.0 in absurd (cc)
+refused_then s b mark (inr (inr (inr (inl h)))) = let e = h.0 in absurd (cc)
+refused_then s b mark (inr (inr (inr (inr h)))) =
+    let why : Refusal = h.0 in
+    let e : Some (rules.NotCommitted b.missing) ≡ Some why = h.1.named in
+    let same : rules.NotCommitted b.missing ≡ why = cc in
+    (h.1.versioned, subst (Refuses s.faults s.me s.state (Executes b.root)) (sym same) h.1.refuses)
 
 -- what is closed under dependencies is closed under reach
 reached_done : (g : Graph) (done : List ℕ) → IsClosed g done → {i j : ℕ} → Has done i → Reaches g i j → Has done j
@@ -73,24 +86,27 @@ screened_same : (f f' me me' root : ℕ) → f' ≡ f → screened f' me' (Execu
 screened_same f f' me me' root e = ap (λ x. screened x me (Executes root)) e
 
 -- the refusal holds as long as the records are the same, whatever else is executed
-still_after : (s s' : Standing) (last : Option Blocked) → IsSound s' → s'.faults ≡ s.faults → s'.state.records ≡ s.state.records → IsStill s last → IsStill s' last
-still_after s s' None sound f r h = tt
-still_after s s' (Some b) sound f r h = elim h [
-  | inl e ↦ inl (screened_same s.faults s'.faults s.me s'.me b.root f ∙ e)
-  | inr p ↦ inr (
-    screened_same s.faults s'.faults s.me s'.me b.root f ∙ p.0,
-    elim p.1 [
-      | inl e ↦ let never : ⊥ = cc in absurd never
-      | inr w ↦ inr (w.0, w.1, blocked_still (graph_in s'.state.records) s.state.executed s'.state.executed b.root w.0 sound.closed (subst (λ rs. IsBlocked (graph_in rs) s.state.executed b.root w.0) (sym r) w.2))
-    ],
-  )
-]
+still_after : (s s' : Standing) (last : Option Blocked) → IsSound s' → s'.version ≡ s.version → s'.faults ≡ s.faults → s'.state.records ≡ s.state.records → IsStill s last → IsStill s' last
+still_after s s' None sound v f r h = tt
+still_after s s' (Some b) sound v f r h = (
+  ap (λ w. numbered_in w b.root) v ∙ h.0,
+  elim h.1 [
+    | inl e ↦ inl (screened_same s.faults s'.faults s.me s'.me b.root f ∙ e)
+    | inr p ↦ inr (
+      screened_same s.faults s'.faults s.me s'.me b.root f ∙ p.0,
+      elim p.1 [
+        | inl e ↦ let never : ⊥ = cc in absurd never
+        | inr w ↦ inr (w.0, w.1, blocked_still (graph_in s'.state.records) s.state.executed s'.state.executed b.root w.0 sound.closed (subst (λ rs. IsBlocked (graph_in rs) s.state.executed b.root w.0) (sym r) w.2))
+      ],
+    )
+  ],
+)
 
 still_taken : (s s' : Standing) (last : Option Blocked) (root : Option ℕ) (mark : Mark) (event : Happening) (e : Entry) → root_of event ≡ root → IsSound s' → Advances s mark event e s' → IsStill s last → IsStill s' (kept_by root last)
 still_taken s s' last None mark event e is sound a h = tt
 still_taken s s' last (Some r) mark event e is sound a h =
     let left : s' ≡ record s { state = leaves s.faults s.me s.state (Executes r) e.done } = a.leaves ∙ ap (λ x. record s { state = leaves s.faults s.me s.state (event_of x) e.done }) (is_execute event r is) in
-    still_after s s' last sound (ap (λ (x : Standing). x.faults) left) (ap (λ (x : Standing). x.state.records) left) h
+    still_after s s' last sound (ap (λ (x : Standing). x.version) left) (ap (λ (x : Standing). x.faults) left) (ap (λ (x : Standing). x.state.records) left) h
 
 -- The state after a step.
 

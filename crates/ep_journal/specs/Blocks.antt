@@ -2,6 +2,7 @@
 use Rattle.std.specs.Prelude.{◌≡◌, ◌⊎◌, ℕ, Option, Some, None, Result, Ok, Err}
 use Rattle.ep_rules.specs.Cells as rules
 use Rattle.ep_rules.specs.Steps.{Refuses, Execute as Executes}
+use Rattle.ep_journal.specs.Events.{numbered_in}
 use Rattle.ep_journal.specs.Standing.{Standing}
 use Rattle.ep_journal.specs.declared.blocked.Blocked.{Blocked}
 use Rattle.ep_journal.specs.declared.entry.Entry.{Entry}
@@ -11,10 +12,10 @@ use Rattle.ep_journal.specs.declared.mark.Mark.{Mark}
 use Rattle.ep_journal.specs.declared.step_fault.StepFault.{StepFault}
 use Rattle.ep_journal.specs.declared.step_fault.StepFault.TheVariants.{NotCommitted}
 
--- the rule book refuses the root, with the least instance for which it waits
+-- the version has the root, and the rule book refuses it, with the least instance for which it waits
 abbrev pub IsStill : Standing → Option Blocked → Type 0
 IsStill s None = Unit {0}
-IsStill s (Some b) = Refuses s.faults s.me s.state (Executes b.root) (rules.NotCommitted b.missing)
+IsStill s (Some b) = (numbered_in s.version b.root ≡ None) × Refuses s.faults s.me s.state (Executes b.root) (rules.NotCommitted b.missing)
 
 -- the root of an execution
 abbrev pub root_of : Happening → Option ℕ

@@ -3,6 +3,7 @@ use Rattle.std.specs.Prelude.{ℕ, Bool, eqb, Result, Ok, Err}
 use Rattle.ep_base.specs.Instances.{leader_of}
 use Rattle.ep_base.specs.Messages.{instance_of_message}
 use Rattle.ep_base.specs.Quorums.{is_fast}
+use Rattle.ep_base.specs.declared.version.Version.{Version}
 use Rattle.ep_base.specs.declared.message.Message.TheVariants.{PreAccept, PreAcceptOk, Accept, AcceptOk, Commit, Prepare, PrepareOk, Nack}
 use Rattle.ep_frame.specs.Meaning.{sender_at, message_at}
 use Rattle.ep_phase.specs.Known.{Known, record_of}
@@ -14,6 +15,7 @@ use Rattle.ep_rules.specs.Fitting.{AllFit}
 use Rattle.ep_rules.specs.InterferenceSet.{interference}
 use Rattle.ep_rules.specs.Phases.{Outcome, propose, give_up, on_pre_accept, on_pre_accept_ok, on_accept, on_accept_ok, on_commit}
 use Rattle.ep_rules.specs.Recovery.{recover, on_prepare, on_prepare_ok, on_nack}
+use Rattle.ep_journal.specs.Early.{AllSayable}
 use Rattle.ep_journal.specs.declared.admitted.Admitted.{Admitted}
 use Rattle.ep_journal.specs.declared.admitted.Admitted.TheVariants.{Request, Asked, Execution}
 use Rattle.ep_journal.specs.declared.event.Event.{Event as Happening}
@@ -49,7 +51,7 @@ receives k (One q) r = eqb r q
 receives k FastQuorum r = is_fast k.faults (leader_of k.instance) r
 receives k Others r = is_other k.me r
 
--- what is sent has a spelling
-abbrev pub IsWritable : ℕ → Result (ℕ × Change) Refusal → Type 0
-IsWritable me (Ok p) = AllFit me p.1.out
-IsWritable me (Err e) = Unit {0}
+-- what is sent has a spelling in the version
+abbrev pub IsWritable : Version → ℕ → Result (ℕ × Change) Refusal → Type 0
+IsWritable v me (Ok p) = AllFit me p.1.out × AllSayable v p.1.out
+IsWritable v me (Err e) = Unit {0}

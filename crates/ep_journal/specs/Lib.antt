@@ -1,3 +1,4 @@
+pub mod Early
 pub mod Executing
 pub mod Events
 pub mod Refused

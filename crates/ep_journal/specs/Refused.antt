@@ -11,7 +11,7 @@ use Rattle.ep_rules.specs.Cells.{Refusal}
 use Rattle.ep_space.specs.declared.interference_fault.InterferenceFault.{InterferenceFault}
 use Rattle.ep_space.specs.declared.interference_fault.InterferenceFault.TheVariants.{Memory as Unfound, SeqExhausted as Limit}
 use Rattle.ep_journal.specs.declared.step_fault.StepFault.{StepFault}
-use Rattle.ep_journal.specs.declared.step_fault.StepFault.TheVariants.{Memory, OutOfRange, NotMine, StampFull, SpaceFull, SeqExhausted, NotLeading, TooFewAnswers, AlreadyCommitted, BallotsExhausted, NotCommitted}
+use Rattle.ep_journal.specs.declared.step_fault.StepFault.TheVariants.{Memory, OutOfRange, NotMine, OtherVersion, StampFull, SpaceFull, SeqExhausted, NotLeading, TooFewAnswers, AlreadyCommitted, BallotsExhausted, NotCommitted}
 
 abbrev pub of_limit : InterferenceFault → StepFault
 of_limit Unfound = Memory
@@ -32,11 +32,12 @@ abbrev pub of_plan : PlanFault → StepFault
 of_plan PlanMemory = Memory
 of_plan (PlanNotCommitted i) = NotCommitted i
 
--- the refusal of the rule book that the fault names; none for want of memory and a full stamp, which the rule book doesn't know
+-- the refusal of the rule book that the fault names; none for want of memory, another version and a full stamp, which the rule book doesn't know
 abbrev pub named : StepFault → Option Refusal
 named Memory = None
 named OutOfRange = Some rules.OutOfRange
 named NotMine = Some rules.NotMine
+named OtherVersion = None
 named StampFull = None
 named SpaceFull = Some rules.SpaceFull
 named SeqExhausted = Some rules.SeqExhausted
@@ -51,6 +52,7 @@ abbrev pub IsRefused : {X : Type 0} → Result X Refusal → StepFault → Type 
 IsRefused o Memory = Unit {0}
 IsRefused o OutOfRange = ⊥
 IsRefused o NotMine = ⊥
+IsRefused o OtherVersion = ⊥
 IsRefused o StampFull = ⊥
 IsRefused o SpaceFull = o ≡ Err rules.SpaceFull
 IsRefused o SeqExhausted = o ≡ Err rules.SeqExhausted

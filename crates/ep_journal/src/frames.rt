@@ -3,15 +3,17 @@
 ghost use Rattle.std.specs.Prelude.{◌≡◌, ◌≢◌, ◌≤◌, ◌<◌, ◌+◌, [], ◌∷◌, IfOk, OnOk};
 ghost use Rattle.ep_base.specs.Fitting.{BallotsFit};
 ghost use Rattle.ep_base.specs.Quorums.{size};
+ghost use Rattle.ep_base.specs.Versions.{CanSay};
 ghost use Rattle.ep_phase.specs.Changes.{sends};
 ghost use Rattle.ep_rules.specs.Counting.{to_those};
 ghost use Rattle.ep_rules.specs.Fitting.{AllFit};
 ghost use Rattle.ep_rules.specs.Steps.{sent_from};
+ghost use Rattle.ep_journal.specs.Early.{AllSayable};
 ghost use Rattle.ep_journal.specs.Events.{AreSpelled};
 ghost use Rattle.ep_journal.specs.Inputs.{receives};
 
 use crate::mark::Mark;
-use ep_base::{Message, ReplicaId};
+use ep_base::{Message, ReplicaId, Version};
 use ep_frame::{Frame, Origin, write};
 use ep_phase::{Cell, Receivers, Sending, is_fast};
 use std::alloc::{AllocError, Global};
@@ -56,72 +58,95 @@ impl Frames {
     }
 }
 
-/// The frames of what is sent, as those of the entry so marked.
+/// The frames of what is sent, in this version, as those of the entry so marked.
 pub(crate) fn written(
     alloc: Global,
     cell: &Cell<'_>,
+    version: Version,
     mark: Mark,
     out: &Option<Sending>,
 ) -> Result<Frames, AllocError>
     requires number { 1 ≤ mark.number }
     requires fit { AllFit cell.now.me (sends cell.now.faults cell.now.me cell.now.instance out.now) }
-    ensures { IfOk result (λ f. AreSpelled mark.number mark.stamp 0 f (sent_from cell.now.me (sends cell.now.faults cell.now.me cell.now.instance out.now))) }
+    requires said { AllSayable version (sends cell.now.faults cell.now.me cell.now.instance out.now) }
+    ensures { IfOk result (λ f. AreSpelled version mark.number mark.stamp 0 f (sent_from cell.now.me (sends cell.now.faults cell.now.me cell.now.instance out.now))) }
 {
     match out {
         None => Ok(Frames::none(alloc)),
-        Some(sending) => match sending.to {
-            Receivers::One(to) => written_to(alloc, cell, mark, to, &sending.message),
-            Receivers::FastQuorum => {
-                written_to_each(alloc, cell, mark, Receivers::FastQuorum, &sending.message)
+        Some(sending) => {
+            let message = &sending.message;
+            match sending.to {
+                Receivers::One(to) => {
+                    let origin = Origin {
+                        to,
+                        out: 0,
+                        entry: mark.number,
+                        stamp: mark.stamp,
+                    };
+                    written_to(alloc, version, cell.me(), message, origin)
+                }
+                Receivers::FastQuorum => {
+                    let to = Receivers::FastQuorum;
+                    written_to_each(
+                        alloc,
+                        cell,
+                        &Sent {
+                            version,
+                            mark,
+                            to,
+                            message,
+                        },
+                    )
+                }
+                Receivers::Others => {
+                    let to = Receivers::Others;
+                    written_to_each(
+                        alloc,
+                        cell,
+                        &Sent {
+                            version,
+                            mark,
+                            to,
+                            message,
+                        },
+                    )
+                }
             }
-            Receivers::Others => {
-                written_to_each(alloc, cell, mark, Receivers::Others, &sending.message)
-            }
-        },
+        }
     }
 }
 
-/// The frame of the message to this replica alone.
+/// The frame of the message with this origin alone, the first one of its entry.
 fn written_to(
     alloc: Global,
-    cell: &Cell<'_>,
-    mark: Mark,
-    to: ReplicaId,
+    version: Version,
+    from: ReplicaId,
     message: &Message,
+    origin: Origin,
 ) -> Result<Frames, AllocError>
-    requires number { 1 ≤ mark.number }
-    requires apart { to ≢ cell.now.me }
+    requires first { origin.out ≡ 0 }
+    requires number { 1 ≤ origin.entry }
+    requires apart { origin.to ≢ from }
     requires fits { BallotsFit message.now }
-    ensures { IfOk result (λ f. AreSpelled mark.number mark.stamp 0 f (sent_from cell.now.me ((to, message.now) ∷ []))) }
+    requires said { CanSay version message.now }
+    ensures { IfOk result (λ f. AreSpelled version origin.entry origin.stamp 0 f (sent_from from ((origin.to, message.now) ∷ []))) }
 {
     let mut items = Vec::new(alloc);
-    let origin = Origin {
-        to,
-        out: 0,
-        entry: mark.number,
-        stamp: mark.stamp,
-    };
-    let frame = write(alloc, cell.me(), message, origin)?;
+    let frame = write(alloc, version, from, message, origin)?;
     items.push(frame)?;
     Ok(Frames { items })
 }
 
 /// The frames of the message to each of these, by rising receiver.
-fn written_to_each(
-    alloc: Global,
-    cell: &Cell<'_>,
-    mark: Mark,
-    to: Receivers,
-    message: &Message,
-) -> Result<Frames, AllocError>
-    requires number { 1 ≤ mark.number }
-    requires fit { AllFit cell.now.me (to_those (receives cell.now to) (size cell.now.faults) message.now) }
-    ensures { IfOk result (λ f. AreSpelled mark.number mark.stamp 0 f (sent_from cell.now.me (to_those (receives cell.now to) (size cell.now.faults) message.now))) }
+fn written_to_each(alloc: Global, cell: &Cell<'_>, sent: &Sent<'_>) -> Result<Frames, AllocError>
+    requires number { 1 ≤ sent.now.mark.number }
+    requires fit { AllFit cell.now.me (to_those (receives cell.now sent.now.to) (size cell.now.faults) sent.now.message.now) }
+    requires said { AllSayable sent.now.version (to_those (receives cell.now sent.now.to) (size cell.now.faults) sent.now.message.now) }
+    ensures { IfOk result (λ f. AreSpelled sent.now.version sent.now.mark.number sent.now.mark.stamp 0 f (sent_from cell.now.me (to_those (receives cell.now sent.now.to) (size cell.now.faults) sent.now.message.now))) }
 {
     let mut items = Vec::new(alloc);
-    let sent = Sent { mark, to, message };
     for r in 0..cell.size().count() {
-        add_if(alloc, &mut items, cell, &sent, r)?;
+        add_if(alloc, &mut items, cell, sent, r)?;
     }
     Ok(Frames { items })
 }
@@ -149,8 +174,9 @@ fn add_if(
     requires replica { r ≤ 6 }
     requires cluster { r < size cell.now.faults }
     requires fit { AllFit cell.now.me (to_those (receives cell.now sent.now.to) (size cell.now.faults) sent.now.message.now) }
-    requires before { AreSpelled sent.now.mark.number sent.now.mark.stamp 0 items.old.items (sent_from cell.now.me (to_those (receives cell.now sent.now.to) r sent.now.message.now)) }
-    ensures { OnOk result (AreSpelled sent.now.mark.number sent.now.mark.stamp 0 items.new.items (sent_from cell.now.me (to_those (receives cell.now sent.now.to) (r + 1) sent.now.message.now))) }
+    requires said { AllSayable sent.now.version (to_those (receives cell.now sent.now.to) (size cell.now.faults) sent.now.message.now) }
+    requires before { AreSpelled sent.now.version sent.now.mark.number sent.now.mark.stamp 0 items.old.items (sent_from cell.now.me (to_those (receives cell.now sent.now.to) r sent.now.message.now)) }
+    ensures { OnOk result (AreSpelled sent.now.version sent.now.mark.number sent.now.mark.stamp 0 items.new.items (sent_from cell.now.me (to_those (receives cell.now sent.now.to) (r + 1) sent.now.message.now))) }
 {
     if !is_receiver(cell, sent.to, r) {
         return Ok(());
@@ -161,14 +187,15 @@ fn add_if(
         entry: sent.mark.number,
         stamp: sent.mark.stamp,
     };
-    let frame = write(alloc, cell.me(), sent.message, origin)?;
+    let frame = write(alloc, sent.version, cell.me(), sent.message, origin)?;
     items.push(frame)?;
     Ok(())
 }
 
-/// A message of an entry so marked to several replicas.
+/// A message of an entry so marked to several replicas, in this version.
 #[derive(Drop)]
 struct Sent<'a> {
+    version: Version,
     mark: Mark,
     to: Receivers,
     message: &'a Message,

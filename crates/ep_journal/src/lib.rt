@@ -6,13 +6,14 @@
 //! Start with `event.rt`, `entry.rt` and `state.rt` (`State::step`), then specs/Standing.antt (`Advances`, `IsRefused`). A
 //! `Journal` is a local run by its type, so whoever holds one knows it.
 //!
-//! A step (`parts.rt`) screens the event once (`screen.rt`), decides (`deciding.rt`), writes the frames, and then puts the change
+//! A step (`parts.rt`) asks whether the replica's version has the event (`versioned.rt`), screens it once (`screen.rt`), decides (`deciding.rt`), writes the frames, and then puts the change
 //! in place: all that may fail comes first, so nothing has to be put back. Several executions are tried first, and kept
 //! or taken back together. Nothing else is ever undone: keep it so.
 #![tactic(auto)]
 
 mod admitted;
 mod blocked;
+mod decided;
 mod deciding;
 mod entry;
 mod event;
@@ -28,6 +29,7 @@ mod parts;
 mod screen;
 mod state;
 mod step_fault;
+mod versioned;
 
 pub use entry::Entry;
 pub use event::Event;

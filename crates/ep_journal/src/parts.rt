@@ -1,14 +1,17 @@
 //! What a replica is, by its parts, and its step.
 
-ghost use Rattle.std.specs.Prelude.{◌≡◌, ◌≤◌, IfOk, IfErr, IfSome, OnErr};
+ghost use Rattle.std.specs.Prelude.{◌≡◌, ◌≤◌, Ok, IfOk, IfErr, IfSome, OnErr};
+ghost use Rattle.ep_phase.specs.Changes.{change_of, sends};
 ghost use Rattle.ep_phase.specs.Known.{known_of};
-ghost use Rattle.ep_rules.specs.Steps.{at};
+ghost use Rattle.ep_rules.specs.Steps.{at, sent_from};
+ghost use Rattle.ep_journal.specs.Events.{AreSpelled};
 ghost use Rattle.ep_journal.specs.Inputs.{outcome_at, IsWritable};
 ghost use Rattle.ep_journal.specs.Refused.{IsRefused as IsRefusedBy};
 ghost use Rattle.ep_journal.specs.Standing.{Advances, IsRefused, IsSound};
 ghost use Rattle.ep_journal.specs.Stepping.{standing_of, MarkedBy, Moves};
 
 use crate::admitted::Admitted;
+use crate::decided::Decided;
 use crate::deciding::decide;
 use crate::entry::Entry;
 use crate::event::Event;
@@ -19,6 +22,7 @@ use crate::input::Input;
 use crate::mark::Mark;
 use crate::screen::screen;
 use crate::step_fault::StepFault;
+use crate::versioned::check_version;
 use ep_base::{InstanceId, ReplicaId};
 use ep_exec::{Executed, Store};
 use ep_phase::{Cell, Lead, next_instance};
@@ -49,6 +53,7 @@ impl Parts {
         ensures refused { IfErr result (λ e. IsRefused (standing_of self.old) event mark e) }
         ensures err { OnErr result (standing_of self.new ≡ standing_of self.old) }
     {
+        check_version(self.space.version(), &event)?;
         let admitted = screen(alloc, self.space.size(), self.me, &event)?;
         let Some(mark) = mark else {
             return Err(StepFault::StampFull);
@@ -95,6 +100,26 @@ impl Parts {
         }
     }
 
+    /// Decides what is asked of the instance, and writes the frames; nothing has changed then.
+    fn decided(
+        &self,
+        alloc: Global,
+        id: InstanceId,
+        input: Input,
+        mark: Mark,
+    ) -> Result<Decided, StepFault>
+        requires numbered { 1 ≤ mark.number }
+        requires writable { IsWritable self.now.space.version self.now.me (at id (outcome_at (known_of self.now.me self.now.space self.now.lead id) input)) }
+        ensures change { IfOk result (λ d. outcome_at (known_of self.now.me self.now.space self.now.lead id) input ≡ Ok (change_of (known_of self.now.me self.now.space self.now.lead id) d.change)) }
+        ensures frames { IfOk result (λ d. AreSpelled self.now.space.version mark.number mark.stamp 0 d.frames (sent_from self.now.me (sends self.now.space.faults self.now.me id d.change.out))) }
+        ensures refused { IfErr result (λ e. IsRefusedBy (outcome_at (known_of self.now.me self.now.space self.now.lead id) input) e) }
+    {
+        let cell = Cell::of(&self.space, &self.lead, self.me, id);
+        let change = decide(alloc, &cell, input)?;
+        let frames = written(alloc, &cell, self.space.version(), mark, &change.out)?;
+        Ok(Decided { change, frames })
+    }
+
     /// Does what is asked of the instance: decides, writes the frames, and puts the change in place. All that may fail comes before
     /// anything changes.
     fn change(
@@ -105,16 +130,14 @@ impl Parts {
         mark: Mark,
     ) -> Result<Frames, StepFault>
         requires numbered { 1 ≤ mark.number }
-        requires writable { IsWritable self.old.me (at id (outcome_at (known_of self.old.me self.old.space self.old.lead id) input)) }
+        requires writable { IsWritable self.old.space.version self.old.me (at id (outcome_at (known_of self.old.me self.old.space self.old.lead id) input)) }
         ensures ok { IfOk result (λ f. Moves (at id (outcome_at (known_of self.old.me self.old.space self.old.lead id) input)) mark self.old f self.new) }
         ensures refused { IfErr result (λ e. IsRefusedBy (at id (outcome_at (known_of self.old.me self.old.space self.old.lead id) input)) e) }
         ensures err { OnErr result (standing_of self.new ≡ standing_of self.old) }
     {
         self.space.reserve(id)?;
         self.lead.reserve(id)?;
-        let cell = Cell::of(&self.space, &self.lead, self.me, id);
-        let change = decide(alloc, &cell, input)?;
-        let frames = written(alloc, &cell, mark, &change.out)?;
+        let Decided { change, frames } = self.decided(alloc, id, input, mark)?;
         change.install(&mut self.space, &mut self.lead, id)?;
         Ok(frames)
     }

@@ -17,7 +17,11 @@ use thiserror::Error;
 pub enum StepFault {
     #[error("E1 memory")]
     Memory,
-    /// A replica's number is not below the cluster's size, a no-op is proposed, or a client or a request is 0.
+    /// The frame is of another version than the replica.
+    #[error("E14 bad frame")]
+    OtherVersion,
+    /// The version doesn't have the command or the instance's number, a replica's number is not below the cluster's size, a no-op is
+    /// proposed, or a client or a request is 0.
     #[error("E3 out of range")]
     OutOfRange,
     /// The frame is for another replica.
@@ -26,7 +30,7 @@ pub enum StepFault {
     /// The entry's stamp or number would pass its limit.
     #[error("E15 stamp full")]
     StampFull,
-    /// The replica has a record of each of its 1,000 instances.
+    /// The replica has a record of each instance that it leads: 1,000 in version 1, 2,000 in version 2.
     #[error("E4 space full")]
     SpaceFull,
     /// The sequence number would pass 1,000,000.

@@ -1,7 +1,7 @@
 //! Journals that hold nothing, alone and together.
 
 use crate::samples::replica;
-use ep_base::{BadSize, Size};
+use ep_base::{BadSize, Size, Version};
 use ep_journal::{Journal, Journals};
 use std::alloc::Global;
 use std::process::Abort;
@@ -9,11 +9,49 @@ use std::process::Abort;
 /// A cluster's size and a replica.
 type Owner = (u8, u8);
 
-fn journal(rt: &impl Abort, alloc: Global, owner: Owner) -> Journal {
+fn journal_in(rt: &impl Abort, alloc: Global, version: Version, owner: Owner) -> Journal {
     let size = Size::new(owner.0).expect(rt, "a size");
     let me = replica(rt, owner.1);
     assert!(rt; me.index() < size.count());
-    Journal::new(alloc, size, me)
+    Journal::new(alloc, size, version, me)
+}
+
+fn journal(rt: &impl Abort, alloc: Global, owner: Owner) -> Journal {
+    journal_in(rt, alloc, Version::V2, owner)
+}
+
+/// Three empty journals, each of its version.
+fn of_versions(
+    rt: &impl Abort,
+    alloc: Global,
+    versions: [Version; 3],
+) -> Result<Journals, BadSize> {
+    let mut journals = Vec::new(alloc);
+    for me in 0..3 {
+        let version = versions[me as usize];
+        if journals
+            .push(journal_in(rt, alloc, version, (3, me)))
+            .is_err()
+        {
+            let again = journals.push(journal_in(rt, alloc, version, (3, me)));
+            again.expect(rt, "memory for a journal");
+        }
+    }
+    Journals::new(journals)
+}
+
+#[test]
+fn journals_of_one_version(rt: HostRuntime) {
+    let alloc = rt.alloc();
+    let (one, two) = (Version::V1, Version::V2);
+    let journals = of_versions(&rt, alloc, [one, one, one]).expect(&rt, "journals");
+    assert_eq!(rt; journals.version(), one);
+    drop(journals);
+    let journals = of_versions(&rt, alloc, [two, two, two]).expect(&rt, "journals");
+    assert_eq!(rt; journals.version(), two);
+    drop(journals);
+    assert!(rt; of_versions(&rt, alloc, [one, one, two]).is_err());
+    assert!(rt; of_versions(&rt, alloc, [two, one, one]).is_err());
 }
 
 /// The empty journals of these, together.

@@ -1,7 +1,7 @@
 //! A journal takes events: it has their entries, and tells what these commit.
 
 use crate::samples::{PRE_ACCEPT_OK, first_of, handle, propose, replica};
-use ep_base::{InstanceId, Size, Stamp};
+use ep_base::{InstanceId, Size, Stamp, Version};
 use ep_journal::{Event, Journal, Mark, StepFault};
 use std::alloc::Global;
 use std::process::Abort;
@@ -11,7 +11,7 @@ fn journal(rt: &impl Abort, alloc: Global) -> Journal {
     let size = Size::new(3).expect(rt, "a size");
     let me = replica(rt, 0);
     assert!(rt; me.index() < size.count());
-    Journal::new(alloc, size, me)
+    Journal::new(alloc, size, Version::V2, me)
 }
 
 /// Takes a copy of the event, with the next number and this stamp, which is greater than the last one.

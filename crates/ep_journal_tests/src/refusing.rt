@@ -8,7 +8,7 @@ use std::process::Abort;
 
 /// Replica 1 has promised ballot (60,000, 2) in 0.1.
 const NACK: [u8; 40] = [
-    0x45, 0x50, 1, 8, 1, 0, 0, 0, 0, 0, 0, 1, 0, 0, 0, 0, 0, 0, 0, 1, 0, 0, 1, 0, 0, 0, 0, 0xea,
+    0x45, 0x50, 2, 8, 1, 0, 0, 0, 0, 0, 0, 1, 0, 0, 0, 0, 0, 0, 0, 1, 0, 0, 1, 0, 0, 0, 0, 0xea,
     0x60, 2, 0, 0, 0, 0, 0, 0, 0, 0, 0, 0,
 ];
 
@@ -165,6 +165,7 @@ fn faults_have_their_texts(rt: HostRuntime) {
     let alloc = rt.alloc();
     let id = StepFault::NotCommitted(first_of(&rt, 0));
     assert_text(&rt, alloc, StepFault::Memory, "E1 memory");
+    assert_text(&rt, alloc, StepFault::OtherVersion, "E14 bad frame");
     assert_text(&rt, alloc, StepFault::OutOfRange, "E3 out of range");
     assert_text(&rt, alloc, StepFault::NotMine, "E13 not mine");
     assert_text(&rt, alloc, StepFault::StampFull, "E15 stamp full");

@@ -3,7 +3,7 @@
 ghost use Rattle.std.specs.Prelude.{◌≤◌, IfSome};
 
 use bytes::Bytes;
-use ep_base::{Command, InstanceId, ReplicaId, Size, Stamp};
+use ep_base::{Command, InstanceId, ReplicaId, Size, Stamp, Version};
 use ep_frame::Frame;
 use ep_journal::{Entry, Event, Mark, State, StepFault};
 use std::alloc::Global;
@@ -11,13 +11,13 @@ use std::process::Abort;
 
 /// `put x 1`, proposed at replica 0 in 0.1, as replica 1 is told.
 pub const PRE_ACCEPT: [u8; 42] = [
-    0x45, 0x50, 1, 1, 0, 1, 0, 0, 0, 0, 0, 1, 0, 0, 0, 0, 0, 0, 0, 1, 0, 0, 1, 0, 0, 0, 0, 0, 0, 0,
+    0x45, 0x50, 2, 1, 0, 1, 0, 0, 0, 0, 0, 1, 0, 0, 0, 0, 0, 0, 0, 1, 0, 0, 1, 0, 0, 0, 0, 0, 0, 0,
     0, 0, 0, 1, 3, 1, 0, 1, 0, 0, 0x78, 0x31,
 ];
 
 /// Replica 1's answer to the first frame.
 pub const PRE_ACCEPT_OK: [u8; 40] = [
-    0x45, 0x50, 1, 2, 1, 0, 0, 0, 0, 0, 0, 1, 0, 0, 0, 0, 0, 0, 0, 2, 0, 0, 1, 0, 0, 0, 0, 0, 0, 0,
+    0x45, 0x50, 2, 2, 1, 0, 0, 0, 0, 0, 0, 1, 0, 0, 0, 0, 0, 0, 0, 2, 0, 0, 1, 0, 0, 0, 0, 0, 0, 0,
     0, 0, 0, 1, 0, 0, 0, 0, 0, 0,
 ];
 
@@ -35,7 +35,15 @@ pub fn state(rt: &impl Abort, alloc: Global, count: u8, me: u8) -> State {
     let size = Size::new(count).expect(rt, "a size");
     let me = replica(rt, me);
     assert!(rt; me.index() < size.count());
-    State::new(alloc, size, me)
+    State::new(alloc, size, Version::V2, me)
+}
+
+/// The opening state of this replica of three, in this version.
+pub fn state_in(rt: &impl Abort, alloc: Global, version: Version, me: u8) -> State {
+    let size = Size::new(3).expect(rt, "a size");
+    let me = replica(rt, me);
+    assert!(rt; me.index() < size.count());
+    State::new(alloc, size, version, me)
 }
 
 fn put(rt: &impl Abort, alloc: Global) -> Command {

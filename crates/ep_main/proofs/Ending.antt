@@ -135,6 +135,11 @@ finishes b (Ok status) zs place left out is found silent = absurd is
 finishes b (Err e) zs place left out is found silent =
     subst (λ x. Finishes (Err x) zs out) (sym is) (finds b zs place left out found silent)
 
+-- want of memory
+pub stops : (e : Fault) (r : Result Status Fault) (zs : List ℕ) (out : Output) → IsErrAnd r (λ x. x ≡ e) → e ≡ Memory → WroteNothing out → Finishes r zs out
+stops e (Ok status) zs out is memory silent = absurd is
+stops e (Err x) zs out is memory silent = subst (λ y. Finishes (Err y) zs out) (sym (is ∙ memory)) silent
+
 -- The devices, whatever was read.
 
 pub ends :

@@ -1,5 +1,5 @@
 -- The first fault of receipts is the rule book's.
-use Rattle.std.proofs.Common.{◌≡◌, ℕ, zero, suc, ◌+◌, ◌<◌, ◌⊎◌, inl, inr, Bool, true, false, ◌&&◌, cond, eqb, ltb, length, Option, Some, None, IfNone, IfSome, List, [], ◌∷◌, ◌++◌, slice_get, refl, sym, ap, subst, ◌∙◌, arith}
+use Rattle.std.proofs.Common.{◌≡◌, ℕ, suc, ◌+◌, ◌<◌, inl, inr, Bool, true, false, ◌&&◌, cond, eqb, length, Option, Some, None, IfNone, IfSome, List, [], ◌∷◌, ◌++◌, slice_get, refl, sym, ap, subst, ◌∙◌, arith}
 use Rattle.std.proofs.lemmas.Bool.{eqb-true, eq-eqb, ltb-true, lt-ltb, false≢true}
 use Rattle.ep_base.specs.Instances.{leader_of}
 use Rattle.ep_base.specs.Messages.{instance_of_message}
@@ -7,7 +7,7 @@ use Rattle.ep_base.specs.Sameness.{same_answer}
 use Rattle.ep_base.specs.declared.reply.Answer.{Answer}
 use Rattle.ep_base.proofs.Same.{Decides-same_answer}
 use Rattle.ep_frame.specs.Meaning.{message_at}
-use Rattle.ep_journal.specs.Entries.{Collected, entry_of, entries_of, entries_at, journals_of, frames_at, AreJournals}
+use Rattle.ep_journal.specs.Entries.{Collected, entry_of, entries_at, journals_of, frames_at, AreJournals}
 use Rattle.ep_journal.specs.Events.{event_of, frame_at}
 use Rattle.ep_journal.specs.declared.entry.Entry.{Entry}
 use Rattle.ep_journal.specs.declared.event.Event.{Event}
@@ -24,9 +24,8 @@ use Rattle.ep_rules.specs.declared.receipt.Receipt.{Receipt}
 use Rattle.ep_rules.proofs.ByPlace.{done_by_place_lem}
 use Rattle.ep_rules.proofs.OneProposal.{one_proposal_lem, proposals_tell_lem}
 use Rattle.ep_matching.specs.Claims.{is_proposed, is_earlier, proposal_of, is_known, receipt_fault, first_of}
-use Rattle.ep_matching.specs.Handlings.{or_else}
-use Rattle.ep_matching.specs.Lookups.{entry_at, first_about, proposed, is_this, proposal_in, is_request, has_answer, has_done}
-use Rattle.ep_matching.proofs.Handled.{passes, Fails, outer, inner, fails, or_none, or_some}
+use Rattle.ep_matching.specs.Lookups.{entry_at, proposed, is_this, proposal_in, is_request, has_answer, has_done}
+use Rattle.ep_matching.proofs.Handled.{passes, outer, inner, fails, or_none, or_some}
 use Rattle.ep_matching.proofs.Shown.{shown_at, shown_from, in_shown, shown_in, runs_of, numbered_of, entry_from, entry_parts}
 
 both : (p q : Bool) → p && q ≡ true → (p ≡ true) × (q ≡ true)

@@ -1,19 +1,19 @@
 -- The first fault of handled frames is the rule book's.
-use Rattle.std.proofs.Common.{◌≡◌, ℕ, zero, suc, ◌<◌, ◌≤◌, ◌⊎◌, inl, inr, Bool, true, false, cond, ltb, Option, Some, None, List, [], ◌∷◌, ◌++◌, refl, sym, ap, subst, ◌∙◌, arith}
-use Rattle.std.proofs.lemmas.Bool.{cases_lt, cases_order, ltb-true, lt-ltb, false≢true}
+use Rattle.std.proofs.Common.{◌≡◌, ℕ, zero, suc, ◌<◌, ◌⊎◌, inl, inr, Bool, true, false, cond, ltb, Option, Some, None, List, [], ◌∷◌, ◌++◌, refl, sym, ap, subst, ◌∙◌, arith}
+use Rattle.std.proofs.lemmas.Bool.{cases_lt, ltb-true, lt-ltb, false≢true}
 use Rattle.ep_base.specs.Attributes.{same_list}
 use Rattle.ep_base.specs.Quorums.{size}
 use Rattle.ep_base.proofs.Same.{Decides-same_list}
-use Rattle.ep_frame.specs.Meaning.{origin_at}
+use Rattle.ep_frame.specs.Meaning.{version_at, origin_at}
 use Rattle.ep_frame.specs.Spelling.{IsFrame}
-use Rattle.ep_journal.specs.Entries.{Collected, entry_of, entries_of, entries_at, journals_of, AreReadable, AreJournals}
-use Rattle.ep_journal.specs.Events.{event_of, frame_at, IsReadable}
+use Rattle.ep_journal.specs.Entries.{Collected, entry_of, entries_of, entries_at, journals_of, AreJournals}
+use Rattle.ep_journal.specs.Events.{event_of, frame_at, IsReadable, lacking}
 use Rattle.ep_journal.specs.declared.entry.Entry.{Entry}
 use Rattle.ep_journal.specs.declared.event.Event.{Event}
 use Rattle.ep_journal.specs.declared.event.Event.TheVariants.{Propose, Handle, GiveUp, Recover, Execute}
 use Rattle.ep_report.specs.Refusals.{fault_of}
 use Rattle.ep_report.specs.declared.audit_fault.AuditFault.{AuditFault}
-use Rattle.ep_rules.specs.Audits.{IsFine, AreFineBefore, IsFirstHandling, IsFault, unsent, changed, early}
+use Rattle.ep_rules.specs.Audits.{IsFine, IsFirstHandling, IsFault, unsent, changed, early}
 use Rattle.ep_rules.specs.Journals as rules
 use Rattle.ep_rules.specs.Journals.{WasSent, IsMatched}
 use Rattle.ep_rules.specs.Steps.{Frame, Propose as Proposes, Handle as Handles, GiveUp as GivesUp, Recover as Recovers, Execute as Executes}
@@ -21,7 +21,7 @@ use Rattle.ep_rules.specs.Worlds.{In}
 use Rattle.ep_rules.specs.declared.receipt.Receipt.{Receipt}
 use Rattle.ep_matching.specs.Handlings.{frame_fault, event_fault, entry_fault, or_else, first_in, first_below}
 use Rattle.ep_matching.specs.Lookups.{sent_there}
-use Rattle.ep_matching.proofs.Shown.{shown_append, in_shown, readable_in, readable_of}
+use Rattle.ep_matching.proofs.Shown.{shown_append, in_shown, readable_in, readable_of, handled_in, versioned_in}
 use Rattle.ep_matching.proofs.Sending.{origin_there, no_origin, was_sent, sent_is}
 
 -- Two tests, one in the other.
@@ -71,27 +71,27 @@ entry_fine : (c : Collected) (r : ℕ) (e : Entry) → AreJournals c → entry_f
 entry_fine c r e h none m is = event_fine c r e.number e.stamp e.event h none m is
 
 module _ (f : ℕ) (c : Collected) (receipts : List Receipt) (h : AreJournals c) where
-  frame_wrong : (r : ℕ) (e : Entry) (b : List ℕ) → IsFrame b → IsFirstHandling (journals_of c) r (entry_of e) (frame_at b) → (x : AuditFault) (o : Option (List ℕ)) → sent_there c b ≡ o →
+  frame_wrong : (r : ℕ) (e : Entry) (b : List ℕ) → IsFrame b → version_at b ≡ c.version → IsFirstHandling (journals_of c) r (entry_of e) (frame_at b) → (x : AuditFault) (o : Option (List ℕ)) → sent_there c b ≡ o →
       frame_fault r e.number e.stamp b o ≡ Some x → IsFault f (journals_of c) receipts (fault_of x)
-  frame_wrong r e b frame first x None is some =
+  frame_wrong r e b frame version first x None is some =
       let s : Some (AuditFault.UnsentFrame r e.number) ≡ Some x = some in
       let same : AuditFault.UnsentFrame r e.number ≡ x = cc in
       subst (λ y. IsFault f (journals_of c) receipts (fault_of y)) same (unsent r (entry_of e) (frame_at b) first (no_origin c b h is))
-  frame_wrong r e b frame first x (Some sent) is some =
+  frame_wrong r e b frame version first x (Some sent) is some =
       elim (fails (same_list sent b) (ltb (origin_at b).stamp e.stamp) (AuditFault.StampOrder r e.number) (AuditFault.ChangedFrame r e.number) x some) [
         | outer isnt same ↦ subst (λ y. IsFault f (journals_of c) receipts (fault_of y)) same
-            (changed r (entry_of e) (frame_at b) first (origin_there c b sent h is) (λ w. false≢true (sym isnt ∙ (Decides-same_list sent b).1 (sent_is c b sent h frame is w))))
+            (changed r (entry_of e) (frame_at b) first (origin_there c b sent h is) (λ w. false≢true (sym isnt ∙ (Decides-same_list sent b).1 (sent_is c b sent h frame version is w))))
         | inner passed isnt same ↦ subst (λ y. IsFault f (journals_of c) receipts (fault_of y)) same
             (early r (entry_of e) (frame_at b) first (was_sent c b h (is ∙ ap Some ((Decides-same_list sent b).0 passed))) (λ lt. false≢true (sym isnt ∙ lt-ltb (origin_at b).stamp e.stamp lt)))
       ]
 
-  event_wrong : (r : ℕ) (e : Entry) (event : Event) → IsReadable event → ((m : Frame) → event_of event ≡ Handles m → IsFirstHandling (journals_of c) r (entry_of e) m) → (x : AuditFault) →
+  event_wrong : (r : ℕ) (e : Entry) (event : Event) → IsReadable event → lacking c.version event ≡ None → ((m : Frame) → event_of event ≡ Handles m → IsFirstHandling (journals_of c) r (entry_of e) m) → (x : AuditFault) →
       event_fault c r e.number e.stamp event ≡ Some x → IsFault f (journals_of c) receipts (fault_of x)
-  event_wrong r e (Propose client request command seen) frame first x some = let s : None ≡ Some x = some in absurd (cc)
-  event_wrong r e (Handle b) frame first x some = frame_wrong r e b frame (first (frame_at b) refl) x (sent_there c b) refl some
-  event_wrong r e (GiveUp i) frame first x some = let s : None ≡ Some x = some in absurd (cc)
-  event_wrong r e (Recover i) frame first x some = let s : None ≡ Some x = some in absurd (cc)
-  event_wrong r e (Execute i) frame first x some = let s : None ≡ Some x = some in absurd (cc)
+  event_wrong r e (Propose client request command seen) frame lacks first x some = let s : None ≡ Some x = some in absurd (cc)
+  event_wrong r e (Handle b) frame lacks first x some = frame_wrong r e b frame (handled_in c.version b lacks) (first (frame_at b) refl) x (sent_there c b) refl some
+  event_wrong r e (GiveUp i) frame lacks first x some = let s : None ≡ Some x = some in absurd (cc)
+  event_wrong r e (Recover i) frame lacks first x some = let s : None ≡ Some x = some in absurd (cc)
+  event_wrong r e (Execute i) frame lacks first x some = let s : None ≡ Some x = some in absurd (cc)
 
 -- The entries of a replica.
 
@@ -177,7 +177,7 @@ handled_wrong f c receipts n x h some =
     let t = some_below c n x some in
     let u = some_in c t.replica (entries_at c t.replica) x t.fault in
     let there : In u.entry (entries_at c t.replica) = subst (λ es. In u.entry es) u.split (in_middle u.before u.entry u.rest) in
-    event_wrong f c receipts h t.replica u.entry u.entry.event (readable_in (entries_at c t.replica) u.entry (readable_of c h t.replica) there).0
+    event_wrong f c receipts h t.replica u.entry u.entry.event (readable_in (entries_at c t.replica) u.entry (readable_of c h t.replica) there).0 (versioned_in c h t.replica u.entry there).event
     (λ m is. record {
       before = entries_of u.before;
       rest = entries_of u.rest;

@@ -1,6 +1,6 @@
 -- What was sent, by look-ups.
-use Rattle.std.proofs.Common.{◌≡◌, ℕ, ◌+◌, ◌<◌, Option, Some, None, List, slice_get, refl, sym, ap, subst, ◌∙◌}
-use Rattle.ep_frame.specs.Meaning.{sender_at, origin_at}
+use Rattle.std.proofs.Common.{◌≡◌, ℕ, ◌+◌, Some, None, List, slice_get, sym, subst, ◌∙◌}
+use Rattle.ep_frame.specs.Meaning.{version_at, sender_at, origin_at}
 use Rattle.ep_frame.specs.Spelling.{IsFrame}
 use Rattle.ep_journal.specs.Entries.{Collected, entries_at, journals_of, frames_at, AreJournals}
 use Rattle.ep_journal.specs.Events.{frame_at}
@@ -11,7 +11,7 @@ use Rattle.ep_rules.specs.Journals.{WasSent}
 use Rattle.ep_rules.specs.Journals as rules
 use Rattle.ep_rules.proofs.ByPlace.{sent_by_place_lem, origin_by_place_lem}
 use Rattle.ep_matching.specs.Lookups.{entry_at, frame_in, sent_there}
-use Rattle.ep_matching.proofs.Shown.{Shows, shown_at, shown_from, ShowsFrame, frame_shown_at, frame_shown_from, readable_at, readable_of, frame_of, numbered_of, entry_from, entry_parts, frame_parts}
+use Rattle.ep_matching.proofs.Shown.{shown_at, shown_from, frame_shown_at, frame_shown_from, readable_at, readable_of, frame_of, versioned_at, frame_in_version, numbered_of, entry_from, entry_parts, frame_parts}
 use Rattle.ep_matching.proofs.Spelled.{one_frame}
 
 -- what the look-up finds
@@ -60,11 +60,12 @@ was_sent c b h is =
     (sent_by_place_lem (journals_of c) (frame_at b) (numbered_of c h (sender_at b))).1
     (s.place, _, s.number, shown_at (entries_at c (sender_at b)) s.place s.entry s.at, frame_shown_at s.entry.frames (origin_at b).out b s.frame)
 
-pub sent_is : (c : Collected) (b sent : List ℕ) → AreJournals c → IsFrame b → sent_there c b ≡ Some sent → WasSent (journals_of c) (frame_at b) → sent ≡ b
-sent_is c b sent h frame is w =
+pub sent_is : (c : Collected) (b sent : List ℕ) → AreJournals c → IsFrame b → version_at b ≡ c.version → sent_there c b ≡ Some sent → WasSent (journals_of c) (frame_at b) → sent ≡ b
+sent_is c b sent h frame version is w =
     let t = (sent_by_place_lem (journals_of c) (frame_at b) (numbered_of c h (sender_at b))).0 w in
     let u = found c b t.0 t.1 (frame_at b) t.2 t.3 t.4 in
     let there : sent_there c b ≡ Some u.0 = stands_there c b u.0 u.1 in
     let same : u.0 ≡ sent = (let q : Some u.0 ≡ Some sent = sym there ∙ is in cc) in
     let readable = (readable_at (entries_at c (sender_at b)) u.1.place u.1.entry (readable_of c h (sender_at b)) u.1.at).1 in
-    sym same ∙ sym (one_frame b u.0 frame (frame_of u.1.entry.frames (origin_at b).out u.0 readable u.1.frame) u.2)
+    let versioned = (versioned_at c h (sender_at b) u.1.place u.1.entry u.1.at).frames in
+    sym same ∙ sym (one_frame c.version b u.0 frame version (frame_of u.1.entry.frames (origin_at b).out u.0 readable u.1.frame) (frame_in_version c.version u.1.entry.frames (origin_at b).out u.0 versioned u.1.frame) u.2)

@@ -1,14 +1,20 @@
 -- Entries and frames of the code, and those that the rule book sees, at the same places.
-use Rattle.std.proofs.Common.{◌≡◌, ℕ, zero, suc, ◌+◌, ◌<◌, ◌≤◌, ◌⊎◌, inl, inr, Option, Some, None, List, [], ◌∷◌, ◌++◌, length, get_or, slice_get, refl, sym, ap, subst, ◌∙◌, arith}
+use Rattle.std.proofs.Common.{◌≡◌, ℕ, zero, suc, ◌+◌, inl, inr, Option, Some, None, List, [], ◌∷◌, ◌++◌, slice_get, refl, sym, ap, subst, arith}
 use Rattle.std.proofs.lemmas.Bool.{cases_lt}
 use Rattle.ep_base.specs.Quorums.{size}
+use Rattle.ep_base.specs.declared.version.Version.{Version}
+use Rattle.ep_base.specs.declared.version.Version.TheVariants.{V1, V2}
+use Rattle.ep_frame.specs.Meaning.{version_at}
 use Rattle.ep_frame.specs.Spelling.{IsFrame}
-use Rattle.ep_journal.specs.Entries.{Collected, entry_of, entries_of, entries_at, journals_of, frames_at, AreFrames, AreReadable, AreJournals}
-use Rattle.ep_journal.specs.Events.{frame_at, IsReadable}
+use Rattle.ep_journal.specs.Entries.{Collected, entry_of, entries_of, entries_at, journals_of, frames_at, AreFrames, AreReadable, AreFramesIn, IsEntryIn, AreEntriesIn, AreJournals}
+use Rattle.ep_journal.specs.Events.{event_of, frame_at, IsReadable, spelled_in, lacking}
 use Rattle.ep_journal.specs.declared.entry.Entry.{Entry}
+use Rattle.ep_journal.specs.declared.event.Event.TheVariants.{Handle}
+use Rattle.ep_journal.specs.declared.step_fault.StepFault.TheVariants.{OtherVersion}
 use Rattle.ep_rules.specs.Journals as rules
 use Rattle.ep_rules.specs.Journals.{AreLocalRuns, AreNumbered}
-use Rattle.ep_rules.specs.Steps.{Frame}
+use Rattle.ep_rules.specs.States.{State, fresh_state}
+use Rattle.ep_rules.specs.Steps.{Frame, leaves}
 use Rattle.ep_rules.specs.Worlds.{In}
 use Rattle.ep_matching.specs.Lookups.{entry_at, frame_in}
 
@@ -78,7 +84,42 @@ frame_of [] k b h is = absurd (cc)
 frame_of (x ∷ bs) zero b h is = let s : Some x ≡ Some b = is in let q : x ≡ b = cc in subst (λ y. IsFrame y) q h.0
 frame_of (x ∷ bs) (suc k) b h is = frame_of bs k b h.1 is
 
+-- What is of the version.
+
+pub handled_in : (v : Version) (b : List ℕ) → lacking v (Handle b) ≡ None → version_at b ≡ v
+handled_in v b none = go (version_at b) v none
+  where
+    go : (w u : Version) → spelled_in w u ≡ None → w ≡ u
+    go V1 V1 is = refl
+    go V1 V2 is = let s : Some OtherVersion ≡ None = is in absurd (cc)
+    go V2 V1 is = let s : Some OtherVersion ≡ None = is in absurd (cc)
+    go V2 V2 is = refl
+
+pub frame_in_version : (v : Version) (bs : List (List ℕ)) (k : ℕ) (b : List ℕ) → AreFramesIn v bs → slice_get bs k ≡ Some b → version_at b ≡ v
+frame_in_version v [] k b h is = absurd (cc)
+frame_in_version v (x ∷ bs) zero b h is = let s : Some x ≡ Some b = is in let q : x ≡ b = cc in subst (λ y. version_at y ≡ v) q h.0
+frame_in_version v (x ∷ bs) (suc k) b h is = frame_in_version v bs k b h.1 is
+
+versioned_from : (v : Version) (f me : ℕ) (s : State) (es : List Entry) (e : Entry) → AreEntriesIn v f me s es → In e es → IsEntryIn v e
+versioned_from v f me s [] e h there = absurd there
+versioned_from v f me s (x ∷ es) e h (inl is) = subst (λ y. IsEntryIn v y) is h.0
+versioned_from v f me s (x ∷ es) e h (inr there) = versioned_from v f me (leaves f me s (event_of x.event) x.done) es e h.2 there
+
+at_in : (es : List Entry) (k : ℕ) (e : Entry) → slice_get es k ≡ Some e → In e es
+at_in [] k e is = absurd (cc)
+at_in (x ∷ es) zero e is = let s : Some x ≡ Some e = is in inl (cc)
+at_in (x ∷ es) (suc k) e is = inr (at_in es k e is)
+
 -- Journals.
+
+pub versioned_in : (c : Collected) → AreJournals c → (r : ℕ) (e : Entry) → In e (entries_at c r) → IsEntryIn c.version e
+versioned_in c h r e there = elim (cases_lt r (size c.faults)) [
+  | inl lt ↦ versioned_from c.version c.faults r fresh_state (entries_at c r) e (h.journal r lt).versioned there
+  | inr le ↦ (let nobody : In e [] = subst (λ es. In e es) (h.others r le) there in absurd nobody)
+]
+
+pub versioned_at : (c : Collected) → AreJournals c → (r k : ℕ) (e : Entry) → slice_get (entries_at c r) k ≡ Some e → IsEntryIn c.version e
+versioned_at c h r k e is = versioned_in c h r e (at_in (entries_at c r) k e is)
 
 pub readable_of : (c : Collected) → AreJournals c → (r : ℕ) → AreReadable (entries_at c r)
 readable_of c h r = elim (cases_lt r (size c.faults)) [

@@ -88,7 +88,7 @@ fn row_at(alloc: Global, journals: &Journals, replica: u8) -> Result<Row, AllocE
     ensures { IfOk result (λ row. IsRow replica (entries_at journals.now replica) row) }
 {
     match ReplicaId::new(replica) {
-        Ok(replica) => row_of(alloc, replica, entries_of(journals, replica), 1001),
+        Ok(replica) => row_of(alloc, replica, entries_of(journals, replica), 2001),
         Err(_) => unreachable!(),
     }
 }

@@ -2,11 +2,11 @@
 
 ghost use Rattle.std.specs.Prelude.{◌≡◌, None, Some, IsOk, OnOk, OnErr, IfSome};
 ghost use Rattle.std.specs.FinSet as set;
-ghost use Rattle.ep_base.specs.Interference.{key_of};
+ghost use Rattle.ep_base.specs.Interference.{keys_of};
 ghost use Rattle.ep_rules.specs.Cells as rules;
 ghost use Rattle.ep_rules.specs.States.{with_entry, with_led};
 ghost use Rattle.ep_space.specs.Held.{HasPlace};
-ghost use Rattle.ep_space.specs.Keys.{key_at, NeedsNoRoom};
+ghost use Rattle.ep_space.specs.Keys.{keys_at, NeedsNoRoom};
 ghost use Rattle.ep_space.specs.Records.{record_at};
 ghost use Rattle.ep_phase.specs.Changes.{change_of, entry_of, led_of, voted_for};
 ghost use Rattle.ep_phase.specs.Known.{Known};
@@ -83,7 +83,7 @@ impl Change {
         ensures leads { OnOk result (lead.new ≡ record lead.old { leads = with_led lead.old.leads id (led_of self.led); told = with_entry lead.old.told id self.told }) }
         ensures records_stay { OnErr result (space.new ≡ space.old) }
         ensures leads_stay { OnErr result (lead.new ≡ lead.old) }
-        ensures succeeds { IfSome (voted_for self.entry) (λ x. NeedsNoRoom (key_at space.old.records id) (key_of x.command)) → IsOk result }
+        ensures succeeds { IfSome (voted_for self.entry) (λ x. NeedsNoRoom (keys_at space.old.records id) (keys_of x.command)) → IsOk result }
     {
         let Change {
             entry,
@@ -104,7 +104,7 @@ fn write_record(space: &mut Space, id: InstanceId, entry: Recorded) -> Result<()
     requires place { HasPlace space.old.places id }
     ensures ok { OnOk result (space.new ≡ record space.old { records = with_entry space.old.records id (entry_of id (record_at space.old id) entry) }) }
     ensures err { OnErr result (space.new ≡ space.old) }
-    ensures succeeds { IfSome (voted_for entry) (λ x. NeedsNoRoom (key_at space.old.records id) (key_of x.command)) → IsOk result }
+    ensures succeeds { IfSome (voted_for entry) (λ x. NeedsNoRoom (keys_at space.old.records id) (keys_of x.command)) → IsOk result }
 {
     match entry {
         Recorded::Stays => Ok(()),

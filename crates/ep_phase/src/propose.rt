@@ -1,6 +1,6 @@
 //! Phase 1.
 
-ghost use Rattle.std.specs.Prelude.{◌≡◌, ℕ, ◌+◌, Bool, [], Some, None, Ok, IfOk, IfErr, IsErr};
+ghost use Rattle.std.specs.Prelude.{◌≡◌, ◌≤◌, ◌<◌, ℕ, ◌+◌, Bool, [], Some, None, Ok, IfOk, IfErr, IsErr};
 ghost use Rattle.ep_base.specs.Instances.{instance_of};
 ghost use Rattle.ep_base.specs.declared.message.Message.TheVariants.{PreAccept};
 ghost use Rattle.ep_base.specs.declared.vote.Status.TheVariants.{PreAccepted};
@@ -10,6 +10,7 @@ ghost use Rattle.ep_rules.specs.Cells.{voted};
 ghost use Rattle.ep_rules.specs.InterferenceSet.{interference};
 ghost use Rattle.ep_rules.specs.Phases as rules;
 ghost use Rattle.ep_rules.specs.Recovery.{recover_with};
+ghost use Rattle.ep_base.specs.Versions.{highest_in};
 ghost use Rattle.ep_rules.specs.States.{free_number};
 ghost use Rattle.ep_phase.specs.Changes.{change_of, to_receivers};
 ghost use Rattle.ep_phase.specs.Known.{record_of};
@@ -31,10 +32,10 @@ use ep_space::{InterferenceFault, Space, SpaceFull};
 use std::alloc::{AllocError, Global};
 
 /// The instance that this replica proposes in next: of those that it leads and of which nothing is recorded the one of the least number.
-/// `SpaceFull` where there is none.
+/// `SpaceFull` where there is none up to the highest number of the version.
 pub fn next_instance(space: &Space, me: ReplicaId) -> Result<InstanceId, SpaceFull>
-    ensures ok { IfOk result (λ i. (n : ℕ) × (free_number space.now.records me ≡ Some n) × (i ≡ instance_of me (n + 1))) }
-    ensures full { IsErr result → free_number space.now.records me ≡ None }
+    ensures ok { IfOk result (λ i. (n : ℕ) × (free_number space.now.records me ≡ Some n) × (n < highest_in space.now.version) × (i ≡ instance_of me (n + 1))) }
+    ensures full { IsErr result → (n : ℕ) → free_number space.now.records me ≡ Some n → highest_in space.now.version ≤ n }
 {
     let number = space.free_number(me)?;
     Ok(InstanceId::new(me, number).unwrap())

@@ -1,6 +1,6 @@
 //! Each call that decides, made again where it finds no memory.
 
-use crate::samples::{attrs, decree, put};
+use crate::samples::{attrs, decree, put, swap_decree};
 use ep_base::{Ballot, ReplicaId};
 use ep_phase::{
     Cell, Change, PhaseFault, begin_accept, begin_commit, give_up, on_accept_ok, on_pre_accept,
@@ -32,6 +32,18 @@ pub fn pre_accepted(rt: &impl Abort, alloc: Global, cell: &Cell<'_>) -> Change {
     match on_pre_accept(alloc, cell, from, default, decree(rt, alloc, 1)) {
         Ok(change) => change,
         Err(_) => on_pre_accept(alloc, cell, from, default, decree(rt, alloc, 1)).expect(
+            rt, "memory",
+        ),
+    }
+}
+
+/// The instance's leader asks at the default ballot for `swap w x`, with (1, {}).
+pub fn swap_pre_accepted(rt: &impl Abort, alloc: Global, cell: &Cell<'_>) -> Change {
+    let from = cell.id().replica();
+    let default = Ballot::default_of(from);
+    match on_pre_accept(alloc, cell, from, default, swap_decree(rt, alloc)) {
+        Ok(change) => change,
+        Err(_) => on_pre_accept(alloc, cell, from, default, swap_decree(rt, alloc)).expect(
             rt, "memory",
         ),
     }

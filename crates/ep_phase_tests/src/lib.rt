@@ -1,4 +1,4 @@
-//! Tests of `ep_phase`: worked rows of five replicas, instance 0.1, `put x 1`, the leader's own attributes (1, {}).
+//! Tests of `ep_phase`: worked rows of five replicas, instance 0.1, `put x 1` or `swap w x`, the leader's own attributes (1, {}).
 //! A call that finds no memory is made again, so the rows also run with each allocation refused in turn.
 //!
 //! They stand apart from the crate, so that its functions aren't proved again with them.
@@ -10,6 +10,8 @@ mod accepting;
 mod deciding;
 #[cfg(test)]
 mod leads;
+#[cfg(test)]
+mod numbers;
 #[cfg(test)]
 mod proposing;
 #[cfg(test)]

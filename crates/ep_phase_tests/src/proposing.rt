@@ -31,6 +31,17 @@ fn a_pre_accept_is_voted_for_once(rt: HostRuntime) {
     drop(it);
 }
 
+/// A put of the second key, 1.1, is among the dependencies.
+#[test]
+fn a_swap_interferes_by_its_second_key(rt: HostRuntime) {
+    let alloc = rt.alloc();
+    let id = first_of(&rt, 0);
+    let mut it = Trial::after(&rt, alloc, 2, id, first_of(&rt, 1));
+    it.is_asked_to_swap(&rt, alloc, "0 pre-accepted (0,0) seq 2 deps 1.1\n");
+    it.assert_known(&rt, ((0, 0), (1, 2), 0));
+    drop(it);
+}
+
 #[test]
 fn unequal_answers_go_the_slow_path(rt: HostRuntime) {
     let alloc = rt.alloc();

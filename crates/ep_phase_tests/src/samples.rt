@@ -28,6 +28,17 @@ fn put_once(alloc: Global) -> Result<Command, CommandFault> {
     Command::put(alloc, b"x", b"1")
 }
 
+/// `swap w x`.
+pub fn swap(rt: &impl Abort, alloc: Global) -> Command {
+    swap_once(alloc)
+        .or_else(|_| swap_once(alloc))
+        .expect(rt, "memory for a command")
+}
+
+fn swap_once(alloc: Global) -> Result<Command, CommandFault> {
+    Command::swap(alloc, b"w", b"x")
+}
+
 /// (1, {}), or (2, {1.1}).
 pub fn attrs(rt: &impl Abort, alloc: Global, seq: u32) -> Attrs {
     let mut deps = Deps::new(alloc);
@@ -44,5 +55,13 @@ pub fn decree(rt: &impl Abort, alloc: Global, seq: u32) -> Decree {
     Decree {
         command: put(rt, alloc),
         attrs: attrs(rt, alloc, seq),
+    }
+}
+
+/// `swap w x` with (1, {}).
+pub fn swap_decree(rt: &impl Abort, alloc: Global) -> Decree {
+    Decree {
+        command: swap(rt, alloc),
+        attrs: attrs(rt, alloc, 1),
     }
 }

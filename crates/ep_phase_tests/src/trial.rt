@@ -6,10 +6,11 @@ ghost use Rattle.ep_space.specs.Held.{HasPlace};
 
 use crate::deciding::{
     accept_begun, accepted, answered, commit_begun, given_up, pre_accepted, started, started_at,
+    swap_pre_accepted,
 };
-use crate::samples::{decree, replica};
+use crate::samples::{decree, replica, swap_decree};
 use crate::texts::text;
-use ep_base::{Ballot, InstanceId, ReplicaId, Size, Status};
+use ep_base::{Ballot, InstanceId, ReplicaId, Size, Status, Version};
 use ep_phase::{
     Cell, Change, Lead, Leading, PhaseFault, Recorded, next_instance, on_accept, on_commit,
 };
@@ -34,7 +35,7 @@ pub struct Trial {
 }
 
 /// A place for the instance; where memory is refused, there is no record of it as before.
-fn place(rt: &impl Abort, space: &mut Space, id: InstanceId)
+pub fn place(rt: &impl Abort, space: &mut Space, id: InstanceId)
     ensures { HasPlace space.new.places id }
 {
     match space.reserve(id) {
@@ -63,11 +64,21 @@ fn hold(rt: &impl Abort, alloc: Global, space: &mut Space, id: InstanceId)
     }
 }
 
-/// A place for the instance, and room in the index for `x`, so that no vote for it there takes memory.
+/// A place for the instance, and room in the index for `w` and `x`, so that no vote for them there takes memory.
 fn room(rt: &impl Abort, alloc: Global, space: &mut Space, id: InstanceId)
     ensures { HasPlace space.new.places id }
 {
-    hold(rt, alloc, space, id);
+    let ballot = Ballot::default_of(id.replica());
+    place(rt, space, id);
+    match space.vote_pre(id, ballot, swap_decree(rt, alloc)) {
+        Ok(()) => (),
+        Err(_) => {
+            assert!(rt; space.get(id).is_none());
+            space
+                .vote_pre(id, ballot, swap_decree(rt, alloc))
+                .expect(rt, "memory for a vote");
+        }
+    }
     let _ = space.put_back(id, None).expect(rt, "no memory is taken");
 }
 
@@ -126,7 +137,7 @@ fn known(cell: &Cell<'_>) -> Known {
 impl Trial {
     /// This replica of five, which knows of nothing.
     pub fn new(rt: &impl Abort, alloc: Global, me: u8, id: InstanceId) -> Trial {
-        let space = Space::new(alloc, Size::new(5).expect(rt, "a size"));
+        let space = Space::new(alloc, Size::new(5).expect(rt, "a size"), Version::V2);
         Trial::over(rt, alloc, me, id, space)
     }
 
@@ -138,7 +149,7 @@ impl Trial {
         id: InstanceId,
         other: InstanceId,
     ) -> Trial {
-        let mut space = Space::new(alloc, Size::new(5).expect(rt, "a size"));
+        let mut space = Space::new(alloc, Size::new(5).expect(rt, "a size"), Version::V2);
         hold(rt, alloc, &mut space, other);
         Trial::over(rt, alloc, me, id, space)
     }
@@ -181,6 +192,12 @@ impl Trial {
 
     pub fn is_asked(&mut self, rt: &impl Abort, alloc: Global, sent: &str) {
         let change = pre_accepted(rt, alloc, &self.cell());
+        self.take(rt, alloc, change, sent);
+    }
+
+    /// `swap w x` is asked for.
+    pub fn is_asked_to_swap(&mut self, rt: &impl Abort, alloc: Global, sent: &str) {
+        let change = swap_pre_accepted(rt, alloc, &self.cell());
         self.take(rt, alloc, change, sent);
     }
 

@@ -1,9 +1,9 @@
 //! What a replica does with the answers to its Prepare.
 
-use crate::samples::{ballot, decree, instance, replica, vote};
+use crate::samples::{ballot, decree, instance, replica, swap, swap_decree, vote, with_command};
 use crate::sent::{Kind, assert_decree, assert_sends, assert_sends_nothing};
 use crate::trial::Trial;
-use ep_base::{Ballot, Command, Decree, Status, Vote};
+use ep_base::{Ballot, Command, Status, Vote};
 use ep_phase::Change;
 use ep_rules::Led;
 use std::alloc::Global;
@@ -186,16 +186,6 @@ fn proposes(rt: &impl Abort, alloc: Global, vote: Option<Vote>, command: Command
     drop(it);
 }
 
-/// The command, with sequence number 1 and no dependencies.
-fn with_command(rt: &impl Abort, alloc: Global, command: Command) -> Decree {
-    let Decree {
-        command: other,
-        attrs,
-    } = decree(rt, alloc, false);
-    drop(other);
-    Decree { command, attrs }
-}
-
 /// What the leader alone pre-accepted is proposed anew; where nobody voted, a no-op is.
 #[test]
 fn proposes_anew(rt: HostRuntime) {
@@ -208,4 +198,15 @@ fn proposes_anew(rt: HostRuntime) {
     );
     proposes(&rt, rt.alloc(), vote, decree(&rt, rt.alloc(), true).command);
     proposes(&rt, rt.alloc(), None, Command::noop());
+}
+
+/// So is a swap.
+#[test]
+fn proposes_a_swap_anew(rt: HostRuntime) {
+    let vote = Some(Vote {
+        status: Status::PreAccepted,
+        ballot: ballot(&rt, 0, 0),
+        decree: swap_decree(&rt, rt.alloc()),
+    });
+    proposes(&rt, rt.alloc(), vote, swap(&rt, rt.alloc()));
 }

@@ -1,4 +1,4 @@
-//! What the tests are made of: instance 0.1 with the command `put x 1`, and 1.1 in its dependencies.
+//! What the tests are made of: instance 0.1 with the command `put x 1`, and 1.1 in its dependencies; or with `swap w x`.
 
 use ep_base::{
     Attrs, Ballot, Command, CommandFault, Decree, Deps, InstanceId, ReplicaId, Seq, Status, Vote,
@@ -36,7 +36,33 @@ fn put(alloc: Global) -> Result<Command, CommandFault> {
     Command::put(alloc, b"x", b"1")
 }
 
-/// A vote for that decree, at this ballot.
+/// `swap w x`.
+pub fn swap(rt: &impl Abort, alloc: Global) -> Command {
+    swap_once(alloc)
+        .or_else(|_| swap_once(alloc))
+        .expect(rt, "memory")
+}
+
+fn swap_once(alloc: Global) -> Result<Command, CommandFault> {
+    Command::swap(alloc, b"w", b"x")
+}
+
+/// The decree of `swap w x`, with sequence number 1 and no dependencies.
+pub fn swap_decree(rt: &impl Abort, alloc: Global) -> Decree {
+    with_command(rt, alloc, swap(rt, alloc))
+}
+
+/// The command, with sequence number 1 and no dependencies.
+pub fn with_command(rt: &impl Abort, alloc: Global, command: Command) -> Decree {
+    let Decree {
+        command: other,
+        attrs,
+    } = decree(rt, alloc, false);
+    drop(other);
+    Decree { command, attrs }
+}
+
+/// A vote for the decree of `put x 1`, at this ballot.
 pub fn vote(
     rt: &impl Abort,
     alloc: Global,

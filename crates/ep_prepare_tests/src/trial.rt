@@ -4,8 +4,8 @@ ghost use Rattle.std.specs.Prelude.{◌≡◌, true};
 ghost use Rattle.std.specs.FinSet as set;
 ghost use Rattle.ep_space.specs.Held.{HasPlace};
 
-use crate::samples::{decree, replica};
-use ep_base::{Ballot, Decree, InstanceId, ReplicaId, Size, Vote};
+use crate::samples::{replica, swap_decree};
+use ep_base::{Ballot, Decree, InstanceId, ReplicaId, Size, Version, Vote};
 use ep_phase::{Cell, Change, Lead, Leading, Recorded};
 use ep_prepare::{PrepareFault, on_prepare, on_prepare_ok, recover};
 use ep_rules::Duplicate;
@@ -28,7 +28,7 @@ pub struct Trial {
 fn space(rt: &impl Abort, alloc: Global, size: u8, id: InstanceId) -> Space
     ensures { HasPlace result.places id }
 {
-    let mut space = Space::new(alloc, Size::new(size).expect(rt, "a size"));
+    let mut space = Space::new(alloc, Size::new(size).expect(rt, "a size"), Version::V2);
     match space.reserve(id) {
         Ok(()) => (),
         Err(_) => space.reserve(id).expect(rt, "memory"),
@@ -37,16 +37,16 @@ fn space(rt: &impl Abort, alloc: Global, size: u8, id: InstanceId) -> Space
     space
 }
 
-/// Makes room in the index for `x`, so that no vote for it there takes memory.
+/// Makes room in the index for `w` and `x`, so that no vote for them there takes memory.
 fn room(rt: &impl Abort, alloc: Global, space: &mut Space, id: InstanceId)
     requires { HasPlace space.old.places id }
     ensures { HasPlace space.new.places id }
 {
     let ballot = Ballot::default_of(id.replica());
-    match space.vote_pre(id, ballot, decree(rt, alloc, true)) {
+    match space.vote_pre(id, ballot, swap_decree(rt, alloc)) {
         Ok(()) => (),
         Err(_) => space
-            .vote_pre(id, ballot, decree(rt, alloc, true))
+            .vote_pre(id, ballot, swap_decree(rt, alloc))
             .expect(rt, "memory"),
     }
     let _ = space.put_back(id, None).expect(rt, "no memory is taken");

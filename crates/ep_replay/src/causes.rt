@@ -17,6 +17,7 @@ pub fn step_cause(fault: StepFault) -> Cause
     match fault {
         StepFault::Memory => Cause::Memory,
         StepFault::OutOfRange => Cause::OutOfRange,
+        StepFault::OtherVersion => Cause::BadFrame,
         StepFault::NotMine => Cause::NotMine,
         StepFault::StampFull => Cause::StampFull,
         StepFault::SpaceFull => Cause::SpaceFull,

@@ -271,12 +271,12 @@ impl Player {
 ///
 /// A client's requests are numbered from 1 in the script's order, refused ones included. What it has seen is the
 /// greatest stamp of its receipts so far. After each event the replica that took it gives its receipts: one at most for
-/// each instance, so at most 7,000 in all. The audit accepts what a replay leaves.
+/// each instance, so at most 14,000 in all. The audit accepts what a replay leaves.
 pub fn replay(alloc: Global, script: &Script) -> Result<Replayed, AllocError>
     ensures value { IfOk result (λ d. IsReplay script.now d) }
     ensures accepted { IfOk result (λ d. IsAccepted d.journals.faults (journals_of d.journals) d.receipts.items) }
     ensures once { IfOk result (λ d. AreOnce (instances_of d.receipts.items)) }
-    ensures few { IfOk result (λ d. length d.receipts.items ≤ 7000) }
+    ensures few { IfOk result (λ d. length d.receipts.items ≤ 14000) }
 {
     let mut player = Player::new(alloc, script.size())?;
     player.play_all(script.lines())?;

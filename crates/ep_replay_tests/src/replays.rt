@@ -3,6 +3,7 @@
 use ep_base::{Answer, Noted, ReplicaId, Reply};
 use ep_journal::{Event, Journal};
 use ep_replay::{Replayed, replay};
+use ep_report::Cause;
 use ep_script::{Script, read_script};
 use std::alloc::{AllocError, Global};
 use std::fmt::Write;
@@ -16,7 +17,7 @@ fn script(rt: &impl Abort, alloc: Global, text: &[u8]) -> Script {
     }
 }
 
-fn left(rt: &impl Abort, alloc: Global, text: &[u8]) -> Replayed {
+pub(crate) fn left(rt: &impl Abort, alloc: Global, text: &[u8]) -> Replayed {
     let script = script(rt, alloc, text);
     match replay(alloc, &script) {
         Ok(left) => left,
@@ -65,6 +66,13 @@ fn journal<'a>(rt: &impl Abort, left: &'a Replayed, index: u8) -> &'a Journal {
 fn event_at<'a>(rt: &impl Abort, left: &'a Replayed, index: u8, place: usize) -> &'a Event {
     let entry = journal(rt, left, index).entries().get(place);
     &entry.expect(rt, "an entry").event
+}
+
+/// The number of the instance as which the replica's entry at this place, from 0, proposes its command.
+fn proposed_at(rt: &impl Abort, left: &Replayed, index: u8, place: usize) -> u16 {
+    let entry = journal(rt, left, index).entries().get(place);
+    let frame = entry.expect(rt, "an entry").frames.as_slice().first();
+    frame.expect(rt, "a frame").instance().number()
 }
 
 #[test]
@@ -218,11 +226,11 @@ fn what_a_client_has_seen(rt: HostRuntime) {
     assert_eq!(rt; receipt.stamp, 4);
 }
 
-/// 1,001 proposals at replica 0, which has 1,000 instances, and one at replica 1.
+/// 2,001 proposals at replica 0, which has 2,000 instances, and one at replica 1.
 fn many_proposals(alloc: Global) -> Result<String, AllocError> {
     let mut text = String::new(alloc);
     writeln!(text, "replicas 3")?;
-    for _ in 0..1001 {
+    for _ in 0..2001 {
         writeln!(text, "propose 0 7 get x")?;
     }
     writeln!(text, "propose 1 7 get x")?;
@@ -238,14 +246,18 @@ fn refused_proposals_are_counted(rt: HostRuntime) {
     };
     let left = left(&rt, alloc, text.as_bytes());
     assert_eq!(rt; left.refused.len(), 1);
-    let (line, _) = left.refused.first().expect(&rt, "a refused line");
-    assert_eq!(rt; *line, 1002);
+    let (line, cause) = left.refused.first().expect(&rt, "a refused line");
+    assert_eq!(rt; *line, 2002);
+    assert_eq!(rt; *cause, Cause::SpaceFull);
+    assert_eq!(rt; journal(&rt, &left, 0).entries().len(), 2000);
+    assert_eq!(rt; proposed_at(&rt, &left, 0, 1000), 1001);
+    assert_eq!(rt; proposed_at(&rt, &left, 0, 1999), 2000);
     assert!(rt;
         matches!(
             event_at(&rt, &left, 1, 0),
             Event::Propose {
                 client: 7,
-                request: 1002,
+                request: 2002,
                 command: _,
                 seen: 0,
             }

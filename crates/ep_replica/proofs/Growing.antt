@@ -2,29 +2,48 @@
 use Rattle.std.proofs.Common.{◌≡◌, ℕ, ◌+◌, ◌<◌, ◌-◌, max, length, length-append, get_or, cond, Bool, true, false, ◌&&◌, ltb, Option, Some, None, List, [], ◌∷◌, ◌++◌, sym, ap, subst, ◌∙◌, arith}
 use Rattle.std.proofs.lemmas.List.{get_or_push}
 use Rattle.std.specs.Prelude.{IfSome}
+use Rattle.ep_base.specs.declared.version.Version.{Version}
+use Rattle.ep_base.specs.declared.version.Version.TheVariants.{V2}
 use Rattle.ep_rules.specs.Journals.{AreClocked, last_stamp, heard}
+use Rattle.ep_rules.specs.States.{State}
+use Rattle.ep_rules.specs.Steps.{Event, Propose, Handle, GiveUp, Recover, Execute}
 use Rattle.ep_rules.proofs.JournalsGrow.{clocks_grow_lem}
-use Rattle.ep_journal.specs.Entries.{Log, entry_of, entries_of, IsJournal}
+use Rattle.ep_rules.proofs.Local.{free_found}
+use Rattle.ep_journal.specs.Early.{HasRoom}
+use Rattle.ep_journal.specs.Entries.{Log, entry_of, entries_of, IsEntryIn, IsJournal}
 use Rattle.ep_journal.specs.Events.{event_of}
-use Rattle.ep_journal.specs.Leaving.{MarksNext, Continues}
+use Rattle.ep_journal.specs.Leaving.{state_left, MarksNext, Continues}
+use Rattle.ep_journal.specs.Leaving as journals
+use Rattle.ep_journal.specs.Standing.{IsRefused}
 use Rattle.ep_journal.specs.Stepping.{MarkedBy}
 use Rattle.ep_journal.specs.declared.entry.Entry.{Entry}
 use Rattle.ep_journal.specs.declared.event.Event.{Event as Happening}
 use Rattle.ep_journal.specs.declared.mark.Mark.{Mark}
+use Rattle.ep_journal.specs.declared.step_fault.StepFault.{StepFault}
 use Rattle.ep_journal.proofs.Growing.{entries_grow, next_journal}
 use Rattle.ep_replica.specs.Kept.{Kept, kept_of}
 use Rattle.ep_replica.specs.Slots.{found, Tells}
 use Rattle.ep_replica.specs.declared.proposal.Proposal.{Proposal}
-use Rattle.ep_replica.specs.Applied.{Applied, mark_of, mark_after, next_stamp}
+use Rattle.ep_replica.specs.Applied.{Applied, IsDeclined, mark_of, mark_after, next_stamp}
+
+-- version 2 has room for each proposal: it has all numbers
+room : (me : ℕ) (s : State) (event : Event) → HasRoom V2 me s event
+room me s (Propose client request c seen) = λ n is. (free_found s.records me n is).0
+room me s (Handle m) = tt
+room me s (GiveUp i) = tt
+room me s (Recover i) = tt
+room me s (Execute root) = tt
 
 -- the journal goes on
-pub journal_grows : (k : Kept) (event : Happening) (e : Entry) (k' : Kept) → IsJournal k.faults k.me k.entries → Applied k event e k' → IsJournal k.faults k.me (k.entries ++ e ∷ [])
-journal_grows k event e k' j a = next_journal k.faults k.me k.entries e j a.number (record {
+pub journal_grows : (k : Kept) (event : Happening) (e : Entry) (k' : Kept) → IsJournal V2 k.faults k.me k.entries → Applied k event e k' → IsJournal V2 k.faults k.me (k.entries ++ e ∷ [])
+journal_grows k event e k' j a = next_journal V2 k.faults k.me k.entries e j a.number (record {
   step = a.step;
   stamp = (let is : e.stamp ≡ 1 + max (last_stamp (entries_of k.entries)) (heard (event_of event)) = a.stamp in omega arith);
   marked = a.marked;
   readable = a.readable;
   frames = a.frames;
+  versioned = a.versioned;
+  room = room k.me (state_left k.faults k.me k.entries) (event_of e.event);
 })
 
 -- so does the clock
@@ -49,10 +68,10 @@ clock_next es count last told (Some m) number stamp is =
     record { number = at.0 ∙ ap (λ n. n + 1) number; stamp = omega arith }
 
 -- the step with the clock's mark is the replica's
-pub applied : (j j' : Log) (es : List Entry) (event : Happening) (mark : Option Mark) → es ≡ j.entries → mark ≡ mark_after es event → MarkedBy (λ m. Continues j m event j') mark
+pub applied : (j j' : Log) (es : List Entry) (event : Happening) (mark : Option Mark) → j.version ≡ V2 → es ≡ j.entries → mark ≡ mark_after es event → MarkedBy (λ m. Continues j m event j') mark
     → (e : Entry) × Applied (kept_of j) event e (kept_of j')
-applied j j' es event None same clock a = absurd a
-applied j j' es event (Some m) same clock a =
+applied j j' es event None version same clock a = absurd a
+applied j j' es event (Some m) version same clock a =
     let is = mark_is (length j.entries + 1) (next_stamp j.entries event) m (clock ∙ ap (λ (xs : List Entry). mark_after xs event) same) in (
       a.entry,
       record {
@@ -63,9 +82,25 @@ applied j j' es event (Some m) same clock a =
         marked = a.step.marked;
         readable = a.step.readable;
         frames = a.step.frames;
+        versioned = subst (λ (v : Version). IsEntryIn v a.entry) version a.step.versioned;
         appended = ap kept_of a.appended;
       },
     )
+
+-- the journal stays of its version
+pub same_version : (j j' : Log) (event : Happening) (mark : Option Mark) → MarkedBy (λ m. Continues j m event j') mark → j'.version ≡ j.version
+same_version j j' event None a = absurd a
+same_version j j' event (Some m) a = ap (λ (l : Log). l.version) a.appended
+
+-- what the journal refuses with the clock's mark is what the replica refuses
+pub declined : (j : Log) (k : Kept) (es : List Entry) (event : Happening) (mark : Option Mark) (fault : StepFault) → kept_of j ≡ k → j.version ≡ V2 → es ≡ j.entries → mark ≡ mark_after es event → IsRefused (journals.standing j) event mark fault
+    → IsDeclined k event fault
+declined j k es event mark fault is version same clock refused =
+    let here : mark ≡ mark_after j.entries event = clock ∙ ap (λ (xs : List Entry). mark_after xs event) same in
+    let s : State = state_left j.faults j.me j.entries in
+    subst (λ (z : Kept). IsDeclined z event fault) is
+    (subst (λ (v : Version). IsRefused (record { version = v; faults = j.faults; me = j.me; state = s }) event (mark_after j.entries event) fault) version
+    (subst (λ (o : Option Mark). IsRefused (journals.standing j) event o fault) here refused))
 
 -- what holds of a replica holds after one entry more
 pub record Holds (j : Log) : Type 0 where
@@ -95,13 +130,13 @@ pub some_entry : (k k' : Kept) (event : Happening) → (e : Entry) × Applied k 
 some_entry k k' event p = let n : length k'.entries ≡ length k.entries + 1 = ap length (ap (λ (z : Kept). z.entries) p.1.appended) ∙ length-append k.entries (p.0 ∷ []) in omega arith
 
 -- where the entries are read off the journal that the step left
-pub read_off : (j j' : Log) (es es' : List Entry) (event : Happening) (mark : Option Mark) (r : Entry) → es ≡ j.entries → mark ≡ mark_after es event → MarkedBy (λ m. Continues j m event j') mark
+pub read_off : (j j' : Log) (es es' : List Entry) (event : Happening) (mark : Option Mark) (r : Entry) → j.version ≡ V2 → es ≡ j.entries → mark ≡ mark_after es event → MarkedBy (λ m. Continues j m event j') mark
     → es' ≡ j'.entries → r ≡ get_or es' (length es' - 1) r → Applied (kept_of j) event r (kept_of j')
-read_off j j' es es' event mark r same clock a same' is =
-    last_made (kept_of j) (kept_of j') event r (applied j j' es event mark same clock a) (subst (λ (xs : List Entry). r ≡ get_or xs (length xs - 1) r) same' is)
+read_off j j' es es' event mark r version same clock a same' is =
+    last_made (kept_of j) (kept_of j') event r (applied j j' es event mark version same clock a) (subst (λ (xs : List Entry). r ≡ get_or xs (length xs - 1) r) same' is)
 
-pub some_read : (j j' : Log) (es es' : List Entry) (event : Happening) (mark : Option Mark) → es ≡ j.entries → mark ≡ mark_after es event → MarkedBy (λ m. Continues j m event j') mark → es' ≡ j'.entries → 0 < length es'
-some_read j j' es es' event mark same clock a same' = subst (λ (xs : List Entry). 0 < length xs) (sym same') (some_entry (kept_of j) (kept_of j') event (applied j j' es event mark same clock a))
+pub some_read : (j j' : Log) (es es' : List Entry) (event : Happening) (mark : Option Mark) → j.version ≡ V2 → es ≡ j.entries → mark ≡ mark_after es event → MarkedBy (λ m. Continues j m event j') mark → es' ≡ j'.entries → 0 < length es'
+some_read j j' es es' event mark version same clock a same' = subst (λ (xs : List Entry). 0 < length xs) (sym same') (some_entry (kept_of j) (kept_of j') event (applied j j' es event mark version same clock a))
 
 -- what the entry proposes is noted
 pub tells_next : (j j' : Log) (event : Happening) (r : Entry) (me : ℕ) (old mid new : List (Option Proposal)) → Applied (kept_of j) event r (kept_of j') → me ≡ j'.me → Tells j.me j.entries old → ((n : ℕ) → found mid n ≡ found old n)

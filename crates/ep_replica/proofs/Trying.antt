@@ -1,7 +1,7 @@
 -- What a try to execute an own instance comes to.
 use Rattle.std.proofs.Common.{◌≡◌, ℕ, ◌+◌, ◌<◌, ◌≤◌, inl, inr, List, true, false, Option, Some, None, sym, ap, subst, ◌∙◌, arith, length, get_or, IfSome}
 use Rattle.std.proofs.lemmas.Bool.{cases_lt}
-use Rattle.ep_base.specs.Instances.{instance_of, leader_of, number_of}
+use Rattle.ep_base.specs.Instances.{instance_of, leader_of, number_of, highest_number}
 use Rattle.ep_journal.specs.declared.entry.Entry.{Entry}
 use Rattle.ep_journal.specs.declared.event.Event.TheVariants.{Execute}
 use Rattle.ep_replica.specs.Applied.{Applied}
@@ -40,10 +40,10 @@ none_more k after n i is not_this h m some low above p = elim (cases_lt m n) [
       not_this (subst (λ z. IsAbove after z) here above) (subst (λ z. IsPending k z) here p))
 ]
 
-pub next_none : (k : Kept) (after : Option ℕ) (n : ℕ) → 1000 < n → NoneBelow k after n → IsNext k after None
+pub next_none : (k : Kept) (after : Option ℕ) (n : ℕ) → highest_number < n → NoneBelow k after n → IsNext k after None
 next_none k after n past h j p above = h (number_of j) p.named.1 (let le = p.named.2 in omega arith) (subst (λ z. IsAbove after z) (sym (own_again k.me j p.own)) above) (pending_again k j p)
 
-pub next_some : (k : Kept) (after : Option ℕ) (n i : ℕ) → i ≡ instance_of k.me n → n ≤ 1000 → NoneBelow k after n → IsPending k i → IsAbove after i → IsNext k after (Some i)
+pub next_some : (k : Kept) (after : Option ℕ) (n i : ℕ) → i ≡ instance_of k.me n → n ≤ highest_number → NoneBelow k after n → IsPending k i → IsAbove after i → IsNext k after (Some i)
 next_some k after n i is few h pending over = (
   pending,
   over,
@@ -68,10 +68,10 @@ wait_more k n m h more l some low p = elim (cases_lt l n) [
   | inr le ↦ more l (omega arith) low p
 ]
 
-pub all_wait : (k : Kept) (n : ℕ) → 1000 < n → AllWait k n → (j : ℕ) → IsPending k j → IsWaiting k j
+pub all_wait : (k : Kept) (n : ℕ) → highest_number < n → AllWait k n → (j : ℕ) → IsPending k j → IsWaiting k j
 all_wait k n past h j p = subst (λ z. IsWaiting k z) (own_again k.me j p.own) (h (number_of j) p.named.1 (let le = p.named.2 in omega arith) (pending_again k j p))
 
-pub lesser_wait : (k : Kept) (n i : ℕ) → i ≡ instance_of k.me n → n ≤ 1000 → AllWait k n → LesserWait k i
+pub lesser_wait : (k : Kept) (n i : ℕ) → i ≡ instance_of k.me n → n ≤ highest_number → AllWait k n → LesserWait k i
 lesser_wait k n i is few h j p low =
     let own = own_again k.me j p.own in
     let le = p.named.2 in
@@ -89,12 +89,12 @@ passed_next k s n m i same is h tried more = wait_more k n m h (λ l le low p. e
       subst (λ (z : Kept). IsPending z (instance_of z.me l) → IsWaiting z (instance_of z.me l)) same (subst (λ x. IsPending s (instance_of s.me x) → IsWaiting s (instance_of s.me x)) (sym at) here) p)
 ])
 
-pub executed_next : (k s k' : Kept) (n i : ℕ) → s ≡ k → i ≡ instance_of s.me n → n ≤ 1000 → AllWait k n → IsPending s i × ((e : Entry) × Applied s (Execute i) e k') → ExecutesNext k true k'
+pub executed_next : (k s k' : Kept) (n i : ℕ) → s ≡ k → i ≡ instance_of s.me n → n ≤ highest_number → AllWait k n → IsPending s i × ((e : Entry) × Applied s (Execute i) e k') → ExecutesNext k true k'
 executed_next k s k' n i same is few h t =
     let here : i ≡ instance_of k.me n = is ∙ ap (λ (z : Kept). instance_of z.me n) same in
     (i, subst (λ (z : Kept). IsPending z i) same t.0, subst (λ (z : Kept). (e : Entry) × Applied z (Execute i) e k') same t.1, lesser_wait k n i here few h)
 
-pub refused_next : (k s k' : Kept) (n i : ℕ) → s ≡ k → i ≡ instance_of s.me n → n ≤ 1000 → AllWait k n → IsPending s i × IsShort s i × (k' ≡ s) → ExecutesNext k false k'
+pub refused_next : (k s k' : Kept) (n i : ℕ) → s ≡ k → i ≡ instance_of s.me n → n ≤ highest_number → AllWait k n → IsPending s i × IsShort s i × (k' ≡ s) → ExecutesNext k false k'
 refused_next k s k' n i same is few h t =
     let here : i ≡ instance_of k.me n = is ∙ ap (λ (z : Kept). instance_of z.me n) same in
     (inr (i, subst (λ (z : Kept). IsPending z i) same t.0, subst (λ (z : Kept). IsShort z i) same t.1, lesser_wait k n i here few h), t.2 ∙ same)

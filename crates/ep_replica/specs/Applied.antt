@@ -1,8 +1,9 @@
 -- One event of a replica: the entry that it makes, by the clock, and why there is none.
 use Rattle.std.specs.Prelude.{◌≡◌, MatchResult, ℕ, ◌+◌, ◌&&◌, ltb, max, length, cond, List, [], ◌∷◌, ◌++◌, Option, Some, None}
+use Rattle.ep_base.specs.declared.version.Version.TheVariants.{V2}
 use Rattle.ep_frame.specs.Faults.{fault_of}
 use Rattle.ep_rules.specs.Journals.{IsEntry, AreMarked, last_stamp, heard}
-use Rattle.ep_journal.specs.Entries.{entry_of, entries_of, AreFrames}
+use Rattle.ep_journal.specs.Entries.{entry_of, entries_of, AreFrames, IsEntryIn}
 use Rattle.ep_journal.specs.Events.{event_of, IsReadable}
 use Rattle.ep_journal.specs.Leaving.{state_left}
 use Rattle.ep_journal.specs.Standing.{IsRefused}
@@ -37,6 +38,7 @@ pub record Applied (k : Kept) (taken : Happening) (e : Entry) (k' : Kept) : Type
   pub marked : AreMarked (entry_of e) 0 (entry_of e).out
   pub readable : IsReadable e.event
   pub frames : AreFrames e.frames
+  pub versioned : IsEntryIn V2 e
   pub appended : k' ≡ record k { entries = k.entries ++ e ∷ [] }
 
 -- why the event was not taken: want of memory, or the first reason, in the order of the step that has the clock's mark

@@ -1,12 +1,14 @@
--- Why an event was not applied: the step's fault, an instance by its two numbers.
+-- Why an event was not applied: the step's fault, an instance by its two numbers, and a frame of another version as a bad frame.
 use Rattle.ep_base.specs.Instances.{leader_of, number_of}
+use Rattle.ep_frame.specs.declared.fault.FrameFault.TheVariants.{Version}
 use Rattle.ep_journal.specs.declared.step_fault.StepFault.{StepFault}
 use Rattle.ep_journal.specs.declared.step_fault.StepFault.TheVariants as step
 use Rattle.ep_replica.specs.declared.replica_fault.ReplicaFault.{ReplicaFault}
-use Rattle.ep_replica.specs.declared.replica_fault.ReplicaFault.TheVariants.{Memory, OutOfRange, NotMine, StampFull, SpaceFull, SeqExhausted, NotLeading, TooFewAnswers, AlreadyCommitted, BallotsExhausted, NotCommitted}
+use Rattle.ep_replica.specs.declared.replica_fault.ReplicaFault.TheVariants.{Memory, BadFrame, OutOfRange, NotMine, StampFull, SpaceFull, SeqExhausted, NotLeading, TooFewAnswers, AlreadyCommitted, BallotsExhausted, NotCommitted}
 
 abbrev pub in_numbers : StepFault → ReplicaFault
 in_numbers step.Memory = Memory
+in_numbers step.OtherVersion = BadFrame Version
 in_numbers step.OutOfRange = OutOfRange
 in_numbers step.NotMine = NotMine
 in_numbers step.StampFull = StampFull

@@ -1,6 +1,7 @@
--- A replica: its journal, and the state that this leaves.
+-- A replica: its journal, which is of version 2, and the state that this leaves.
 use Rattle.std.specs.Prelude.{ℕ, List, refl}
 use Rattle.std.specs.Coded.{Coded, code_by, coded×, coded_ℕ, coded_list}
+use Rattle.ep_base.specs.declared.version.Version.TheVariants.{V2}
 use Rattle.ep_journal.specs.Entries.{Log}
 use Rattle.ep_journal.specs.Leaving as journals
 use Rattle.ep_journal.specs.Standing.{Standing}
@@ -20,7 +21,7 @@ kept_code =
 
 -- what the replica knows, has executed and stores
 abbrev pub standing : Kept → Standing
-standing k = journals.standing (record { faults = k.faults; me = k.me; entries = k.entries })
+standing k = journals.standing (record { version = V2; faults = k.faults; me = k.me; entries = k.entries })
 
 -- the replica whose journal it is
 abbrev pub kept_of : Log → Kept

@@ -14,7 +14,7 @@ use std::marker::Model;
 /// Where the instance's flag is.
 fn slot_of(instance: InstanceId) -> usize
     ensures value { result ≡ slot instance }
-    ensures small { result < 8008 }
+    ensures small { result < 16008 }
 {
     usize::from(instance.number()) * 8 + usize::from(instance.replica().index())
 }
@@ -38,7 +38,7 @@ fn is_awaited(awaited: &[bool], instance: InstanceId) -> bool
 
 /// The instance, if there is one, is a blocker.
 fn await_it(awaited: &mut Vec<bool>, blocker: &Option<InstanceId>)
-    requires { 8008 ≤ length awaited.old.items }
+    requires { 16008 ≤ length awaited.old.items }
     ensures here { IfSome blocker.now (λ i. is_flagged awaited.new.items i ≡ true) }
     ensures more { (i : ℕ) → is_flagged awaited.old.items i ≡ true → is_flagged awaited.new.items i ≡ true }
 {
@@ -81,13 +81,13 @@ fn wake_within(
     due: &mut Due,
 ) -> Span
     requires room { (highest_number < length items.old.items) × (highest_number < length due.old) }
-    ensures each { (n : ℕ) → IsWithin span n → n ≤ 1000 → Wakes instance (blocker_of items.old.items n) (blocker_of items.new.items n) (is_due due.new n) × (blocker_of items.new.items n ≢ None → IsWithin result n) }
-    ensures others { (n : ℕ) → ¬ (IsWithin span n × (n ≤ 1000)) → blocker_of items.new.items n ≡ blocker_of items.old.items n }
+    ensures each { (n : ℕ) → IsWithin span n → n ≤ highest_number → Wakes instance (blocker_of items.old.items n) (blocker_of items.new.items n) (is_due due.new n) × (blocker_of items.new.items n ≢ None → IsWithin result n) }
+    ensures others { (n : ℕ) → ¬ (IsWithin span n × (n ≤ highest_number)) → blocker_of items.new.items n ≡ blocker_of items.old.items n }
     ensures more { (n : ℕ) → is_due due.old n ≡ true → is_due due.new n ≡ true }
     ensures room { length due.new ≡ length due.old }
 {
     let mut left = Span::new();
-    for number in span.first..span.end.min(1001) {
+    for number in span.first..span.end.min(2001) {
         if wake_one(items, number, instance, due) {
             left = left.with(number);
         }
@@ -107,6 +107,7 @@ pub(crate) struct Blockers {
 
 impl Model for Blockers {
     ghost use Rattle.std.specs.Prelude.{◌≡◌, ◌≢◌, ◌≤◌, ℕ, Option, None, IfSome, true, List};
+    ghost use Rattle.ep_base.specs.Instances.{highest_number};
     ghost use Rattle.ep_replica.specs.Blockers.{blocker_of, is_flagged};
     ghost use Rattle.ep_replica.specs.Spans.{IsWithin};
 
@@ -114,7 +115,7 @@ impl Model for Blockers {
 
     ghost view = { λ b. b.items.items };
 
-    ghost invariant = { λ b. ((n : ℕ) → blocker_of b.items.items n ≢ None → IsWithin b.span n × (n ≤ 1000)) × ((n : ℕ) → IfSome (blocker_of b.items.items n) (λ i. is_flagged b.awaited.items i ≡ true)) };
+    ghost invariant = { λ b. ((n : ℕ) → blocker_of b.items.items n ≢ None → IsWithin b.span n × (n ≤ highest_number)) × ((n : ℕ) → IfSome (blocker_of b.items.items n) (λ i. is_flagged b.awaited.items i ≡ true)) };
 }
 
 impl Blockers {
@@ -134,10 +135,10 @@ impl Blockers {
         ensures room { OnOk result (highest_number < length self.new) }
         ensures same { (n : ℕ) → blocker_of self.new n ≡ blocker_of self.old n }
     {
-        for _ in self.items.len()..1001 {
+        for _ in self.items.len()..2001 {
             self.items.push(None)?;
         }
-        widen(&mut self.awaited, 8008)
+        widen(&mut self.awaited, 16008)
     }
 
     /// What blocks the own instance of this number, if that is known.
@@ -154,7 +155,7 @@ impl Blockers {
         ensures others { (n : ℕ) → n ≢ number → blocker_of self.new n ≡ blocker_of self.old n }
         ensures unset { IsFalse result → self.new ≡ self.old }
     {
-        if number as usize >= self.items.len() || self.awaited.len() < 8008 {
+        if number as usize >= self.items.len() || self.awaited.len() < 16008 {
             return false;
         }
         await_it(&mut self.awaited, &blocker);

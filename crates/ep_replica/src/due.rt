@@ -8,18 +8,18 @@ use crate::span::Span;
 use std::alloc::{AllocError, Global};
 use std::marker::Model;
 
-/// The least number from this one on whose flag is set, where it is before the end; else 1,001.
+/// The least number from this one on whose flag is set, where it is before the end; else 2,001.
 fn first_set(flags: &[bool], first: u16, end: u16) -> u16
-    requires { first ≤ 1001 }
-    ensures range { (first ≤ result) × (result ≤ 1001) }
+    requires { first ≤ 2001 }
+    ensures range { (first ≤ result) × (result ≤ 2001) }
     ensures least { (n : ℕ) → first ≤ n → n < result → n < end → is_due flags.now n ≢ true }
 {
-    for number in first..end.min(1001) {
+    for number in first..end.min(2001) {
         if is_set(flags, number) {
             return number;
         }
     }
-    1001
+    2001
 }
 
 /// Whether the number's flag is set.
@@ -65,7 +65,7 @@ impl Due {
         ensures room { OnOk result (highest_number < length self.new) }
         ensures same { (n : ℕ) → is_due self.new n ≡ is_due self.old n }
     {
-        for _ in self.flags.len()..1001 {
+        for _ in self.flags.len()..2001 {
             self.flags.push(false)?;
         }
         Ok(())
@@ -93,14 +93,14 @@ impl Due {
         }
     }
 
-    /// The least due number that isn't below this one; 1,001 where there is none.
+    /// The least due number that isn't below this one; 2,001 where there is none.
     pub(crate) fn next(&mut self, from: u16) -> u16
-        requires { from ≤ 1001 }
-        ensures range { (from ≤ result) × (result ≤ 1001) }
+        requires { from ≤ 2001 }
+        ensures range { (from ≤ result) × (result ≤ 2001) }
         ensures least { (n : ℕ) → from ≤ n → n < result → is_due self.old n ≢ true }
         ensures same { self.new ≡ self.old }
     {
-        let first = from.max(self.span.first).min(1001);
+        let first = from.max(self.span.first).min(2001);
         let found = first_set(self.flags.as_slice(), first, self.span.end);
         if from <= self.span.first {
             self.span.first = found;

@@ -7,7 +7,8 @@
 //! Start with `replica.rt`, then specs/Applied.antt (one event), specs/Receipts.antt (what callers are told) and `clock.rt`.
 //!
 //! It keeps to `ep_journal`'s step, with the number and the stamp of its own clock, and its state is what its journal leaves,
-//! by its type. No disk, no socket, no time and no thread is in here; leave those to the program.
+//! by its type. It is of version 2, which is said in `Replica::new` and specs/Kept.antt. No disk, no socket, no time and no
+//! thread is in here; leave those to the program.
 #![tactic(auto)]
 
 mod blockers;

@@ -65,7 +65,7 @@ impl Replica {
     pub fn next_ready(&self, after: Option<InstanceId>) -> Option<InstanceId>
         ensures { IsNext self.now after result }
     {
-        for number in 1..1001 {
+        for number in 1..2001 {
             let instance = instance_at(self.me(), number);
             if is_above(&after, instance) && self.is_pending(instance) {
                 return Some(instance);
@@ -143,7 +143,7 @@ impl Replica {
         ensures { ExecutesNext self.old result self.new }
     {
         let mut number = self.next_due(1);
-        while number <= 1000 {
+        while number <= 2000 {
             match self.try_execute(instance_at(self.me(), number)) {
                 Tried::Executed => return true,
                 Tried::Passed => number = self.next_due(number + 1),

@@ -8,12 +8,12 @@ use ep_frame::FrameFault;
 use ep_journal::StepFault;
 use thiserror::Error;
 
-/// Why an event was not applied: the bytes are no frame; or a `StepFault`, whose instance is told by its two numbers. The replica is then as it was.
+/// Why an event was not applied: the bytes are no frame of version 2; or a `StepFault`, whose instance is told by its two numbers. The replica is then as it was.
 #[derive(Clone, Copy, Debug, PartialEq, Eq, Error)]
 pub enum ReplicaFault {
     #[error("E1 memory")]
     Memory,
-    /// The bytes to be handled are no frame.
+    /// The bytes to be handled are no frame; or, with `Version`, the frame is of version 1.
     #[error("E14 bad frame")]
     BadFrame(FrameFault),
     /// A replica's number is not below the cluster's size, a no-op is proposed, or a client or a request is 0.
@@ -25,7 +25,7 @@ pub enum ReplicaFault {
     /// The entry's stamp or number would pass its limit.
     #[error("E15 stamp full")]
     StampFull,
-    /// The replica has a record of each of its 1,000 instances.
+    /// The replica has a record of each of its 2,000 instances.
     #[error("E4 space full")]
     SpaceFull,
     /// The sequence number would pass 1,000,000.
@@ -54,6 +54,7 @@ impl From<StepFault> for ReplicaFault {
     fn from(fault: StepFault) -> ReplicaFault {
         match fault {
             StepFault::Memory => ReplicaFault::Memory,
+            StepFault::OtherVersion => ReplicaFault::BadFrame(FrameFault::Version),
             StepFault::OutOfRange => ReplicaFault::OutOfRange,
             StepFault::NotMine => ReplicaFault::NotMine,
             StepFault::StampFull => ReplicaFault::StampFull,

@@ -68,7 +68,7 @@ impl Slots {
         ensures room { OnOk result (highest_number < length self.new) }
         ensures same { (number : ℕ) → found self.new number ≡ found self.old number }
     {
-        for _ in self.items.len()..1001 {
+        for _ in self.items.len()..2001 {
             self.items.push(None)?;
         }
         Ok(())

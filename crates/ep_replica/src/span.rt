@@ -1,6 +1,7 @@
 //! Numbers between two bounds.
 
 ghost use Rattle.std.specs.Prelude.{◌≢◌, ◌≤◌, ℕ};
+ghost use Rattle.ep_base.specs.Instances.{highest_number};
 ghost use Rattle.ep_replica.specs.Spans.{IsWithin};
 
 /// The numbers from `first` to before `end`.
@@ -16,14 +17,14 @@ impl Span {
         ensures { (n : ℕ) → ¬ IsWithin result n }
     {
         Span {
-            first: 1001,
+            first: 2001,
             end: 0,
         }
     }
 
     /// These numbers and this one, with those between.
     pub(crate) fn with(self, number: u16) -> Span
-        requires { number ≤ 1000 }
+        requires { number ≤ highest_number }
         ensures here { IsWithin result number }
         ensures more { (n : ℕ) → IsWithin self n → IsWithin result n }
     {
@@ -37,7 +38,7 @@ impl Span {
     pub(crate) fn without(self, number: u16) -> Span
         ensures { (n : ℕ) → IsWithin self n → n ≢ number → IsWithin result n }
     {
-        if self.first != number || number >= 1000 {
+        if self.first != number || number >= 2000 {
             return self;
         }
         Span {

@@ -1,4 +1,4 @@
-//! Tests of `ep_replica`: a replica's stamps, what it refuses, and two puts that conflict, by hand, each call with ample memory.
+//! Tests of `ep_replica`: a replica's stamps, what it refuses, two puts that conflict, and a swap, by hand, each call with ample memory.
 //! An event that finds no memory leaves the replica as it was and is taken when it is asked for again, so all ends alike whichever allocation is refused.
 //! What owns much is let go by a call of `drop`: that is proved part by part, once, and not in each test anew.
 //!
@@ -17,3 +17,7 @@ mod refusing;
 mod samples;
 #[cfg(test)]
 mod stamping;
+#[cfg(test)]
+mod swapping;
+#[cfg(test)]
+mod versions;

@@ -31,6 +31,7 @@ fn faults_have_the_texts_of_the_steps(rt: HostRuntime) {
     let alloc = rt.alloc();
     for (fault, text) in [
         (StepFault::Memory, "E1 memory"),
+        (StepFault::OtherVersion, "E14 bad frame"),
         (StepFault::OutOfRange, "E3 out of range"),
         (StepFault::NotMine, "E13 not mine"),
         (StepFault::StampFull, "E15 stamp full"),

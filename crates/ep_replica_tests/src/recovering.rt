@@ -1,8 +1,10 @@
 //! Proposals that others recover: two puts that conflict, and one that a no-op replaces. Frames are given by hand.
 
-use crate::samples::{PRE_ACCEPT, first_of, propose, replica, shown, stamp};
-use ep_base::{Answer, InstanceId, Reply, Value};
-use ep_journal::{Entry, Event};
+use crate::samples::{
+    PRE_ACCEPT, ask, first_of, give, present, propose, replica, sends, shown, stamp,
+};
+use ep_base::{Answer, InstanceId, Reply};
+use ep_journal::Event;
 use ep_replica::{Replica, ReplicaFault};
 use ep_rules::Receipt;
 use std::alloc::Global;
@@ -10,76 +12,27 @@ use std::process::Abort;
 
 /// Replica 1's answer to the first frame, where it has proposed an interfering command in 1.1.
 const WITH_DEP: [u8; 43] = [
-    0x45, 0x50, 1, 2, 1, 0, 0, 0, 0, 0, 0, 2, 0, 0, 0, 0, 0, 0, 0, 2, 0, 0, 1, 0, 0, 0, 0, 0, 0, 0,
+    0x45, 0x50, 2, 2, 1, 0, 0, 0, 0, 0, 0, 2, 0, 0, 0, 0, 0, 0, 0, 2, 0, 0, 1, 0, 0, 0, 0, 0, 0, 0,
     0, 0, 0, 2, 0, 0, 0, 0, 0, 1, 1, 0, 1,
 ];
 
 /// Replica 1 tells replica 0, which prepares 1.1 at ballot (1, 0), its own vote: `put x 2`, pre-accepted.
 const PREPARE_OK: [u8; 42] = [
-    0x45, 0x50, 1, 7, 1, 0, 0, 0, 0, 0, 0, 3, 0, 0, 0, 0, 0, 0, 0, 5, 1, 0, 1, 0, 1, 0, 1, 0, 0, 1,
+    0x45, 0x50, 2, 7, 1, 0, 0, 0, 0, 0, 0, 3, 0, 0, 0, 0, 0, 0, 0, 5, 1, 0, 1, 0, 1, 0, 1, 0, 0, 1,
     0, 0, 0, 1, 3, 1, 0, 1, 0, 0, 0x78, 0x32,
 ];
 
 /// Replica 0 tells replica 1 that 1.1 is committed, after 0.1.
 const COMMIT: [u8; 45] = [
-    0x45, 0x50, 1, 5, 0, 1, 0, 0, 0, 0, 0, 6, 0, 0, 0, 0, 0, 0, 0, 10, 1, 0, 1, 0, 0, 0, 0, 0, 0,
+    0x45, 0x50, 2, 5, 0, 1, 0, 0, 0, 0, 0, 6, 0, 0, 0, 0, 0, 0, 0, 10, 1, 0, 1, 0, 0, 0, 0, 0, 0,
     0, 0, 0, 0, 3, 3, 1, 0, 1, 0, 1, 0x78, 0x32, 0, 0, 1,
 ];
 
 /// Replica 1's refusal of the first frame, where it has promised ballot (1, 2).
 const NACK: [u8; 40] = [
-    0x45, 0x50, 1, 8, 1, 0, 0, 0, 0, 0, 0, 4, 0, 0, 0, 0, 0, 0, 0, 7, 0, 0, 1, 0, 0, 0, 0, 0, 1, 2,
+    0x45, 0x50, 2, 8, 1, 0, 0, 0, 0, 0, 0, 4, 0, 0, 0, 0, 0, 0, 0, 7, 0, 0, 1, 0, 0, 0, 0, 0, 1, 2,
     0, 0, 0, 0, 0, 0, 0, 0, 0, 0,
 ];
-
-/// The event has an entry with this stamp.
-fn ask(rt: &impl Abort, alloc: Global, replica: &mut Replica, event: Event, expected: u64) {
-    assert_eq!(rt; stamp(rt, alloc, replica, event), Ok(expected));
-}
-
-fn entry_of<'a>(rt: &impl Abort, replica: &'a Replica, number: usize) -> &'a Entry {
-    let mut entries = replica.journal().entries().iter();
-    entries.nth(number.saturating_sub(1)).expect(rt, "an entry")
-}
-
-/// The event that the frame is handled: the one with this out number, of the entry of this number.
-fn sent(rt: &impl Abort, from: &Replica, number: usize, out: usize) -> Event {
-    let frames = entry_of(rt, from, number).frames.as_slice();
-    let frame = frames.get(out).expect(rt, "a frame");
-    match frame.clone() {
-        Ok(frame) => Event::Handle(frame),
-        Err(_) => Event::Handle(frame.clone().expect(rt, "memory for bytes")),
-    }
-}
-
-/// The frame is handled, by an entry with this stamp.
-fn give(
-    rt: &impl Abort,
-    alloc: Global,
-    from: &Replica,
-    frame: (usize, usize),
-    to: &mut Replica,
-    expected: u64,
-) {
-    let event = sent(rt, from, frame.0, frame.1);
-    ask(rt, alloc, to, event, expected);
-}
-
-fn is_frame(frame: &[u8], bytes: &[u8]) -> bool {
-    frame == bytes
-}
-
-/// Whether the replica's last entry sends so many frames, of which this is the first.
-fn sends(replica: &Replica, count: usize, first: &[u8]) -> bool {
-    let Some(entry) = replica.journal().entries().last() else {
-        return false;
-    };
-    let frames = entry.frames.as_slice();
-    match frames.first() {
-        None => false,
-        Some(frame) => frames.len() == count && is_frame(frame.as_slice(), first),
-    }
-}
 
 /// Replicas 0 and 1 propose, and 0.1 is committed: it depends on 1.1.
 fn first_is_committed(rt: &impl Abort, alloc: Global, zero: &mut Replica, one: &mut Replica) {
@@ -166,14 +119,6 @@ fn is_answer(rt: &impl Abort, replica: &Replica, answer: &Answer) -> bool {
         None => false,
         Some(view) => view.answer().is_same(answer),
     }
-}
-
-fn present(rt: &impl Abort, alloc: Global, value: &[u8]) -> Answer {
-    let value = match Value::new(alloc, value) {
-        Ok(value) => value,
-        Err(_) => Value::new(alloc, value).expect(rt, "memory for a value"),
-    };
-    Answer::Told(Reply::Present(value))
 }
 
 /// Whether the replica's last entry executes 0.1 and then 1.1, and nothing else.

@@ -9,7 +9,7 @@ use std::alloc::Global;
 use std::process::Abort;
 
 /// A new replica refuses the event for this fault, and takes its first proposal as if nothing had been asked.
-fn assert_refused(rt: &impl Abort, alloc: Global, me: u8, event: Event, fault: ReplicaFault) {
+pub fn assert_refused(rt: &impl Abort, alloc: Global, me: u8, event: Event, fault: ReplicaFault) {
     let mut replica = replica(rt, alloc, me);
     let refused = stamp(rt, alloc, &mut replica, event);
     assert_eq!(rt; refused, Err(fault));
@@ -51,7 +51,7 @@ fn a_frame_of_a_larger_cluster(rt: HostRuntime) {
 }
 
 /// A new replica refuses the bytes for this fault, and takes the first frame as if nothing had been asked.
-fn assert_no_frame(rt: &impl Abort, alloc: Global, bytes: &[u8], fault: FrameFault) {
+pub fn assert_no_frame(rt: &impl Abort, alloc: Global, bytes: &[u8], fault: FrameFault) {
     let mut replica = replica(rt, alloc, 1);
     let refused = handled(rt, alloc, &mut replica, bytes);
     assert_eq!(rt; refused, Err(ReplicaFault::BadFrame(fault)));

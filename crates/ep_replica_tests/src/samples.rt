@@ -3,16 +3,16 @@
 ghost use Rattle.std.specs.Prelude.{◌≡◌, OnErr};
 
 use bytes::Bytes;
-use ep_base::{Command, InstanceId, ReplicaId, Size};
+use ep_base::{Answer, Command, InstanceId, ReplicaId, Reply, Size, Value};
 use ep_frame::Frame;
-use ep_journal::Event;
+use ep_journal::{Entry, Event};
 use ep_replica::{Replica, ReplicaFault};
 use std::alloc::Global;
 use std::process::Abort;
 
 /// `put x 1`, proposed at replica 0 in 0.1, as replica 1 is told.
 pub const PRE_ACCEPT: [u8; 42] = [
-    0x45, 0x50, 1, 1, 0, 1, 0, 0, 0, 0, 0, 1, 0, 0, 0, 0, 0, 0, 0, 1, 0, 0, 1, 0, 0, 0, 0, 0, 0, 0,
+    0x45, 0x50, 2, 1, 0, 1, 0, 0, 0, 0, 0, 1, 0, 0, 0, 0, 0, 0, 0, 1, 0, 0, 1, 0, 0, 0, 0, 0, 0, 0,
     0, 0, 0, 1, 3, 1, 0, 1, 0, 0, 0x78, 0x31,
 ];
 
@@ -140,4 +140,62 @@ pub fn stamp(
     }
     drop(event);
     told
+}
+
+/// The event has an entry with this stamp.
+pub fn ask(rt: &impl Abort, alloc: Global, replica: &mut Replica, event: Event, expected: u64) {
+    assert_eq!(rt; stamp(rt, alloc, replica, event), Ok(expected));
+}
+
+fn entry_of<'a>(rt: &impl Abort, replica: &'a Replica, number: usize) -> &'a Entry {
+    let mut entries = replica.journal().entries().iter();
+    entries.nth(number.saturating_sub(1)).expect(rt, "an entry")
+}
+
+/// The event that the frame is handled: the one with this out number, of the entry of this number.
+fn sent(rt: &impl Abort, from: &Replica, number: usize, out: usize) -> Event {
+    let frames = entry_of(rt, from, number).frames.as_slice();
+    let frame = frames.get(out).expect(rt, "a frame");
+    match frame.clone() {
+        Ok(frame) => Event::Handle(frame),
+        Err(_) => Event::Handle(frame.clone().expect(rt, "memory for bytes")),
+    }
+}
+
+/// The frame is handled, by an entry with this stamp.
+pub fn give(
+    rt: &impl Abort,
+    alloc: Global,
+    from: &Replica,
+    frame: (usize, usize),
+    to: &mut Replica,
+    expected: u64,
+) {
+    let event = sent(rt, from, frame.0, frame.1);
+    ask(rt, alloc, to, event, expected);
+}
+
+fn is_frame(frame: &[u8], bytes: &[u8]) -> bool {
+    frame == bytes
+}
+
+/// Whether the replica's last entry sends so many frames, of which this is the first.
+pub fn sends(replica: &Replica, count: usize, first: &[u8]) -> bool {
+    let Some(entry) = replica.journal().entries().last() else {
+        return false;
+    };
+    let frames = entry.frames.as_slice();
+    match frames.first() {
+        None => false,
+        Some(frame) => frames.len() == count && is_frame(frame.as_slice(), first),
+    }
+}
+
+/// The answer that the key had this value.
+pub fn present(rt: &impl Abort, alloc: Global, value: &[u8]) -> Answer {
+    let value = match Value::new(alloc, value) {
+        Ok(value) => value,
+        Err(_) => Value::new(alloc, value).expect(rt, "memory for a value"),
+    };
+    Answer::Told(Reply::Present(value))
 }

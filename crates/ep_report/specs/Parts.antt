@@ -2,7 +2,7 @@
 use Rattle.std.specs.Prelude.{ℕ, List, [], ◌∷◌, ◌++◌, codes, decimal}
 use Rattle.ep_base.specs.Instances.{leader_of, number_of}
 use Rattle.ep_base.specs.declared.command.Command.{Command}
-use Rattle.ep_base.specs.declared.command.Command.TheVariants.{Noop, Get, Put, Del}
+use Rattle.ep_base.specs.declared.command.Command.TheVariants.{Noop, Get, Put, Del, Swap}
 use Rattle.ep_base.specs.declared.reply.Reply.{Reply}
 use Rattle.ep_base.specs.declared.reply.Reply.TheVariants.{Absent, Present}
 use Rattle.ep_base.specs.declared.reply.Answer.{Answer}
@@ -28,6 +28,7 @@ command_text Noop = codes "noop"
 command_text (Get key) = codes "get " ++ word_of key
 command_text (Put key value) = codes "put " ++ word_of key ++ codes " " ++ word_of value
 command_text (Del key) = codes "del " ++ word_of key
+command_text (Swap keys) = codes "swap " ++ word_of keys.first ++ codes " " ++ word_of keys.second
 
 abbrev pub reply_text : Reply → List ℕ
 reply_text Absent = codes "absent"

@@ -9,6 +9,6 @@ pub struct Happening {
     pub instance: InstanceId,
     /// The command, which is no no-op in a history.
     pub command: Command,
-    /// The value that the command's key had just before it.
+    /// The value that the command's key, of a swap the first one, had just before it.
     pub reply: Reply,
 }

@@ -4,7 +4,7 @@ ghost use Rattle.std.specs.Prelude.{◌≡◌, ◌++◌, OnOk, decimal};
 ghost use Rattle.ep_report.specs.Parts.{instance_text, deps_text, more_deps, command_text, reply_text, answer_text};
 ghost use Rattle.ep_script.specs.Word.{word_of};
 
-use ep_base::{Answer, Command, Deps, InstanceId, Reply};
+use ep_base::{Answer, Command, Deps, InstanceId, KeyPair, Reply};
 use ep_script::push_word;
 use itoa::Buffer;
 use std::alloc::AllocError;
@@ -61,6 +61,7 @@ pub(crate) fn push_command(text: &mut Vec<u8>, command: &Command) -> Result<(), 
         Command::Get(key) => push_spelled(text, b"get ", key.as_slice()),
         Command::Put(key, value) => push_put(text, key.as_slice(), value.as_slice()),
         Command::Del(key) => push_spelled(text, b"del ", key.as_slice()),
+        Command::Swap(keys) => push_swap(text, keys),
     }
 }
 
@@ -69,6 +70,13 @@ fn push_put(text: &mut Vec<u8>, key: &[u8], value: &[u8]) -> Result<(), AllocErr
 {
     push_spelled(text, b"put ", key)?;
     push_spelled(text, b" ", value)
+}
+
+fn push_swap(text: &mut Vec<u8>, keys: &KeyPair) -> Result<(), AllocError>
+    ensures { OnOk result (text.new.items ≡ text.old.items ++ command_text (Command.Swap keys.now)) }
+{
+    push_spelled(text, b"swap ", keys.first().as_slice())?;
+    push_spelled(text, b" ", keys.second().as_slice())
 }
 
 // Appends a text, and then a word of bytes.

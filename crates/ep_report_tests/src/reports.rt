@@ -23,6 +23,10 @@ fn del(rt: &impl Abort, alloc: Global, key: &[u8]) -> Command {
     Command::del(alloc, key).expect(rt, "a del")
 }
 
+fn swap(rt: &impl Abort, alloc: Global, first: &[u8], second: &[u8]) -> Command {
+    Command::swap(alloc, first, second).expect(rt, "a swap")
+}
+
 fn present(rt: &impl Abort, alloc: Global, value: &[u8]) -> Reply {
     Reply::Present(Value::new(alloc, value).expect(rt, "a value"))
 }
@@ -316,6 +320,87 @@ refused 0
 }
 
 #[test]
+fn a_put_a_swap_and_a_get(rt: HostRuntime) {
+    let alloc = rt.alloc();
+    let first = at(&rt, 0, 1);
+    let second = at(&rt, 0, 2);
+    let third = at(&rt, 0, 3);
+    let mut outcome = Outcome::new(alloc);
+    let put_1 = decree(&rt, put(&rt, alloc, b"x", b"1"), 1, Deps::new(alloc));
+    commit(&rt, &mut outcome, first, put_1);
+    let swapped = decree(
+        &rt,
+        swap(&rt, alloc, b"x", b"y"),
+        2,
+        deps_of(&rt, alloc, &[first]),
+    );
+    commit(&rt, &mut outcome, second, swapped);
+    let asked = decree(
+        &rt,
+        get(&rt, alloc, b"y"),
+        3,
+        deps_of(&rt, alloc, &[second]),
+    );
+    commit(&rt, &mut outcome, third, asked);
+    happen(
+        &rt,
+        &mut outcome,
+        first,
+        put(&rt, alloc, b"x", b"1"),
+        Reply::Absent,
+    );
+    let had = present(&rt, alloc, b"1");
+    happen(&rt, &mut outcome, second, swap(&rt, alloc, b"x", b"y"), had);
+    let has = present(&rt, alloc, b"1");
+    happen(&rt, &mut outcome, third, get(&rt, alloc, b"y"), has);
+    let text = b"verdict accepted
+committed 3
+0.1 seq 1 deps - put x 1
+0.2 seq 2 deps 0.1 swap x y
+0.3 seq 3 deps 0.2 get y
+history 3
+1 0.1 put x 1 -> absent
+2 0.2 swap x y -> present 1
+3 0.3 get y -> present 1
+receipts 0
+refused 0
+";
+    assert_eq!(rt;
+        printed(&rt, alloc, &outcome, &[]).as_slice(),
+        text.as_slice()
+    );
+}
+
+#[test]
+fn keys_of_a_swap_are_spelled_in_their_order(rt: HostRuntime) {
+    let alloc = rt.alloc();
+    let first = at(&rt, 0, 1999);
+    let second = at(&rt, 1, 2000);
+    let mut outcome = Outcome::new(alloc);
+    let swapped = decree(&rt, swap(&rt, alloc, b"a b", b"%-"), 1, Deps::new(alloc));
+    commit(&rt, &mut outcome, first, swapped);
+    let swapped = decree(
+        &rt,
+        swap(&rt, alloc, b"~\xff", b"!\x00"),
+        2,
+        deps_of(&rt, alloc, &[first]),
+    );
+    commit(&rt, &mut outcome, second, swapped);
+    let text = b"verdict accepted
+committed 2
+0.1999 seq 1 deps - swap a%20b %25-
+1.2000 seq 2 deps 0.1999 swap ~%ff !%00
+history 0
+receipts 0
+refused 0
+";
+    assert_eq!(rt;
+        printed(&rt, alloc, &outcome, &[]).as_slice(),
+        text.as_slice()
+    );
+}
+
+#[test]
 fn a_recovery_after_a_refused_execution(rt: HostRuntime) {
     let alloc = rt.alloc();
     let first = at(&rt, 0, 1);
@@ -373,7 +458,7 @@ line 5 E10 not committed 1.1
 #[test]
 fn several_dependencies_and_bytes_that_are_spelled(rt: HostRuntime) {
     let alloc = rt.alloc();
-    let last = at(&rt, 6, 1000);
+    let last = at(&rt, 6, 2000);
     let mut outcome = Outcome::new(alloc);
     let before = [at(&rt, 1, 1), at(&rt, 0, 12), at(&rt, 0, 2)];
     let removed = decree(
@@ -395,11 +480,11 @@ fn several_dependencies_and_bytes_that_are_spelled(rt: HostRuntime) {
     );
     let text = b"verdict accepted
 committed 1
-6.1000 seq 1000000 deps 0.2,0.12,1.1 del a%20b
+6.2000 seq 1000000 deps 0.2,0.12,1.1 del a%20b
 history 1
-1 6.1000 put %25%0a %- -> present %-
+1 6.2000 put %25%0a %- -> present %-
 receipts 1
-client 4294967295 request 10 6.1000 present %ff~
+client 4294967295 request 10 6.2000 present %ff~
 refused 0
 ";
     assert_eq!(rt;

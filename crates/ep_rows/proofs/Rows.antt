@@ -1,18 +1,20 @@
 -- Worked runs, computed from the definitions.
-use Rattle.std.proofs.Common.{◌≡◌, ℕ, List, [], ◌∷◌, map, Option, Some, None, slice_get, refl, arith}
+use Rattle.std.proofs.Common.{◌≡◌, ℕ, false, List, [], ◌∷◌, map, Option, Some, None, slice_get, refl, arith}
 use Rattle.ep_base.specs.Ballots.{ballot_of}
 use Rattle.ep_base.specs.Instances.{instance_of}
+use Rattle.ep_base.specs.Interference.{interfere}
 use Rattle.ep_base.specs.declared.attrs.Attrs.{Attrs}
 use Rattle.ep_base.specs.declared.command.Command.{Command}
-use Rattle.ep_base.specs.declared.command.Command.TheVariants.{Noop, Put, Get}
+use Rattle.ep_base.specs.declared.command.Command.TheVariants.{Noop, Put, Get, Swap}
 use Rattle.ep_base.specs.declared.decree.Decree.{Decree}
 use Rattle.ep_base.specs.declared.message.Message.TheVariants.{PrepareOk, Nack}
 use Rattle.ep_base.specs.declared.reply.Answer.TheVariants.{Told}
 use Rattle.ep_base.specs.declared.reply.Reply.TheVariants.{Absent, Present}
 use Rattle.ep_base.specs.declared.vote.Status.TheVariants.{PreAccepted}
 use Rattle.ep_rules.specs.Cells.{TooFewAnswers}
+use Rattle.ep_rows.specs.OneMap.{empty, after, reply, answers_of}
 use Rattle.ep_rows.specs.Operations.{Operation, history_of}
-use Rattle.ep_rows.specs.States.{State, committed_in}
+use Rattle.ep_rows.specs.States.{State, committed_in, command_in}
 use Rattle.ep_rows.specs.Steps.{IsExecution}
 use Rattle.ep_rows.proofs.OneByOne.{execution, closed_none, closed_one}
 use Rattle.ep_rows.proofs.Playing.{Line, Proposal, Resignation, Recovery, Deliver, Execution, Played, play, fresh, given}
@@ -188,3 +190,48 @@ leader_executes = (overtaken []).world.states 0
 
 overtaken_last : IsExecution leader_executes (instance_of 0 1) ((instance_of 0 1, Told Absent) ∷ [])
 overtaken_last = execution leader_executes (instance_of 0 1) (attrs 1 []) (Told Absent) (closed_none _) refl (λ j h. absurd (omega arith)) (λ h. absurd (omega arith)) refl
+
+-- a put, a swap of its key with another one, and a get of that
+abbrev swap_of : ℕ → ℕ → Command
+swap_of k l = Swap (record { first = k ∷ []; second = l ∷ [] })
+
+abbrev get_y : Command
+get_y = Get (121 ∷ [])
+
+abbrev swapped : Played
+swapped =
+    play 1 fresh (Proposal 0 (put_x 49) ∷ given (1 ∷ 2 ∷ 3 ∷ 4 ∷ [])
+    (Proposal 0 (swap_of 120 121) ∷ given (5 ∷ 6 ∷ 7 ∷ 8 ∷ []) (Proposal 0 get_y ∷ given (9 ∷ 10 ∷ 11 ∷ 12 ∷ []) [])))
+
+swapped_commits : map (λ i. committed swapped 2 i) (instance_of 0 1 ∷ instance_of 0 2 ∷ instance_of 0 3 ∷ [])
+    ≡ Some (decree (put_x 49) 1 []) ∷ Some (decree (swap_of 120 121) 2 (instance_of 0 1 ∷ [])) ∷ Some (decree get_y 3 (instance_of 0 2 ∷ [])) ∷ []
+swapped_commits = refl
+
+abbrev swapped_state : State
+swapped_state = swapped.world.states 0
+
+swapped_answers : answers_of (command_in swapped_state.records) swapped_state.store (instance_of 0 1 ∷ instance_of 0 2 ∷ instance_of 0 3 ∷ [])
+    ≡ Told Absent ∷ Told (Present (49 ∷ [])) ∷ Told (Present (49 ∷ [])) ∷ []
+swapped_answers = refl
+
+-- two swaps at once that share a key
+abbrev two_swaps : Played
+two_swaps = play 1 fresh (Proposal 0 (swap_of 120 121) ∷ (Proposal 1 (swap_of 121 122) ∷ given (1 ∷ 2 ∷ 3 ∷ 4 ∷ 5 ∷ 6 ∷ 7 ∷ 8 ∷ []) []))
+
+two_swaps_commit : map (λ i. committed two_swaps 2 i) (instance_of 0 1 ∷ instance_of 1 1 ∷ [])
+    ≡ Some (decree (swap_of 120 121) 2 (instance_of 1 1 ∷ [])) ∷ Some (decree (swap_of 121 122) 1 []) ∷ []
+two_swaps_commit = refl
+
+-- and two that share none
+no_shared_key : interfere (swap_of 120 121) (swap_of 122 123) ≡ false
+no_shared_key = refl
+
+-- a key without a value leaves the other one without one, and again
+swap_away : after (after empty (put_x 49)) (swap_of 120 121) ≡ after empty (Put (121 ∷ []) (49 ∷ []))
+swap_away = refl
+
+swap_back : after (after (after empty (put_x 49)) (swap_of 120 121)) (swap_of 120 121) ≡ after empty (put_x 49)
+swap_back = refl
+
+swap_tells_its_first_key : reply (after empty (put_x 49)) (swap_of 121 120) ≡ Absent
+swap_tells_its_first_key = refl

@@ -5,7 +5,7 @@ use Rattle.std.specs.Cmp.Lexicographic.{slice_cmp}
 use Rattle.ep_rows.specs.KeyMaps as map
 use Rattle.ep_base.specs.Sameness.{is_noop}
 use Rattle.ep_base.specs.declared.command.Command.{Command}
-use Rattle.ep_base.specs.declared.command.Command.TheVariants.{Noop, Get, Put, Del}
+use Rattle.ep_base.specs.declared.command.Command.TheVariants.{Noop, Get, Put, Del, Swap}
 use Rattle.ep_base.specs.declared.reply.Reply.{Reply}
 use Rattle.ep_base.specs.declared.reply.Reply.TheVariants.{Absent, Present}
 use Rattle.ep_base.specs.declared.reply.Answer.{Answer}
@@ -34,18 +34,20 @@ after m Noop = m
 after m (Get k) = m
 after m (Put k v) = map.insert m k v
 after m (Del k) = map.remove m k
+after m (Swap keys) = with_key (with_key m keys.first (value_at m keys.second)) keys.second (value_at m keys.first)
 
 -- what a reply says of a key
 abbrev pub told : Option (List ℕ) → Reply
 told None = Absent
 told (Some v) = Present v
 
--- the reply to a command: what its key has just before it
+-- the reply to a command: what its key, of a swap the first one, has just before it
 abbrev pub reply : Contents → Command → Reply
 reply m Noop = Absent
 reply m (Get k) = told (value_at m k)
 reply m (Put k v) = told (value_at m k)
 reply m (Del k) = told (value_at m k)
+reply m (Swap keys) = told (value_at m keys.first)
 
 -- what an execution answers: the reply, or that the proposal was lost
 abbrev pub answer : Contents → Command → Answer

@@ -4,7 +4,7 @@ use Rattle.std.proofs.lemmas.Bool.{eq-eqb, false≢true}
 use Rattle.std.proofs.lemmas.List.{get_or-append-add}
 use Rattle.std.specs.List.{filter, AllByRecursion}
 use Rattle.ep_base.specs.declared.command.Command.{Command}
-use Rattle.ep_base.specs.declared.command.Command.TheVariants.{Noop, Get, Put, Del}
+use Rattle.ep_base.specs.declared.command.Command.TheVariants.{Noop, Get, Put, Del, Swap}
 use Rattle.ep_base.specs.declared.reply.Reply.TheVariants.{Absent}
 use Rattle.ep_base.specs.declared.reply.Answer.{Answer}
 use Rattle.ep_base.specs.declared.reply.Answer.TheVariants.{Lost, Told}
@@ -28,6 +28,7 @@ after_noop m Noop e = refl
 after_noop m (Get k) e = refl
 after_noop m (Put k v) e = absurd (false≢true e)
 after_noop m (Del k) e = absurd (false≢true e)
+after_noop m (Swap p) e = absurd (false≢true e)
 
 pub after_both : (c : ℕ → Command) (m : Contents) (xs ys : List ℕ) → after_all c m (xs ++ ys) ≡ after_all c (after_all c m xs) ys
 after_both c m [] ys = refl

@@ -1,4 +1,4 @@
--- There are at most 7,000 instances: numbers that stand once each, and have different places below a bound, are no more than it.
+-- There are at most 14,000 instances: numbers that stand once each, and have different places below a bound, are no more than it.
 use Rattle.std.proofs.Common.{◌≡◌, ℕ, zero, suc, ◌+◌, ◌*◌, ◌-◌, ◌<◌, ◌≤◌, inl, inr, Bool, true, false, cond, not, eqb, List, [], ◌∷◌, length, refl, sym, ap, subst, ◌∙◌, arith}
 use Rattle.std.proofs.lemmas.Bool.{cases_order, eqb-true, ne_eqb, not_from_false, false≢true}
 use Rattle.std.specs.List.{filter}
@@ -51,12 +51,12 @@ module _ (index : ℕ → ℕ) where
 
 -- instances in order, without gaps, from 0
 abbrev index_of : ℕ → ℕ
-index_of i = leader_of i * 1000 + (number_of i - 1)
+index_of i = leader_of i * 2000 + (number_of i - 1)
 
 rises : (i j : ℕ) → IsInstance i → IsInstance j → i < j → index_of i < index_of j
 rises i j h k low = omega (arith, h, k)
 
-index_below : (i : ℕ) → IsInstance i → index_of i < 7000
+index_below : (i : ℕ) → IsInstance i → index_of i < 14000
 index_below i h = omega (arith, h)
 
 apart : (i j : ℕ) → IsInstance i → IsInstance j → index_of i ≡ index_of j → i ≡ j
@@ -67,7 +67,7 @@ apart i j h k e = elim (cases_order i j) [
 ]
 
 pub few_instances : (is : List ℕ) → Once is → ((i : ℕ) → Has is i → IsInstance i) → length is ≤ most_deps
-few_instances is o all = few_below index_of 7000 is o (λ i j h k e. apart i j (all i h) (all j k) e) (λ i h. index_below i (all i h))
+few_instances is o all = few_below index_of 14000 is o (λ i j h k e. apart i j (all i h) (all j k) e) (λ i h. index_below i (all i h))
 
 pub instances_are_few_lem : InstancesAreFew
 instances_are_few_lem is once all = few_instances is (from_once is once) all

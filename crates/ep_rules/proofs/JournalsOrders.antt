@@ -4,7 +4,7 @@ use Rattle.std.proofs.lemmas.Bool.{false≢true}
 use Rattle.ep_base.specs.Interference.{interfere}
 use Rattle.ep_base.specs.Sameness.{is_noop}
 use Rattle.ep_base.specs.declared.command.Command.{Command}
-use Rattle.ep_base.specs.declared.command.Command.TheVariants.{Noop, Get, Put, Del}
+use Rattle.ep_base.specs.declared.command.Command.TheVariants.{Noop, Get, Put, Del, Swap}
 use Rattle.ep_base.specs.Places.{place, Has}
 use Rattle.ep_rules.specs.History.{nothing, done_after, merged}
 use Rattle.ep_rules.specs.States.{State, fresh_state, attrs_of}
@@ -24,15 +24,18 @@ real_left Noop b e = absurd (false≢true e)
 real_left (Get k) b e = refl
 real_left (Put k v) b e = refl
 real_left (Del k) b e = refl
+real_left (Swap p) b e = refl
 
 pub real_right : (a b : Command) → interfere a b ≡ true → cond (is_noop b) false true ≡ true
 real_right Noop Noop e = absurd (false≢true e)
 real_right (Get k) Noop e = absurd (false≢true e)
 real_right (Put k v) Noop e = absurd (false≢true e)
 real_right (Del k) Noop e = absurd (false≢true e)
+real_right (Swap p) Noop e = absurd (false≢true e)
 real_right a (Get k) e = refl
 real_right a (Put k v) e = refl
 real_right a (Del k) e = refl
+real_right a (Swap p) e = refl
 
 pub journals_order_lem : JournalsOrder
 journals_order_lem f journal schedule given r i j hi hj ne meet =

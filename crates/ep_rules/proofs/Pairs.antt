@@ -10,7 +10,7 @@ use Rattle.ep_base.specs.Interference.{interfere}
 use Rattle.ep_base.specs.Quorums.{size, spared}
 use Rattle.ep_base.specs.Sameness.{is_noop}
 use Rattle.ep_base.specs.declared.command.Command.{Command}
-use Rattle.ep_base.specs.declared.command.Command.TheVariants.{Noop, Get, Put, Del}
+use Rattle.ep_base.specs.declared.command.Command.TheVariants.{Noop, Get, Put, Del, Swap}
 use Rattle.ep_base.specs.declared.decree.Decree.{Decree}
 use Rattle.ep_base.specs.declared.vote.Status.{Status}
 use Rattle.ep_base.specs.declared.vote.Status.TheVariants.{PreAccepted, Accepted, Committed}
@@ -43,6 +43,7 @@ interfere_real Noop y e = absurd (cc)
 interfere_real (Get k) y e = refl
 interfere_real (Put k v) y e = refl
 interfere_real (Del k) y e = refl
+interfere_real (Swap p) y e = refl
 
 -- What is recorded is in the interference set.
 

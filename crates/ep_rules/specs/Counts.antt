@@ -21,6 +21,6 @@ SendsFew = (f me : ℕ) (s : State) (e : Event) → length (sends f me s e) ≤ 
 abbrev pub ExecutedOnce : Type 0
 ExecutedOnce = (f me : ℕ) (es : List Entry) → IsLocalRun f me es → AreOnce (left f me fresh_state es).executed
 
--- There are at most 7,000 instances.
+-- There are at most 14,000 instances.
 abbrev pub InstancesAreFew : Type 0
 InstancesAreFew = (is : List ℕ) → AreOnce is → ((i : ℕ) → Has is i → IsInstance i) → length is ≤ most_deps

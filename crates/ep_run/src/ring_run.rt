@@ -124,6 +124,7 @@ fn turned<R: Threads + Sync>(rt: &R, nodes: Vec<RingNode>, turns: u32) -> Vec<Ri
 
 impl RingRun {
     ghost use Rattle.std.specs.Prelude.{◌≡◌, ◌++◌, ◌∷◌, [], ◌≤◌, ◌<◌, length, ℕ, List, All, IfOk, OnOk, IsOk};
+    ghost use Rattle.ep_base.specs.declared.version.Version.TheVariants.{V2};
     ghost use Rattle.ep_host.specs.Finishing.{IsFinished};
     ghost use Rattle.ep_script.specs.Fits.{FitsSection};
     ghost use Rattle.ep_script.specs.Plan.{SectionPlan};
@@ -206,6 +207,7 @@ impl RingRun {
         requires { (f : ℕ) × (turns : ℕ) × HasRun f turns sections.now self }
         ensures finished { IfOk result (λ r. IsFinished r.receipts.items r.finished) }
         ensures accepted { IfOk result (λ r. IsOk r.finished.verdict) }
+        ensures version { IfOk result (λ r. r.finished.journals.version ≡ V2) }
         ensures lines { IfOk result (λ r. (f turns : ℕ) → HasRun f turns sections.now self → AreDone turns sections.now r) }
     {
         let RingRun {

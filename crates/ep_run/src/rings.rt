@@ -1,6 +1,7 @@
 //! Runs over nodes with rings.
 
-ghost use Rattle.std.specs.Prelude.{IfOk, IsOk};
+ghost use Rattle.std.specs.Prelude.{◌≡◌, IfOk, IsOk};
+ghost use Rattle.ep_base.specs.declared.version.Version.TheVariants.{V2};
 ghost use Rattle.ep_host.specs.Finishing.{IsFinished};
 ghost use Rattle.ep_run.specs.Lines.{AreDone};
 
@@ -22,7 +23,7 @@ use std::thread::Threads;
 /// run goes on; what the turns leave of a node's lines stays for the next section. Elsewhere want of memory ends the run. Where no thread can be
 /// started, the nodes turn on the calling one.
 ///
-/// The audit accepts what a run leaves: no rings are needed to know it, and none of the journals.
+/// The journals are of version 2. The audit accepts what a run leaves: no rings are needed to know it, and none of the journals.
 pub fn run_rings<R: Threads + Sync>(
     rt: &R,
     alloc: Global,
@@ -31,6 +32,7 @@ pub fn run_rings<R: Threads + Sync>(
 ) -> Result<Ran, RunFault>
     ensures finished { IfOk result (λ r. IsFinished r.receipts.items r.finished) }
     ensures accepted { IfOk result (λ r. IsOk r.finished.verdict) }
+    ensures version { IfOk result (λ r. r.finished.journals.version ≡ V2) }
     ensures lines { IfOk result (AreDone limits.now.turns script.now.sections) }
 {
     let mut run = RingRun::new(alloc, script.size(), limits.capacity)?;

@@ -2,6 +2,7 @@
 
 ghost use Rattle.std.specs.Prelude.{◌≡◌, ℕ, List, IfOk, OnOk};
 ghost use Rattle.ep_base.specs.Quorums.{size as size_with};
+ghost use Rattle.ep_base.specs.declared.version.Version.TheVariants.{V2};
 ghost use Rattle.ep_host.specs.Finishing.{IsFinished};
 ghost use Rattle.ep_replay.specs.Tables.{AreCounted};
 ghost use Rattle.ep_rules.specs.declared.receipt.Receipt.{Receipt as Told};
@@ -169,7 +170,8 @@ impl Runner {
 
     /// What the run leaves.
     fn end<R: Wait>(self, rt: &R) -> Result<Ran, AllocError>
-        ensures { IfOk result (λ r. IsFinished r.receipts.items r.finished) }
+        ensures finished { IfOk result (λ r. IsFinished r.receipts.items r.finished) }
+        ensures version { IfOk result (λ r. r.finished.journals.version ≡ V2) }
     {
         let Runner {
             host,
@@ -200,14 +202,15 @@ impl Runner {
 /// before the section. A line that its replica refuses is listed, and the run goes on; so it does where a thread finds no
 /// memory. Elsewhere want of memory ends the run, and so does a thread that can't be started.
 ///
-/// The audit's verdict of the journals and the receipts, or its first fault, is part of what a run leaves.
+/// The journals are of version 2. The audit's verdict of them and of the receipts, or its first fault, is part of what a run leaves.
 pub fn run<R: Threads + Wait + Sync>(
     rt: &R,
     alloc: Global,
     script: &RunScript,
     limits: &Limits,
 ) -> Result<Ran, RunFault>
-    ensures { IfOk result (λ r. IsFinished r.receipts.items r.finished) }
+    ensures finished { IfOk result (λ r. IsFinished r.receipts.items r.finished) }
+    ensures version { IfOk result (λ r. r.finished.journals.version ≡ V2) }
 {
     let mut runner = Runner::new(alloc, script.size(), limits)?;
     for section in script.sections() {

@@ -87,6 +87,18 @@ fn requests_are_numbered_by_client_over_all_replicas(rt: HostRuntime) {
 }
 
 #[test]
+fn a_swap_is_run(rt: HostRuntime) {
+    let limits = Limits {
+        capacity: 4096,
+        turns: 100_000,
+    };
+    let script = b"replicas 3\npropose 0 1 put x 1\npropose 0 1 swap x y\npropose 0 1 get y\n";
+    let ran = ran(&rt, rt.alloc(), script, &limits);
+    assert!(rt; has_requests(&ran, 1, 2, 3));
+    drop(ran);
+}
+
+#[test]
 fn refused_lines_are_told_in_their_order(rt: HostRuntime) {
     let limits = Limits {
         capacity: 4096,
@@ -136,6 +148,18 @@ fn refused_lines_over_rings_are_told_in_their_order(rt: HostRuntime) {
         b"replicas 5\ngiveup 4 0.1\npropose 0 1 put x 1\ngiveup 2 1.1\nsection\nrecover 0 0.1\n";
     let ran = ran_over_rings(&rt, rt.alloc(), script, &limits);
     assert!(rt; are_refused(&ran));
+    drop(ran);
+}
+
+#[test]
+fn a_swap_is_run_over_rings(rt: HostRuntime) {
+    let limits = Limits {
+        capacity: 4096,
+        turns: 100_000,
+    };
+    let script = b"replicas 3\npropose 0 1 put x 1\npropose 0 1 swap x y\npropose 0 1 get y\n";
+    let ran = ran_over_rings(&rt, rt.alloc(), script, &limits);
+    assert!(rt; has_requests(&ran, 1, 2, 3));
     drop(ran);
 }
 

@@ -8,7 +8,7 @@ use Rattle.std.specs.Cmp.{IsEquivalence}
 use Rattle.std.proofs.lemmas.Bool.Decides.{nat_tests}
 use Rattle.std.proofs.lemmas.List.Elements.{All-nil, All-push}
 use Rattle.std.proofs.lemmas.Map.Keys.{IsDistinct-push}
-use Rattle.ep_base.specs.Instances.{instance_of, leader_of}
+use Rattle.ep_base.specs.Instances.{instance_of, leader_of, highest_number}
 use Rattle.ep_script.specs.Parts.{number_of}
 use Rattle.ep_script.specs.Grammar.{number_in, count_of, replica_of, instance_parts, parts_of, place_of, command_of, propose_of, agenda_line, section_of, weather_between, weather_of, kind_of, plain_run_line, run_line}
 use Rattle.ep_script.specs.Plan.{SectionPlan, no_section, with_agenda, with_weather, same_frame, has_frame}
@@ -62,15 +62,15 @@ count_fits w = if_less (count_of w) (number_fits 4294967295 w)
     if_less None h = h
     if_less (Some x) h = h.0
 
-leader_again : (r i n : ℕ) → r < n → (1 ≤ i) × (i ≤ 1000) → leader_of (instance_of r i) < n
-leader_again r i n h k = let a = k.1 in let e : (r * 65536 + i) / 65536 ≡ r = omega arith in subst (λ (x : ℕ). x < n) (sym e) h
+leader_again : (r i n : ℕ) → r < n → (1 ≤ i) × (i ≤ highest_number) → leader_of (instance_of r i) < n
+leader_again r i n h k = let a : i ≤ 2000 = k.1 in let e : (r * 65536 + i) / 65536 ≡ r = omega arith in subst (λ (x : ℕ). x < n) (sym e) h
 
 instance_fits : (n : ℕ) (ps : List (List ℕ)) → IfSome (instance_parts n ps) (λ i. leader_of i < n)
 instance_fits n [] = tt
 instance_fits n (r ∷ []) = tt
 instance_fits n (r ∷ i ∷ []) =
-    if_then (λ leader. option_map (instance_of leader) (number_in 1 1000 i)) (λ leader. leader < n) (λ x. leader_of x < n) (replica_of n r) (replica_fits n r)
-    (λ leader h. if_mapped (instance_of leader) (λ y. (1 ≤ y) × (y ≤ 1000)) (λ x. leader_of x < n) (number_in 1 1000 i) (number_fits 1000 i) (λ y k. leader_again leader y n h k))
+    if_then (λ leader. option_map (instance_of leader) (number_in 1 highest_number i)) (λ leader. leader < n) (λ x. leader_of x < n) (replica_of n r) (replica_fits n r)
+    (λ leader h. if_mapped (instance_of leader) (λ y. (1 ≤ y) × (y ≤ highest_number)) (λ x. leader_of x < n) (number_in 1 highest_number i) (number_fits highest_number i) (λ y k. leader_again leader y n h k))
 instance_fits n (r ∷ i ∷ w ∷ more) = tt
 
 place_fits : (n : ℕ) (ws : List (List ℕ)) → IfSome (place_of n ws) (λ p. (p.0 < n) × (leader_of p.1 < n))

@@ -3,9 +3,11 @@ use Rattle.std.specs.Prelude.{ℕ, ◌==◌, ◌&&◌, nat_le, nat_lt, Bool, fal
 use Rattle.std.specs.Str.{bytes_eq}
 use Rattle.std.specs.List.{slice_split}
 use Rattle.std.specs.Option.{option_map_or}
-use Rattle.ep_base.specs.Instances.{instance_of}
+use Rattle.ep_base.specs.Attributes.{same_list}
+use Rattle.ep_base.specs.Instances.{instance_of, highest_number}
+use Rattle.ep_base.specs.TwoKeys.{TwoKeys}
 use Rattle.ep_base.specs.declared.command.Command.{Command}
-use Rattle.ep_base.specs.declared.command.Command.TheVariants.{Get, Put, Del}
+use Rattle.ep_base.specs.declared.command.Command.TheVariants.{Get, Put, Del, Swap}
 use Rattle.ep_script.specs.Word.{bytes_of}
 use Rattle.ep_script.specs.Parts.{number_of}
 use Rattle.ep_script.specs.declared.agenda_line.AgendaLine.{AgendaLine}
@@ -50,7 +52,7 @@ replica_of n w = option_and_then (λ r. if nat_lt r n then Some r else None) (nu
 abbrev pub instance_parts : ℕ → List (List ℕ) → Option ℕ
 instance_parts n [] = None
 instance_parts n (r ∷ []) = None
-instance_parts n (r ∷ i ∷ []) = option_and_then (λ leader. option_map (instance_of leader) (number_in 1 1000 i)) (replica_of n r)
+instance_parts n (r ∷ i ∷ []) = option_and_then (λ leader. option_map (instance_of leader) (number_in 1 highest_number i)) (replica_of n r)
 instance_parts n (r ∷ i ∷ w ∷ more) = None
 
 -- `R.I`
@@ -90,12 +92,24 @@ put_of (k ∷ []) = None
 put_of (k ∷ v ∷ []) = option_and_then (λ key. option_map (λ value. Put key value) (value_word v)) (key_word k)
 put_of (k ∷ v ∷ w ∷ more) = None
 
+-- keys that differ
+abbrev pub pair_of : List ℕ → List ℕ → Option TwoKeys
+pair_of k l = if same_list k l then None else Some (record { first = k; second = l })
+
+-- `swap K K`
+abbrev pub swap_of : List (List ℕ) → Option Command
+swap_of [] = None
+swap_of (k ∷ []) = None
+swap_of (k ∷ l ∷ []) = option_and_then (λ first. option_and_then (λ second. option_map (λ keys. Swap keys) (pair_of first second)) (key_word l)) (key_word k)
+swap_of (k ∷ l ∷ w ∷ more) = None
+
 abbrev pub command_of : List (List ℕ) → Option Command
 command_of [] = None
 command_of (w ∷ ws) =
     if bytes_eq w (codes "get") then get_of ws
     else if bytes_eq w (codes "put") then put_of ws
     else if bytes_eq w (codes "del") then del_of ws
+    else if bytes_eq w (codes "swap") then swap_of ws
     else None
 
 -- `propose R C` and a command

@@ -2,15 +2,18 @@
 
 ghost use Rattle.std.specs.Prelude.{◌≡◌, ◌≤◌, IfOk, IfSome, map};
 ghost use Rattle.ep_base.specs.Quorums.{size as size_with};
-ghost use Rattle.ep_base.specs.Instances.{instance_of};
+ghost use Rattle.ep_base.specs.Instances.{instance_of, highest_number};
 ghost use Rattle.ep_script.specs.Parts.{words_of};
-ghost use Rattle.ep_script.specs.Grammar.{number_in as number_between, count_of, replica_of, instance_parts, parts_of, key_of, value_of, key_word, value_word, key_only, get_of, put_of, del_of, command_of, place_of};
+ghost use Rattle.ep_script.specs.Grammar.{number_in as number_between, count_of, replica_of, instance_parts, parts_of, key_of, value_of, key_word, value_word, key_only, get_of, put_of, del_of, pair_of, swap_of, command_of, place_of};
 
 use crate::numbers::{number, number_in};
 use crate::word::{read_word, spells_itself};
 use crate::words::{has_dot, is_word, next_word, split_dot};
-use ep_base::{Command, CommandFault, InstanceId, Key, ReplicaId, Size, Value};
+use ep_base::{Command, CommandFault, InstanceId, Key, KeyPair, ReplicaId, Size, Value};
 use std::alloc::{AllocError, Global};
+
+/// The highest number of an instance.
+const HIGHEST_NUMBER: u64 = 2000;
 
 /// A number from 1 to 4,294,967,295: a client, a message or a place.
 pub(crate) fn count(word: &[u8]) -> Option<u32>
@@ -44,16 +47,16 @@ fn made_replica(index: u8) -> ReplicaId
 }
 
 fn instance_number(word: &[u8]) -> Option<u16>
-    ensures value { result ≡ number_between 1 1000 word.now }
-    ensures in_range { IfSome result (λ i. (1 ≤ i) × (i ≤ 1000)) }
+    ensures value { result ≡ number_between 1 highest_number word.now }
+    ensures in_range { IfSome result (λ i. (1 ≤ i) × (i ≤ highest_number)) }
 {
-    let number = number_in(word, 1, 1000)?;
+    let number = number_in(word, 1, HIGHEST_NUMBER)?;
     Some(number as u16)
 }
 
 fn made_instance(leader: ReplicaId, number: u16) -> InstanceId
     requires low { 1 ≤ number }
-    requires high { number ≤ 1000 }
+    requires high { number ≤ highest_number }
     ensures { result ≡ instance_of leader number }
 {
     match InstanceId::new(leader, number) {
@@ -183,7 +186,45 @@ fn put(alloc: Global, words: &[u8]) -> Result<Option<Command>, AllocError>
     Ok(Some(Command::Put(key, value)))
 }
 
-/// A get, a put or a del.
+fn swap(alloc: Global, words: &[u8]) -> Result<Option<Command>, AllocError>
+    ensures { IfOk result (λ c. c ≡ swap_of (words_of words.now)) }
+{
+    let Some((first, after)) = next_word(words) else {
+        return Ok(None);
+    };
+    let Some((second, rest)) = next_word(after) else {
+        return Ok(None);
+    };
+    if next_word(rest).is_some() {
+        return Ok(None);
+    }
+    let Some(first) = read_key(alloc, first)? else {
+        return Ok(None);
+    };
+    let Some(second) = read_key(alloc, second)? else {
+        return Ok(None);
+    };
+    let Some(keys) = pair(alloc, &first, &second)? else {
+        return Ok(None);
+    };
+    Ok(Some(Command::Swap(keys)))
+}
+
+// Both keys; none where they are one.
+fn pair(alloc: Global, first: &Key, second: &Key) -> Result<Option<KeyPair>, AllocError>
+    ensures { IfOk result (λ p. p ≡ pair_of first.now second.now) }
+{
+    if first.is_same(second) {
+        return Ok(None);
+    }
+    match KeyPair::new(alloc, first.as_slice(), second.as_slice()) {
+        Ok(keys) => Ok(Some(keys)),
+        Err(CommandFault::OutOfRange) => unreachable!(),
+        Err(CommandFault::Memory) => Err(AllocError),
+    }
+}
+
+/// A get, a put, a del or a swap.
 pub(crate) fn read_command(alloc: Global, words: &[u8]) -> Result<Option<Command>, AllocError>
     ensures { IfOk result (λ c. c ≡ command_of (words_of words.now)) }
 {
@@ -198,6 +239,9 @@ pub(crate) fn read_command(alloc: Global, words: &[u8]) -> Result<Option<Command
     }
     if is_word(first, b"del") {
         return del(alloc, rest);
+    }
+    if is_word(first, b"swap") {
+        return swap(alloc, rest);
     }
     Ok(None)
 }

@@ -4,4 +4,14 @@
 #![tactic(auto)]
 
 #[cfg(test)]
+mod limits;
+#[cfg(test)]
+mod runs;
+#[cfg(test)]
 mod scripts;
+#[cfg(test)]
+mod swaps;
+#[cfg(test)]
+mod weather;
+#[cfg(test)]
+mod words;

@@ -26,7 +26,7 @@ zeros (n ∷ ns) h (suc r) = zeros ns h.1 r
 -- of none, nothing is said
 pub taken-none : (m : Map Record) (ns : List ℕ) → AllByRecursion (λ n. n ≡ 0) ns → AreTaken m ns
 taken-none m ns h = record {
-  bounded = λ r. subst (λ k. k ≤ 1000) (sym (zeros ns h r)) (omega arith);
+  bounded = λ r. subst (λ k. k ≤ 2000) (sym (zeros ns h r)) (omega arith);
   full = λ r n low. let none = zeros ns h r in absurd (omega (arith, low, none));
 }
 

@@ -11,15 +11,14 @@ use Rattle.std.specs.List.{AllByRecursion}
 use Rattle.std.specs.Ordering.{nat_cmp}
 use Rattle.std.proofs.lemmas.Bool.{and_parts, eq-eqb}
 use Rattle.ep_base.specs.Deps.{IsRising}
-use Rattle.ep_base.specs.Interference.{key_of, is_get}
+use Rattle.ep_base.specs.Interference.{keys_of, share_key, is_get}
 use Rattle.ep_base.specs.declared.command.Command.{Command}
 use Rattle.ep_base.specs.declared.vote.Vote.{Vote}
-use Rattle.ep_base.proofs.Keys.{same_key, interfere_by_key}
 use Rattle.ep_rules.specs.InterferenceSet.{touches, votes_against, those, greatest_seq, seq_of, instances, interference}
 use Rattle.ep_rules.specs.Maps.{Map, get, entries}
 use Rattle.ep_rules.specs.declared.record.Record.{Record}
 use Rattle.ep_space.specs.Gathering.{gather, gather_all, next_attrs}
-use Rattle.ep_space.specs.Keys.{voted_key, is_key, has_key, holders}
+use Rattle.ep_space.specs.Keys.{voted_keys, names_one, holders_of}
 use Rattle.ep_space.specs.declared.gathered.Gathered.{Gathered}
 use Rattle.ep_space.proofs.Holders.{found_on, sorted_true}
 
@@ -81,49 +80,35 @@ those_within t h (e ∷ es) w = go (t e) (h e) refl refl (those_within t h es w)
     go false true p q rest = ap (λ x. cond x (e ∷ those t (those h es)) (those t (those h es))) p ∙ rest
     go false false p q rest = rest
 
-those_none : (t : Entry → Bool) (es : List Entry) → ((e : Entry) → t e ≡ false) → those t es ≡ []
-those_none t [] h = refl
-those_none t (e ∷ es) h = ap (λ b. cond b (e ∷ those t es) (those t es)) (h e) ∙ those_none t es h
-
-key_is_same : (k : List ℕ) (o : Option (List ℕ)) → same_key (Some k) o ≡ is_key k o
-key_is_same k None = refl
-key_is_same k (Some l) = refl
-
 module _ (c : Command) (except : ℕ) where
-  touched_key : (k : List ℕ) → key_of c ≡ Some k → (e : Entry) → touches c except e ≡ true → has_key k e ≡ true
-  touched_key k is e h = go e.1.vote (and_parts (not (eqb e.0 except)) (votes_against c e.1.vote) h).1
+  touched_key : (e : Entry) → touches c except e ≡ true → names_one (keys_of c) e ≡ true
+  touched_key e h = go e.1.vote (and_parts (not (eqb e.0 except)) (votes_against c e.1.vote) h).1
     where
-      go : (v : Option Vote) → votes_against c v ≡ true → is_key k (voted_key v) ≡ true
+      go : (v : Option Vote) → votes_against c v ≡ true → share_key (keys_of c) (voted_keys v) ≡ true
       go None x = absurd (true≢false (sym x))
-      go (Some v) x =
-          let both : (same_key (key_of c) (key_of v.decree.command) && not (is_get c && is_get v.decree.command)) ≡ true = sym (interfere_by_key c v.decree.command) ∙ x in
-          sym (key_is_same k (key_of v.decree.command)) ∙ ap (λ o. same_key o (key_of v.decree.command)) (sym is)
-          ∙ (and_parts (same_key (key_of c) (key_of v.decree.command)) (not (is_get c && is_get v.decree.command)) both).0
+      go (Some v) x = (and_parts (share_key (keys_of c) (keys_of v.decree.command)) (not (is_get c && is_get v.decree.command)) x).0
 
-  and_false : (a b : Bool) → b ≡ false → (a && b) ≡ false
-  and_false true b e = e
-  and_false false b e = refl
-
-  untouched : key_of c ≡ None → (e : Entry) → touches c except e ≡ false
-  untouched is e = and_false (not (eqb e.0 except)) (votes_against c e.1.vote) (go e.1.vote)
-    where
-      go : (v : Option Vote) → votes_against c v ≡ false
-      go None = refl
-      go (Some v) = interfere_by_key c v.decree.command ∙ ap (λ o. same_key o (key_of v.decree.command) && not (is_get c && is_get v.decree.command)) is
-
-  pub gathered-none : (m : Map Record) → key_of c ≡ None → next_attrs (record { seq = 0; deps = [] }) ≡ interference m except c
-  gathered-none m is = ap (λ (es : List Entry). next_attrs (record { seq = greatest_seq es; deps = instances es })) (sym (those_none (touches c except) (entries m) (untouched is)))
-
-  pub gathered-run : (m : Map Record) (k : List ℕ) → key_of c ≡ Some k
-      → next_attrs (gather_all (touches c except) m (record { seq = 0; deps = [] }) (holders k m)) ≡ interference m except c
-  gathered-run m k is =
-      let found : AllByRecursion (λ e. get m e.0 ≡ Some e.1) (those (has_key k) (entries m)) =
-      all_those (λ e. get m e.0 ≡ Some e.1) (has_key k) (entries m)
+  pub gathered-run : (m : Map Record) → next_attrs (gather_all (touches c except) m (record { seq = 0; deps = [] }) (holders_of (keys_of c) m)) ≡ interference m except c
+  gathered-run m =
+      let some : Entry → Bool = names_one (keys_of c) in
+      let found : AllByRecursion (λ e. get m e.0 ≡ Some e.1) (those some (entries m)) =
+      all_those (λ e. get m e.0 ≡ Some e.1) some (entries m)
       (all_map {P = λ e. find nat_cmp e.0 (entries m) ≡ Some e.1} {Q = λ e. get m e.0 ≡ Some e.1} (entries m) (λ e at. map.get-entries m e.0 ∙ at) (all_found (entries m) (sorted_true m))) in
       let least : (n : ℕ) → max 0 n ≡ n = λ n. omega arith in
-      ap next_attrs (gathered_all (touches c except) m (those (has_key k) (entries m)) found (record { seq = 0; deps = [] }))
-      ∙ ap (λ (es : List Entry). next_attrs (record { seq = max 0 (greatest_seq es); deps = instances es })) (those_within (touches c except) (has_key k) (entries m) (touched_key k is))
+      ap next_attrs (gathered_all (touches c except) m (those some (entries m)) found (record { seq = 0; deps = [] }))
+      ∙ ap (λ (es : List Entry). next_attrs (record { seq = max 0 (greatest_seq es); deps = instances es })) (those_within (touches c except) some (entries m) touched_key)
       ∙ (λ d. next_attrs (record { seq = least (greatest_seq (those (touches c except) (entries m))) d; deps = instances (those (touches c except) (entries m)) }))
+
+  -- and so of those keys that are the command's
+  pub gathered-keys : (m : Map Record) (ks : List (List ℕ)) → keys_of c ≡ ks → next_attrs (gather_all (touches c except) m (record { seq = 0; deps = [] }) (holders_of ks m)) ≡ interference m except c
+  gathered-keys m ks is = ap (λ l. next_attrs (gather_all (touches c except) m (record { seq = 0; deps = [] }) (holders_of l m))) (sym is) ∙ gathered-run m
+
+  pub gathered-none : (m : Map Record) → keys_of c ≡ [] → next_attrs (record { seq = 0; deps = [] }) ≡ interference m except c
+  gathered-none m is = ap (λ xs. next_attrs (gather_all (touches c except) m (record { seq = 0; deps = [] }) xs)) (sym (nobody (entries m))) ∙ gathered-keys m [] is
+    where
+      nobody : (es : List Entry) → instances (those (names_one []) es) ≡ []
+      nobody [] = refl
+      nobody (e ∷ es) = nobody es
 
 -- Rising while it is gathered.
 

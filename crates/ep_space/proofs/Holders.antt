@@ -1,5 +1,5 @@
 -- The instances whose recorded command has a key.
-use Rattle.std.proofs.Common.{◌≡◌, ℕ, ◌<◌, Bool, true, false, cond, List, [], ◌∷◌, is_some, Option, Some, None, refl, sym, ap, subst, ◌∙◌, arith, true≢false, inl, inr, T}
+use Rattle.std.proofs.Common.{◌≡◌, ℕ, ◌<◌, Bool, true, false, cond, List, [], ◌∷◌, ◌||◌, ◌⊎◌, Option, Some, None, refl, sym, ap, subst, ◌∙◌, arith, true≢false, inl, inr, T}
 use Rattle.std.specs.Cmp.{unsigned_tied}
 use Rattle.std.specs.FinMap as map
 use Rattle.std.specs.FinMap.{find, is_sorted}
@@ -10,15 +10,18 @@ use Rattle.std.specs.declared.cmp.Ordering.TheVariants.{Less, Equal, Greater}
 use Rattle.std.proofs.lemmas.Bool.{and_parts, eq-eqb, eqb-true}
 use Rattle.std.proofs.lemmas.Cmp.{ranked}
 use Rattle.std.proofs.lemmas.Option.{none-some}
-use Rattle.ep_base.specs.Deps.{IsRising, IsBelowFirst, AreInstances}
+use Rattle.ep_base.specs.Deps.{IsRising, IsBelowFirst, AreInstances, union}
 use Rattle.ep_base.specs.Instances.{IsInstance}
+use Rattle.ep_base.specs.Interference.{has_key}
 use Rattle.ep_base.specs.Places.{Has}
-use Rattle.ep_base.proofs.Members.{same_members}
+use Rattle.ep_base.proofs.Keys.{or_false}
+use Rattle.ep_base.proofs.Members.{same_members, union-cases, Has-union}
+use Rattle.ep_base.proofs.Union.{IsRising-union}
 use Rattle.ep_base.proofs.Places.{Has-empty, Has-cons_cases, Has-head, Has-tail}
 use Rattle.ep_rules.specs.InterferenceSet.{those, instances}
 use Rattle.ep_rules.specs.Maps.{Map, none, get}
 use Rattle.ep_rules.specs.declared.record.Record.{Record}
-use Rattle.ep_space.specs.Keys.{voted_key, recorded_key, key_at, is_key, has_key, holders}
+use Rattle.ep_space.specs.Keys.{voted_keys, recorded_keys, keys_at, names_key, holders, names_one, holders_of}
 use Rattle.ep_space.proofs.Rising.{some_is, all_from}
 
 -- The instances of those entries of a map that pass a test.
@@ -114,40 +117,78 @@ pub sorted_true : (m : Map Record) → is_sorted nat_cmp (map.entries m) ≡ tru
 sorted_true m = true_from (is_sorted nat_cmp (map.entries m)) (map.entries_sorted m)
 
 pub rising-holders : (l : List ℕ) (m : Map Record) → IsRising (holders l m)
-rising-holders l m = rising_those (has_key l) (map.entries m) (sorted_true m)
+rising-holders l m = rising_those (names_key l) (map.entries m) (sorted_true m)
 
 -- Who holds a key.
 
-pub holds-key : (k : List ℕ) (m : Map Record) (i : ℕ) → Has (holders k m) i → is_key k (key_at m i) ≡ true
+pub holds-key : (k : List ℕ) (m : Map Record) (i : ℕ) → Has (holders k m) i → has_key k (keys_at m i) ≡ true
 holds-key k m i has =
-    let found = those-found (has_key k) (map.entries m) i (sorted_true m) has in
-    let own : key_at m i ≡ voted_key found.0.vote = ap recorded_key (map.get-entries m i ∙ found.1) in
-    ap (is_key k) own ∙ found.2
+    let found = those-found (names_key k) (map.entries m) i (sorted_true m) has in
+    let own : keys_at m i ≡ voted_keys found.0.vote = ap recorded_keys (map.get-entries m i ∙ found.1) in
+    ap (has_key k) own ∙ found.2
 
-pub key-holds : (k : List ℕ) (m : Map Record) (i : ℕ) → is_key k (key_at m i) ≡ true → Has (holders k m) i
+pub key-holds : (k : List ℕ) (m : Map Record) (i : ℕ) → has_key k (keys_at m i) ≡ true → Has (holders k m) i
 key-holds k m i h = go (get m i) refl h
   where
-    go : (o : Option Record) → get m i ≡ o → is_key k (recorded_key o) ≡ true → Has (holders k m) i
+    go : (o : Option Record) → get m i ≡ o → has_key k (recorded_keys o) ≡ true → Has (holders k m) i
     go None e h = absurd (true≢false (sym h))
-    go (Some r) e h = found-those (has_key k) (map.entries m) i r (sym (map.get-entries m i) ∙ e) h
-
-is_key-some : (k : List ℕ) (o : Option (List ℕ)) → is_key k o ≡ true → is_some o ≡ true
-is_key-some k None h = absurd (true≢false (sym h))
-is_key-some k (Some l) h = refl
+    go (Some r) e h = found-those (names_key k) (map.entries m) i r (sym (map.get-entries m i) ∙ e) h
 
 -- of no records, none
 pub holders-none : (k : List ℕ) → holders k none ≡ []
 holders-none k = same_members (holders k none) [] (rising-holders k none) tt (λ i has. absurd (nobody i (holds-key k none i has))) (λ i has. absurd (Has-empty i has))
   where
-    nobody : (i : ℕ) → is_key k (key_at none i) ≡ true → ⊥
-    nobody i h = true≢false (sym h ∙ ap (λ o. is_key k (recorded_key o)) (map.get-empty nat_cmp i))
+    nobody : (i : ℕ) → has_key k (keys_at none i) ≡ true → ⊥
+    nobody i h = true≢false (sym h ∙ ap (λ o. has_key k (recorded_keys o)) (map.get-empty nat_cmp i))
 
-pub instances-holders : (k : List ℕ) (m : Map Record) → ((i : ℕ) → is_some (key_at m i) ≡ true → IsInstance i) → AreInstances (holders k m)
-instances-holders k m known = all_from IsInstance (holders k m) (λ i has. known i (is_key-some k (key_at m i) (holds-key k m i has)))
+pub instances-holders : (k : List ℕ) (m : Map Record) → ((i : ℕ) → has_key k (keys_at m i) ≡ true → IsInstance i) → AreInstances (holders k m)
+instances-holders k m known = all_from IsInstance (holders k m) (λ i has. known i (holds-key k m i has))
 
 -- maps with the same keys have the same holders
-pub holders-same : (k : List ℕ) (m n : Map Record) → ((i : ℕ) → key_at m i ≡ key_at n i) → holders k m ≡ holders k n
+pub holders-same : (k : List ℕ) (m n : Map Record) → ((i : ℕ) → keys_at m i ≡ keys_at n i) → holders k m ≡ holders k n
 holders-same k m n same =
     same_members (holders k m) (holders k n) (rising-holders k m) (rising-holders k n)
-    (λ i has. key-holds k n i (sym (ap (is_key k) (same i)) ∙ holds-key k m i has))
-    (λ i has. key-holds k m i (ap (is_key k) (same i) ∙ holds-key k n i has))
+    (λ i has. key-holds k n i (sym (ap (has_key k) (same i)) ∙ holds-key k m i has))
+    (λ i has. key-holds k m i (ap (has_key k) (same i) ∙ holds-key k n i has))
+
+-- Who holds one of some keys.
+
+those-same : (t u : ℕ × Record → Bool) (es : List (ℕ × Record)) → ((e : ℕ × Record) → t e ≡ u e) → those t es ≡ those u es
+those-same t u [] h = refl
+those-same t u (e ∷ es) h = ap (λ b. cond b (e ∷ those t es) (those t es)) (h e) ∙ ap (λ (fs : List (ℕ × Record)). cond (u e) (e ∷ fs) fs) (those-same t u es h)
+
+pub holders-one : (k : List ℕ) (m : Map Record) → holders k m ≡ holders_of (k ∷ []) m
+holders-one k m = ap instances (those-same (names_key k) (names_one (k ∷ [])) (map.entries m) (λ e. sym (or_false (has_key k (voted_keys e.1.vote)))))
+
+either_key : (a b : Bool) → (a || (b || false)) ≡ true → (a ≡ true) ⊎ (b ≡ true)
+either_key true b e = inl refl
+either_key false true e = inr refl
+either_key false false e = absurd (true≢false (sym e))
+
+from_first : (a b : Bool) → a ≡ true → (a || (b || false)) ≡ true
+from_first true b e = refl
+from_first false b e = absurd (true≢false (sym e))
+
+from_second : (a b : Bool) → b ≡ true → (a || (b || false)) ≡ true
+from_second true b e = refl
+from_second false true e = refl
+from_second false false e = e
+
+pub rising-holders_of : (ks : List (List ℕ)) (m : Map Record) → IsRising (holders_of ks m)
+rising-holders_of ks m = rising_those (names_one ks) (map.entries m) (sorted_true m)
+
+pub holders-two : (k l : List ℕ) (m : Map Record) → union (holders k m) (holders l m) ≡ holders_of (k ∷ l ∷ []) m
+holders-two k l m =
+    same_members (union (holders k m) (holders l m)) (holders_of (k ∷ l ∷ []) m)
+    (IsRising-union (holders k m) (holders l m) (rising-holders k m) (rising-holders l m)) (rising_those (names_one (k ∷ l ∷ [])) (map.entries m) (sorted_true m))
+    (λ i has. elim (union-cases (holders k m) (holders l m) i has) [
+      | inl h ↦ (let f = those-found (names_key k) (map.entries m) i (sorted_true m) h in
+          found-those (names_one (k ∷ l ∷ [])) (map.entries m) i f.0 f.1 (from_first (has_key k (voted_keys f.0.vote)) (has_key l (voted_keys f.0.vote)) f.2))
+      | inr h ↦ (let f = those-found (names_key l) (map.entries m) i (sorted_true m) h in
+          found-those (names_one (k ∷ l ∷ [])) (map.entries m) i f.0 f.1 (from_second (has_key k (voted_keys f.0.vote)) (has_key l (voted_keys f.0.vote)) f.2))
+    ])
+    (λ i has. let f = those-found (names_one (k ∷ l ∷ [])) (map.entries m) i (sorted_true m) has in
+    Has-union (holders k m) (holders l m) i (elim (either_key (has_key k (voted_keys f.0.vote)) (has_key l (voted_keys f.0.vote)) f.2) [
+      | inl h ↦ inl (found-those (names_key k) (map.entries m) i f.0 f.1 h)
+      | inr h ↦ inr (found-those (names_key l) (map.entries m) i f.0 f.1 h)
+    ]))

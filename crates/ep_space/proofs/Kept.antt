@@ -1,5 +1,5 @@
 -- What a write keeps of the index.
-use Rattle.std.proofs.Common.{◌≡◌, ◌≢◌, ℕ, Bool, true, false, cond, ◌||◌, List, [], is_some, Option, Some, None, refl, sym, ap, subst, ◌∙◌, true≢false, ◌⊎◌, inl, inr, ◌==◌, Result, Ok, Err, OnOk, OnErr}
+use Rattle.std.proofs.Common.{◌≡◌, ◌≢◌, ℕ, Bool, true, false, cond, not, ◌&&◌, ◌||◌, List, [], Option, Some, None, refl, sym, ap, subst, ◌∙◌, true≢false, ◌⊎◌, inl, inr, ◌==◌, Result, Ok, Err, OnOk, OnErr}
 use Rattle.std.specs.Cmp.{nat_cmp_total, unsigned_tied}
 use Rattle.std.specs.FinMap as map
 use Rattle.std.specs.FinSet as set
@@ -8,16 +8,16 @@ use Rattle.std.specs.declared.alloc.AllocError.{AllocError}
 use Rattle.std.proofs.lemmas.Bool.{eq-eqb, eqb-true, ne_eqb}
 use Rattle.ep_base.specs.Deps.{IsRising}
 use Rattle.ep_base.specs.Instances.{IsInstance}
+use Rattle.ep_base.specs.Interference.{has_key}
 use Rattle.ep_base.specs.Places.{Has}
 use Rattle.ep_base.proofs.Members.{same_members}
-use Rattle.ep_base.proofs.Same.{Decides-same_list}
 use Rattle.ep_rules.specs.Cells.{record_or_fresh}
 use Rattle.ep_rules.specs.Maps.{Map, none, get}
 use Rattle.ep_rules.specs.States.{with_held}
 use Rattle.ep_rules.specs.declared.record.Record.{Record}
 use Rattle.ep_space.specs.Held.{Held, Places, HasPlace}
-use Rattle.ep_space.specs.Index.{Entry, run, with_instance, without, IsKept}
-use Rattle.ep_space.specs.Keys.{voted_key, recorded_key, key_at, is_key, holders}
+use Rattle.ep_space.specs.Index.{Entry, run, with_instance, without, brings, IsKept}
+use Rattle.ep_space.specs.Keys.{voted_keys, recorded_keys, keys_at, holders}
 use Rattle.ep_space.proofs.Holders.{rising-holders, holds-key, key-holds, holders-same, holders-none}
 use Rattle.ep_space.proofs.Rising.{with-cases, with-Has, rising-with, Has-without, without-Has, without-gone, rising-without}
 
@@ -45,57 +45,53 @@ get-own m i None = map.get-remove nat_cmp_total m i i ∙ ap (λ b. cond b None 
 get-own m i (Some r) = map.get-insert nat_cmp_total m i r i ∙ ap (λ b. cond b (Some r) (get m i)) (tied_itself i)
 
 -- a promise leaves the key
-pub key_promised : (i : ℕ) (o : Option Record) → voted_key (record_or_fresh i o).vote ≡ recorded_key o
-key_promised i None = refl
-key_promised i (Some r) = refl
-
-key_is : (k : List ℕ) (o : Option (List ℕ)) → is_key k o ≡ true → o ≡ Some k
-key_is k None h = absurd (true≢false (sym h))
-key_is k (Some l) h = ap Some (sym ((Decides-same_list k l).0 h))
+pub keys_promised : (i : ℕ) (o : Option Record) → voted_keys (record_or_fresh i o).vote ≡ recorded_keys o
+keys_promised i None = refl
+keys_promised i (Some r) = refl
 
 module _ (m : Map Record) (i : ℕ) (o : Option Record) where
   abbrev after : Map Record
   after = with_held m i o
 
-  key-other : (q : ℕ) → q ≢ i → key_at after q ≡ key_at m q
-  key-other q apart = ap recorded_key (get-other m i o q apart)
+  key-other : (q : ℕ) → q ≢ i → keys_at after q ≡ keys_at m q
+  key-other q apart = ap recorded_keys (get-other m i o q apart)
 
-  key-own : key_at after i ≡ recorded_key o
-  key-own = ap recorded_key (get-own m i o)
+  key-own : keys_at after i ≡ recorded_keys o
+  key-own = ap recorded_keys (get-own m i o)
 
   -- with a record of the same key, or with none where there was no key
 
-  pub key_kept : recorded_key o ≡ key_at m i → (q : ℕ) → key_at after q ≡ key_at m q
+  pub key_kept : recorded_keys o ≡ keys_at m i → (q : ℕ) → keys_at after q ≡ keys_at m q
   key_kept e q =
       elim (either_way q i) [
-        | inl same ↦ subst (λ p. key_at after p ≡ key_at m p) (sym same) (key-own ∙ e)
+        | inl same ↦ subst (λ p. keys_at after p ≡ keys_at m p) (sym same) (key-own ∙ e)
         | inr apart ↦ key-other q apart
       ]
 
-  pub kept-written : (places : Places) (es : List Entry) → recorded_key o ≡ key_at m i → IsKept (record { held = m; places = places }) es → IsKept (record { held = after; places = places }) es
+  pub kept-written : (places : Places) (es : List Entry) → recorded_keys o ≡ keys_at m i → IsKept (record { held = m; places = places }) es → IsKept (record { held = after; places = places }) es
   kept-written places es e r = record {
     runs = λ k. r.runs k ∙ sym (holders-same k after m (key_kept e));
-    within = λ q h. r.within q (ap is_some (sym (key_kept e q)) ∙ h);
+    within = λ k q h. r.within k q (ap (has_key k) (sym (key_kept e q)) ∙ h);
     instances = r.instances;
   }
 
   -- with another key
 
   stays : (k : List ℕ) (q : ℕ) → q ≢ i → Has (holders k after) q → Has (holders k m) q
-  stays k q apart has = key-holds k m q (sym (ap (is_key k) (key-other q apart)) ∙ holds-key k after q has)
+  stays k q apart has = key-holds k m q (sym (ap (has_key k) (key-other q apart)) ∙ holds-key k after q has)
 
   stood : (k : List ℕ) (q : ℕ) → q ≢ i → Has (holders k m) q → Has (holders k after) q
-  stood k q apart has = key-holds k after q (ap (is_key k) (key-other q apart) ∙ holds-key k m q has)
+  stood k q apart has = key-holds k after q (ap (has_key k) (key-other q apart) ∙ holds-key k m q has)
 
   -- i has the key, or it doesn't
-  has_new : (k : List ℕ) (q : ℕ) → q ≡ i → Has (holders k after) q → is_key k (recorded_key o) ≡ true
-  has_new k q same has = sym (ap (is_key k) key-own) ∙ holds-key k after i (subst (Has (holders k after)) same has)
+  has_new : (k : List ℕ) (q : ℕ) → q ≡ i → Has (holders k after) q → has_key k (recorded_keys o) ≡ true
+  has_new k q same has = sym (ap (has_key k) key-own) ∙ holds-key k after i (subst (Has (holders k after)) same has)
 
-  had_own : (k : List ℕ) (q : ℕ) → q ≡ i → Has (holders k m) q → is_key k (key_at m i) ≡ true
+  had_own : (k : List ℕ) (q : ℕ) → q ≡ i → Has (holders k m) q → has_key k (keys_at m i) ≡ true
   had_own k q same has = holds-key k m i (subst (Has (holders k m)) same has)
 
-  module _ (k : List ℕ) (new : is_key k (recorded_key o) ≡ false) where
-    lost : is_key k (key_at m i) ≡ true → holders k after ≡ without i (holders k m)
+  module _ (k : List ℕ) (new : has_key k (recorded_keys o) ≡ false) where
+    lost : has_key k (keys_at m i) ≡ true → holders k after ≡ without i (holders k m)
     lost own =
         same_members (holders k after) (without i (holders k m)) (rising-holders k after) (rising-without i (holders k m) (rising-holders k m))
         (λ q has. elim (either_way q i) [
@@ -104,7 +100,7 @@ module _ (m : Map Record) (i : ℕ) (o : Option Record) where
         ])
         (λ q has. stood k q (λ same. without-gone i (holders k m) (rising-holders k m) (subst (Has (without i (holders k m))) same has)) (Has-without i (holders k m) q has))
 
-    neither : is_key k (key_at m i) ≡ false → holders k after ≡ holders k m
+    neither : has_key k (keys_at m i) ≡ false → holders k after ≡ holders k m
     neither own =
         same_members (holders k after) (holders k m) (rising-holders k after) (rising-holders k m)
         (λ q has. elim (either_way q i) [
@@ -116,10 +112,10 @@ module _ (m : Map Record) (i : ℕ) (o : Option Record) where
           | inr apart ↦ stood k q apart has
         ])
 
-  not_held : (k : List ℕ) → is_key k (key_at m i) ≡ false → ¬ (Has (holders k m) i)
+  not_held : (k : List ℕ) → has_key k (keys_at m i) ≡ false → ¬ (Has (holders k m) i)
   not_held k own has = true≢false (sym (had_own k i refl has) ∙ own)
 
-  gained : (k : List ℕ) → is_key k (recorded_key o) ≡ true → is_key k (key_at m i) ≡ false → holders k after ≡ with_instance i (holders k m)
+  gained : (k : List ℕ) → has_key k (recorded_keys o) ≡ true → has_key k (keys_at m i) ≡ false → holders k after ≡ with_instance i (holders k m)
   gained k new own =
       same_members (holders k after) (with_instance i (holders k m)) (rising-holders k after) (rising-with i (holders k m) (rising-holders k m) (not_held k own))
       (λ q has. elim (either_way q i) [
@@ -127,58 +123,78 @@ module _ (m : Map Record) (i : ℕ) (o : Option Record) where
         | inr apart ↦ with-Has i (holders k m) q (inr (stays k q apart has))
       ])
       (λ q has. elim (with-cases i (holders k m) q has) [
-        | inl same ↦ subst (Has (holders k after)) same (key-holds k after i (ap (is_key k) key-own ∙ new))
+        | inl same ↦ subst (Has (holders k after)) same (key-holds k after i (ap (has_key k) key-own ∙ new))
         | inr t ↦ stood k q (λ same. not_held k own (subst (Has (holders k m)) same t)) t
       ])
 
-  module _ (other : recorded_key o ≢ key_at m i) where
-    not_both : (k : List ℕ) → is_key k (recorded_key o) ≡ true → is_key k (key_at m i) ≡ false
-    not_both k new = go (is_key k (key_at m i)) refl
+  -- i has it before and after
+  both : (k : List ℕ) → has_key k (recorded_keys o) ≡ true → has_key k (keys_at m i) ≡ true → holders k after ≡ holders k m
+  both k new own =
+      same_members (holders k after) (holders k m) (rising-holders k after) (rising-holders k m)
+      (λ q has. elim (either_way q i) [
+        | inl same ↦ subst (Has (holders k m)) (sym same) (key-holds k m i own)
+        | inr apart ↦ stays k q apart has
+      ])
+      (λ q has. elim (either_way q i) [
+        | inl same ↦ subst (Has (holders k after)) (sym same) (key-holds k after i (ap (has_key k) key-own ∙ new))
+        | inr apart ↦ stood k q apart has
+      ])
+
+  module _ (places : Places) (es : List Entry) (r : IsKept (record { held = m; places = places }) es) where
+    -- with i in the runs of the keys that it gets
+    abbrev pub Entered : List Entry → Type 0
+    Entered fs = (k : List ℕ) → run fs k ≡ cond (brings (keys_at m i) (recorded_keys o) k) (with_instance i (run es k)) (run es k)
+
+    entered : (fs : List Entry) → Entered fs → (k : List ℕ) → run fs k ≡ cond (brings (keys_at m i) (recorded_keys o) k) (with_instance i (holders k m)) (holders k m)
+    entered fs e k = e k ∙ (λ d. cond (brings (keys_at m i) (recorded_keys o) k) (with_instance i (r.runs k d)) (r.runs k d))
+
+    pub rising-entered : (fs : List Entry) → Entered fs → (k : List ℕ) → IsRising (run fs k)
+    rising-entered fs e k = subst IsRising (sym (entered fs e k)) (go (has_key k (recorded_keys o)) (has_key k (keys_at m i)) refl)
       where
-        go : (b : Bool) → is_key k (key_at m i) ≡ b → b ≡ false
-        go true own = absurd (other (key_is k (recorded_key o) new ∙ sym (key_is k (key_at m i) own)))
-        go false own = refl
+        go : (b a : Bool) → has_key k (keys_at m i) ≡ a → IsRising (cond (b && not a) (with_instance i (holders k m)) (holders k m))
+        go true true own = rising-holders k m
+        go true false own = rising-with i (holders k m) (rising-holders k m) (not_held k own)
+        go false a own = rising-holders k m
 
-    module _ (places : Places) (es : List Entry) (r : IsKept (record { held = m; places = places }) es) where
-      -- with i in the run of its new key
-      abbrev pub Entered : List Entry → Type 0
-      Entered fs = (k : List ℕ) → run fs k ≡ cond (is_key k (recorded_key o)) (with_instance i (run es k)) (run es k)
+    -- i is still in those of its old ones
+    pub Has-entered : (fs : List Entry) → Entered fs → (k : List ℕ) → has_key k (keys_at m i) ≡ true → Has (run fs k) i
+    Has-entered fs e k own = subst (λ xs. Has xs i) (sym (entered fs e k)) (go (brings (keys_at m i) (recorded_keys o) k))
+      where
+        go : (b : Bool) → Has (cond b (with_instance i (holders k m)) (holders k m)) i
+        go true = with-Has i (holders k m) i (inl refl)
+        go false = key-holds k m i own
 
-      entered : (fs : List Entry) → Entered fs → (k : List ℕ) → run fs k ≡ cond (is_key k (recorded_key o)) (with_instance i (holders k m)) (holders k m)
-      entered fs e k = e k ∙ (λ d. cond (is_key k (recorded_key o)) (with_instance i (r.runs k d)) (r.runs k d))
+    pub kept-changed : (fs gs : List Entry) → HasPlace places i → Entered fs → ((k : List ℕ) → run gs k ≡ cond (brings (recorded_keys o) (keys_at m i) k) (without i (run fs k)) (run fs k))
+        → IsKept (record { held = after; places = places }) gs
+    kept-changed fs gs place e left = record {
+      runs = λ k. left k ∙ (λ d. cond (brings (recorded_keys o) (keys_at m i) k) (without i (entered fs e k d)) (entered fs e k d)) ∙ sym (changed k (has_key k (keys_at m i)) refl (has_key k (recorded_keys o)) refl);
+      within = λ k q h. elim (either_way q i) [
+        | inl same ↦ subst (HasPlace places) (sym same) place
+        | inr apart ↦ r.within k q (ap (has_key k) (sym (key-other q apart)) ∙ h)
+      ];
+      instances = r.instances;
+    }
+      where
+        changed : (k : List ℕ) (a : Bool) → has_key k (keys_at m i) ≡ a → (b : Bool) → has_key k (recorded_keys o) ≡ b
+            → holders k after ≡ cond (a && not b) (without i (cond (b && not a) (with_instance i (holders k m)) (holders k m))) (cond (b && not a) (with_instance i (holders k m)) (holders k m))
+        changed k true own true new = both k new own
+        changed k true own false new = lost k new own
+        changed k false own true new = gained k new own
+        changed k false own false new = neither k new own
 
-      pub rising-entered : (fs : List Entry) → Entered fs → (k : List ℕ) → IsRising (run fs k)
-      rising-entered fs e k = subst IsRising (sym (entered fs e k)) (go (is_key k (recorded_key o)) refl)
-        where
-          go : (b : Bool) → is_key k (recorded_key o) ≡ b → IsRising (cond b (with_instance i (holders k m)) (holders k m))
-          go true new = rising-with i (holders k m) (rising-holders k m) (not_held k (not_both k new))
-          go false new = rising-holders k m
+-- a run without i takes i and gives it back
+pub without-with : (i : ℕ) (xs : List ℕ) → IsRising xs → ¬ (Has xs i) → without i (with_instance i xs) ≡ xs
+without-with i xs rising none =
+    same_members (without i (with_instance i xs)) xs (rising-without i (with_instance i xs) (rising-with i xs rising none)) rising
+    (λ q has. elim (with-cases i xs q (Has-without i (with_instance i xs) q has)) [
+      | inl same ↦ absurd (without-gone i (with_instance i xs) (rising-with i xs rising none) (subst (Has (without i (with_instance i xs))) (sym same) has))
+      | inr t ↦ t
+    ])
+    (λ q has. without-Has i (with_instance i xs) q (with-Has i xs q (inr has)) (λ same. none (subst (Has xs) same has)))
 
-      -- i is still in that of its old one
-      pub Has-entered : (fs : List Entry) → Entered fs → (k : List ℕ) → is_key k (key_at m i) ≡ true → Has (run fs k) i
-      Has-entered fs e k own = subst (λ xs. Has xs i) (sym (entered fs e k)) (go (is_key k (recorded_key o)))
-        where
-          go : (b : Bool) → Has (cond b (with_instance i (holders k m)) (holders k m)) i
-          go true = with-Has i (holders k m) i (inl refl)
-          go false = key-holds k m i own
-
-      pub kept-changed : (fs gs : List Entry) → HasPlace places i → Entered fs → ((k : List ℕ) → run gs k ≡ cond (is_key k (key_at m i)) (without i (run fs k)) (run fs k))
-          → IsKept (record { held = after; places = places }) gs
-      kept-changed fs gs place e left = record {
-        runs = λ k. left k ∙ (λ d. cond (is_key k (key_at m i)) (without i (entered fs e k d)) (entered fs e k d)) ∙ sym (changed k (is_key k (key_at m i)) refl (is_key k (recorded_key o)) refl);
-        within = λ q h. elim (either_way q i) [
-          | inl same ↦ subst (HasPlace places) (sym same) place
-          | inr apart ↦ r.within q (ap is_some (sym (key-other q apart)) ∙ h)
-        ];
-        instances = r.instances;
-      }
-        where
-          changed : (k : List ℕ) (a : Bool) → is_key k (key_at m i) ≡ a → (b : Bool) → is_key k (recorded_key o) ≡ b
-              → holders k after ≡ cond a (without i (cond b (with_instance i (holders k m)) (holders k m))) (cond b (with_instance i (holders k m)) (holders k m))
-          changed k true own true new = absurd (true≢false (sym own ∙ not_both k new))
-          changed k true own false new = lost k new own
-          changed k false own true new = gained k new own
-          changed k false own false new = neither k new own
+-- an instance without a key isn't in its run
+pub not_in_run : (t : Held Record) (es : List Entry) → IsKept t es → (k : List ℕ) (i : ℕ) → has_key k (keys_at t.held i) ≡ false → ¬ (Has (run es k) i)
+not_in_run t es r k i none has = true≢false (sym (holds-key k t.held i (subst (λ xs. Has xs i) (r.runs k) has)) ∙ none)
 
 pub rising-runs : (t : Held Record) (es : List Entry) → IsKept t es → (k : List ℕ) → IsRising (run es k)
 rising-runs t es r k = subst IsRising (sym (r.runs k)) (rising-holders k t.held)
@@ -188,7 +204,7 @@ rising-runs t es r k = subst IsRising (sym (r.runs k)) (rising-holders k t.held)
 pub kept-new : IsKept (record { held = none; places = set.empty }) []
 kept-new = record {
   runs = λ k. sym (holders-none k);
-  within = λ i h. absurd (true≢false (sym h ∙ ap (λ o. is_some (recorded_key o)) (map.get-empty nat_cmp i)));
+  within = λ k i h. absurd (true≢false (sym h ∙ ap (λ o. has_key k (recorded_keys o)) (map.get-empty nat_cmp i)));
   instances = λ i has. absurd (true≢false (sym has ∙ set.contains-empty nat_cmp i));
 }
 
@@ -203,7 +219,7 @@ place_more s i q has = set.contains-insert nat_cmp_total s i q ∙ go (eq_by_cmp
 kept-reserved : (t : Held Record) (es : List Entry) (i : ℕ) → IsKept t es → IsInstance i → IsKept (record { held = t.held; places = set.insert t.places i }) es
 kept-reserved t es i k known = record {
   runs = k.runs;
-  within = λ q h. place_more t.places i q (k.within q h);
+  within = λ l q h. place_more t.places i q (k.within l q h);
   instances = λ q has. go q (eq_by_cmp nat_cmp q i) refl (sym (set.contains-insert nat_cmp_total t.places i q) ∙ has);
 }
   where

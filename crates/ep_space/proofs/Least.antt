@@ -1,10 +1,15 @@
 -- The least number that passes, and the least one that is free.
-use Rattle.std.proofs.Common.{◌≡◌, ℕ, suc, zero, ◌<◌, ◌≤◌, ◌⊎◌, Bool, true, false, Some, None, ap, ◌∙◌, arith, inl, inr, subst, refl}
+use Rattle.std.proofs.Common.{◌≡◌, ℕ, suc, zero, ◌<◌, ◌≤◌, ◌⊎◌, Bool, true, false, ltb, Some, None, sym, ap, ◌∙◌, arith, inl, inr, subst, refl, true≢false}
 use Rattle.ep_base.specs.Instances.{highest_number}
+use Rattle.ep_base.specs.Versions.{highest_in}
+use Rattle.ep_base.specs.declared.version.Version.{Version}
+use Rattle.ep_base.specs.declared.version.Version.TheVariants.{V1, V2}
 use Rattle.ep_rules.specs.Counting.{least, or_this}
 use Rattle.ep_rules.specs.Maps.{Map}
 use Rattle.ep_rules.specs.States.{is_free, free_number}
 use Rattle.ep_rules.specs.declared.record.Record.{Record}
+use Rattle.ep_rules.proofs.Counting.{least_some, least_none as none_passes}
+use Rattle.std.proofs.lemmas.Bool.{ltb-true, ltb-false}
 
 below_or_at : (k n : ℕ) → k < suc n → (k < n) ⊎ (k ≡ n)
 below_or_at k n h = grind arith
@@ -18,17 +23,27 @@ least_first p k (suc n) e t h =
       | inr is ↦ subst (λ m. least (suc m) p ≡ Some k) is (ap (or_this k (p k)) e ∙ ap (λ b. or_this k b None) t)
     ]
 
-pub free_first : (m : Map Record) (r k : ℕ) → least k (is_free m r) ≡ None → is_free m r k ≡ true → k < 1000 → free_number m r ≡ Some k
+pub free_first : (m : Map Record) (r k n : ℕ) → least k (is_free m r) ≡ None → is_free m r k ≡ true → k < n → n ≤ 2000 → free_number m r ≡ Some k
 unfolding free_number
-free_first m r k e t h = least_first (is_free m r) k highest_number e t h
+free_first m r k n e t h most = least_first (is_free m r) k highest_number e t (omega (arith, h, most))
 
-pub free_none : (m : Map Record) (r k : ℕ) → least k (is_free m r) ≡ None → 1000 ≤ k → k ≤ 1000 → free_number m r ≡ None
+-- the least one that passes isn't below a number below which none does
+least_past : (p : ℕ → Bool) (k n i : ℕ) → least k p ≡ None → least n p ≡ Some i → k ≤ i
+least_past p k n i e is = go (ltb i k) refl
+  where
+    go : (b : Bool) → ltb i k ≡ b → k ≤ i
+    go true low = absurd (true≢false (sym (least_some n p i is).1 ∙ none_passes k p e i (ltb-true i k low)))
+    go false high = ltb-false i k high
+
+pub free_past : (m : Map Record) (r k n i : ℕ) → least k (is_free m r) ≡ None → n ≤ k → free_number m r ≡ Some i → n ≤ i
 unfolding free_number
-free_none m r k e h j =
-    let all : highest_number ≡ k = omega arith in
-    ap (λ n. least n (is_free m r)) all ∙ e
+free_past m r k n i e h is = let past = least_past (is_free m r) k highest_number i e is in omega (arith, past, h)
 
 -- where none below passes, there is none
 pub least_none : (p : ℕ → Bool) (k : ℕ) → ((n : ℕ) → n < k → p n ≡ false) → least k p ≡ None
 least_none p zero h = refl
 least_none p (suc k) h = ap (or_this k (p k)) (least_none p k (λ n low. h n (omega (arith, low)))) ∙ ap (λ b. or_this k b None) (h k (omega arith))
+
+pub highest_low : (v : Version) → highest_in v ≤ 2000
+highest_low V1 = omega arith
+highest_low V2 = omega arith

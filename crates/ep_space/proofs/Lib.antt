@@ -4,7 +4,9 @@ pub mod Spots
 pub mod Rising
 pub mod Holders
 pub mod Entered
+pub mod Bringing
 pub mod Kept
+pub mod Undone
 pub mod Gathering
 pub mod FirstTaken
 pub mod Least

@@ -3,6 +3,8 @@ use Rattle.std.specs.Prelude.{ℕ, refl, Option}
 use Rattle.std.specs.Coded.{Coded, code_by, coded×, coded_ℕ}
 use Rattle.std.specs.FinMap as map
 use Rattle.std.specs.FinSet as set
+use Rattle.ep_base.specs.contracts.version.Version as version_facts
+use Rattle.ep_base.specs.declared.version.Version.{Version}
 use Rattle.ep_rules.specs.Cells.{record_or_fresh}
 use Rattle.ep_rules.specs.Maps.{Map, get, insert}
 use Rattle.ep_rules.specs.States.{with_held}
@@ -13,13 +15,14 @@ use Rattle.ep_space.specs.Held.{Places}
 pub record Records : Type 0 where
   -- how many replicas may fail
   pub faults : ℕ
+  pub version : Version
   pub records : Map Record
   pub places : Places
 
 abbrev pub records_code : Coded Records
 records_code =
-    code_by (ℕ × (Map Record × Places)) (coded× coded_ℕ (coded× (map.code coded_ℕ record_facts.the_row.coded) (set.code coded_ℕ)))
-    (λ s. (s.faults, (s.records, s.places))) (λ p. record { faults = p.0; records = p.1.0; places = p.1.1 }) (λ _. refl)
+    code_by (ℕ × (Version × (Map Record × Places))) (coded× coded_ℕ (coded× version_facts.the_row.coded (coded× (map.code coded_ℕ record_facts.the_row.coded) (set.code coded_ℕ))))
+    (λ s. (s.faults, (s.version, (s.records, s.places)))) (λ p. record { faults = p.0; version = p.1.0; records = p.1.1.0; places = p.1.1.1 }) (λ _. refl)
 
 -- what is recorded of i
 abbrev pub record_at : Records → ℕ → Record

@@ -9,10 +9,10 @@ ghost use Rattle.ep_rules.specs.Maps.{none, get, insert};
 ghost use Rattle.ep_rules.specs.States.{with_held, is_free};
 ghost use Rattle.ep_space.specs.Held.{HasPlace};
 ghost use Rattle.ep_space.specs.Index.{IsKept};
-ghost use Rattle.ep_space.specs.Keys.{recorded_key, key_at, holders, NeedsNoRoom};
+ghost use Rattle.ep_space.specs.Keys.{recorded_keys, keys_at, holders, NeedsNoRoom};
 
-use crate::index::{Index, enter, keeps_key, leave, run_of};
-use crate::place::{instance_of, place_of};
+use crate::index::{Index, enter, leave, run_of};
+use crate::place::instance_of;
 use crate::table::Table;
 use crate::taken::note;
 use ep_base::{Ballot, InstanceId, ReplicaId, Vote};
@@ -86,7 +86,7 @@ impl Keyed {
         ensures old { IfOk result (λ there. there ≡ get self.old.held id) }
         ensures new { OnOk result (self.new ≡ record { held = with_held self.old.held id value; places = self.old.places }) }
         ensures err { OnErr result (self.new ≡ self.old) }
-        ensures succeeds { NeedsNoRoom (key_at self.old.held id) (recorded_key value) → IsOk result }
+        ensures succeeds { NeedsNoRoom (keys_at self.old.held id) (recorded_keys value) → IsOk result }
     {
         let earlier = exchange(&mut self.table, &mut self.index, id, value)?;
         note(&mut self.taken, &self.table, id);
@@ -98,7 +98,7 @@ impl Keyed {
         requires { HasPlace self.old.places id }
         ensures ok { OnOk result (self.new ≡ record { held = with_held self.old.held id value; places = self.old.places }) }
         ensures err { OnErr result (self.new ≡ self.old) }
-        ensures succeeds { NeedsNoRoom (key_at self.old.held id) (recorded_key value) → IsOk result }
+        ensures succeeds { NeedsNoRoom (keys_at self.old.held id) (recorded_keys value) → IsOk result }
     {
         let _ = self.put_back(id, value)?;
         Ok(())
@@ -123,7 +123,7 @@ impl Keyed {
 
     /// A number of the replica's first instances that all have a record.
     pub fn taken_by(&self, replica: ReplicaId) -> u16
-        ensures bounded { result ≤ 1000 }
+        ensures bounded { result ≤ 2000 }
         ensures full { (n : ℕ) → n < result → is_free self.now.held replica n ≡ false }
     {
         self.taken[usize::from(replica.index())]
@@ -154,15 +154,11 @@ fn exchange(
     ensures old { IfOk result (λ there. there ≡ get table.old.held id) }
     ensures new { OnOk result (table.new ≡ record { held = with_held table.old.held id value; places = table.old.places }) }
     ensures err { OnErr result (table.new ≡ table.old) }
-    ensures succeeds { NeedsNoRoom (key_at table.old.held id) (recorded_key value) → IsOk result }
+    ensures succeeds { NeedsNoRoom (keys_at table.old.held id) (recorded_keys value) → IsOk result }
     ensures kept { IsKept table.new index.new.entries }
 {
-    if keeps_key(table, id, &value) {
-        return Ok(table.put_back(id, value));
-    }
-    let place = place_of(id);
-    enter(index, place, &value)?;
-    leave(table, index, id, place);
+    enter(table, index, id, &value)?;
+    leave(table, index, id, &value);
     Ok(table.put_back(id, value))
 }
 

@@ -1,9 +1,11 @@
 //! The records of a replica.
 
-ghost use Rattle.std.specs.Prelude.{◌≡◌, ◌≤◌, ◌<◌, ◌-◌, true, Ok, Err, Some, None, IsOk, IfOk, IsErr, OnOk, OnErr, if◌then◌else◌};
+ghost use Rattle.std.specs.Prelude.{ℕ, ◌≡◌, ◌≤◌, ◌<◌, ◌-◌, true, Ok, Err, Some, None, IsOk, IfOk, IsErr, OnOk, OnErr, if◌then◌else◌};
 ghost use Rattle.std.specs.Option.{option_copied};
 ghost use Rattle.std.specs.FinSet as set;
-ghost use Rattle.ep_base.specs.Interference.{key_of};
+ghost use Rattle.ep_base.specs.Interference.{keys_of};
+ghost use Rattle.ep_base.specs.Instances.{highest_number};
+ghost use Rattle.ep_base.specs.Versions.{highest_in};
 ghost use Rattle.ep_rules.specs.Cells.{is_committed, is_done_at, is_settled_at, voted, voted_ballot};
 ghost use Rattle.ep_rules.specs.InterferenceSet.{interference};
 ghost use Rattle.ep_rules.specs.Maps.{none, get};
@@ -11,14 +13,16 @@ ghost use Rattle.ep_rules.specs.Phases.{with_commit};
 ghost use Rattle.ep_rules.specs.States.{is_free, free_number, committed_in};
 ghost use Rattle.ep_space.specs.Gathering.{next_attrs};
 ghost use Rattle.ep_space.specs.Held.{HasPlace};
-ghost use Rattle.ep_space.specs.Keys.{recorded_key, key_at, holders, NeedsNoRoom};
+ghost use Rattle.ep_space.specs.Keys.{recorded_keys, keys_at, holders, NeedsNoRoom};
 ghost use Rattle.ep_space.specs.Records.{record_at, with_record, with_earlier};
 
 use crate::gathered::{Gathered, gathered_from};
 use crate::interference_fault::InterferenceFault;
 use crate::keyed::Keyed;
 use crate::space_full::SpaceFull;
-use ep_base::{Attrs, Ballot, Command, Decree, InstanceId, ReplicaId, Seq, Size, Status, Vote};
+use ep_base::{
+    Attrs, Ballot, Command, Decree, InstanceId, ReplicaId, Seq, Size, Status, Version, Vote,
+};
 use ep_rules::Record;
 use std::alloc::{AllocError, Global};
 use std::marker::Model;
@@ -29,6 +33,7 @@ use std::marker::Model;
 #[derive(Drop)]
 pub struct Space {
     size: Size,
+    version: Version,
     table: Keyed,
 }
 
@@ -39,16 +44,17 @@ impl Model for Space {
 
     ghost coded = { records_code };
 
-    ghost view = { λ s. record { faults = s.size; records = s.table.held; places = s.table.places } };
+    ghost view = { λ s. record { faults = s.size; version = s.version; records = s.table.held; places = s.table.places } };
 }
 
 impl Space {
-    /// No records, of a cluster of this size.
-    pub fn new(alloc: Global, size: Size) -> Space
-        ensures { result ≡ record { faults = size; records = none; places = set.empty } }
+    /// No records, of a cluster of this size, at a replica of this version.
+    pub fn new(alloc: Global, size: Size, version: Version) -> Space
+        ensures { result ≡ record { faults = size; version = version; records = none; places = set.empty } }
     {
         Space {
             size,
+            version,
             table: Keyed::new(alloc),
         }
     }
@@ -58,6 +64,13 @@ impl Space {
         ensures { result ≡ self.now.faults }
     {
         self.size
+    }
+
+    /// The version, which says how many instances a replica leads.
+    pub fn version(&self) -> Version
+        ensures { result ≡ self.now.version }
+    {
+        self.version
     }
 
     /// The record of the instance, if there is one.
@@ -79,7 +92,7 @@ impl Space {
 
     /// Makes a place for the instance's record, if it has none. It counts as no record.
     pub fn reserve(&mut self, id: InstanceId) -> Result<(), AllocError>
-        ensures ok { OnOk result (self.new ≡ record { faults = self.old.faults; records = self.old.records; places = set.insert self.old.places id }) }
+        ensures ok { OnOk result (self.new ≡ record { faults = self.old.faults; version = self.old.version; records = self.old.records; places = set.insert self.old.places id }) }
         ensures place { OnOk result (HasPlace self.new.places id) }
         ensures err { OnErr result (self.new ≡ self.old) }
     {
@@ -97,7 +110,7 @@ impl Space {
         ensures old { IfOk result (λ there. there ≡ get self.old.records id) }
         ensures new { OnOk result (self.new ≡ with_earlier self.old id earlier) }
         ensures err { OnErr result (self.new ≡ self.old) }
-        ensures succeeds { NeedsNoRoom (key_at self.old.records id) (recorded_key earlier) → IsOk result }
+        ensures succeeds { NeedsNoRoom (keys_at self.old.records id) (recorded_keys earlier) → IsOk result }
     {
         self.table.put_back(id, earlier)
     }
@@ -202,7 +215,7 @@ impl Space {
         requires { HasPlace self.old.places id }
         ensures ok { OnOk result (self.new ≡ with_record self.old id (voted ballot Status.PreAccepted decree)) }
         ensures err { OnErr result (self.new ≡ self.old) }
-        ensures succeeds { NeedsNoRoom (key_at self.old.records id) (key_of decree.command) → IsOk result }
+        ensures succeeds { NeedsNoRoom (keys_at self.old.records id) (keys_of decree.command) → IsOk result }
     {
         self.write_vote(id, ballot, Status::PreAccepted, decree)
     }
@@ -217,7 +230,7 @@ impl Space {
         requires { HasPlace self.old.places id }
         ensures ok { OnOk result (self.new ≡ with_record self.old id (voted ballot Status.Accepted decree)) }
         ensures err { OnErr result (self.new ≡ self.old) }
-        ensures succeeds { NeedsNoRoom (key_at self.old.records id) (key_of decree.command) → IsOk result }
+        ensures succeeds { NeedsNoRoom (keys_at self.old.records id) (keys_of decree.command) → IsOk result }
     {
         self.write_vote(id, ballot, Status::Accepted, decree)
     }
@@ -227,7 +240,7 @@ impl Space {
         requires { HasPlace self.old.places id }
         ensures ok { OnOk result (self.new ≡ with_record self.old id (with_commit id (record_at self.old id) decree)) }
         ensures err { OnErr result (self.new ≡ self.old) }
-        ensures succeeds { NeedsNoRoom (key_at self.old.records id) (key_of decree.command) → IsOk result }
+        ensures succeeds { NeedsNoRoom (keys_at self.old.records id) (keys_of decree.command) → IsOk result }
     {
         let promised = self.promised(id);
         let ballot = self.voted_ballot(id);
@@ -255,7 +268,7 @@ impl Space {
         requires { HasPlace self.old.places id }
         ensures ok { OnOk result (self.new ≡ with_record self.old id (voted ballot status decree)) }
         ensures err { OnErr result (self.new ≡ self.old) }
-        ensures succeeds { NeedsNoRoom (key_at self.old.records id) (key_of decree.command) → IsOk result }
+        ensures succeeds { NeedsNoRoom (keys_at self.old.records id) (keys_of decree.command) → IsOk result }
     {
         let promised = ballot;
         let vote = Vote {
@@ -274,14 +287,15 @@ impl Space {
 
     // What is free, and what interferes.
 
-    /// The least number from 1 to 1,000 of an instance that the replica leads and of which nothing is recorded;
-    /// `SpaceFull` where there is none.
+    /// The least number of an instance that the replica leads and of which nothing is recorded; `SpaceFull` where there is none
+    /// up to the highest number of the version.
     pub fn free_number(&self, replica: ReplicaId) -> Result<u16, SpaceFull>
-        ensures free { IfOk result (λ n. (1 ≤ n) × (n ≤ 1000) × (free_number self.now.records replica ≡ Some (n - 1))) }
-        ensures full { IsErr result → free_number self.now.records replica ≡ None }
+        ensures free { IfOk result (λ n. (1 ≤ n) × (n ≤ highest_in self.now.version) × (free_number self.now.records replica ≡ Some (n - 1))) }
+        ensures number { IfOk result (λ n. n ≤ highest_number) }
+        ensures full { IsErr result → (n : ℕ) → free_number self.now.records replica ≡ Some n → highest_in self.now.version ≤ n }
     {
         let taken = self.table.taken_by(replica);
-        for place in taken..1000 {
+        for place in taken..self.version.highest_number() {
             if self.is_free(replica, place) {
                 return Ok(place + 1);
             }
@@ -290,7 +304,7 @@ impl Space {
     }
 
     fn is_free(&self, replica: ReplicaId, place: u16) -> bool
-        requires { place < 1000 }
+        requires { place < 2000 }
         ensures { result ≡ is_free self.now.records replica place }
     {
         let id = InstanceId::new(replica, place + 1).unwrap();

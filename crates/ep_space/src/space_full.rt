@@ -2,7 +2,7 @@
 
 use thiserror::Error;
 
-/// The replica has a record of each of a leader's 1,000 instances.
+/// The replica has a record of each of the instances that a leader has in the version.
 #[derive(Clone, Copy, Debug, PartialEq, Eq, Error)]
 #[error("space full")]
 pub struct SpaceFull;

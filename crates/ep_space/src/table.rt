@@ -96,7 +96,7 @@ impl<V: Drop> Table<V> {
 /// Where the list of spots tells of the instance.
 fn slot_of(id: InstanceId) -> usize
     ensures value { result ≡ slot id }
-    ensures small { result < 8008 }
+    ensures small { result < 16008 }
     ensures in_range { IsInstance id }
 {
     usize::from(id.number()) * 8 + usize::from(id.replica().index())
@@ -142,7 +142,7 @@ fn add_place<V: Drop>(
 
 /// Makes the list long enough to have this slot, by zeros.
 fn widen(spots: &mut Vec<usize>, slot: usize) -> Result<(), AllocError>
-    requires { slot < 8008 }
+    requires { slot < 16008 }
     ensures slot { OnOk result (slot < length spots.new.items) }
     ensures same { (k : ℕ) → slice_index_or spots.new.items k 0 ≡ slice_index_or spots.old.items k 0 }
 {

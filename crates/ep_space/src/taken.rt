@@ -25,13 +25,13 @@ pub(crate) fn note(taken: &mut [u16; 7], table: &Table<Record>, id: InstanceId)
 
 // A number as great or greater of first instances that all have a record.
 fn advanced(table: &Table<Record>, leader: ReplicaId, known: u16) -> u16
-    requires bounded { known ≤ 1000 }
+    requires bounded { known ≤ 2000 }
     requires full { (n : ℕ) → n < known → is_free table.now.held leader n ≡ false }
-    ensures bounded { result ≤ 1000 }
+    ensures bounded { result ≤ 2000 }
     ensures full { (n : ℕ) → n < result → is_free table.now.held leader n ≡ false }
 {
     let mut taken = known;
-    while taken < 1000 && has_record(table, leader, taken) {
+    while taken < 2000 && has_record(table, leader, taken) {
         taken += 1;
     }
     taken
@@ -39,7 +39,7 @@ fn advanced(table: &Table<Record>, leader: ReplicaId, known: u16) -> u16
 
 // Whether the instance of the leader that this many come before has a record.
 fn has_record(table: &Table<Record>, leader: ReplicaId, place: u16) -> bool
-    requires { place < 1000 }
+    requires { place < 2000 }
     ensures { result ≡ is_some (get table.now.held (instance_of leader (place + 1))) }
 {
     let id = InstanceId::new(leader, place + 1).unwrap();

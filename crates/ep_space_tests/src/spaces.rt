@@ -5,7 +5,7 @@ ghost use Rattle.std.specs.Prelude.{◌≡◌, true};
 ghost use Rattle.std.specs.FinSet as set;
 ghost use Rattle.ep_space.specs.Held.{HasPlace};
 
-use ep_base::{Attrs, Ballot, Command, Decree, Deps, InstanceId, ReplicaId, Seq, Size};
+use ep_base::{Attrs, Ballot, Command, Decree, Deps, InstanceId, ReplicaId, Seq, Size, Version};
 use ep_rules::Record;
 use ep_space::*;
 use std::alloc::Global;
@@ -41,7 +41,11 @@ fn decree(rt: &impl Abort, alloc: Global, seq: u32) -> Decree {
 }
 
 fn empty(rt: &impl Abort, alloc: Global) -> Space {
-    Space::new(alloc, Size::new(5).expect(rt, "a size"))
+    empty_of(rt, alloc, Version::V2)
+}
+
+fn empty_of(rt: &impl Abort, alloc: Global, version: Version) -> Space {
+    Space::new(alloc, Size::new(5).expect(rt, "a size"), version)
 }
 
 /// A place for the instance; where memory is refused, the records are as they were.
@@ -174,25 +178,28 @@ fn put_nothing_back(rt: &impl Abort, space: &mut Space, id: InstanceId) {
     let _ = space.put_back(id, None).expect(rt, "no memory is taken");
 }
 
-#[test]
-fn a_promise_takes_a_number(rt: HostRuntime) {
-    let alloc = rt.alloc();
-    let me = ReplicaId::new(2).expect(&rt, "a replica");
-    let ballot = ballot(&rt, 1, 2);
-    let mut space = empty(&rt, alloc);
+/// The numbers of replica 2 up to the highest one are taken, and no more are; then the highest is free again, and then 3.
+fn assert_numbers(rt: &impl Abort, alloc: Global, version: Version, highest: u16) {
+    let me = ReplicaId::new(2).expect(rt, "a replica");
+    let ballot = ballot(rt, 1, 2);
+    let mut space = empty_of(rt, alloc, version);
     assert_eq!(rt; space.free_number(me), Ok(1));
-    for number in 1..=1000 {
-        let id = instance(&rt, 2, number);
-        place(&rt, &mut space, id);
+    for number in 1..=highest {
+        let id = instance(rt, 2, number);
+        place(rt, &mut space, id);
         space.join_ballot(id, ballot);
     }
     assert_eq!(rt; space.free_number(me), Err(SpaceFull));
-    let last = instance(&rt, 2, 1000);
-    put_nothing_back(&rt, &mut space, last);
-    assert_eq!(rt; space.free_number(me), Ok(1000));
-    let third = instance(&rt, 2, 3);
-    put_nothing_back(&rt, &mut space, third);
+    put_nothing_back(rt, &mut space, instance(rt, 2, highest));
+    assert_eq!(rt; space.free_number(me), Ok(highest));
+    put_nothing_back(rt, &mut space, instance(rt, 2, 3));
     assert_eq!(rt; space.free_number(me), Ok(3));
+}
+
+#[test]
+fn a_promise_takes_a_number(rt: HostRuntime) {
+    assert_numbers(&rt, rt.alloc(), Version::V1, 1000);
+    assert_numbers(&rt, rt.alloc(), Version::V2, 2000);
 }
 
 #[test]
@@ -270,7 +277,7 @@ fn an_earlier_record_is_put_back(rt: HostRuntime) {
 
 #[test]
 fn a_table_writes_at_its_places(rt: HostRuntime) {
-    let id = instance(&rt, 6, 1000);
+    let id = instance(&rt, 6, 2000);
     let other = instance(&rt, 0, 1);
     let mut table: Table<u16> = Table::new(rt.alloc());
     if table.reserve(id).is_err() {
@@ -340,6 +347,85 @@ fn a_vote_for_another_key_moves_a_place(rt: HostRuntime) {
     accept(&rt, alloc, &mut space, first, put_of(&rt, alloc, b"x"));
     assert_run(&rt, &space, b"a", &[]);
     assert_run(&rt, &space, b"x", &[first, second]);
+}
+
+fn swap_of(rt: &impl Abort, alloc: Global, first: &[u8], second: &[u8]) -> Decree {
+    let command = match Command::swap(alloc, first, second) {
+        Ok(command) => command,
+        Err(_) => Command::swap(alloc, first, second).expect(rt, "memory for a command"),
+    };
+    first_of_all(rt, alloc, command)
+}
+
+/// 0.1 `swap x y` stands in two runs; then, as `swap y z`, in those; then as `put y` in one.
+#[test]
+fn a_swap_stands_in_two_runs(rt: HostRuntime) {
+    let alloc = rt.alloc();
+    let first = instance(&rt, 0, 1);
+    let second = instance(&rt, 0, 2);
+    let mut space = empty(&rt, alloc);
+    hold(&rt, alloc, &mut space, second, 1);
+    accept(
+        &rt,
+        alloc,
+        &mut space,
+        first,
+        swap_of(&rt, alloc, b"x", b"y"),
+    );
+    assert_run(&rt, &space, b"x", &[first, second]);
+    assert_run(&rt, &space, b"y", &[first]);
+    accept(
+        &rt,
+        alloc,
+        &mut space,
+        first,
+        swap_of(&rt, alloc, b"y", b"z"),
+    );
+    assert_run(&rt, &space, b"x", &[second]);
+    assert_run(&rt, &space, b"y", &[first]);
+    assert_run(&rt, &space, b"z", &[first]);
+    accept(&rt, alloc, &mut space, first, put_of(&rt, alloc, b"y"));
+    assert_run(&rt, &space, b"y", &[first]);
+    assert_run(&rt, &space, b"z", &[]);
+}
+
+/// How many instances a swap of these keys depends on, as 3.1.
+fn met_by_swap(rt: &impl Abort, alloc: Global, space: &Space, keys: [&[u8]; 2]) -> usize {
+    let swap = swap_of(rt, alloc, keys[0], keys[1]);
+    let attrs = space
+        .interference(alloc, &swap.command, instance(rt, 3, 1))
+        .expect(rt, "memory for an interference set");
+    attrs.deps.len()
+}
+
+#[test]
+fn a_swap_meets_both_its_keys_once(rt: HostRuntime) {
+    let alloc = rt.alloc();
+    let mut space = empty(&rt, alloc);
+    accept(
+        &rt,
+        alloc,
+        &mut space,
+        instance(&rt, 0, 1),
+        put_of(&rt, alloc, b"x"),
+    );
+    accept(
+        &rt,
+        alloc,
+        &mut space,
+        instance(&rt, 1, 1),
+        swap_of(&rt, alloc, b"x", b"y"),
+    );
+    accept(
+        &rt,
+        alloc,
+        &mut space,
+        instance(&rt, 2, 1),
+        put_of(&rt, alloc, b"y"),
+    );
+    assert!(rt; met_by_swap(&rt, alloc, &space, [b"x", b"y"]) == 3);
+    assert!(rt; met_by_swap(&rt, alloc, &space, [b"y", b"z"]) == 2);
+    assert!(rt; met_by_swap(&rt, alloc, &space, [b"w", b"z"]) == 0);
 }
 
 #[test]

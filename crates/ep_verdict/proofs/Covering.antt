@@ -30,12 +30,12 @@ first_found n f journal i x lt none here = still (size f) (omega arith)
     ]
 
 -- what the journal of n commits is agreed on where none before it commits there
-pub found_here : (c : Collected) (n r : ℕ) (l : Log) (i : ℕ) (x : Decree) → (r < size c.faults) × (l.faults ≡ c.faults) × (l.me ≡ r) × (l.entries ≡ entries_at c r) → r ≡ n → agreed_below n c.faults (journals_of c) i ≡ None
+pub found_here : (c : Collected) (n r : ℕ) (l : Log) (i : ℕ) (x : Decree) → (r < size c.faults) × (l.version ≡ c.version) × (l.faults ≡ c.faults) × (l.me ≡ r) × (l.entries ≡ entries_at c r) → r ≡ n → agreed_below n c.faults (journals_of c) i ≡ None
     → Some x ≡ committed_in (standing l).state.records i → Some x ≡ agreed c.faults (journals_of c) i
 found_here c n r l i x is at none e = sym (first_found n c.faults (journals_of c) i x (subst (λ m. m < size c.faults) at is.0) none (subst (λ m. committed_by c.faults (journals_of c) m i ≡ Some x) at (sym (e ∙ here))))
   where
     here : committed_in (standing l).state.records i ≡ committed_by c.faults (journals_of c) r i
-    here = λ t. committed_in (left (is.1 t) (is.2 t) fresh_state (entries_of (is.3 t))).records i
+    here = λ t. committed_in (left (is.2 t) (is.3 t) fresh_state (entries_of (is.4 t))).records i
 
 -- Rows in rising order.
 
@@ -106,11 +106,11 @@ covers_none agreed named = record {
 
 -- from one replica's instances to those of the next
 pub covers_leader : (f leader : ℕ) (agreed : ℕ → Option Decree) (table : List (ℕ × Decree)) → ((i : ℕ) (x : Decree) → agreed i ≡ Some x → IsNamed f i) →
-    Covers agreed (instance_of leader 1001) table → Covers agreed (instance_of (leader + 1) 1) table
+    Covers agreed (instance_of leader 2001) table → Covers agreed (instance_of (leader + 1) 1) table
 covers_leader f leader agreed table named h =
-    covers_gap agreed (instance_of leader 1001) table h (instance_of (leader + 1) 1) (omega arith) (λ i x ge lt e. let n = named i x e in not_between leader i ge lt n.1 n.2)
+    covers_gap agreed (instance_of leader 2001) table h (instance_of (leader + 1) 1) (omega arith) (λ i x ge lt e. let n = named i x e in not_between leader i ge lt n.1 n.2)
   where
-    not_between : (leader i : ℕ) → instance_of leader 1001 ≤ i → i < instance_of (leader + 1) 1 → 1 ≤ number_of i → number_of i ≤ 1000 → ⊥
+    not_between : (leader i : ℕ) → instance_of leader 2001 ≤ i → i < instance_of (leader + 1) 1 → 1 ≤ number_of i → number_of i ≤ 2000 → ⊥
     not_between leader i ge lt low high = omega arith
 
 pub covers_all : (f : ℕ) (journal : Journals) (table : List (ℕ × Decree)) → ((i : ℕ) (x : Decree) → agreed f journal i ≡ Some x → IsNamed f i) → Covers (agreed f journal) (instance_of (size f) 1) table → IsTable f journal table

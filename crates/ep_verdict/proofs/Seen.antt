@@ -1,5 +1,5 @@
 -- What was seen.
-use Rattle.std.proofs.Common.{◌≡◌, ℕ, ◌≤◌, true, false, List, length, arith}
+use Rattle.std.proofs.Common.{◌≡◌, ℕ, true, false, List, length, arith}
 use Rattle.std.proofs.lemmas.Bool.{le-leb, lt-leb}
 use Rattle.ep_base.specs.Places.{place, Has}
 use Rattle.ep_rules.specs.History.{is_new}

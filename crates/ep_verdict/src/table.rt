@@ -46,9 +46,9 @@ fn add_led(
     leader: ReplicaId,
     table: &mut Vec<(InstanceId, Decree)>,
 ) -> Result<(), AllocError>
-    ensures { OnOk result (Covers (agreed_in journals.now) (instance_of leader 1) table.old.items → Covers (agreed_in journals.now) (instance_of leader 1001) table.new.items) }
+    ensures { OnOk result (Covers (agreed_in journals.now) (instance_of leader 1) table.old.items → Covers (agreed_in journals.now) (instance_of leader 2001) table.new.items) }
 {
-    for place in 0..1000 {
+    for place in 0..2000 {
         let instance = InstanceId::new(leader, place + 1).unwrap();
         add_agreed(alloc, journals, instance, table)?;
     }

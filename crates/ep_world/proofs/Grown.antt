@@ -2,6 +2,7 @@
 use Rattle.std.proofs.Common.{◌≡◌, ◌≢◌, ℕ, zero, suc, ◌+◌, ◌<◌, ◌≤◌, cond, eqb, List, [], ◌∷◌, ◌++◌, inl, inr, length, get_or, refl, sym, ap, subst, ◌∙◌, arith, append-nil, append_assoc}
 use Rattle.std.proofs.lemmas.Bool.{cases_eq, eq-eqb, ne_eqb}
 use Rattle.ep_base.specs.Quorums.{size}
+use Rattle.ep_base.specs.declared.version.Version.TheVariants.{V2}
 use Rattle.ep_rules.specs.States.{State, fresh_state}
 use Rattle.ep_rules.specs.Steps.{Frame, sends}
 use Rattle.ep_rules.specs.Worlds.{In}
@@ -87,8 +88,8 @@ journals_more : (w : Played) (r : ℕ) (taken : Happening) (e : Entry) (k : Kept
 journals_more w r taken e k lt there h a = record {
   count = with_length w.entries r e ∙ h.count;
   journal = λ q less. elim (cases_eq r q) [
-    | inl is ↦ subst (λ z. IsJournal w.faults z (entries_in (grown w r e) z)) is (subst (λ (es : List Entry). IsJournal w.faults r es) (sym (mine w r e there)) (journal_grows (replica_in w r) taken e k (h.journal r lt) a))
-    | inr ne ↦ subst (λ (es : List Entry). IsJournal w.faults q es) (sym (with_other w.entries r q e ne)) (h.journal q less)
+    | inl is ↦ subst (λ z. IsJournal V2 w.faults z (entries_in (grown w r e) z)) is (subst (λ (es : List Entry). IsJournal V2 w.faults r es) (sym (mine w r e there)) (journal_grows (replica_in w r) taken e k (h.journal r lt) a))
+    | inr ne ↦ subst (λ (es : List Entry). IsJournal V2 w.faults q es) (sym (with_other w.entries r q e ne)) (h.journal q less)
   ];
   others = λ q ge. with_other w.entries r q e (λ is. omega arith) ∙ h.others q ge;
 }

@@ -1,6 +1,8 @@
 -- The replicas of a world as its parts.
 use Rattle.std.proofs.Common.{◌≡◌, ℕ, zero, suc, ◌+◌, ◌<◌, ◌≤◌, Option, Some, None, List, [], ◌∷◌, ◌++◌, length, get_or, set, slice_get, refl, sym, ap, subst, ◌∙◌, arith, append-nil, append_assoc, Bor, IfSome, option_copied}
 use Rattle.ep_base.specs.Quorums.{size}
+use Rattle.ep_base.specs.declared.version.Version.{Version}
+use Rattle.ep_base.specs.declared.version.Version.TheVariants.{V2}
 use Rattle.ep_rules.specs.Journals.{AreClocked}
 use Rattle.ep_journal.specs.Entries.{Log, entries_of, IsJournal, AreInOrder, all_entries, Collected}
 use Rattle.ep_journal.specs.declared.entry.Entry.{Entry}
@@ -122,7 +124,7 @@ pub new_world : (f : ℕ) (ks : List Kept) (steps : List (ℕ × ℕ)) (messages
 new_world f ks steps messages h none no_steps no_messages = record {
   schedule = [];
   shows = record { journals = λ r. ap entries_of (sym (none r)); steps = no_steps; messages = no_messages; played = tt };
-  journals = record { count = count_all ks ∙ as_many f ks h; journal = λ r lt. subst (λ (es : List Entry). IsJournal f r es) (sym (none r)) (record { run = (tt, tt); readable = tt }); others = λ r ge. none r };
+  journals = record { count = count_all ks ∙ as_many f ks h; journal = λ r lt. subst (λ (es : List Entry). IsJournal V2 f r es) (sym (none r)) (record { run = (tt, tt); readable = tt; versioned = tt }); others = λ r ge. none r };
   clocked = λ r. subst (λ (es : List Entry). AreClocked 0 (entries_of es)) (sym (none r)) tt;
 }
 
@@ -131,35 +133,36 @@ same_world f ks js steps other_steps messages others is h = subst IsWorld (λ i.
 
 -- The journals of the replicas.
 
-pub theirs_more : (ks : List Kept) (ls more : List Log) (k : Kept) (l : Log) → more ≡ ls ++ l ∷ [] → l.faults ≡ k.faults → l.me ≡ k.me → l.entries ≡ k.entries → IsJournal l.faults l.me l.entries → AreTheirs ks ls → AreTheirs (ks ++ k ∷ []) more
-theirs_more ks ls more k l is faults me entries run h = subst (λ (xs : List Log). AreTheirs (ks ++ k ∷ []) xs) (sym is) (go ks ls h)
+pub theirs_more : (ks : List Kept) (ls more : List Log) (k : Kept) (l : Log) → more ≡ ls ++ l ∷ [] → l.version ≡ V2 → l.faults ≡ k.faults → l.me ≡ k.me → l.entries ≡ k.entries → IsJournal l.version l.faults l.me l.entries → AreTheirs ks ls → AreTheirs (ks ++ k ∷ []) more
+theirs_more ks ls more k l is version faults me entries run h = subst (λ (xs : List Log). AreTheirs (ks ++ k ∷ []) xs) (sym is) (go ks ls h)
   where
     go : (ks : List Kept) (ls : List Log) → AreTheirs ks ls → AreTheirs (ks ++ k ∷ []) (ls ++ l ∷ [])
-    go [] [] h = (faults, me, entries, run, tt)
+    go [] [] h = (version, faults, me, entries, run, tt)
     go [] (x ∷ ls) h = absurd h
     go (x ∷ ks) [] h = absurd h
-    go (x ∷ ks) (y ∷ ls) h = (h.0, h.1, h.2, h.3, go ks ls h.4)
+    go (x ∷ ks) (y ∷ ls) h = (h.0, h.1, h.2, h.3, h.4, go ks ls h.5)
 
 theirs_entries : (ks : List Kept) (ls : List Log) → AreTheirs ks ls → all_entries ls ≡ all_kept ks
 theirs_entries [] [] h = refl
 theirs_entries [] (l ∷ ls) h = absurd h
 theirs_entries (k ∷ ks) [] h = absurd h
-theirs_entries (k ∷ ks) (l ∷ ls) h = λ i. h.2 i ∷ theirs_entries ks ls h.4 i
+theirs_entries (k ∷ ks) (l ∷ ls) h = λ i. h.3 i ∷ theirs_entries ks ls h.5 i
 
-theirs_in_order : (f r : ℕ) (ks : List Kept) (ls : List Log) → AreReplicas f r ks → AreTheirs ks ls → AreInOrder f r ls
+theirs_in_order : (f r : ℕ) (ks : List Kept) (ls : List Log) → AreReplicas f r ks → AreTheirs ks ls → AreInOrder V2 f r ls
 theirs_in_order f r [] [] all h = all
 theirs_in_order f r [] (l ∷ ls) all h = absurd h
 theirs_in_order f r (k ∷ ks) [] all h = absurd h
-theirs_in_order f r (k ∷ ks) (l ∷ ls) all h = (named f r l (h.0 ∙ all.0) h.3 (h.1 ∙ all.1), theirs_in_order f (suc r) ks ls all.2 h.4)
+theirs_in_order f r (k ∷ ks) (l ∷ ls) all h = (named V2 f r l h.0 (h.1 ∙ all.0) h.4 (h.2 ∙ all.1), theirs_in_order f (suc r) ks ls all.2 h.5)
 
-pub in_order : (f : ℕ) (ks : List Kept) (ls : List Log) → AreReplicas f 0 ks → AreTheirs ks ls → (n : ℕ) × AreInOrder n 0 ls
-in_order f ks ls all h = (f, theirs_in_order f 0 ks ls all h)
+pub in_order : (f : ℕ) (ks : List Kept) (ls : List Log) → AreReplicas f 0 ks → AreTheirs ks ls → (v : Version) × (n : ℕ) × AreInOrder v n 0 ls
+in_order f ks ls all h = (V2, f, theirs_in_order f 0 ks ls all h)
 
-same_faults : (f n : ℕ) (ks : List Kept) (ls : List Log) → AreReplicas f 0 ks → AreTheirs ks ls → AreInOrder n 0 ls → n ≡ f
-same_faults f n [] [] all h o = let a : 0 ≡ size f = all in absurd (omega arith)
-same_faults f n [] (l ∷ ls) all h o = absurd h
-same_faults f n (k ∷ ks) [] all h o = absurd h
-same_faults f n (k ∷ ks) (l ∷ ls) all h o = sym o.0.faults ∙ h.0 ∙ all.0
+-- they tell the version and the cluster
+same_named : (f n : ℕ) (v : Version) (ks : List Kept) (ls : List Log) → AreReplicas f 0 ks → AreTheirs ks ls → AreInOrder v n 0 ls → (v ≡ V2) × (n ≡ f)
+same_named f n v [] [] all h o = let a : 0 ≡ size f = all in absurd (omega arith)
+same_named f n v [] (l ∷ ls) all h o = absurd h
+same_named f n v (k ∷ ks) [] all h o = absurd h
+same_named f n v (k ∷ ks) (l ∷ ls) all h o = (sym o.0.version ∙ h.0, sym o.0.faults ∙ h.1 ∙ all.0)
 
-pub collects : (f : ℕ) (ks : List Kept) (steps : List (ℕ × ℕ)) (messages : List Place) (ls : List Log) (j : Collected) → AreReplicas f 0 ks → AreTheirs ks ls → AreInOrder j.faults 0 ls → j.entries ≡ all_entries ls → j ≡ collected (world_of f ks steps messages)
-collects f ks steps messages ls j all h o is = λ i. record { faults = same_faults f j.faults ks ls all h o i; entries = (is ∙ theirs_entries ks ls h) i }
+pub collects : (f : ℕ) (ks : List Kept) (steps : List (ℕ × ℕ)) (messages : List Place) (ls : List Log) (j : Collected) → AreReplicas f 0 ks → AreTheirs ks ls → AreInOrder j.version j.faults 0 ls → j.entries ≡ all_entries ls → j ≡ collected (world_of f ks steps messages)
+collects f ks steps messages ls j all h o is = let same = same_named f j.faults j.version ks ls all h o in λ i. record { version = same.0 i; faults = same.1 i; entries = (is ∙ theirs_entries ks ls h) i }

@@ -2,6 +2,7 @@
 use Rattle.std.specs.Prelude.{◌≡◌, ℕ, zero, suc, List, [], ◌∷◌, Option, Some, None, refl, slice_get}
 use Rattle.std.specs.Coded.{Coded, code_by, coded×, coded_ℕ, coded_list}
 use Rattle.ep_base.specs.Quorums.{size}
+use Rattle.ep_base.specs.declared.version.Version.TheVariants.{V2}
 use Rattle.ep_rules.specs.Journals as rules
 use Rattle.ep_rules.specs.Journals.{Scheduled, of, acts_of, ArePlayed, AreClocked, frames_of, messages_of}
 use Rattle.ep_rules.specs.Steps.{Frame}
@@ -28,10 +29,11 @@ played_code =
     code_by (ℕ × (List (List Entry) × (List (ℕ × ℕ) × List Place))) (coded× coded_ℕ (coded× (coded_list (coded_list entry_facts.the_row.coded)) (coded× (coded_list (coded× coded_ℕ coded_ℕ)) (coded_list place_facts.the_row.coded))))
     (λ w. (w.faults, (w.entries, (w.steps, w.messages)))) (λ p. record { faults = p.0; entries = p.1.0; steps = p.1.1.0; messages = p.1.1.1 }) (λ _. refl)
 
+-- the journals, which are of version 2
 abbrev pub collected : Played → Collected
-collected w = record { faults = w.faults; entries = w.entries }
+collected w = record { version = V2; faults = w.faults; entries = w.entries }
 
--- the journals, as the rule book sees them
+-- the same as the rule book sees them
 abbrev pub journals_in : Played → rules.Journals
 journals_in w = journals_of (collected w)
 

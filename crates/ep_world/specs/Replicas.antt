@@ -1,6 +1,7 @@
 -- The replicas of a world, and what the code's parts are.
 use Rattle.std.specs.Prelude.{◌≡◌, ◌⊎◌, ℕ, zero, suc, ◌<◌, ◌≤◌, List, [], ◌∷◌, ◌++◌}
 use Rattle.ep_base.specs.Quorums.{size}
+use Rattle.ep_base.specs.declared.version.Version.TheVariants.{V2}
 use Rattle.ep_journal.specs.Entries.{Log, IsJournal}
 use Rattle.ep_journal.specs.declared.entry.Entry.{Entry}
 use Rattle.ep_journal.specs.declared.event.Event.{Event as Happening}
@@ -26,12 +27,12 @@ AreReplicas f r (k ∷ ks) = (k.faults ≡ f) × (k.me ≡ r) × AreReplicas f (
 abbrev pub world_of : ℕ → List Kept → List (ℕ × ℕ) → List Place → Played
 world_of f ks steps messages = record { faults = f; entries = all_kept ks; steps = steps; messages = messages }
 
--- the journals are those of the replicas
+-- the journals are those of the replicas, of version 2
 abbrev pub AreTheirs : List Kept → List Log → Type 0
 AreTheirs [] [] = Unit {0}
 AreTheirs [] (l ∷ ls) = ⊥
 AreTheirs (k ∷ ks) [] = ⊥
-AreTheirs (k ∷ ks) (l ∷ ls) = (l.faults ≡ k.faults) × (l.me ≡ k.me) × (l.entries ≡ k.entries) × IsJournal l.faults l.me l.entries × AreTheirs ks ls
+AreTheirs (k ∷ ks) (l ∷ ls) = (l.version ≡ V2) × (l.faults ≡ k.faults) × (l.me ≡ k.me) × (l.entries ≡ k.entries) × IsJournal l.version l.faults l.me l.entries × AreTheirs ks ls
 
 -- the first n places of an entry's frames
 abbrev pub places_up_to : ℕ → ℕ → ℕ → List Place

@@ -2,6 +2,7 @@
 
 ghost use Rattle.std.specs.Prelude.{◌≡◌, ◌<◌, ◌≤◌, ℕ, [], slice_get, slice_index_or, option_copied, IfOk};
 ghost use Rattle.ep_base.specs.Quorums.{size};
+ghost use Rattle.ep_base.specs.declared.version.Version.TheVariants.{V2};
 ghost use Rattle.ep_frame.specs.Meaning.{origin_at};
 ghost use Rattle.ep_journal.specs.Entries.{IsJournal};
 ghost use Rattle.ep_world.specs.Played.{numbered, frame_of};
@@ -98,10 +99,11 @@ pub(crate) fn receiver(frame: &Frame) -> ReplicaId
 
 /// The journal of a replica.
 fn journal_of(replica: Replica) -> Journal
+    ensures version { result.version ≡ V2 }
     ensures faults { result.faults ≡ replica.faults }
     ensures me { result.me ≡ replica.me }
     ensures entries { result.entries ≡ replica.entries }
-    ensures run { IsJournal result.faults result.me result.entries }
+    ensures run { IsJournal result.version result.faults result.me result.entries }
 {
     let journal = replica.into_journal();
     // Nothing is done with the entries: that they are a local run is known by asking for them.

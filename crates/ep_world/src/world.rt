@@ -235,7 +235,7 @@ impl World {
         let _size = self.size;
     }
 
-    /// The journals alone.
+    /// The journals alone, which are of version 2.
     pub fn into_journals(self, alloc: Global) -> Result<Journals, AllocError>
         ensures { IfOk result (λ j. j ≡ collected self) }
     {

@@ -33,15 +33,15 @@ client 1 request 1 0.1 absent
 
 /// Three journals without entries, and no receipts.
 const EMPTY: [u8; 25] = [
-    0x45, 0x50, 0x4a, 0x42, 1, 3, 0, 0, 0, 0, 0, 0, 0, 0, 0, 1, 0, 0, 0, 0, 2, 0, 0, 0, 0,
+    0x45, 0x50, 0x4a, 0x42, 2, 3, 0, 0, 0, 0, 0, 0, 0, 0, 0, 1, 0, 0, 0, 0, 2, 0, 0, 0, 0,
 ];
 
 /// The bundle of one proposal: its header, the entry of replica 0, that entry's frame out, and the rest.
 const ONE_PROPOSAL: [u8; 106] = [
-    0x45, 0x50, 0x4a, 0x42, 1, 3, 0, 0, 0, 0, // the header
+    0x45, 0x50, 0x4a, 0x42, 2, 3, 0, 0, 0, 0, // the header
     0, 0, 0, 0, 1, 1, 0, 0, 0, 0, 0, 0, 0, 1, 0, 0, 0, 1, 0, 0, 0, 1, 0, 0, 0, 0, 0, 0, 0, 0, 3, 1,
     0, 1, 0x78, 0x31, // the proposal
-    0, 1, 0, 0, 0, 42, 0x45, 0x50, 1, 1, 0, 1, 0, 0, 0, 0, 0, 1, 0, 0, 0, 0, 0, 0, 0, 1, 0, 0, 1,
+    0, 1, 0, 0, 0, 42, 0x45, 0x50, 2, 1, 0, 1, 0, 0, 0, 0, 0, 1, 0, 0, 0, 0, 0, 0, 0, 1, 0, 0, 1,
     0, 0, 0, 0, 0, 0, 0, 0, 0, 0, 1, 3, 1, 0, 1, 0, 0, 0x78, 0x31, // the frame out
     0, 0, 1, 0, 0, 0, 0, 2, 0, 0, 0, 0,
 ];
@@ -114,6 +114,9 @@ fn empty_journals(rt: HostRuntime) {
     assert!(rt; is_accepted(&rt, rt.alloc(), &EMPTY, report));
     let bundle = bundle_of(&rt, rt.alloc(), b"replicas 3\n");
     assert!(rt; bundle.as_slice() == EMPTY.as_slice());
+    let mut old = EMPTY;
+    old[4] = 1;
+    assert!(rt; is_accepted(&rt, rt.alloc(), &old, report));
 }
 
 #[test]
@@ -123,6 +126,11 @@ fn one_proposal(rt: HostRuntime) {
     assert!(rt; bundle.as_slice() == ONE_PROPOSAL.as_slice());
     let report = b"verdict accepted\ncommitted 0\nhistory 0\nreceipts 0\n";
     assert!(rt; is_accepted(&rt, alloc, &ONE_PROPOSAL, report));
+    // the same in version 1: the header's version, and the frame's
+    let mut old = ONE_PROPOSAL;
+    old[4] = 1;
+    old[54] = 1;
+    assert!(rt; is_accepted(&rt, alloc, &old, report));
 }
 
 #[test]

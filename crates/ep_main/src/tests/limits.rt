@@ -14,13 +14,13 @@ fn repeated(alloc: Global, line: &[u8], count: usize) -> Result<Vec<u8>, AllocEr
 
 #[test]
 fn one_proposal_more_than_there_are_numbers(rt: HostRuntime) {
-    let script = repeated(rt.alloc(), b"propose 0 1 put x 1\n", 1001).expect(&rt, "memory");
+    let script = repeated(rt.alloc(), b"propose 0 1 put x 1\n", 2001).expect(&rt, "memory");
     let report = b"verdict accepted
 committed 0
 history 0
 receipts 0
 refused 1
-line 1002 E4 space full
+line 2002 E4 space full
 ";
     assert!(rt; is_played(&rt, rt.alloc(), script.as_slice(), report));
 }

@@ -1,4 +1,4 @@
-use Rattle.std.proofs.Common.{rules, ◌≡◌, ℕ, ◌≤◌, None, IfNone, subst, sym, ◌∙◌, arith}
+use Rattle.std.proofs.Common.{rules, ◌≡◌, ◌≤◌, None, IfNone, subst}
 use Rattle.ep_journal.specs.Entries.{journals_of}
 use Rattle.ep_rules.specs.Audits.{IsAccepted}
 use Rattle.ep_audit.proofs.OneHistory.{audited}

@@ -7,7 +7,7 @@ returns-in_err-op-clause-bytes g c = λ y0 e0. fails _ _ _ _ _ _ _ _ (c.in_err-o
 pub returns-in_err-key_len-clause-bytes : goal.returns-in_err-key_len-clause-bytes
 returns-in_err-key_len-clause-bytes g c = λ y0 e0. goes_on _ _ _ _ _ _ _ _ (c.in_ok-op.ensures.bytes y0 e0) (λ y1 e1. fails _ _ _ _ _ _ _ _ (c.in_err-key_len.ensures.bytes y1 e1) c.from_residual-in_err-key_len.ensures.1)
 
-pub returns-in_err-value_len-clause-bytes : goal.returns-in_err-value_len-clause-bytes
-returns-in_err-value_len-clause-bytes g c = λ y0 e0.
+pub returns-in_err-text_len-clause-bytes : goal.returns-in_err-text_len-clause-bytes
+returns-in_err-text_len-clause-bytes g c = λ y0 e0.
     goes_on _ _ _ _ _ _ _ _ (c.in_ok-op.ensures.bytes y0 e0)
-    (λ y1 e1. goes_on _ _ _ _ _ _ _ _ (c.in_ok-key_len.ensures.bytes y1 e1) (λ y2 e2. fails _ _ _ _ _ _ _ _ (c.in_err-value_len.ensures.bytes y2 e2) c.from_residual-in_err-value_len.ensures.1))
+    (λ y1 e1. goes_on _ _ _ _ _ _ _ _ (c.in_ok-key_len.ensures.bytes y1 e1) (λ y2 e2. fails _ _ _ _ _ _ _ _ (c.in_err-text_len.ensures.bytes y2 e2) c.from_residual-in_err-text_len.ensures.1))

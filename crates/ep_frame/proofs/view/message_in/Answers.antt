@@ -1,7 +1,7 @@
 use Rattle.std.proofs.Common.{sym, subst, ap, ◌∙◌, arith}
 use Rattle.ep_frame.specs.Ranges.{Readable}
 use Rattle.ep_frame.specs.Spelling.{Spells}
-use Rattle.ep_frame.specs.Meaning.{sender_at, origin_at, message_of}
+use Rattle.ep_frame.specs.Meaning.{version_at, sender_at, origin_at, message_of}
 use Rattle.ep_frame.proofs.Frames.{frame_long, frame_whole, frame_found, frame_readable}
 use Rattle.ep_frame.proofs.view.message_in.Goals as goal
 
@@ -18,4 +18,4 @@ pub returns-clause-spelled : goal.returns-clause-spelled
 returns-clause-spelled c =
     let b = c.args.bytes.now in
     let is = c.in_ok-message.ensures ∙ ap message_of c.sections_in.ensures in
-    subst (Spells b (sender_at b) (origin_at b)) (sym is) (frame_found b (λ i. omega (arith, c.type_inv.bytes i)) c.requires)
+    subst (Spells (version_at b) b (sender_at b) (origin_at b)) (sym is) (frame_found b (λ i. omega (arith, c.type_inv.bytes i)) c.requires)

@@ -5,12 +5,14 @@ use Rattle.ep_frame.proofs.writing.write.Goals as goal
 
 pub written-requires : goal.written-requires
 written-requires c = (
+  c.args.version,
   c.args.from,
   c.args.origin,
   c.args.message.now,
   record {
     origin = c.of-parts.ensures.origin;
     message = c.of-parts.ensures.message;
+    sayable = c.requires.sayable;
     is = c.in_ok-freeze.ensures.ok ∙ c.in_ok-put_parts.ensures ∙ ap (λ (xs : List ℕ). xs ++ parts_bytes (parts_in c.of-parts.result)) c.in_ok-out.ensures.items ∙ ap parts_bytes c.of-parts.ensures.parts;
   },
 )
@@ -19,5 +21,6 @@ pub returns : goal.returns
 returns c = record {
   origin = c.of-parts.ensures.origin;
   message = c.of-parts.ensures.message;
+  sayable = c.requires.sayable;
   is = c.written.ensures ∙ c.in_ok-freeze.ensures.ok ∙ c.in_ok-put_parts.ensures ∙ ap (λ (xs : List ℕ). xs ++ parts_bytes (parts_in c.of-parts.result)) c.in_ok-out.ensures.items ∙ ap parts_bytes c.of-parts.ensures.parts;
 }

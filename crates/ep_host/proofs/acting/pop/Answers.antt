@@ -10,6 +10,7 @@ returns c =
     let xs = c.args.links.now.items in let was = c.index_mut.result.now in let l = c.pop.new.self in
     let read = λ (d : Link). c.index_mut.ensures.value ∙ get_or_default xs c.args.place was d c.requires in record {
       link = l;
+      versioned = c.pop.ensures.version;
       is = refl;
       keeps = λ d. subst (λ (a : Link). KeepsLink a l) (read d) c.pop.ensures.keeps;
       put = λ d. c.pop.ensures.put ∙ ap (λ (a : Link). sent a.to) (read d);

@@ -2,14 +2,15 @@ use Rattle.std.proofs.Common.{rules, refl}
 use Rattle.ep_host.specs.Asking.{IsKept}
 use Rattle.ep_host.proofs.lock_host.pump.Goals as goal
 
-pub returns : goal.returns
-returns c =
+pub returns-clause-pumped : goal.returns-clause-pumped
+returns-clause-pumped c =
     let run : IsKept c.args.replica.now = search rules in record {
       old = c.args.replica.now;
       new = c.tend.new.replica;
       run = run;
-      given = c.args.frame;
+      given = c.frame_in.result;
+      versioned = c.frame_in.ensures.version;
       tended = c.tend.result;
-      tends = c.tend.ensures;
+      tends = c.tend.ensures.tends;
       told = refl;
     }

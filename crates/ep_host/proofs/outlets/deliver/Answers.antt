@@ -1,4 +1,4 @@
-use Rattle.std.proofs.Common.{arith, ◌≡◌, ◌<◌, ◌≤◌, ◌∙◌, ℕ, length, sym, ap, subst, get_or, refl}
+use Rattle.std.proofs.Common.{arith, ◌≡◌, ◌<◌, ◌∙◌, ℕ, length, sym, ap, subst, get_or}
 use Rattle.std.proofs.lemmas.List.{get_or_default}
 use Rattle.ep_frame.specs.Meaning.{origin_at}
 use Rattle.ep_host.specs.Fates.{counted_up}
@@ -6,7 +6,7 @@ use Rattle.ep_host.specs.Outboxes.{Posts}
 use Rattle.ep_host.specs.Weathers.{kind_at}
 use Rattle.ep_host.specs.declared.outlet.Outlet.{Outlet}
 use Rattle.ep_host.proofs.Following.{counts}
-use Rattle.ep_host.proofs.Mailing.{passes_at, passes_past}
+use Rattle.ep_host.proofs.Mailing.{passes_at}
 use Rattle.ep_host.proofs.outlets.deliver.Goals as goal
 
 pub returns-clause-outlets : goal.returns-clause-outlets

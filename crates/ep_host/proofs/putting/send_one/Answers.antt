@@ -18,6 +18,6 @@ returns c =
     let here : c.index.result.now ≡ get_or xs p was = c.index.ensures ∙ get_or_default xs p c.index.result.now was low in
     let here' : c.index-2.result.now ≡ get_or xs p was = c.index-2.ensures ∙ get_or_default xs p c.index-2.result.now was low in
     let peer : (get_or xs p was).peer ≡ (origin_at b).to = ap (λ (l : Link). l.peer) (sym here) ∙ same_by c.index.result.now.peer c.origin-peer.result.to c.if-ne.ensures ∙ to in
-    each_sends ws b c.send.result c.kind_at.result c.args.me xs p c.send.new.self was c.requires (c.place-place.ensures ∙ ap (place c.args.me) to) low peer
+    each_sends ws b c.send.result c.kind_at.result c.args.me xs p c.send.new.self was c.requires.peers (c.place-place.ensures ∙ ap (place c.args.me) to) low peer
     (c.kind_at.ensures ∙ ap (λ (q : ℕ). kind_at ws q c.saturating_add-count.result) (to ∙ sym peer) ∙ ap (kind_at ws (get_or xs p was).peer) (c.saturating_add-count.ensures ∙ counts c.index-2.result.now.count 1 (omega arith) ∙ ap (λ (l : Link). counted_up l.count 1) here'))
     (subst (λ (a : Link). Delivers c.kind_at.result b c.send.result a c.send.new.self) c.index_mut.ensures.value c.send.ensures)

@@ -1,11 +1,12 @@
-use Rattle.std.proofs.Common.{rules, ◌≡◌, ◌∙◌, List, All, ap, subst, sym}
+use Rattle.std.proofs.Common.{rules, ◌≡◌, ◌∙◌, List, All, ap, subst}
 use Rattle.std.proofs.lemmas.List.{with_items_is}
+use Rattle.ep_base.specs.declared.version.Version.TheVariants.{V2}
 use Rattle.ep_journal.specs.Entries.{AreInOrder, all_entries}
 use Rattle.ep_host.specs.Host.{Looked, Knows, AllSent}
 use Rattle.ep_host.specs.Node.{Node}
 use Rattle.ep_host.specs.Pointwise.{Each}
 use Rattle.ep_host.specs.RingFinishing.{replicas_in, logs_of}
-use Rattle.ep_host.proofs.Accepting.{end_in_order, ended, ended_accepted}
+use Rattle.ep_host.proofs.Accepting.{end_in_order, ended, ended_version, ended_accepted}
 use Rattle.ep_host.proofs.ring_finishing.finish_with.Goals as goal
 
 pub unwrap-journals-requires : goal.unwrap-journals-requires
@@ -16,7 +17,7 @@ unwrap-journals-requires c =
     let know : All Knows nodes = subst (λ (l : List Node). All Knows l) value c.taken_was_sent.ensures.knows in
     let looked : Each Looked nodes after = subst (λ (l : List Node). Each Looked l after) value c.taken_was_sent.ensures.looked in
     let logs = c.in_ok-journals.ensures ∙ ap (λ (l : List Node). logs_of (replicas_in l)) is in
-    c.new.ensures.in_order.1 (c.requires.0, end_in_order c.requires.0 nodes after c.in_ok-journals.journals.items c.requires.1 know looked logs)
+    c.new.ensures.in_order.1 (V2, c.requires.0, end_in_order c.requires.0 nodes after c.in_ok-journals.journals.items c.requires.1 know looked logs)
 
 pub accepted-requires : goal.accepted-requires
 accepted-requires c =
@@ -29,7 +30,7 @@ accepted-requires c =
     let looked : Each Looked nodes after = subst (λ (l : List Node). Each Looked l after) value c.taken_was_sent.ensures.looked in
     let j = c.unwrap-journals.result in let ls = c.in_ok-journals.journals.items in
     let logs = c.in_ok-journals.ensures ∙ ap (λ (l : List Node). logs_of (replicas_in l)) is in
-    let order : AreInOrder j.faults 0 ls = search rules in
+    let order : AreInOrder j.version j.faults 0 ls = search rules in
     let entries : j.entries ≡ all_entries ls = search rules in
     ended_accepted f nodes j c.args.receipts.now host know sent (ended f nodes after j ls host looked logs order entries) c.requires.2
 
@@ -41,6 +42,18 @@ returns-clause-journals c = λ f host.
     let looked : Each Looked nodes after = subst (λ (l : List Node). Each Looked l after) value c.taken_was_sent.ensures.looked in
     let j = c.unwrap-journals.result in let ls = c.in_ok-journals.journals.items in
     let logs = c.in_ok-journals.ensures ∙ ap (λ (l : List Node). logs_of (replicas_in l)) is in
-    let order : AreInOrder j.faults 0 ls = search rules in
+    let order : AreInOrder j.version j.faults 0 ls = search rules in
     let entries : j.entries ≡ all_entries ls = search rules in
     ended f nodes after j ls host looked logs order entries
+
+pub returns-clause-version : goal.returns-clause-version
+returns-clause-version c =
+    let f = c.requires.0 in let host = c.requires.1 in
+    let nodes = c.args.nodes.items in let after = c.taken_was_sent.new.nodes in
+    let is = with_items_is c.args.nodes after (search rules) in
+    let value = c.as_mut_slice.ensures.value in
+    let looked : Each Looked nodes after = subst (λ (l : List Node). Each Looked l after) value c.taken_was_sent.ensures.looked in
+    let j = c.unwrap-journals.result in let ls = c.in_ok-journals.journals.items in
+    let logs = c.in_ok-journals.ensures ∙ ap (λ (l : List Node). logs_of (replicas_in l)) is in
+    let order : AreInOrder j.version j.faults 0 ls = search rules in
+    ended_version f nodes after j ls host looked logs order

@@ -3,8 +3,8 @@ use Rattle.ep_host.proofs.Pumping.{tends}
 use Rattle.ep_host.proofs.tending.tend.Goals as goal
 use Rattle.ep_host.proofs.tending.tend.Goals.{then-given, else-given}
 
-pub returns : goal.returns
-returns c =
+pub returns-clause-tends : goal.returns-clause-tends
+returns-clause-tends c =
     let executed = c.execute_next-executed.result in
     let moved : c.if-given.result ≡ (is_some c.args.frame || c.execute_next-executed.result) = elim c.if-given.branch [
       | then-given w ↦ w.result-is ∙ w.if-given.true ∙ sym (ap (λ b. b || c.execute_next-executed.result) (sym c.is_some-given.ensures ∙ w.if-given.true))
@@ -16,4 +16,4 @@ returns c =
       frames = c.handle-frames.result.frames;
       lost = c.handle-frames.result.lost;
     }
-    c.handle-frames.result.frames.items c.handle-frames.result.lost c.handle-frames.ensures c.execute_next-executed.ensures moved refl refl
+    c.handle-frames.result.frames.items c.handle-frames.result.lost c.handle-frames.ensures.handles c.execute_next-executed.ensures moved refl refl

@@ -1,4 +1,4 @@
-use Rattle.std.proofs.Common.{◌≡◌, arith, take, All, length, subst, List}
+use Rattle.std.proofs.Common.{◌≡◌, All, subst, List}
 use Rattle.std.proofs.lemmas.List.{take_all}
 use Rattle.std.proofs.lemmas.List.Elements.{All-nil, All-more}
 use Rattle.ep_host.specs.declared.weather.Weather.{Weather}

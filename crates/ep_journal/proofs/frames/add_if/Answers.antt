@@ -5,7 +5,7 @@ use Rattle.ep_rules.specs.Counting.{to_those}
 use Rattle.ep_rules.specs.Steps.{sent_from}
 use Rattle.ep_journal.specs.Events.{AreSpelled}
 use Rattle.ep_journal.specs.Inputs.{receives}
-use Rattle.ep_journal.proofs.Spelling.{as_many, those_few, fit_at, next_spelled}
+use Rattle.ep_journal.proofs.Spelling.{as_many, those_few, fit_at, said_at, next_spelled}
 use Rattle.ep_journal.proofs.frames.add_if.Goals as goal
 
 pub overflow_cast-origin : goal.overflow_cast-origin
@@ -13,7 +13,7 @@ overflow_cast-origin c =
     let k = c.args.cell.now in
     let s = c.args.sent.now in
     let p : ℕ → Bool = receives k s.to in
-    let many : length c.args.items.now.items ≡ length (to_those p c.args.r s.message.now) = as_many s.mark.number s.mark.stamp 0 k.me c.args.items.now.items (to_those p c.args.r s.message.now) c.requires.before in
+    let many : length c.args.items.now.items ≡ length (to_those p c.args.r s.message.now) = as_many s.version s.mark.number s.mark.stamp 0 k.me c.args.items.now.items (to_those p c.args.r s.message.now) c.requires.before in
     let few : length (to_those p c.args.r s.message.now) ≤ c.args.r = those_few p c.args.r s.message.now in
     omega (arith, many, few, c.len.ensures, c.requires.replica)
 
@@ -26,12 +26,16 @@ pub write-requires-clause-ballots : goal.write-requires-clause-ballots
 write-requires-clause-ballots c =
     (fit_at c.args.cell.now.me (receives c.args.cell.now c.args.sent.now.to) c.args.sent.now.message.now c.args.r (size c.args.cell.now.faults) c.requires.cluster (sym c.is_receiver.ensures ∙ c.if-not-is_receiver.false) c.requires.fit).1
 
+pub write-requires-clause-sayable : goal.write-requires-clause-sayable
+write-requires-clause-sayable c =
+    said_at c.args.sent.now.version (receives c.args.cell.now c.args.sent.now.to) c.args.sent.now.message.now c.args.r (size c.args.cell.now.faults) c.requires.cluster (sym c.is_receiver.ensures ∙ c.if-not-is_receiver.false) c.requires.said
+
 pub returns : goal.returns
 returns c =
     let k = c.args.cell.now in
     let s = c.args.sent.now in
     let p : ℕ → Bool = receives k s.to in
     let next : suc c.args.r ≡ c.args.r + 1 = omega arith in
-    subst (λ j. AreSpelled s.mark.number s.mark.stamp 0 c.push.new.self.items (sent_from k.me (to_those p j s.message.now))) next
-    (next_spelled s.mark.number s.mark.stamp k.me p c.args.r s.message.now c.args.items.now.items c.push.new.self.items c.in_ok-frame.frame (sym c.is_receiver.ensures ∙ c.if-not-is_receiver.false) c.requires.before c.in_ok-push.ensures.items
-    (subst (λ n. Spells c.in_ok-frame.frame k.me (record { to = c.args.r; out = n; entry = s.mark.number; stamp = s.mark.stamp }) s.message.now) c.args.items.now.ok.0 (simp (c.me.ensures, c.replica.ensures, c.len.ensures) at c.in_ok-frame.ensures)))
+    subst (λ j. AreSpelled s.version s.mark.number s.mark.stamp 0 c.push.new.self.items (sent_from k.me (to_those p j s.message.now))) next
+    (next_spelled s.version s.mark.number s.mark.stamp k.me p c.args.r s.message.now c.args.items.now.items c.push.new.self.items c.in_ok-frame.frame (sym c.is_receiver.ensures ∙ c.if-not-is_receiver.false) c.requires.before c.in_ok-push.ensures.items
+    (subst (λ n. Spells s.version c.in_ok-frame.frame k.me (record { to = c.args.r; out = n; entry = s.mark.number; stamp = s.mark.stamp }) s.message.now) c.args.items.now.ok.0 (simp (c.me.ensures, c.replica.ensures, c.len.ensures) at c.in_ok-frame.ensures)))

@@ -5,4 +5,4 @@ use Rattle.ep_journal.specs.Inputs.{receives}
 use Rattle.ep_journal.proofs.frames.written_to_each.Given as goal
 
 abbrev pub invariant-loop-r : goal.invariant-loop-r
-invariant-loop-r l = AreSpelled l.fn.mark.number l.fn.mark.stamp 0 l.items.items (sent_from l.cell.me (to_those (receives l.cell l.fn.to) l.r l.message))
+invariant-loop-r l = AreSpelled l.sent.version l.sent.mark.number l.sent.mark.stamp 0 l.items.items (sent_from l.cell.me (to_those (receives l.cell l.sent.to) l.r l.sent.message.now))

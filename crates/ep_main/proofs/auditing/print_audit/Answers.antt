@@ -1,5 +1,5 @@
 use Rattle.std.proofs.Common.{rules}
-use Rattle.ep_main.proofs.Ending.{finishes}
+use Rattle.ep_main.proofs.Ending.{finishes, stops}
 use Rattle.ep_main.proofs.Flags.{bundle_read, bundle_not_written, says_verdict}
 use Rattle.ep_main.proofs.auditing.print_audit.Goals as goal
 
@@ -14,8 +14,11 @@ returns-in_err-bundle-clause-read g c = bundle_read c.in_err-bundle.field-0.0 _ 
 pub returns-in_err-bundle-clause-written : goal.returns-in_err-bundle-clause-written
 returns-in_err-bundle-clause-written g c = bundle_not_written c.in_err-bundle.field-0.0 _ _ c.from_residual.ensures.1
 
+pub returns-in_err-judged-clause-finishes : goal.returns-in_err-judged-clause-finishes
+returns-in_err-judged-clause-finishes g c zs known = stops c.in_err-judged.field-0.0 _ zs _ c.from_residual-in_err-judged.ensures.1 c.in_err-judged.ensures.memory (search rules)
+
 pub returns-clause-verdict : goal.returns-clause-verdict
-returns-clause-verdict g c = says_verdict _ _ _ _ c.in_ok-judged.ensures.value
+returns-clause-verdict g c = says_verdict c.in_ok-bundle.bundle.journals c.in_ok-bundle.bundle.receipts.items c.in_ok-judged.judged.status c.in_ok-judged.judged.text.items c.in_ok-judged.ensures.value
 
 pub returns-clause-finishes : goal.returns-clause-finishes
 returns-clause-finishes g c zs known =

@@ -4,9 +4,9 @@ use Rattle.ep_space.proofs.taken.advanced.Given as goal
 
 abbrev pub invariant-loop-taken : goal.invariant-loop-taken
 invariant-loop-taken l = record {
-  bounded : l.taken ≤ 1000;
+  bounded : l.taken ≤ 2000;
   full : (n : ℕ) → n < l.taken → is_free l.table.held l.leader n ≡ false;
 }
 
 abbrev pub decreases-loop-taken : goal.decreases-loop-taken
-decreases-loop-taken l = 1000 - l.taken
+decreases-loop-taken l = 2000 - l.taken

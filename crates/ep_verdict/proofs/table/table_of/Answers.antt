@@ -17,8 +17,8 @@ loop-leader-preserved c =
     let old : List (ℕ × Decree) = c.loop-leader.table.items in
     let new : List (ℕ × Decree) = c.add_led.new.table.items in
     let at : c.unwrap-leader.result ≡ l = subst (λ r. IfOk r (λ i. i ≡ l)) c.unwrap-leader.ensures c.new.ensures.value in
-    let led : Covers g (instance_of c.unwrap-leader.result 1) old → Covers g (instance_of c.unwrap-leader.result 1001) new = c.in_ok-add_led.ensures in
-    let made : Covers g (instance_of l 1) old → Covers g (instance_of l 1001) new = subst (λ n. Covers g (instance_of n 1) old → Covers g (instance_of n 1001) new) at led in
+    let led : Covers g (instance_of c.unwrap-leader.result 1) old → Covers g (instance_of c.unwrap-leader.result 2001) new = c.in_ok-add_led.ensures in
+    let made : Covers g (instance_of l 1) old → Covers g (instance_of l 2001) new = subst (λ n. Covers g (instance_of n 1) old → Covers g (instance_of n 2001) new) at led in
     covers_leader c.args.journals.now.faults l g new c.commit_in_range.ensures (made c.loop-leader.invariant)
 
 pub returns : goal.returns

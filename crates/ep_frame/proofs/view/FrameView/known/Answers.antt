@@ -1,5 +1,5 @@
 use Rattle.std.proofs.Common.{arith}
-use Rattle.ep_frame.specs.Meaning.{sender_at, origin_at, message_at}
+use Rattle.ep_frame.specs.Meaning.{version_at, sender_at, origin_at, message_at}
 use Rattle.ep_frame.proofs.Frames.{frame_found}
 use Rattle.ep_frame.proofs.view.FrameView.known.Goals as goal
 
@@ -7,4 +7,4 @@ pub returns-clause-spelled : goal.returns-clause-spelled
 returns-clause-spelled c = frame_found c.args.bytes.now (λ i. omega (arith, c.type_inv.bytes i)) c.requires
 
 pub returns-clause-frame : goal.returns-clause-frame
-returns-clause-frame c = let b = c.args.bytes.now in (sender_at b, origin_at b, message_at b, frame_found b (λ i. omega (arith, c.type_inv.bytes i)) c.requires)
+returns-clause-frame c = let b = c.args.bytes.now in (version_at b, sender_at b, origin_at b, message_at b, frame_found b (λ i. omega (arith, c.type_inv.bytes i)) c.requires)

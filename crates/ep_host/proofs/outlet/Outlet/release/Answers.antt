@@ -1,4 +1,4 @@
-use Rattle.std.proofs.Common.{arith, ap, ◌≡◌, ◌+◌, ◌∷◌, ℕ, List, refl, sym, ◌∙◌}
+use Rattle.std.proofs.Common.{arith, ◌+◌, refl}
 use Rattle.ep_host.proofs.Mailing.{letting_none, letting_more, letting_all, letting_end}
 use Rattle.ep_host.proofs.outlet.Outlet.release.Goals as goal
 use Rattle.ep_host.proofs.outlet.Outlet.release.Goals.{then-not-put, else-not-put}

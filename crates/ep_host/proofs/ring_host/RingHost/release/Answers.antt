@@ -1,4 +1,4 @@
-use Rattle.std.proofs.Common.{arith, ◌<◌, length, get_or, subst}
+use Rattle.std.proofs.Common.{arith, ◌<◌, length, get_or}
 use Rattle.std.proofs.lemmas.List.{get_or_default}
 use Rattle.ep_host.specs.Node.{Node}
 use Rattle.ep_host.specs.Setting.{IsReleased}

@@ -1,4 +1,4 @@
-use Rattle.std.proofs.Common.{rules, arith, ◌≡◌, ◌∙◌, length, subst, sym, List}
+use Rattle.std.proofs.Common.{rules, ◌≡◌, length, subst, sym, List}
 use Rattle.ep_host.specs.Rings.{IsBooked}
 use Rattle.ep_host.specs.Setting.{ReleasesAll}
 use Rattle.ep_host.specs.declared.link.Link.{Link}

@@ -1,4 +1,4 @@
-use Rattle.std.proofs.Common.{rules, arith, ◌≡◌, ◌∙◌, ap, length, subst, sym, List, take, drop, ◌++◌}
+use Rattle.std.proofs.Common.{rules, ◌≡◌, ◌∙◌, length, subst, sym, List, take, drop, ◌++◌}
 use Rattle.ep_host.specs.Pointwise.{Each}
 use Rattle.ep_host.specs.Rings.{IsBooked}
 use Rattle.ep_host.specs.Setting.{CountsAnew}

@@ -1,4 +1,4 @@
-use Rattle.std.proofs.Common.{rules, arith, ◌≡◌, ◌∙◌, length, subst, sym, List}
+use Rattle.std.proofs.Common.{rules, ◌≡◌, length, subst, sym, List}
 use Rattle.ep_host.specs.Outboxes.{AreAddressed, LetsGo}
 use Rattle.ep_host.specs.Setting.{LosesAll}
 use Rattle.ep_host.specs.declared.outlet.Outlet.{Outlet}

@@ -2,7 +2,7 @@ use Rattle.std.proofs.Common.{Some}
 use Rattle.ep_rules.specs.Cells.{record_or_fresh}
 use Rattle.ep_rules.specs.Maps.{get}
 use Rattle.ep_space.proofs.FirstTaken.{taken-written}
-use Rattle.ep_space.proofs.Kept.{kept-written, key_promised}
+use Rattle.ep_space.proofs.Kept.{kept-written, keys_promised}
 use Rattle.ep_space.proofs.keyed.Keyed.promise.Goals as goal
 
 pub note-requires : goal.note-requires
@@ -14,6 +14,6 @@ pub invariant_of-self : goal.invariant_of-self
 invariant_of-self c = (
   rw c.write_promise.ensures
       (kept-written c.self.inside.table.held c.args.id (Some (record { promised = c.args.ballot; vote = (record_or_fresh c.args.id (get c.self.inside.table.held c.args.id)).vote })) c.self.inside.table.places c.self.inside.index.entries
-      (key_promised c.args.id (get c.self.inside.table.held c.args.id)) c.self.invariant.0),
+      (keys_promised c.args.id (get c.self.inside.table.held c.args.id)) c.self.invariant.0),
   c.note.ensures,
 )

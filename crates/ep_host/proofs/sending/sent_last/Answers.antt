@@ -1,0 +1,18 @@
+use Rattle.std.proofs.Common.{rules, ◌≡◌, ◌<◌, ◌-◌, ℕ, length, get_or, subst, sym}
+use Rattle.ep_base.specs.declared.version.Version.TheVariants.{V2}
+use Rattle.ep_journal.specs.Entries.{IsJournal}
+use Rattle.ep_journal.specs.declared.entry.Entry.{Entry}
+use Rattle.ep_rules.specs.States.{fresh_state}
+use Rattle.ep_host.specs.HostFrames.{AreHostFrames}
+use Rattle.ep_host.proofs.Versioned.{entries_each}
+use Rattle.ep_host.proofs.sending.sent_last.Goals as goal
+
+pub copied-requires : goal.copied-requires
+copied-requires c =
+    let k = c.args.replica.now in
+    let run : IsJournal V2 k.faults k.me k.entries = search rules in
+    let last : ℕ = length k.entries - 1 in
+    let e : Entry = get_or k.entries last c.in-Some.entry.now in
+    let is : c.as_slice.result.now ≡ e.frames = search rules in
+    let low : last < length k.entries = search rules in
+    subst AreHostFrames (sym is) (entries_each k.faults k.me fresh_state k.entries run.versioned last c.in-Some.entry.now low)

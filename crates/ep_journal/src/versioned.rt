@@ -1,0 +1,55 @@
+//! What a version has: a replica of it takes no other events.
+
+ghost use Rattle.std.specs.Prelude.{◌≡◌, None, Some, IfErr, OnOk};
+ghost use Rattle.ep_frame.specs.Meaning.{version_at};
+ghost use Rattle.ep_journal.specs.Events.{IsReadable, lacking, numbered_in, spelled_in};
+
+use crate::event::Event;
+use crate::step_fault::StepFault;
+use ep_base::{InstanceId, Version};
+
+/// Whether a replica of this version has what the event speaks of: `OtherVersion` for a frame of another version, `OutOfRange` for a
+/// command or an instance's number that the version lacks.
+pub(crate) fn check_version(version: Version, event: &Event) -> Result<(), StepFault>
+    ensures ok { OnOk result (lacking version event.now ≡ None) }
+    ensures err { IfErr result (λ fault. IsReadable event.now × (lacking version event.now ≡ Some fault)) }
+{
+    event.is_readable();
+    match event {
+        Event::Propose {
+            client: _,
+            request: _,
+            command,
+            seen: _,
+        } => {
+            if !version.knows(command) {
+                return Err(StepFault::OutOfRange);
+            }
+            Ok(())
+        }
+        Event::Handle(frame) => check_spelled(frame.version(), version),
+        Event::GiveUp(instance) | Event::Recover(instance) | Event::Execute(instance) => {
+            check_numbered(version, *instance)
+        }
+    }
+}
+
+fn check_spelled(spelled: Version, version: Version) -> Result<(), StepFault>
+    ensures ok { OnOk result (spelled_in spelled version ≡ None) }
+    ensures err { IfErr result (λ fault. spelled_in spelled version ≡ Some fault) }
+{
+    match (spelled, version) {
+        (Version::V1, Version::V1) | (Version::V2, Version::V2) => Ok(()),
+        (Version::V1, Version::V2) | (Version::V2, Version::V1) => Err(StepFault::OtherVersion),
+    }
+}
+
+fn check_numbered(version: Version, instance: InstanceId) -> Result<(), StepFault>
+    ensures ok { OnOk result (numbered_in version instance ≡ None) }
+    ensures err { IfErr result (λ fault. numbered_in version instance ≡ Some fault) }
+{
+    if instance.number() > version.highest_number() {
+        return Err(StepFault::OutOfRange);
+    }
+    Ok(())
+}
