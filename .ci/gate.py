@@ -25,7 +25,9 @@ import rows
 # the program by LLVM, and by Rattle's own compiler
 PROGRAM = f"{TOP}/crates/ep_main/out/ep_main"
 PROGRAMS = {PROGRAM: "", f"{PROGRAM}.by-rattle": " (built by Rattle's own compiler)"}
-# tests that are run with each allocation refused: the crate, and a word of their names
+# the most runs that one test gets so
+MOST = "500"
+# tests that are run with each allocation refused, or MOST of them: the crate, and a word of their names
 TESTS = (
     ("ep_replica_tests", ""),
     ("ep_journal_tests", ""),
@@ -105,7 +107,7 @@ def last_run(row):
 def refused_memory():
     """Refuses allocations, and says of each of these sweeps whether it passed."""
     for crate, word in TESTS:
-        yield swept("refused-memory", [crate, word])
+        yield swept("refused-memory", [crate, word, MOST])
     for name in SCRIPTS:
         script = read(name)
         print(f"{name}, with each allocation refused:", flush=True)

@@ -107,15 +107,18 @@ fn version_1_answers_in_version_1(rt: HostRuntime) {
     drop(voter);
 }
 
-fn command(rt: &impl Abort, alloc: Global, place: u8) -> Command {
-    let made = match place {
+fn made(alloc: Global, place: u8) -> Option<Command> {
+    match place {
         0 => Command::get(alloc, b"y").ok(),
         1 => Command::put(alloc, b"x", b"1").ok(),
         _ => Command::swap(alloc, b"x", b"y").ok(),
-    };
-    match made {
+    }
+}
+
+fn command(rt: &impl Abort, alloc: Global, place: u8) -> Command {
+    match made(alloc, place) {
         Some(command) => command,
-        None => Command::del(alloc, b"memory").expect(rt, "memory for a command"),
+        None => made(alloc, place).expect(rt, "memory for a command"),
     }
 }
 
