@@ -34,7 +34,7 @@ TESTS = (
     ("ep_exec_tests", "circle"),
     ("ep_world_tests", "played_on"),
     ("ep_audit_tests", ""),
-    ("ep_host_tests", ""),
+    ("ep_host_tests", "a_put_and_a_get"),
 )
 # scripts that are played, made into a bundle, and audited so
 SCRIPTS = ("examples/one_put.script", "examples/crossing_puts.script", ".ci/scripts/seven.script")

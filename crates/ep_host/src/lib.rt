@@ -75,8 +75,3 @@ pub use threads::section;
 pub use turn::Turn;
 pub use weather::Weather;
 pub use weather_kind::WeatherKind;
-
-#[cfg(test)]
-mod ring_tests;
-#[cfg(test)]
-mod tests;

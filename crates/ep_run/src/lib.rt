@@ -33,6 +33,3 @@ pub use ran::Ran;
 pub use rings::run_rings;
 pub use run_fault::RunFault;
 pub use runner::run;
-
-#[cfg(test)]
-mod tests;

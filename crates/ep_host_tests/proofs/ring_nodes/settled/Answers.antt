@@ -2,7 +2,7 @@ use Rattle.std.proofs.Common.{rules, List, subst, sym}
 use Rattle.std.proofs.lemmas.List.{with_items_is}
 use Rattle.ep_host.specs.Host.{IsHost}
 use Rattle.ep_host.specs.Node.{Node}
-use Rattle.ep_host.proofs.ring_tests.settled.Goals as goal
+use Rattle.ep_host_tests.proofs.ring_nodes.settled.Goals as goal
 
 pub returns : goal.returns
 returns c =

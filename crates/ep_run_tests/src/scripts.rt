@@ -1,8 +1,8 @@
 //! Scripts that are run.
 
-use crate::{Limits, Ran, run, run_rings};
 use ep_base::Noted;
 use ep_report::Cause;
+use ep_run::{Limits, Ran, run, run_rings};
 use ep_script::{RunScript, read_run};
 use std::alloc::Global;
 use std::marker::Sync;

@@ -1,6 +1,6 @@
 use Rattle.std.proofs.Common.{ℕ}
 use Rattle.ep_host.specs.Host.{IsHost}
-use Rattle.ep_host.proofs.ring_tests.assign_all.Given as goal
+use Rattle.ep_host_tests.proofs.ring_nodes.assign_all.Given as goal
 
 abbrev pub invariant-loop-node : goal.invariant-loop-node
 invariant-loop-node g l = (f : ℕ) → IsHost f l.fn.nodes → IsHost f l.nodes

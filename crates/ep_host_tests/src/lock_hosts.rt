@@ -2,8 +2,8 @@
 
 ghost use Rattle.std.specs.Prelude.{◌≤◌};
 
-use crate::{HostFault, LockHost, Turn, Weather, WeatherKind};
 use ep_base::{Answer, Command, InstanceId, ReplicaId, Reply, Size};
+use ep_host::{HostFault, LockHost, Turn, Weather, WeatherKind};
 use ep_rules::Receipt;
 use std::alloc::Global;
 use std::marker::Sync;

@@ -3,12 +3,12 @@
 ghost use Rattle.std.specs.Prelude.{ℕ, ◌≤◌, ◌<◌, length};
 ghost use Rattle.ep_host.specs.Host.{IsHost};
 
-use crate::{
+use ep_audit::Verdict;
+use ep_base::{Command, InstanceId, ReplicaId, Size};
+use ep_host::{
     Gate, GateUnpassed, HostFault, RingHost, RingNode, Task, Weather, WeatherKind, finish, section,
     settle,
 };
-use ep_audit::Verdict;
-use ep_base::{Command, InstanceId, ReplicaId, Size};
 use ep_journal::StepFault;
 use std::alloc::Global;
 use std::marker::Sync;
