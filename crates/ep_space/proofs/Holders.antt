@@ -12,7 +12,7 @@ use Rattle.std.proofs.lemmas.Cmp.{ranked}
 use Rattle.std.proofs.lemmas.Option.{none-some}
 use Rattle.ep_base.specs.Deps.{IsRising, IsBelowFirst, AreInstances, union}
 use Rattle.ep_base.specs.Instances.{IsInstance}
-use Rattle.ep_base.specs.Interference.{has_key}
+use Rattle.ep_base.specs.Interference.{has_key, share_key}
 use Rattle.ep_base.specs.Places.{Has}
 use Rattle.ep_base.proofs.Keys.{or_false}
 use Rattle.ep_base.proofs.Members.{same_members, union-cases, Has-union}
@@ -21,7 +21,7 @@ use Rattle.ep_base.proofs.Places.{Has-empty, Has-cons_cases, Has-head, Has-tail}
 use Rattle.ep_rules.specs.InterferenceSet.{those, instances}
 use Rattle.ep_rules.specs.Maps.{Map, none, get}
 use Rattle.ep_rules.specs.declared.record.Record.{Record}
-use Rattle.ep_space.specs.Keys.{voted_keys, recorded_keys, keys_at, names_key, holders, names_one, holders_of}
+use Rattle.ep_space.specs.Keys.{voted_keys, recorded_keys, keys_at, names_key, holders, names_one, holders_of, AllShare}
 use Rattle.ep_space.proofs.Rising.{some_is, all_from}
 
 -- The instances of those entries of a map that pass a test.
@@ -192,3 +192,12 @@ holders-two k l m =
       | inl h ↦ inl (found-those (names_key k) (map.entries m) i f.0 f.1 h)
       | inr h ↦ inr (found-those (names_key l) (map.entries m) i f.0 f.1 h)
     ]))
+
+-- each of them has one of the keys
+pub shared-holders : (ks : List (List ℕ)) (m : Map Record) (is : List ℕ) → is ≡ holders_of ks m → AllShare ks m is
+shared-holders ks m is e = subst (AllShare ks m) (sym e) (all_from (λ i. share_key ks (keys_at m i) ≡ true) (holders_of ks m) shares)
+  where
+    shares : (i : ℕ) → Has (holders_of ks m) i → share_key ks (keys_at m i) ≡ true
+    shares i has =
+        let found = those-found (names_one ks) (map.entries m) i (sorted_true m) has in
+        ap (λ o. share_key ks (recorded_keys o)) (map.get-entries m i ∙ found.1) ∙ found.2

@@ -1,5 +1,6 @@
 -- The keys of recorded commands.
 use Rattle.std.specs.Prelude.{◌≡◌, ℕ, Bool, true, List, [], Option, Some, None}
+use Rattle.std.specs.List.{AllByRecursion}
 use Rattle.ep_base.specs.Interference.{keys_of, has_key, share_key}
 use Rattle.ep_base.specs.declared.vote.Vote.{Vote}
 use Rattle.ep_rules.specs.InterferenceSet.{those, instances}
@@ -37,3 +38,7 @@ names_one ks e = share_key ks (voted_keys e.1.vote)
 -- the instances whose recorded command has one of the keys, in rising order
 abbrev pub holders_of : List (List ℕ) → Map Record → List ℕ
 holders_of ks m = instances (those (names_one ks) (entries m))
+
+-- the recorded command at each of these has one of the keys
+abbrev pub AllShare : List (List ℕ) → Map Record → List ℕ → Type 0
+AllShare ks m is = AllByRecursion (λ i. share_key ks (keys_at m i) ≡ true) is
