@@ -1,6 +1,6 @@
 //! The instances that a replica has executed.
 
-ghost use Rattle.std.specs.Prelude.{◌≡◌, ◌<◌, ◌≤◌, ◌+◌, ◌↔◌, [], ◌∷◌, ◌++◌, IsTrue, OnOk, length};
+ghost use Rattle.std.specs.Prelude.{◌≡◌, ◌<◌, ◌≤◌, ◌+◌, ◌↔◌, [], ◌∷◌, ◌++◌, IsTrue, IfOk, OnOk, length};
 ghost use Rattle.std.specs.Vec.{vec_len, vec_capacity};
 ghost use Rattle.ep_base.specs.Places.{Has};
 ghost use Rattle.ep_exec.specs.Marks.{AreMarks};
@@ -42,6 +42,15 @@ impl Executed {
             list: Vec::new(alloc),
             marks: Vec::new(alloc),
         }
+    }
+
+    /// The same set again, with room for no more.
+    pub fn duplicate(&self, alloc: Global) -> Result<Executed, AllocError>
+        ensures { IfOk result (λ e. e.list ≡ self.now.list) }
+    {
+        let list = Vec::from_slice(alloc, &self.list)?;
+        let marks = Vec::from_slice(alloc, &self.marks)?;
+        Ok(Executed { list, marks })
     }
 
     /// Whether the instance is in the set.

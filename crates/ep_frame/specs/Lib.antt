@@ -6,3 +6,4 @@ pub mod Meaning
 pub mod Ranges
 pub mod DepBytes
 pub mod Origins
+pub mod Upgrading

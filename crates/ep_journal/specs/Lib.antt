@@ -9,3 +9,4 @@ pub mod Entries
 pub mod Standing
 pub mod Blocks
 pub mod Leaving
+pub mod Upgrading

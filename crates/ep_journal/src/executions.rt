@@ -38,6 +38,18 @@ impl Executions {
         Executions { items }
     }
 
+    /// The same instances with the same answers again.
+    pub fn copy(&self, alloc: Global) -> Result<Executions, AllocError>
+        ensures { IfOk result (λ e. e ≡ self.now) }
+    {
+        let mut items = Vec::with_capacity(alloc, self.items.len())?;
+        for (id, answer) in self.items.iter() {
+            let answer = answer.copy(alloc)?;
+            items.push((*id, answer))?;
+        }
+        Ok(Executions { items })
+    }
+
     /// The instances with their answers, in order.
     pub fn as_slice(&self) -> &[(InstanceId, Answer)]
         ensures { result.now ≡ self.now }

@@ -50,6 +50,14 @@ impl Frames {
         Frames { items }
     }
 
+    /// The same frames again, which share their bytes.
+    pub fn copy(&self, alloc: Global) -> Result<Frames, AllocError>
+        ensures { IfOk result (λ f. f ≡ self.now) }
+    {
+        let items = Vec::from_clones(alloc, &self.items)?;
+        Ok(Frames { items })
+    }
+
     /// The frames, in order.
     pub fn as_slice(&self) -> &[Frame]
         ensures { result.now ≡ self.now }

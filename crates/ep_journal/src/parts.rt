@@ -27,7 +27,7 @@ use ep_base::{InstanceId, ReplicaId};
 use ep_exec::{Executed, Store};
 use ep_phase::{Cell, Lead, next_instance};
 use ep_space::Space;
-use std::alloc::Global;
+use std::alloc::{AllocError, Global};
 
 /// What a replica is: what it recorded, leads, has executed and stores.
 #[derive(Drop)]
@@ -40,6 +40,23 @@ pub struct Parts {
 }
 
 impl Parts {
+    /// The same again, with no room for executions yet.
+    pub fn copy(&self, alloc: Global) -> Result<Parts, AllocError>
+        ensures { IfOk result (λ p. standing_of p ≡ standing_of self.now) }
+    {
+        let space = self.space.duplicate(alloc)?;
+        let lead = self.lead.duplicate(alloc)?;
+        let executed = self.executed.duplicate(alloc)?;
+        let store = self.store.copy()?;
+        Ok(Parts {
+            me: self.me,
+            space,
+            lead,
+            executed,
+            store,
+        })
+    }
+
     /// Takes the step of an event: its entry, so marked; or why it is refused. Where there is no mark, it is past its limits.
     pub fn step(
         &mut self,

@@ -47,6 +47,15 @@ impl Lead {
         }
     }
 
+    /// All that is led and told again.
+    pub fn duplicate(&self, alloc: Global) -> Result<Lead, AllocError>
+        ensures { IfOk result (λ l. l ≡ self.now) }
+    {
+        let leads = self.leads.duplicate(alloc)?;
+        let told = self.told.duplicate(alloc)?;
+        Ok(Lead { leads, told })
+    }
+
     /// Makes a place for the instance, if it has none. Nothing else takes memory here.
     pub fn reserve(&mut self, id: InstanceId) -> Result<(), AllocError>
         ensures ok { OnOk result (self.new ≡ record { leads = self.old.leads; told = self.old.told; places = set.insert self.old.places id }) }

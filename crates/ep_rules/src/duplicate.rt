@@ -18,6 +18,12 @@ impl Duplicate for () {
     }
 }
 
+impl Duplicate for u16 {
+    fn duplicate(&self, _alloc: Global) -> Result<u16, AllocError> {
+        Ok(*self)
+    }
+}
+
 impl Duplicate for Attrs {
     fn duplicate(&self, alloc: Global) -> Result<Attrs, AllocError> {
         self.copy(alloc)

@@ -3,6 +3,7 @@
 ghost use Rattle.std.specs.Prelude.{◌≡◌, IfOk};
 
 use crate::answers::Answers;
+use crate::duplicate::Duplicate;
 use ep_base::{Attrs, Ballot, Vote};
 use std::alloc::{AllocError, Global};
 
@@ -27,5 +28,11 @@ impl Led {
             Led::Accepting(ballot, answers) => Ok(Led::Accepting(*ballot, answers.copy(alloc)?)),
             Led::Preparing(ballot, answers) => Ok(Led::Preparing(*ballot, answers.copy(alloc)?)),
         }
+    }
+}
+
+impl Duplicate for Led {
+    fn duplicate(&self, alloc: Global) -> Result<Led, AllocError> {
+        self.copy(alloc)
     }
 }

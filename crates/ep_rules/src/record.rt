@@ -38,3 +38,9 @@ impl Record {
         })
     }
 }
+
+impl Duplicate for Record {
+    fn duplicate(&self, alloc: Global) -> Result<Record, AllocError> {
+        self.copy(alloc)
+    }
+}

@@ -1,7 +1,9 @@
 -- What a change of one entry of an index says of its runs.
-use Rattle.std.proofs.Common.{◌≡◌, ℕ, Bool, true, false, true≢false, cond, Some, List, [], ◌∷◌, refl, sym, ap, ◌∙◌}
+use Rattle.std.proofs.Common.{◌≡◌, ℕ, suc, ◌+◌, drop, arith, Bool, true, false, true≢false, cond, Some, List, [], ◌∷◌, refl, sym, ap, ◌∙◌}
+use Rattle.std.proofs.Math.Seq.{drop-cons}
+use Rattle.std.proofs.lemmas.Option.{slice_get_within, get_or_from_slice_get}
 use Rattle.std.specs.Cmp.Lexicographic.{nat_list_eq_equiv}
-use Rattle.std.specs.Prelude.{Vec, is_some}
+use Rattle.std.specs.Prelude.{Vec, is_some, slice_get}
 use Rattle.std.specs.Global.{Global}
 use Rattle.std.specs.Map.{lookup, set_value, KeepsOthers}
 use Rattle.ep_base.specs.Attributes.{same_list}
@@ -70,3 +72,18 @@ run-kept es fs k v w here written kept q = run-changed (λ xs. xs) es fs k v w h
     go : (b : Bool) → cond b (run es q) (run es q) ≡ run es q
     go true = refl
     go false = refl
+
+-- the run of an entry at the front, or of the rest
+run-front : (e : Entry) (es : List Entry) (q : List ℕ) → run (e ∷ es) q ≡ cond (same_list q e.0.items) e.1.items (run es q)
+run-front e es q = go (same_list q e.0.items)
+  where
+    go : (b : Bool) → listed (cond b (Some e.1) (lookup (is_at q) es)) ≡ cond b e.1.items (run es q)
+    go true = refl
+    go false = refl
+
+-- the runs from an entry on
+pub run-from : (es : List Entry) (k n : ℕ) (e : Entry) (q : List ℕ) → slice_get es k ≡ Some e → n ≡ k + 1 → run (drop k es) q ≡ cond (same_list q e.0.items) e.1.items (run (drop n es) q)
+run-from es k n e q here next =
+    let cons = drop-cons es k e (slice_get_within es k e here) in
+    let place : suc k ≡ n = omega (arith, next) in
+    ap (λ fs. run fs q) (cons ∙ (λ d. get_or_from_slice_get es k e e here d ∷ drop (place d) es)) ∙ run-front e (drop n es) q

@@ -1,6 +1,6 @@
 //! An index of records by key.
 
-ghost use Rattle.std.specs.Prelude.{◌≡◌, ◌≤◌, ℕ, List, [], ◌∷◌, ◌&&◌, not, length, None, true, false, cond, IsOk, OnOk, OnErr};
+ghost use Rattle.std.specs.Prelude.{◌≡◌, ◌≤◌, ℕ, List, [], ◌∷◌, ◌&&◌, not, length, None, true, false, cond, IsOk, IfOk, OnOk, OnErr};
 ghost use Rattle.std.specs.Map.{lookup};
 ghost use Rattle.ep_base.specs.Attributes.{same_list};
 ghost use Rattle.ep_base.specs.Deps.{IsRising};
@@ -14,7 +14,7 @@ use crate::table::Table;
 use ep_base::{Command, InstanceId, Key, KeyPair};
 use ep_rules::Record;
 use indexmap::IndexMap;
-use std::alloc::AllocError;
+use std::alloc::{AllocError, Global};
 
 /// From a key to its run: the places of the records whose command has it, in rising order of instances. A record of two keys stands in
 /// two runs. A key whose last place was taken out stays, with an empty run.
@@ -27,6 +27,31 @@ pub(crate) fn run_of<'a>(index: &'a Index, key: &[u8]) -> &'a [u32]
     match index.get(key) {
         None => &[],
         Some(run) => run.as_slice(),
+    }
+}
+
+/// The same runs again.
+pub(crate) fn duplicate(index: &Index, alloc: Global) -> Result<Index, AllocError>
+    ensures { IfOk result (λ same. (k : List ℕ) → run same.entries k ≡ run index.now.entries k) }
+{
+    let mut same = IndexMap::with_capacity(alloc, index.len())?;
+    for place in (0..index.len()).rev() {
+        let (key, run) = index.get_index(place).unwrap();
+        set_run(&mut same, key.as_slice(), run.as_slice())?;
+    }
+    Ok(same)
+}
+
+/// Puts this in place of the key's run.
+fn set_run(index: &mut Index, key: &[u8], places: &[u32]) -> Result<(), AllocError>
+    ensures { OnOk result ((k : List ℕ) → run index.new.entries k ≡ cond (same_list k key.now) places.now (run index.old.entries k)) }
+{
+    let alloc = *index.allocator();
+    let key = Vec::from_slice(alloc, key)?;
+    let run = Vec::from_slice(alloc, places)?;
+    match index.insert(key, run) {
+        Ok(_) => Ok(()),
+        Err(_) => Err(AllocError),
     }
 }
 

@@ -11,7 +11,7 @@ ghost use Rattle.ep_space.specs.Held.{HasPlace};
 ghost use Rattle.ep_space.specs.Index.{IsKept};
 ghost use Rattle.ep_space.specs.Keys.{recorded_keys, keys_at, holders, NeedsNoRoom};
 
-use crate::index::{Index, enter, leave, run_of};
+use crate::index::{self, Index, enter, leave, run_of};
 use crate::place::instance_of;
 use crate::table::Table;
 use crate::taken::note;
@@ -56,6 +56,19 @@ impl Keyed {
             index: IndexMap::new(alloc),
             taken: [0; 7],
         }
+    }
+
+    /// The same records again.
+    pub fn duplicate(&self, alloc: Global) -> Result<Keyed, AllocError>
+        ensures { IfOk result (λ k. k ≡ self.now) }
+    {
+        let table = self.table.duplicate(alloc)?;
+        let index = index::duplicate(&self.index, alloc)?;
+        Ok(Keyed {
+            table,
+            index,
+            taken: self.taken,
+        })
     }
 
     /// The instance's record, if it has one.

@@ -80,6 +80,18 @@ impl Space {
         self.table.get(id)
     }
 
+    /// All records again.
+    pub fn duplicate(&self, alloc: Global) -> Result<Space, AllocError>
+        ensures { IfOk result (λ s. s ≡ self.now) }
+    {
+        let table = self.table.duplicate(alloc)?;
+        Ok(Space {
+            size: self.size,
+            version: self.version,
+            table,
+        })
+    }
+
     /// The record again, if there is one: what a later `put_back` may put back.
     pub fn copy(&self, alloc: Global, id: InstanceId) -> Result<Option<Record>, AllocError>
         ensures { IfOk result (λ o. o ≡ get self.now.records id) }

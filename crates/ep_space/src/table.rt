@@ -1,6 +1,6 @@
 //! A table with places for values of instances.
 
-ghost use Rattle.std.specs.Prelude.{◌≡◌, ◌≢◌, ◌≤◌, ◌<◌, ℕ, true, Some, OnOk, OnErr, is_some, length, slice_index_or, slice_set};
+ghost use Rattle.std.specs.Prelude.{◌≡◌, ◌≢◌, ◌≤◌, ◌<◌, ℕ, true, Some, IfOk, OnOk, OnErr, is_some, length, slice_index_or, slice_set};
 ghost use Rattle.std.specs.Option.{option_copied};
 ghost use Rattle.std.specs.FinSet as set;
 ghost use Rattle.std.specs.Map.{keys_of, lookup, set_value};
@@ -11,6 +11,7 @@ ghost use Rattle.ep_space.specs.Held.{HasPlace};
 ghost use Rattle.ep_space.specs.Entries.{flat, same, with_place, held, slot, spot, value_at, AreSpots};
 
 use ep_base::InstanceId;
+use ep_rules::Duplicate;
 use std::alloc::{AllocError, Global};
 use std::marker::Model;
 use std::mem;
@@ -90,6 +91,42 @@ impl<V: Drop> Table<V> {
         ensures { result ≡ set.contains self.now.places id }
     {
         spot_of(&self.spots, id) != 0
+    }
+}
+
+impl<V: Duplicate> Table<V> {
+    /// The same table again.
+    pub fn duplicate(&self, alloc: Global) -> Result<Table<V>, AllocError>
+        ensures { IfOk result (λ t. t ≡ self.now) }
+    {
+        let entries = duplicates(&self.entries, alloc)?;
+        let spots = Vec::from_slice(alloc, &self.spots)?;
+        Ok(Table { entries, spots })
+    }
+}
+
+/// The same entries again.
+fn duplicates<V: Duplicate>(
+    entries: &[(InstanceId, Option<V>)],
+    alloc: Global,
+) -> Result<Vec<(InstanceId, Option<V>)>, AllocError>
+    ensures { IfOk result (λ same. same.items ≡ entries.now) }
+{
+    let mut same = Vec::with_capacity(alloc, entries.len())?;
+    for (id, value) in entries {
+        let value = duplicate_of(value, alloc)?;
+        same.push((*id, value))?;
+    }
+    Ok(same)
+}
+
+/// The same value again, if there is one.
+fn duplicate_of<V: Duplicate>(value: &Option<V>, alloc: Global) -> Result<Option<V>, AllocError>
+    ensures { IfOk result (λ same. same ≡ value.now) }
+{
+    match value {
+        None => Ok(None),
+        Some(value) => Ok(Some(value.duplicate(alloc)?)),
     }
 }
 

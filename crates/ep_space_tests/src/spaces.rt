@@ -503,3 +503,30 @@ fn a_thousand_keys_have_a_run_each(rt: HostRuntime) {
         Some((1, 0))
     );
 }
+
+/// All records again.
+fn duplicate(rt: &impl Abort, alloc: Global, space: &Space) -> Space {
+    match space.duplicate(alloc) {
+        Ok(same) => same,
+        Err(_) => space.duplicate(alloc).expect(rt, "memory for a copy"),
+    }
+}
+
+/// What is written later in the one isn't in the other.
+#[test]
+fn all_records_are_copied(rt: HostRuntime) {
+    let alloc = rt.alloc();
+    let first = instance(&rt, 0, 1);
+    let second = instance(&rt, 1, 1);
+    let mut space = empty(&rt, alloc);
+    hold(&rt, alloc, &mut space, first, 1);
+    let swap = swap_of(&rt, alloc, b"x", b"y");
+    accept(&rt, alloc, &mut space, second, swap);
+    let same = duplicate(&rt, alloc, &space);
+    put_nothing_back(&rt, &mut space, first);
+    drop(space);
+    assert_run(&rt, &same, b"x", &[first, second]);
+    assert_run(&rt, &same, b"y", &[second]);
+    assert_eq!(rt; same.voted_ballot(second), ballot(&rt, 1, 3));
+    drop(same);
+}
