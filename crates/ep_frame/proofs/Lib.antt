@@ -12,3 +12,4 @@ pub mod Frames
 pub mod Meanings
 pub mod DepBytes
 pub mod Reorigin
+pub mod Upgrading

@@ -1,17 +1,19 @@
 //! Frames that are known to be frames.
 
-ghost use Rattle.std.specs.Prelude.{◌≡◌, Ok, Err, IfOk, IsOk, MatchResult};
+ghost use Rattle.std.specs.Prelude.{◌≡◌, ◌≤◌, ◌∷◌, ◌++◌, Ok, Err, IfOk, IsOk, MatchResult, length, take, drop};
 ghost use Rattle.ep_base.specs.Messages.{instance_of_message};
+ghost use Rattle.ep_base.specs.declared.version.Version.TheVariants.{V2};
 ghost use Rattle.ep_frame.specs.Faults.{HasNoFault, fault_of};
 ghost use Rattle.ep_frame.specs.Meaning.{version_at, sender_at, origin_at, instance_at, message_at};
 ghost use Rattle.ep_frame.specs.Spelling.{IsFrame, Spells};
+ghost use Rattle.ep_frame.specs.Upgrading.{IsUpgradedFrame};
 
 use crate::fault::FrameFault;
 use crate::origin::Origin;
 use crate::view::FrameView;
-use bytes::Bytes;
+use bytes::{Bytes, BytesMut};
 use ep_base::{InstanceId, ReplicaId, Version};
-use std::alloc::AllocError;
+use std::alloc::{AllocError, Global};
 use std::marker::Model;
 
 /// A frame: shared bytes that spell one message, in one version, from one sender and with one origin. The bytes are checked
@@ -30,6 +32,18 @@ impl Model for Frame {
     ghost view = { λ f. f.bytes };
 
     ghost invariant = { λ f. HasNoFault f.bytes };
+}
+
+/// These bytes with the version 2.
+fn in_version_2(alloc: Global, bytes: &[u8]) -> Result<Bytes, AllocError>
+    requires { 3 ≤ length bytes.now }
+    ensures { IfOk result (λ b. b ≡ take 2 bytes.now ++ 2 ∷ drop 3 bytes.now) }
+{
+    let mut out = BytesMut::with_capacity(alloc, bytes.len())?;
+    out.extend_from_slice(&bytes[..2])?;
+    out.extend_from_slice(&[2])?;
+    out.extend_from_slice(&bytes[3..])?;
+    Ok(out.freeze()?)
 }
 
 impl Frame {
@@ -104,6 +118,22 @@ impl Frame {
         ensures message { result ≡ instance_of_message (message_at self.now) }
     {
         self.view().instance()
+    }
+
+    /// The frame in version 2, of the same sender, origin and message. One of version 2 shares its bytes; one of version 1 is
+    /// copied, and its version alone changes: nothing is read or checked again.
+    pub fn upgraded(&self, alloc: Global) -> Result<Frame, AllocError>
+        ensures upgraded { IfOk result (λ f. IsUpgradedFrame self.now f) }
+        ensures same { version_at self.now ≡ V2 → IfOk result (λ f. f ≡ self.now) }
+    {
+        let view = self.view();
+        match view.version() {
+            Version::V1 => {
+                let bytes = in_version_2(alloc, self.as_slice())?;
+                Ok(Frame::written(bytes))
+            }
+            Version::V2 => self.clone(),
+        }
     }
 }
 

@@ -15,3 +15,4 @@ pub mod Collecting
 pub mod Still
 pub mod Named
 pub mod Growing
+pub mod Upgrading
