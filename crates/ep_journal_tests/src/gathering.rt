@@ -102,3 +102,20 @@ fn journals_of_no_cluster(rt: HostRuntime) {
     assert_refused(&rt, alloc, &[(3, 1), (3, 0), (3, 2)]);
     assert_refused(&rt, alloc, &[(3, 0), (5, 1), (3, 2)]);
 }
+
+fn copied(rt: &impl Abort, alloc: Global, journals: &Journals) -> Journals {
+    match journals.copy(alloc) {
+        Ok(copy) => copy,
+        Err(_) => journals.copy(alloc).expect(rt, "memory for a copy"),
+    }
+}
+
+#[test]
+fn journals_are_copied(rt: HostRuntime) {
+    let alloc = rt.alloc();
+    let journals = gathered(&rt, alloc, &[(3, 0), (3, 1), (3, 2)]).expect(&rt, "journals");
+    let copy = copied(&rt, alloc, &journals);
+    drop(journals);
+    assert_eq!(rt; found(&rt, &copy, 2), Some((3, 2, 0)));
+    drop(copy);
+}

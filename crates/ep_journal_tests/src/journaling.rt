@@ -85,3 +85,27 @@ fn what_is_refused_has_no_entry(rt: HostRuntime) {
     assert_eq!(rt; shown(&journal, id), (0, 0, 0));
     drop(journal);
 }
+
+fn copied(rt: &impl Abort, alloc: Global, journal: &Journal) -> Journal {
+    match journal.copy(alloc) {
+        Ok(copy) => copy,
+        Err(_) => journal.copy(alloc).expect(rt, "memory for a copy"),
+    }
+}
+
+#[test]
+fn a_copy_goes_on_alone(rt: HostRuntime) {
+    let alloc = rt.alloc();
+    let id = first_of(&rt, 0);
+    let mut journal = journal(&rt, alloc);
+    let proposed = taken(&rt, alloc, &mut journal, propose(&rt, alloc, 1, 1), 1);
+    assert_eq!(rt; proposed, Ok(()));
+    let mut copy = copied(&rt, alloc, &journal);
+    let event = handle(&rt, alloc, &PRE_ACCEPT_OK);
+    let answered = taken(&rt, alloc, &mut copy, event, 3);
+    assert_eq!(rt; answered, Ok(()));
+    assert_eq!(rt; shown(&journal, id), (1, 1, 0));
+    drop(journal);
+    assert_eq!(rt; shown(&copy, id), (2, 3, 1));
+    drop(copy);
+}
