@@ -8,3 +8,4 @@ pub mod Trying
 pub mod Taking
 pub mod Remembering
 pub mod Waking
+pub mod Resuming

@@ -7,3 +7,4 @@ pub mod Outcomes
 pub mod Pending
 pub mod Spans
 pub mod Blockers
+pub mod Resuming

@@ -1,6 +1,6 @@
 //! The own instances that are due to be tried.
 
-ghost use Rattle.std.specs.Prelude.{◌≡◌, ◌≢◌, ◌≤◌, ◌<◌, ℕ, [], true, length, OnOk};
+ghost use Rattle.std.specs.Prelude.{◌≡◌, ◌≢◌, ◌≤◌, ◌<◌, ℕ, [], true, length, IfOk, OnOk};
 ghost use Rattle.ep_base.specs.Instances.{highest_number};
 ghost use Rattle.ep_replica.specs.Blockers.{is_due};
 
@@ -58,6 +58,18 @@ impl Due {
             flags: Vec::new(alloc),
             span: Span::new(),
         }
+    }
+
+    /// All numbers.
+    pub(crate) fn all(alloc: Global) -> Result<Due, AllocError>
+        ensures { IfOk result (λ d. (n : ℕ) → 1 ≤ n → n ≤ highest_number → is_due d n ≡ true) }
+    {
+        let mut due = Due::new(alloc);
+        due.reserve()?;
+        for number in 1..2001 {
+            due.add(number);
+        }
+        Ok(due)
     }
 
     /// Makes a place for each number.

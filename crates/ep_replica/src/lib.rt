@@ -21,6 +21,7 @@ mod receipt_view;
 mod remembered;
 mod replica;
 mod replica_fault;
+mod resume_fault;
 mod slots;
 mod span;
 
@@ -28,3 +29,4 @@ pub use proposal::Proposal;
 pub use receipt_view::ReceiptView;
 pub use replica::Replica;
 pub use replica_fault::ReplicaFault;
+pub use resume_fault::ResumeFault;

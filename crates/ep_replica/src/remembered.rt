@@ -1,6 +1,6 @@
 //! What a replica remembers of its own instances that it hasn't executed yet.
 
-ghost use Rattle.std.specs.Prelude.{◌≡◌, ◌≤◌, ◌<◌, ℕ, [], Some, None, length, OnOk};
+ghost use Rattle.std.specs.Prelude.{◌≡◌, ◌≤◌, ◌<◌, ℕ, [], Some, None, length, IfOk, OnOk};
 ghost use Rattle.ep_base.specs.Instances.{highest_number, instance_of};
 ghost use Rattle.ep_journal.specs.Events.{event_of};
 ghost use Rattle.ep_journal.specs.Leaving.{standing};
@@ -52,6 +52,16 @@ impl Remembered {
             due: Due::new(alloc),
             blockers: Blockers::new(alloc),
         }
+    }
+
+    /// All own instances are due, and nothing is known to block one.
+    pub(crate) fn all_due(alloc: Global) -> Result<Remembered, AllocError>
+        ensures { IfOk result (λ r. (k : Kept) → Remembers k r.due r.blockers) }
+    {
+        Ok(Remembered {
+            due: Due::all(alloc)?,
+            blockers: Blockers::new(alloc),
+        })
     }
 
     /// Makes a place for each own instance.

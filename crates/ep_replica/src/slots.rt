@@ -1,6 +1,6 @@
 //! The index of what a replica proposed.
 
-ghost use Rattle.std.specs.Prelude.{◌≡◌, ◌<◌, ◌≤◌, ◌++◌, ◌∷◌, [], ℕ, List, Option, Some, length, OnOk};
+ghost use Rattle.std.specs.Prelude.{◌≡◌, ◌<◌, ◌≤◌, ◌++◌, ◌∷◌, [], ℕ, List, Option, Some, length, IfOk, OnOk};
 ghost use Rattle.ep_base.specs.Instances.{highest_number, number_of};
 ghost use Rattle.ep_journal.specs.Entries.{frames_at};
 ghost use Rattle.ep_journal.specs.Events.{event_of};
@@ -81,10 +81,23 @@ impl Slots {
         *self.items.get(number as usize)?
     }
 
+    /// The proposals in these entries of this replica.
+    pub(crate) fn of(alloc: Global, me: ReplicaId, entries: &[Entry]) -> Result<Slots, AllocError>
+        ensures { IfOk result (λ s. Tells me entries.now s) }
+    {
+        let mut slots = Slots::new(alloc);
+        slots.reserve()?;
+        for entry in entries {
+            slots.note(me, entry);
+        }
+        Ok(slots)
+    }
+
     /// Keeps what the entry of this replica proposes. It takes no memory.
     pub(crate) fn note(&mut self, me: ReplicaId, entry: &Entry)
         requires room { highest_number < length self.old }
-        ensures { (es : List Entry) → Tells me es self.old → Tells me (es ++ entry.now ∷ []) self.new }
+        ensures told { (es : List Entry) → Tells me es self.old → Tells me (es ++ entry.now ∷ []) self.new }
+        ensures room { length self.new ≡ length self.old }
     {
         let Some((instance, proposal)) = proposal_in(entry) else {
             return;

@@ -14,6 +14,8 @@ mod recovering;
 #[cfg(test)]
 mod refusing;
 #[cfg(test)]
+mod resuming;
+#[cfg(test)]
 mod samples;
 #[cfg(test)]
 mod stamping;

@@ -6,14 +6,14 @@ use Rattle.ep_replica.specs.Slots.{Tells}
 use Rattle.ep_replica.specs.declared.proposal.Proposal.{Proposal}
 use Rattle.ep_replica.proofs.slots.Slots.note.Goals as goal
 
-pub returns-then-eq : goal.returns-then-eq
-returns-then-eq c = λ es tells.
+pub returns-then-eq-clause-told : goal.returns-then-eq-clause-told
+returns-then-eq-clause-told c = λ es tells.
     tells_more c.args.me es c.args.entry.now c.self.inside.items.items _ c.number.result _ (subst (λ (xs : List (Option Proposal)). highest_number < length xs) (sym c.self.view_is) c.requires.room)
     (sym c.replica.ensures ∙ eqb-true c.replica.result c.args.me (sym c.eq.ensures ∙ c.if-eq.true)) c.number.ensures.value c.number.ensures.in_range.2 c.in-Some.ensures (subst (λ (xs : List (Option Proposal)). Tells c.args.me es xs) (sym c.self.view_is) tells)
 
-pub returns-in_default : goal.returns-in_default
-returns-in_default c = λ es tells. still_tells c.args.me es c.args.entry.now c.args.self.now (λ number limit. c.in_default.ensures (instance_of c.args.me number)) tells
+pub returns-in_default-clause-told : goal.returns-in_default-clause-told
+returns-in_default-clause-told c = λ es tells. still_tells c.args.me es c.args.entry.now c.args.self.now (λ number limit. c.in_default.ensures (instance_of c.args.me number)) tells
 
-pub returns-else-eq : goal.returns-else-eq
-returns-else-eq c = λ es tells.
+pub returns-else-eq-clause-told : goal.returns-else-eq-clause-told
+returns-else-eq-clause-told c = λ es tells.
     others_tell c.args.me es c.args.entry.now c.args.self.now _ _ (λ same. eqb-false c.replica.result c.args.me (sym c.eq.ensures ∙ c.if-eq.false) (c.replica.ensures ∙ same)) c.in-Some.ensures tells
