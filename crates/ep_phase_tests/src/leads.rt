@@ -61,3 +61,27 @@ fn what_was_led_is_put_back(rt: HostRuntime) {
     assert!(rt; lead.get(id).is_none());
     drop(lead);
 }
+
+fn duplicate(rt: &impl Abort, alloc: Global, lead: &Lead) -> Lead {
+    match lead.duplicate(alloc) {
+        Ok(same) => same,
+        Err(_) => lead.duplicate(alloc).expect(rt, "memory for a copy"),
+    }
+}
+
+/// What ends in the one goes on in the other.
+#[test]
+fn all_that_is_led_is_copied(rt: HostRuntime) {
+    let alloc = rt.alloc();
+    let id = first_of(&rt, 0);
+    let default = ballot(&rt, 0, 0);
+    let mut lead = lead(&rt, alloc, id);
+    lead.lead(id, Led::Proposing(default, Answers::new(alloc)));
+    lead.tell(id, 7);
+    let same = duplicate(&rt, alloc, &lead);
+    lead.end(id);
+    drop(lead);
+    assert!(rt; is_proposing(&same, id));
+    assert_told(&rt, &same, id, Some(7), 7);
+    drop(same);
+}
