@@ -76,3 +76,13 @@ upgraded_already b c s is e = subst (λ x. IsUpgradedFrame b x) (sym e) (subst (
 -- and the only one
 pub stays : (b c : List ℕ) → Spells (version_at b) b (sender_at b) (origin_at b) (message_at b) → version_at b ≡ V2 → IsUpgradedFrame b c → c ≡ b
 stays b c s is u = u.is ∙ sym (upgraded_already b b s is refl).is
+
+-- so is one whose version is known to be 2
+pub upgraded_self : (b : List ℕ) → IsFrame b → version_at b ≡ V2 → IsUpgradedFrame b b
+upgraded_self b h is =
+    let version = sym (version_spelled h.0 b h.1 h.2 h.3 h.4) ∙ is in
+    let sender = sym (sender_spelled h.0 b h.1 h.2 h.3 h.4) in
+    let origin = sym (origin_spelled h.0 b h.1 h.2 h.3 h.4) in
+    let message = sym (message_spelled h.0 b h.1 h.2 h.3 h.4) in
+    subst (λ v. Spells v b (sender_at b) (origin_at b) (message_at b)) version
+    (subst (λ m. Spells h.0 b (sender_at b) (origin_at b) m) message (subst (λ o. Spells h.0 b (sender_at b) o h.3) origin (subst (λ f. Spells h.0 b f h.2 h.3) sender h.4)))

@@ -290,6 +290,26 @@ fn a_frame_of_version_1_is_written(rt: HostRuntime) {
     assert_first_version(&rt, rt.alloc());
 }
 
+/// The frame of these bytes, in version 2.
+fn upgraded(rt: &impl Abort, alloc: Global, bytes: &[u8]) -> Frame {
+    let frame = Frame::read(shared(rt, alloc, bytes)).expect(rt, "a frame");
+    frame.upgraded(alloc).expect(rt, "memory for a frame")
+}
+
+#[test]
+fn a_frame_of_version_1_is_upgraded(rt: HostRuntime) {
+    let mut old = PRE_ACCEPT;
+    old[2] = 1;
+    let frame = upgraded(&rt, rt.alloc(), &old);
+    assert_eq!(rt; frame.as_slice(), &PRE_ACCEPT[..]);
+}
+
+#[test]
+fn a_frame_of_version_2_stays(rt: HostRuntime) {
+    let frame = upgraded(&rt, rt.alloc(), &WITH_DEP);
+    assert_eq!(rt; frame.as_slice(), &WITH_DEP[..]);
+}
+
 fn swap(rt: &impl Abort, alloc: Global) -> Message
     ensures { BallotsFit result }
 {

@@ -16,3 +16,5 @@ pub mod Still
 pub mod Named
 pub mod Growing
 pub mod Upgrading
+pub mod Upgraded
+pub mod UpgradedLogs

@@ -44,4 +44,26 @@ impl Executions {
     {
         self.items.as_slice()
     }
+
+    /// The same once more.
+    pub(crate) fn copy(&self, alloc: Global) -> Result<Executions, AllocError>
+        ensures { IfOk result (λ e. e ≡ self.now) }
+    {
+        let mut items = Vec::with_capacity(alloc, self.items.len())?;
+        for execution in &self.items {
+            items.push(copied(alloc, execution)?)?;
+        }
+        Ok(Executions { items })
+    }
+}
+
+/// The execution once more.
+fn copied(
+    alloc: Global,
+    execution: &(InstanceId, Answer),
+) -> Result<(InstanceId, Answer), AllocError>
+    ensures { IfOk result (λ e. e ≡ execution.now) }
+{
+    let (instance, answer) = execution;
+    Ok((*instance, answer.copy(alloc)?))
 }

@@ -11,6 +11,7 @@ ghost use Rattle.ep_rules.specs.Steps.{sent_from};
 ghost use Rattle.ep_journal.specs.Early.{AllSayable};
 ghost use Rattle.ep_journal.specs.Events.{AreSpelled};
 ghost use Rattle.ep_journal.specs.Inputs.{receives};
+ghost use Rattle.ep_journal.specs.Upgrading.{AreUpgradedFrames};
 
 use crate::mark::Mark;
 use ep_base::{Message, ReplicaId, Version};
@@ -55,6 +56,17 @@ impl Frames {
         ensures { result.now ≡ self.now }
     {
         self.items.as_slice()
+    }
+
+    /// The frames in version 2, in the same order.
+    pub(crate) fn upgraded(&self, alloc: Global) -> Result<Frames, AllocError>
+        ensures { IfOk result (λ f. AreUpgradedFrames self.now f) }
+    {
+        let mut items = Vec::with_capacity(alloc, self.items.len())?;
+        for frame in &self.items {
+            items.push(frame.upgraded(alloc)?)?;
+        }
+        Ok(Frames { items })
     }
 }
 

@@ -30,7 +30,7 @@ fn asked(
 }
 
 /// Takes the event; where it finds no memory, it is asked again.
-fn taken(
+pub fn taken(
     rt: &impl Abort,
     alloc: Global,
     journal: &mut Journal,

@@ -6,6 +6,7 @@ ghost use Rattle.std.specs.FinSet as set;
 ghost use Rattle.ep_base.specs.Interference.{keys_of};
 ghost use Rattle.ep_base.specs.Instances.{highest_number};
 ghost use Rattle.ep_base.specs.Versions.{highest_in};
+ghost use Rattle.ep_base.specs.declared.version.Version.TheVariants.{V2};
 ghost use Rattle.ep_rules.specs.Cells.{is_committed, is_done_at, is_settled_at, voted, voted_ballot};
 ghost use Rattle.ep_rules.specs.InterferenceSet.{interference};
 ghost use Rattle.ep_rules.specs.Maps.{none, get};
@@ -71,6 +72,13 @@ impl Space {
         ensures { result ≡ self.now.version }
     {
         self.version
+    }
+
+    /// Goes on in version 2, with all that is recorded.
+    pub fn upgrade(&mut self)
+        ensures { self.new ≡ record self.old { version = V2 } }
+    {
+        self.version = Version::V2;
     }
 
     /// The record of the instance, if there is one.
