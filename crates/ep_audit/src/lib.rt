@@ -12,8 +12,10 @@
 
 mod auditing;
 mod refusal;
+mod upgrade_law;
 
 pub use auditing::audit;
 pub use ep_report::{AuditFault, Happening};
 pub use ep_verdict::Verdict;
 pub use refusal::Refusal;
+pub use upgrade_law::upgraded_says_the_same;
