@@ -1,6 +1,6 @@
 -- A frame written again in version 2 says what it said.
-use Rattle.std.proofs.Common.{◌≡◌, ℕ, ◌≤◌, List, ◌∷◌, ◌++◌, length, take, drop, refl, sym, ap, subst, ◌∙◌, arith}
-use Rattle.std.specs.Prelude.{Some, None}
+use Rattle.std.proofs.Common.{◌≡◌, ℕ, ◌≤◌, List, [], ◌∷◌, ◌++◌, length, take, drop, refl, sym, ap, subst, ◌∙◌, arith}
+use Rattle.std.specs.Prelude.{Some, None, slice_set as set}
 use Rattle.ep_base.specs.declared.message.Message.{Message}
 use Rattle.ep_base.specs.declared.message.Message.TheVariants.{PreAccept, PreAcceptOk, Accept, AcceptOk, Commit, Prepare, PrepareOk, Nack}
 use Rattle.ep_base.specs.declared.version.Version.TheVariants.{V1, V2}
@@ -86,3 +86,10 @@ upgraded_self b h is =
     let message = sym (message_spelled h.0 b h.1 h.2 h.3 h.4) in
     subst (λ v. Spells v b (sender_at b) (origin_at b) (message_at b)) version
     (subst (λ m. Spells h.0 b (sender_at b) (origin_at b) m) message (subst (λ o. Spells h.0 b (sender_at b) o h.3) origin (subst (λ f. Spells h.0 b f h.2 h.3) sender h.4)))
+
+-- the third of them set
+pub set_third : (b : List ℕ) (v : ℕ) → 3 ≤ length b → set b 2 v ≡ take 2 b ++ v ∷ drop 3 b
+set_third [] v long = absurd (omega (arith, long))
+set_third (x ∷ []) v long = absurd (omega (arith, long))
+set_third (x ∷ y ∷ []) v long = absurd (omega (arith, long))
+set_third (x ∷ y ∷ z ∷ b) v long = refl

@@ -11,7 +11,7 @@ ghost use Rattle.ep_frame.specs.Upgrading.{IsUpgradedFrame};
 use crate::fault::FrameFault;
 use crate::origin::Origin;
 use crate::view::FrameView;
-use bytes::{Bytes, BytesMut};
+use bytes::Bytes;
 use ep_base::{InstanceId, ReplicaId, Version};
 use std::alloc::{AllocError, Global};
 use std::marker::Model;
@@ -39,11 +39,9 @@ fn in_version_2(alloc: Global, bytes: &[u8]) -> Result<Bytes, AllocError>
     requires { 3 ≤ length bytes.now }
     ensures { IfOk result (λ b. b ≡ take 2 bytes.now ++ 2 ∷ drop 3 bytes.now) }
 {
-    let mut out = BytesMut::with_capacity(alloc, bytes.len())?;
-    out.extend_from_slice(&bytes[..2])?;
-    out.extend_from_slice(&[2])?;
-    out.extend_from_slice(&bytes[3..])?;
-    Ok(out.freeze()?)
+    let mut copy = Vec::from_slice(alloc, bytes)?;
+    copy[2] = 2;
+    Ok(Bytes::from_vec(copy)?)
 }
 
 impl Frame {

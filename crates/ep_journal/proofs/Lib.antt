@@ -15,6 +15,7 @@ pub mod Collecting
 pub mod Still
 pub mod Named
 pub mod Growing
+pub mod Pairs
 pub mod Upgrading
 pub mod Upgraded
 pub mod UpgradedLogs

@@ -66,16 +66,30 @@ impl Frames {
         self.items.as_slice()
     }
 
-    /// The frames in version 2, in the same order.
-    pub(crate) fn upgraded(&self, alloc: Global) -> Result<Frames, AllocError>
-        ensures { IfOk result (λ f. AreUpgradedFrames self.now f) }
+    /// Spells the frames in version 2.
+    pub(crate) fn upgrade(&mut self, alloc: Global) -> Result<(), AllocError>
+        ensures { OnOk result (AreUpgradedFrames self.old self.new) }
     {
-        let mut items = Vec::with_capacity(alloc, self.items.len())?;
-        for frame in &self.items {
-            items.push(frame.upgraded(alloc)?)?;
-        }
-        Ok(Frames { items })
+        upgrade_each(alloc, &mut self.items)
     }
+}
+
+/// Spells the frame in version 2.
+pub(crate) fn upgrade(alloc: Global, frame: &mut Frame) -> Result<(), AllocError>
+    ensures { OnOk result (IsUpgradedFrame frame.old frame.new) }
+{
+    *frame = frame.upgraded(alloc)?;
+    Ok(())
+}
+
+/// Spells each frame in version 2.
+fn upgrade_each(alloc: Global, frames: &mut [Frame]) -> Result<(), AllocError>
+    ensures { OnOk result (AreUpgradedFrames frames.old frames.new) }
+{
+    for frame in frames.iter_mut() {
+        upgrade(alloc, frame)?;
+    }
+    Ok(())
 }
 
 /// The frames of what is sent, in this version, as those of the entry so marked.
