@@ -8,6 +8,7 @@ ghost use Rattle.ep_phase.specs.Changes.{sends};
 ghost use Rattle.ep_rules.specs.Counting.{to_those};
 ghost use Rattle.ep_rules.specs.Fitting.{AllFit};
 ghost use Rattle.ep_rules.specs.Steps.{sent_from};
+ghost use Rattle.ep_frame.specs.Upgrading.{IsUpgradedFrame};
 ghost use Rattle.ep_journal.specs.Early.{AllSayable};
 ghost use Rattle.ep_journal.specs.Events.{AreSpelled};
 ghost use Rattle.ep_journal.specs.Inputs.{receives};
