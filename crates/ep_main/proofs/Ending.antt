@@ -7,10 +7,10 @@ use Rattle.ep_main.specs.Outputs.{Input, Output, WroteNothing}
 use Rattle.ep_bundle.specs.Journals.{ReadsBundle, Finds}
 use Rattle.ep_bundle.specs.declared.bundle_fault.BundleFault.{BundleFault}
 use Rattle.ep_bundle.specs.declared.bundle_fault.BundleFault.TheVariants as bundle
-use Rattle.ep_main.specs.Runs.{Plays, Leaves, Runs, RunsInThreads, Finishes, Prints, Does, Concludes, Declines, Ends, IsVerdict, Replays, Emits, Audits, Versions, Helps, IsHelped, IsOutOfMemory, Performs, TellsWhy, version_line}
+use Rattle.ep_main.specs.Runs.{Plays, Leaves, Runs, RunsInThreads, Finishes, Rewrites, Prints, Does, Concludes, Declines, Ends, IsVerdict, Replays, Emits, Audits, Upgrades, Versions, Helps, IsHelped, IsOutOfMemory, Performs, TellsWhy, version_line}
 use Rattle.ep_main.specs.Words.{AskFor, IsHelp}
 use Rattle.ep_main.specs.declared.asked.Asked.{Asked}
-use Rattle.ep_main.specs.declared.asked.Asked.TheVariants.{Replay, Run, Audit, Version, Help}
+use Rattle.ep_main.specs.declared.asked.Asked.TheVariants.{Replay, Run, Audit, Upgrade, Version, Help}
 use Rattle.ep_main.specs.declared.declined.Declined.{Declined}
 use Rattle.ep_main.specs.declared.declined.Declined.TheVariants as declined
 use Rattle.ep_main.specs.declared.asked.Emit.{Emit}
@@ -77,6 +77,17 @@ audits (Err Memory) status zs reader out fault p t c = subst (λ s. Audits s zs 
 audits (Err Read) status zs reader out fault p t c = subst (λ s. Audits s zs reader out fault) (sym c.0) (inl ((t.read, t.written), p, c.1))
 audits (Err Write) status zs reader out fault p t c = subst (λ s. Audits s zs reader out fault) (sym c.0) (inr ((t.read, t.written), c.1))
 
+upgrades : (outcome : Result Status Fault) (status : Status) (zs : List ℕ) (reader : Input) (out fault : Output) → Rewrites outcome zs out → IsTold outcome reader out → Concludes outcome status fault → Upgrades status zs reader out fault
+upgrades (Ok said) status zs reader out fault p t c = subst (λ s. Upgrades s zs reader out fault) (sym (c.0 ∙ p.0)) (p.1, c.1)
+upgrades (Err (Script line)) status zs reader out fault p t c = absurd p
+upgrades (Err (BadBundle offset)) status zs reader out fault p t c =
+    subst (λ s. Upgrades s zs reader out fault) (sym c.0) (inl (record { offset = offset; read = p.0; silent = p.1; told = c.1 }))
+upgrades (Err (NotARun replica entry)) status zs reader out fault p t c =
+    subst (λ s. Upgrades s zs reader out fault) (sym c.0) (inr (record { replica = replica; entry = entry; read = p.0; silent = p.1; told = c.1 }))
+upgrades (Err Memory) status zs reader out fault p t c = subst (λ s. Upgrades s zs reader out fault) (sym c.0) (record { silent = p; told = c.1 })
+upgrades (Err Read) status zs reader out fault p t c = subst (λ s. Upgrades s zs reader out fault) (sym c.0) (inl ((t.read, t.written), p, c.1))
+upgrades (Err Write) status zs reader out fault p t c = subst (λ s. Upgrades s zs reader out fault) (sym c.0) (inr ((t.read, t.written), c.1))
+
 helps : (outcome : Result Status Fault) (status : Status) (text : List ℕ) (out fault : Output) → Prints outcome text out → FailsAsTold is_write outcome out.had_failed out.failed → Concludes outcome status fault → Helps status text out fault
 helps (Ok said) status text out fault p t c = subst (λ s. Helps s text out fault) (sym (c.0 ∙ p.0)) (p.1, c.1)
 helps (Err (Script line)) status text out fault p t c = absurd p
@@ -102,6 +113,7 @@ performs (Replay Report) outcome status zs reader out fault d t c = replays outc
 performs (Replay Bundle) outcome status zs reader out fault d t c = emits outcome status zs reader out fault d t c
 performs (Run options) outcome status zs reader out fault d t c = runs options outcome status zs reader out fault d t c
 performs Audit outcome status zs reader out fault d t c = audits outcome status zs reader out fault d t c
+performs Upgrade outcome status zs reader out fault d t c = upgrades outcome status zs reader out fault d t c
 performs Version outcome status zs reader out fault d t c = versions outcome status out fault d t.written c
 performs (Help text) outcome status zs reader out fault d t c = helps outcome status (string_bytes text) out fault d t.written c
 
@@ -109,6 +121,7 @@ pub is_helped : (asked : Asked) (status : Status) (zs : List ℕ) (reader : Inpu
 is_helped (Replay emit) status zs reader out fault help p = absurd help
 is_helped (Run options) status zs reader out fault help p = absurd help
 is_helped Audit status zs reader out fault help p = absurd help
+is_helped Upgrade status zs reader out fault help p = absurd help
 is_helped Version status zs reader out fault help p = absurd help
 is_helped (Help text) Accepted zs reader out fault help p = ((string_bytes text, p.0), p.1)
 is_helped (Help text) AuditRefused zs reader out fault help p = absurd p
@@ -140,6 +153,18 @@ pub stops : (e : Fault) (r : Result Status Fault) (zs : List ℕ) (out : Output)
 stops e (Ok status) zs out is memory silent = absurd is
 stops e (Err x) zs out is memory silent = subst (λ y. Finishes (Err y) zs out) (sym (is ∙ memory)) silent
 
+-- the same of an upgrade
+
+pub not_read :
+    (b : BundleFault) (r : Result Status Fault) (zs : List ℕ) (place : ℕ) (left : Option (List ℕ)) (out : Output) → IsErrAnd r (λ e. e ≡ of_bundle b) →
+    Finds (ReadsBundle (record { at = 0; bytes = zs })) (Err b) place left → WroteNothing out → Rewrites r zs out
+not_read b (Ok status) zs place left out is found silent = absurd is
+not_read b (Err e) zs place left out is found silent = finishes b (Err e) zs place left out is found silent
+
+pub not_upgraded : (e : Fault) (r : Result Status Fault) (zs : List ℕ) (out : Output) → IsErrAnd r (λ x. x ≡ e) → e ≡ Memory → WroteNothing out → Rewrites r zs out
+not_upgraded e (Ok status) zs out is memory silent = absurd is
+not_upgraded e (Err x) zs out is memory silent = stops e (Err x) zs out is memory silent
+
 -- The devices, whatever was read.
 
 pub ends :
@@ -168,6 +193,7 @@ out_of_memory (Replay Report) zs reader out fault words ask memory = memory
 out_of_memory (Replay Bundle) zs reader out fault words ask memory = memory
 out_of_memory (Run options) zs reader out fault words ask memory = memory
 out_of_memory Audit zs reader out fault words ask memory = memory
+out_of_memory Upgrade zs reader out fault words ask memory = memory
 out_of_memory Version zs reader out fault words ask memory = memory
 out_of_memory (Help text) zs reader out fault words ask memory = absurd ask
 

@@ -4,5 +4,6 @@ pub mod Ending
 mod Flags
 mod Judging
 mod Puts
+mod Rewriting
 mod Verdicts
 pub mod Literals

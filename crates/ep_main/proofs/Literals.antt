@@ -15,9 +15,9 @@ use Rattle.clap.specs.Kinds.{IsAmong}
 use Rattle.clap.specs.Takes.{takes}
 use Rattle.clap.proofs.OnLiterals.{clap_on_literals}
 use Rattle.ep_main.specs.Options.{Options, plain}
-use Rattle.ep_main.specs.Words.{AskFor, AskForHelp, Chooses, IsAsked, IsHelp, IsMet, IsShown, MetReplay, MetRun, MetAudit, Names, NamesHost, RunWords, emit_word, epaxos, host_word, met, met_with, run_words}
+use Rattle.ep_main.specs.Words.{AskFor, AskForHelp, Chooses, IsAsked, IsHelp, IsMet, IsShown, MetReplay, MetRun, MetAudit, MetUpgrade, Names, NamesHost, RunWords, emit_word, epaxos, host_word, met, met_with, run_words}
 use Rattle.ep_main.specs.declared.asked.Asked.{Asked}
-use Rattle.ep_main.specs.declared.asked.Asked.TheVariants.{Replay, Run, Audit, Version, Help}
+use Rattle.ep_main.specs.declared.asked.Asked.TheVariants.{Replay, Run, Audit, Upgrade, Version, Help}
 use Rattle.ep_main.specs.declared.asked.Emit.TheVariants.{Report, Bundle}
 use Rattle.ep_main.specs.declared.asked.Emit.{Emit}
 use Rattle.ep_main.specs.declared.host.Host.{Host}
@@ -76,6 +76,14 @@ met_bundle name = refl
 met_audit : (name : Text) → option_map (λ p. p.0) (subcommand_of epaxos (name ∷ codes "audit" ∷ [])) ≡ Some (codes "audit")
 unfolding clap_on_literals
 met_audit name = refl
+
+takes_upgrade : (name : Text) → takes epaxos (name ∷ codes "upgrade" ∷ []) ≡ true
+unfolding clap_on_literals
+takes_upgrade name = refl
+
+met_upgrade : (name : Text) → option_map (λ p. p.0) (subcommand_of epaxos (name ∷ codes "upgrade" ∷ [])) ≡ Some (codes "upgrade")
+unfolding clap_on_literals
+met_upgrade name = refl
 
 takes_run : (name : Text) → takes epaxos (name ∷ codes "run" ∷ []) ≡ true
 unfolding clap_on_literals
@@ -146,6 +154,7 @@ abbrev pub IsMatched : Asked → Type 0
 IsMatched (Replay emit) = Unit {0}
 IsMatched (Run options) = Unit {0}
 IsMatched Audit = Unit {0}
+IsMatched Upgrade = Unit {0}
 IsMatched Version = ⊥
 IsMatched (Help text) = ⊥
 
@@ -160,6 +169,7 @@ taken (Run options) words matched (name, inr (inl (same, is))) = subst (λ (ws :
 taken (Run options) words matched (name, inr (inr (inl (same, is)))) = subst (λ (ws : List Text). takes epaxos ws ≡ true) (sym is) (takes_emitting options.emit name)
 taken (Run options) words matched (name, inr (inr (inr (same, is)))) = subst (λ (ws : List Text). takes epaxos ws ≡ true) (sym is) (takes_both options.host options.emit name)
 taken Audit words matched (name, is) = subst (λ (ws : List Text). takes epaxos ws ≡ true) (sym is) (takes_audit name)
+taken Upgrade words matched (name, is) = subst (λ (ws : List Text). takes epaxos ws ≡ true) (sym is) (takes_upgrade name)
 taken Version words matched ask = absurd matched
 taken (Help text) words matched ask = absurd matched
 
@@ -185,6 +195,7 @@ is_met (Run options) words matched (name, inr (inr (inr (same, is)))) =
       record { host = host_named options.host; capacity = refl; turns = refl; emit = emit_named options.emit },
     )
 is_met Audit words matched (name, is) = subst (λ (ws : List Text). MetAudit (subcommand_of epaxos ws)) (sym is) (met_audit name)
+is_met Upgrade words matched (name, is) = subst (λ (ws : List Text). MetUpgrade (subcommand_of epaxos ws)) (sym is) (met_upgrade name)
 is_met Version words matched ask = absurd matched
 is_met (Help text) words matched ask = absurd matched
 
@@ -211,6 +222,9 @@ asked_of_met {X} app words found (Ok (Run options)) is has met =
 asked_of_met {X} app words found (Ok Audit) is has met =
     let same : found ≡ subcommand_of epaxos words = (subst (λ a. is_simple a ≡ true → X × (found ≡ subcommand_of a words)) is has simple).1 in
     subst MetAudit same met
+asked_of_met {X} app words found (Ok Upgrade) is has met =
+    let same : found ≡ subcommand_of epaxos words = (subst (λ a. is_simple a ≡ true → X × (found ≡ subcommand_of a words)) is has simple).1 in
+    subst MetUpgrade same met
 asked_of_met {X} app words found (Ok Version) is has met = absurd met
 asked_of_met {X} app words found (Ok (Help text)) is has met = absurd met
 asked_of_met {X} app words found (Err e) is has met = tt
@@ -233,6 +247,7 @@ pub asked_of_shown :
 asked_of_shown app words kind (Ok (Replay emit)) is has shown = absurd shown
 asked_of_shown app words kind (Ok (Run options)) is has shown = absurd shown
 asked_of_shown app words kind (Ok Audit) is has shown = absurd shown
+asked_of_shown app words kind (Ok Upgrade) is has shown = absurd shown
 asked_of_shown app words kind (Ok Version) is has shown =
     among words kind DisplayVersion version_is_no_memory shown
     (subst (λ a. is_simple_and_free a ≡ true → (kind ≡ OutOfMemory) ⊎ IsAmong kind (fault_of a words)) is has free)
@@ -265,6 +280,14 @@ short_help_of_audit : (name : Text) → fault_of epaxos (name ∷ codes "audit" 
 unfolding clap_on_literals
 short_help_of_audit name = refl
 
+help_of_upgrade : (name : Text) → fault_of epaxos (name ∷ codes "upgrade" ∷ codes "--help" ∷ []) ≡ DisplayHelp ∷ []
+unfolding clap_on_literals
+help_of_upgrade name = refl
+
+short_help_of_upgrade : (name : Text) → fault_of epaxos (name ∷ codes "upgrade" ∷ codes "-h" ∷ []) ≡ DisplayHelp ∷ []
+unfolding clap_on_literals
+short_help_of_upgrade name = refl
+
 help_of_run : (name : Text) → fault_of epaxos (name ∷ codes "run" ∷ codes "--help" ∷ []) ≡ DisplayHelp ∷ []
 unfolding clap_on_literals
 help_of_run name = refl
@@ -280,8 +303,10 @@ help_known words (name, inr (inr (inl is))) = subst (λ (ws : List Text). fault_
 help_known words (name, inr (inr (inr (inl is)))) = subst (λ (ws : List Text). fault_of epaxos ws ≡ DisplayHelp ∷ []) (sym is) (short_help_of_replay name)
 help_known words (name, inr (inr (inr (inr (inl is))))) = subst (λ (ws : List Text). fault_of epaxos ws ≡ DisplayHelp ∷ []) (sym is) (help_of_audit name)
 help_known words (name, inr (inr (inr (inr (inr (inl is)))))) = subst (λ (ws : List Text). fault_of epaxos ws ≡ DisplayHelp ∷ []) (sym is) (short_help_of_audit name)
-help_known words (name, inr (inr (inr (inr (inr (inr (inl is))))))) = subst (λ (ws : List Text). fault_of epaxos ws ≡ DisplayHelp ∷ []) (sym is) (help_of_run name)
-help_known words (name, inr (inr (inr (inr (inr (inr (inr is))))))) = subst (λ (ws : List Text). fault_of epaxos ws ≡ DisplayHelp ∷ []) (sym is) (short_help_of_run name)
+help_known words (name, inr (inr (inr (inr (inr (inr (inl is))))))) = subst (λ (ws : List Text). fault_of epaxos ws ≡ DisplayHelp ∷ []) (sym is) (help_of_upgrade name)
+help_known words (name, inr (inr (inr (inr (inr (inr (inr (inl is)))))))) = subst (λ (ws : List Text). fault_of epaxos ws ≡ DisplayHelp ∷ []) (sym is) (short_help_of_upgrade name)
+help_known words (name, inr (inr (inr (inr (inr (inr (inr (inr (inl is))))))))) = subst (λ (ws : List Text). fault_of epaxos ws ≡ DisplayHelp ∷ []) (sym is) (help_of_run name)
+help_known words (name, inr (inr (inr (inr (inr (inr (inr (inr (inr is))))))))) = subst (λ (ws : List Text). fault_of epaxos ws ≡ DisplayHelp ∷ []) (sym is) (short_help_of_run name)
 
 version_alone : (name : Text) → fault_of epaxos (name ∷ codes "--version" ∷ []) ≡ DisplayVersion ∷ []
 unfolding clap_on_literals
@@ -326,29 +351,32 @@ has_no_memory want r is = subst (λ r. MatchResult r (λ a. a ≡ want) (λ d. d
 
 answers :
     (want : Asked) (r : Result Asked Declined) (found : Option (Text × List Row)) → ((emit : Emit) → MetReplay emit found → r ≡ Ok (Replay emit)) →
-    ((options : Options) → MetRun options found → r ≡ Ok (Run options)) → (MetAudit found → r ≡ Ok Audit) → IsMet want found → MatchResult r (λ a. a ≡ want) (λ d. d ≡ Memory)
-answers (Replay emit) r found replay run audit is = asks (Replay emit) r (replay emit is)
-answers (Run options) r found replay run audit is = asks (Run options) r (run options is)
-answers Audit r found replay run audit is = asks Audit r (audit is)
-answers Version r found replay run audit is = absurd is
-answers (Help text) r found replay run audit is = absurd is
+    ((options : Options) → MetRun options found → r ≡ Ok (Run options)) → (MetAudit found → r ≡ Ok Audit) → (MetUpgrade found → r ≡ Ok Upgrade) → IsMet want found →
+    MatchResult r (λ a. a ≡ want) (λ d. d ≡ Memory)
+answers (Replay emit) r found replay run audit upgrade is = asks (Replay emit) r (replay emit is)
+answers (Run options) r found replay run audit upgrade is = asks (Run options) r (run options is)
+answers Audit r found replay run audit upgrade is = asks Audit r (audit is)
+answers Upgrade r found replay run audit upgrade is = asks Upgrade r (upgrade is)
+answers Version r found replay run audit upgrade is = absurd is
+answers (Help text) r found replay run audit upgrade is = absurd is
 
 -- the answer where `clap` finds a match
 pub asked_in_match :
     {X : Type 0} (want : Asked) (app : App) (words : List Text) (found : Option (Text × List Row)) (r : Result Asked Declined) → app ≡ epaxos →
     (is_simple app ≡ true → X × (found ≡ subcommand_of app words)) → (is_simple_and_free app ≡ true → fault_of app words ≡ []) →
     ((emit : Emit) → MetReplay emit found → r ≡ Ok (Replay emit)) → ((options : Options) → MetRun options found → r ≡ Ok (Run options)) → (MetAudit found → r ≡ Ok Audit) →
-    AskFor want words → MatchResult r (λ a. a ≡ want) (λ d. d ≡ Memory)
-asked_in_match (Replay emit) app words found r is has none replay run audit ask =
-    answers (Replay emit) r found replay run audit (found_met (Replay emit) app words found tt is has ask)
-asked_in_match (Run options) app words found r is has none replay run audit ask =
-    answers (Run options) r found replay run audit (found_met (Run options) app words found tt is has ask)
-asked_in_match Audit app words found r is has none replay run audit ask = answers Audit r found replay run audit (found_met Audit app words found tt is has ask)
-asked_in_match Version app words found r is has none replay run audit ask =
+    (MetUpgrade found → r ≡ Ok Upgrade) → AskFor want words → MatchResult r (λ a. a ≡ want) (λ d. d ≡ Memory)
+asked_in_match (Replay emit) app words found r is has none replay run audit upgrade ask =
+    answers (Replay emit) r found replay run audit upgrade (found_met (Replay emit) app words found tt is has ask)
+asked_in_match (Run options) app words found r is has none replay run audit upgrade ask =
+    answers (Run options) r found replay run audit upgrade (found_met (Run options) app words found tt is has ask)
+asked_in_match Audit app words found r is has none replay run audit upgrade ask = answers Audit r found replay run audit upgrade (found_met Audit app words found tt is has ask)
+asked_in_match Upgrade app words found r is has none replay run audit upgrade ask = answers Upgrade r found replay run audit upgrade (found_met Upgrade app words found tt is has ask)
+asked_in_match Version app words found r is has none replay run audit upgrade ask =
     let empty : fault_of epaxos words ≡ [] = subst (λ a. is_simple_and_free a ≡ true → fault_of a words ≡ []) is none free in
     let bad : DisplayVersion ∷ [] ≡ [] = sym (version_known words ask) ∙ empty in
     cc
-asked_in_match (Help text) app words found r is has none replay run audit ask = absurd ask
+asked_in_match (Help text) app words found r is has none replay run audit upgrade ask = absurd ask
 
 no_match :
     (want : Asked) (app : App) (words : List Text) (kind : ErrorKind) (r : Result Asked Declined) → IsMatched want → app ≡ epaxos → (takes app words ≡ true → kind ≡ OutOfMemory) →
@@ -372,6 +400,7 @@ pub asked_in_place :
 asked_in_place (Replay emit) app words kind r is passes has memory version ask = no_match (Replay emit) app words kind r tt is passes memory ask
 asked_in_place (Run options) app words kind r is passes has memory version ask = no_match (Run options) app words kind r tt is passes memory ask
 asked_in_place Audit app words kind r is passes has memory version ask = no_match Audit app words kind r tt is passes memory ask
+asked_in_place Upgrade app words kind r is passes has memory version ask = no_match Upgrade app words kind r tt is passes memory ask
 asked_in_place Version app words kind r is passes has memory version ask =
     versions_by kind (fault_of epaxos words) r (version_known words ask)
     (subst (λ a. is_simple_and_free a ≡ true → (kind ≡ OutOfMemory) ⊎ IsAmong kind (fault_of a words)) is has free) memory version
@@ -435,6 +464,21 @@ audit_met m named = name_by m ∙ named
 
 pub audit_named : (m : ArgMatches) → MetAudit (subcommand_rows_of m) → subcommand_name_of m ≡ Some (codes "audit")
 audit_named m found = sym (name_by m) ∙ found
+
+pub upgrade_met : (m : ArgMatches) → subcommand_name_of m ≡ Some (codes "upgrade") → MetUpgrade (subcommand_rows_of m)
+upgrade_met m named = name_by m ∙ named
+
+pub upgrade_named : (m : ArgMatches) → MetUpgrade (subcommand_rows_of m) → subcommand_name_of m ≡ Some (codes "upgrade")
+upgrade_named m found = sym (name_by m) ∙ found
+
+pub replay_no_upgrade : (m : ArgMatches) → subcommand_name_of m ≡ Some (codes "replay") → MetUpgrade (subcommand_rows_of m) → ⊥
+replay_no_upgrade m named found = let bad : Some (codes "replay") ≡ Some (codes "upgrade") = sym named ∙ upgrade_named m found in cc
+
+pub run_no_upgrade : (m : ArgMatches) → subcommand_name_of m ≡ Some (codes "run") → MetUpgrade (subcommand_rows_of m) → ⊥
+run_no_upgrade m named found = let bad : Some (codes "run") ≡ Some (codes "upgrade") = sym named ∙ upgrade_named m found in cc
+
+pub audit_no_upgrade : (m : ArgMatches) → subcommand_name_of m ≡ Some (codes "audit") → MetUpgrade (subcommand_rows_of m) → ⊥
+audit_no_upgrade m named found = let bad : Some (codes "audit") ≡ Some (codes "upgrade") = sym named ∙ upgrade_named m found in cc
 
 pub replay_no_audit : (m : ArgMatches) → subcommand_name_of m ≡ Some (codes "replay") → MetAudit (subcommand_rows_of m) → ⊥
 replay_no_audit m named found = let bad : Some (codes "replay") ≡ Some (codes "audit") = sym named ∙ audit_named m found in cc

@@ -6,4 +6,5 @@ pub mod Options
 pub mod Outputs
 pub mod Reported
 pub mod Runs
+pub mod Upgrades
 pub mod Words

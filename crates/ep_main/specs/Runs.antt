@@ -10,8 +10,9 @@ use Rattle.ep_main.specs.Hosts.{Promises}
 use Rattle.ep_main.specs.Options.{Options}
 use Rattle.ep_main.specs.Outputs.{Input, Output, Wrote, WroteNothing, Told, NoneFailed, InputFailed, OutputFailed}
 use Rattle.ep_main.specs.Reported.{IsReport}
+use Rattle.ep_main.specs.Upgrades.{IsRewritten}
 use Rattle.ep_main.specs.declared.asked.Asked.{Asked}
-use Rattle.ep_main.specs.declared.asked.Asked.TheVariants.{Replay, Run, Audit, Version, Help}
+use Rattle.ep_main.specs.declared.asked.Asked.TheVariants.{Replay, Run, Audit, Upgrade, Version, Help}
 use Rattle.ep_main.specs.declared.declined.Declined.{Declined}
 use Rattle.ep_main.specs.declared.declined.Declined.TheVariants as declined
 use Rattle.ep_main.specs.declared.asked.Emit.TheVariants.{Report, Bundle}
@@ -110,6 +111,14 @@ Audits Refused zs reader out fault = IsBadBundle zs out fault ⊎ IsNotARun zs o
 Audits OutOfMemory zs reader out fault = IsOutOfMemory out fault
 Audits Failed zs reader out fault = HasFailed reader out fault
 
+-- an upgrade of a bundle: it doesn't audit
+abbrev pub Upgrades : Status → List ℕ → Input → Output → Output → Type 0
+Upgrades Accepted zs reader out fault = IsRewritten zs out × WroteNothing fault
+Upgrades AuditRefused zs reader out fault = ⊥
+Upgrades Refused zs reader out fault = IsBadBundle zs out fault ⊎ IsNotARun zs out fault
+Upgrades OutOfMemory zs reader out fault = IsOutOfMemory out fault
+Upgrades Failed zs reader out fault = HasFailed reader out fault
+
 -- the program's name and its version
 abbrev pub version_line : List ℕ
 version_line = codes "epaxos 0.1.0\n"
@@ -143,6 +152,7 @@ Performs (Replay Report) status zs reader out fault = Replays status zs reader o
 Performs (Replay Bundle) status zs reader out fault = Emits status zs reader out fault
 Performs (Run options) status zs reader out fault = RunsInThreads options status zs reader out fault
 Performs Audit status zs reader out fault = Audits status zs reader out fault
+Performs Upgrade status zs reader out fault = Upgrades status zs reader out fault
 Performs Version status zs reader out fault = Versions status out fault
 Performs (Help text) status zs reader out fault = Helps status (string_bytes text) out fault
 
@@ -213,6 +223,11 @@ Finishes (Err Memory) zs out = WroteNothing out
 Finishes (Err Read) zs out = WroteNothing out
 Finishes (Err Write) zs out = Unit {0}
 
+-- an upgrade has the faults of an audit
+abbrev pub Rewrites : Result Status Fault → List ℕ → Output → Type 0
+Rewrites (Ok status) zs out = (status ≡ Accepted) × IsRewritten zs out
+Rewrites (Err e) zs out = Finishes (Err e) zs out
+
 abbrev pub Prints : Result Status Fault → List ℕ → Output → Type 0
 Prints (Ok status) text out = (status ≡ Accepted) × Wrote out text
 Prints (Err (Script line)) text out = ⊥
@@ -227,6 +242,7 @@ Does (Replay Report) outcome zs out = Plays outcome zs out
 Does (Replay Bundle) outcome zs out = Leaves outcome zs out
 Does (Run options) outcome zs out = Runs options outcome zs out
 Does Audit outcome zs out = Finishes outcome zs out
+Does Upgrade outcome zs out = Rewrites outcome zs out
 Does Version outcome zs out = Prints outcome version_line out
 Does (Help text) outcome zs out = Prints outcome (string_bytes text) out
 

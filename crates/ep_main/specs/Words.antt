@@ -6,7 +6,7 @@ use Rattle.clap.specs.Kinds.{IsAmong}
 use Rattle.clap.specs.Simple.{App, new_app, new_rule, on_top, subcommand_of, with_rule, with_subcommand}
 use Rattle.ep_main.specs.declared.asked.Asked.{Asked}
 use Rattle.ep_main.specs.Options.{Options, plain}
-use Rattle.ep_main.specs.declared.asked.Asked.TheVariants.{Replay, Run, Audit, Version, Help}
+use Rattle.ep_main.specs.declared.asked.Asked.TheVariants.{Replay, Run, Audit, Upgrade, Version, Help}
 use Rattle.ep_script.specs.Grammar.{number_in}
 use Rattle.ep_main.specs.declared.asked.Emit.{Emit}
 use Rattle.ep_main.specs.declared.asked.Emit.TheVariants.{Report, Bundle}
@@ -28,7 +28,7 @@ emit_word Bundle = codes "bundle"
 
 -- the words ask for this. The first one is the program's own name, and then: for a report `replay`, and perhaps `--emit report` or `--emit=report`;
 -- for a bundle `replay`, and `--emit bundle` or `--emit=bundle`; for a run, with the limits that hold where none are given, `run`, perhaps `--host` and a
--- host, and then perhaps `--emit` and what is printed; for an audit `audit`; for the version `--version` or `-V`
+-- host, and then perhaps `--emit` and what is printed; for an audit `audit`; for an upgrade `upgrade`; for the version `--version` or `-V`
 abbrev pub AskFor : Asked → List Text → Type 0
 AskFor (Replay Report) words =
     (name : Text)
@@ -44,6 +44,7 @@ AskFor (Run options) words =
     ⊎ ((options ≡ plain options.host options.emit)
     × (words ≡ name ∷ codes "run" ∷ codes "--host" ∷ host_word options.host ∷ codes "--emit" ∷ emit_word options.emit ∷ [])))))
 AskFor Audit words = (name : Text) × (words ≡ name ∷ codes "audit" ∷ [])
+AskFor Upgrade words = (name : Text) × (words ≡ name ∷ codes "upgrade" ∷ [])
 AskFor Version words = (name : Text) × ((words ≡ name ∷ codes "--version" ∷ []) ⊎ (words ≡ name ∷ codes "-V" ∷ []))
 AskFor (Help text) words = ⊥
 
@@ -52,7 +53,8 @@ abbrev pub AskForHelp : List Text → Type 0
 AskForHelp words = (name : Text) × ((words ≡ name ∷ codes "--help" ∷ []) ⊎ ((words ≡ name ∷ codes "-h" ∷ [])
     ⊎ ((words ≡ name ∷ codes "replay" ∷ codes "--help" ∷ []) ⊎ ((words ≡ name ∷ codes "replay" ∷ codes "-h" ∷ [])
     ⊎ ((words ≡ name ∷ codes "audit" ∷ codes "--help" ∷ []) ⊎ ((words ≡ name ∷ codes "audit" ∷ codes "-h" ∷ [])
-    ⊎ ((words ≡ name ∷ codes "run" ∷ codes "--help" ∷ []) ⊎ (words ≡ name ∷ codes "run" ∷ codes "-h" ∷ []))))))))
+    ⊎ ((words ≡ name ∷ codes "upgrade" ∷ codes "--help" ∷ []) ⊎ ((words ≡ name ∷ codes "upgrade" ∷ codes "-h" ∷ [])
+    ⊎ ((words ≡ name ∷ codes "run" ∷ codes "--help" ∷ []) ⊎ (words ≡ name ∷ codes "run" ∷ codes "-h" ∷ []))))))))))
 
 -- What the program has, as `clap` sees it.
 
@@ -84,8 +86,14 @@ audit = new_app (codes "audit")
 abbrev pub replaying : App
 replaying = with_subcommand (on_top (λ s. record s { subcommand_required = true; has_version = true }) (new_app (codes "epaxos"))) replay.top
 
+abbrev pub auditing : App
+auditing = with_subcommand (with_subcommand replaying run.top) audit.top
+
+abbrev pub upgrade : App
+upgrade = new_app (codes "upgrade")
+
 abbrev pub epaxos : App
-epaxos = with_subcommand (with_subcommand replaying run.top) audit.top
+epaxos = with_subcommand auditing upgrade.top
 
 -- the subcommand that was met, and the word after `--emit`
 abbrev pub met : Option (Text × List Row) → Option (Text × Option Text)
@@ -143,11 +151,15 @@ MetRun options found = (words : RunWords) × (met_with found ≡ Some (codes "ru
 abbrev pub MetAudit : Option (Text × List Row) → Type 0
 MetAudit found = option_map (λ p. p.0) found ≡ Some (codes "audit")
 
+abbrev pub MetUpgrade : Option (Text × List Row) → Type 0
+MetUpgrade found = option_map (λ p. p.0) found ≡ Some (codes "upgrade")
+
 -- what was met is this
 abbrev pub IsMet : Asked → Option (Text × List Row) → Type 0
 IsMet (Replay emit) found = MetReplay emit found
 IsMet (Run options) found = MetRun options found
 IsMet Audit found = MetAudit found
+IsMet Upgrade found = MetUpgrade found
 IsMet Version found = ⊥
 IsMet (Help text) found = ⊥
 
@@ -156,6 +168,7 @@ abbrev pub IsAsked : Asked → List Text → Type 0
 IsAsked (Replay emit) words = MetReplay emit (subcommand_of epaxos words)
 IsAsked (Run options) words = MetRun options (subcommand_of epaxos words)
 IsAsked Audit words = MetAudit (subcommand_of epaxos words)
+IsAsked Upgrade words = MetUpgrade (subcommand_of epaxos words)
 IsAsked Version words = IsAmong DisplayVersion (fault_of epaxos words)
 IsAsked (Help text) words = IsAmong DisplayHelp (fault_of epaxos words)
 
@@ -163,6 +176,7 @@ abbrev pub IsHelp : Asked → Type 0
 IsHelp (Replay emit) = ⊥
 IsHelp (Run options) = ⊥
 IsHelp Audit = ⊥
+IsHelp Upgrade = ⊥
 IsHelp Version = ⊥
 IsHelp (Help text) = Unit {0}
 
@@ -171,5 +185,6 @@ abbrev pub IsShown : Asked → ErrorKind → Type 0
 IsShown (Replay emit) kind = ⊥
 IsShown (Run options) kind = ⊥
 IsShown Audit kind = ⊥
+IsShown Upgrade kind = ⊥
 IsShown Version kind = kind ≡ DisplayVersion
 IsShown (Help text) kind = kind ≡ DisplayHelp

@@ -11,6 +11,8 @@ pub enum Asked {
     Run(RunOptions),
     /// To audit a bundle.
     Audit,
+    /// To upgrade a bundle to version 2.
+    Upgrade,
     /// The program's name and its version.
     Version,
     /// Help: this text.

@@ -8,9 +8,9 @@ ghost use Rattle.clap.specs.Matches.{found_of};
 ghost use Rattle.clap.specs.Simple.{app_of, subcommand_rows_of};
 ghost use Rattle.clap.specs.declared.builder.command.Command.TheViews.{out-Command as fields_of};
 ghost use Rattle.ep_main.specs.Options.{Options};
-ghost use Rattle.ep_main.specs.Words.{AskFor, AskForHelp, Chooses, IsAsked, IsHelp, IsMet, IsShown, MetReplay, MetRun, MetAudit, Names, NamesHost, audit as audit_app, bounded, emit as emit_rule, hosted, limit_in, replay as replay_app, replaying, run as run_app, run_words, epaxos, turned};
+ghost use Rattle.ep_main.specs.Words.{AskFor, AskForHelp, Chooses, IsAsked, IsHelp, IsMet, IsShown, MetReplay, MetRun, MetAudit, MetUpgrade, Names, NamesHost, auditing, bounded, emit as emit_rule, hosted, limit_in, replay as replay_app, replaying, run as run_app, run_words, epaxos, turned};
 ghost use Rattle.ep_main.specs.declared.asked.Asked.{Asked};
-ghost use Rattle.ep_main.specs.declared.asked.Asked.TheVariants.{Replay, Run, Audit, Version};
+ghost use Rattle.ep_main.specs.declared.asked.Asked.TheVariants.{Replay, Run, Audit, Upgrade, Version};
 ghost use Rattle.ep_main.specs.declared.declined.Declined.TheVariants.{Memory};
 ghost use Rattle.ep_main.specs.declared.asked.Emit.{Emit};
 ghost use Rattle.ep_main.specs.declared.asked.Emit.TheVariants.{Report, Bundle};
@@ -77,6 +77,22 @@ Exit status:
   3  memory was refused
   4  reading or writing failed";
 
+/// What the help of `upgrade` says at its end.
+const AFTER_UPGRADE: &str = "\
+Standard input, to its end, is a bundle of version 1 or 2. Standard output is the bundle of version 2 that says the same: each
+frame is spelled in version 2, and an audit of it says what an audit of the old one says. A bundle of version 2 stays as it is.
+Nothing is audited: journals and receipts that don't fit together are written as they are.
+Nothing is printed before the end is read.
+
+Example:
+  epaxos upgrade < old.bundle > new.bundle
+
+Exit status:
+  0  the bundle of version 2 is written
+  2  the command line or the bundle is refused; standard error says where
+  3  memory was refused
+  4  reading or writing failed";
+
 /// What the words ask for, of which the first is the program's own name. `Words` where they are none that the program knows.
 pub(crate) fn read_words<T: AsStr>(alloc: Global, words: &[T]) -> Result<Asked, Declined>
     ensures asked { (asked : Asked) → AskFor asked (map T.text words.now) → MatchResult result (λ a. a ≡ asked) (λ d. d ≡ Memory) }
@@ -109,6 +125,7 @@ fn asked_by(alloc: Global, matches: &ArgMatches<'_>) -> Result<Asked, Declined>
     ensures replay { (emit : Emit) → MetReplay emit (subcommand_rows_of matches.now) → result ≡ Ok (Replay emit) }
     ensures run { (options : Options) → MetRun options (subcommand_rows_of matches.now) → result ≡ Ok (Run options) }
     ensures audit { MetAudit (subcommand_rows_of matches.now) → result ≡ Ok Audit }
+    ensures upgrade { MetUpgrade (subcommand_rows_of matches.now) → result ≡ Ok Upgrade }
     ensures only { IfOk result (λ a. IsMet a (subcommand_rows_of matches.now)) }
 {
     match matches.subcommand_matches("replay") {
@@ -120,6 +137,7 @@ fn asked_by(alloc: Global, matches: &ArgMatches<'_>) -> Result<Asked, Declined>
 fn run_by(alloc: Global, matches: &ArgMatches<'_>) -> Result<Asked, Declined>
     ensures run { (options : Options) → MetRun options (subcommand_rows_of matches.now) → result ≡ Ok (Run options) }
     ensures audit { MetAudit (subcommand_rows_of matches.now) → result ≡ Ok Audit }
+    ensures upgrade { MetUpgrade (subcommand_rows_of matches.now) → result ≡ Ok Upgrade }
     ensures only { IfOk result (λ a. IsMet a (subcommand_rows_of matches.now)) }
 {
     match matches.subcommand_matches("run") {
@@ -200,11 +218,22 @@ fn limit_named(alloc: Global, word: &str, name: &str, most: u64) -> Result<u64, 
 }
 
 fn audit_by(alloc: Global, matches: &ArgMatches<'_>) -> Result<Asked, Declined>
-    ensures asked { MetAudit (subcommand_rows_of matches.now) → result ≡ Ok Audit }
-    ensures only { IfOk result (λ a. (a ≡ Audit) × MetAudit (subcommand_rows_of matches.now)) }
+    ensures audit { MetAudit (subcommand_rows_of matches.now) → result ≡ Ok Audit }
+    ensures upgrade { MetUpgrade (subcommand_rows_of matches.now) → result ≡ Ok Upgrade }
+    ensures only { IfOk result (λ a. IsMet a (subcommand_rows_of matches.now)) }
 {
     match matches.subcommand_matches("audit") {
         Some(_) => Ok(Asked::Audit),
+        None => upgrade_by(alloc, matches),
+    }
+}
+
+fn upgrade_by(alloc: Global, matches: &ArgMatches<'_>) -> Result<Asked, Declined>
+    ensures asked { MetUpgrade (subcommand_rows_of matches.now) → result ≡ Ok Upgrade }
+    ensures only { IfOk result (λ a. (a ≡ Upgrade) × MetUpgrade (subcommand_rows_of matches.now)) }
+{
+    match matches.subcommand_matches("upgrade") {
+        Some(_) => Ok(Asked::Upgrade),
         None => Err(Declined::Words(String::new(alloc))),
     }
 }
@@ -237,6 +266,19 @@ fn emit_named(alloc: Global, what: &str) -> Result<Emit, Declined>
 
 fn program<'a>(alloc: Global) -> Result<Command<'a>, AllocError>
     ensures { IfOk result (λ c. app_of c ≡ epaxos) }
+{
+    let command = auditing_program(alloc)?;
+    let upgrade = Command::new(alloc, "upgrade")
+        .about(
+            "Reads a bundle on standard input, and writes the bundle of version 2 that says the same",
+        )
+        .after_help(AFTER_UPGRADE);
+    command.subcommand(upgrade)
+}
+
+/// The program without its subcommand `upgrade`.
+fn auditing_program<'a>(alloc: Global) -> Result<Command<'a>, AllocError>
+    ensures { IfOk result (λ c. app_of c ≡ auditing) }
 {
     let command = replaying_program(alloc)?;
     let run = run_command(alloc)?;

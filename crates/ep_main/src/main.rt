@@ -1,12 +1,13 @@
-//! `epaxos`: replays scripts of a replicated key-value core, runs them in threads, audits bundles, and prints reports.
+//! `epaxos`: replays scripts of a replicated key-value core, runs them in threads, audits and upgrades bundles, and prints reports.
 //!
 //! `main` hands the words and the standard streams to `engine`, in `program.rt`, which is all of the program: over any source
 //! and sinks, so that its contract can say what the bytes and the status mean, and tests can run it over memory.
 //!
 //! Start with `program.rt`, `command_line.rt` (the words, by `clap`) and specs/Runs.antt (what is done, by status).
 //!
-//! It does no more than call `ep_replay`, `ep_run`, `ep_audit` and `ep_bundle`. A fault has one line on the fault output and one status
-//! (`fault.rt`, `declined.rt`, `telling.rt`, `status.rt`), as docs/FORMATS.md, section 6, lists them.
+//! It does no more than call `ep_replay`, `ep_run`, `ep_audit` and `ep_bundle`, and `Journals::into_upgraded`. A fault has one
+//! line on the fault output and one status (`fault.rt`, `declined.rt`, `telling.rt`, `status.rt`), as docs/FORMATS.md, section 6,
+//! lists them.
 #![tactic(auto)]
 
 mod ahead;
@@ -15,6 +16,7 @@ mod auditing;
 mod command_line;
 mod declined;
 mod fault;
+mod gathering;
 mod host;
 mod judged;
 mod program;
@@ -25,6 +27,7 @@ mod status;
 mod telling;
 #[cfg(test)]
 mod tests;
+mod upgrading;
 
 use crate::ahead::read_ahead;
 use crate::declined::Declined;

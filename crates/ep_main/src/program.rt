@@ -17,6 +17,7 @@ use crate::replaying::{emit_bundle, print_replay};
 use crate::running::print_run;
 use crate::status::Status;
 use crate::telling::{tell, tell_words};
+use crate::upgrading::print_upgraded;
 use ep_base::{Sink, Source};
 use std::alloc::Global;
 use std::convert::AsStr;
@@ -29,7 +30,7 @@ use std::thread::Threads;
 /// `replay` reads a script to its end, plays it, audits what it leaves, and writes the report in one go, or, with `--emit
 /// bundle`, the bundle of that. `run` reads a script, runs it in threads, audits what they leave (with `--host ring` the audit
 /// never refuses it), and writes the report, or the bundle, in one go. `audit` reads a bundle to its end, audits it, and writes
-/// what the audit says in one go.
+/// what the audit says in one go. `upgrade` reads a bundle to its end and writes it in version 2, in one go.
 /// What stops it (a refused script or bundle, want of memory, a reader or a writer that fails) is told by one line on the
 /// fault output; a refused command line by one, and what is wrong with it after that. Where telling fails, the status stays.
 pub fn engine<R: Threads + Wait + Sync, T: AsStr, S: Source, W: Sink, F: Sink>(
@@ -40,7 +41,7 @@ pub fn engine<R: Threads + Wait + Sync, T: AsStr, S: Source, W: Sink, F: Sink>(
     writer: &mut W,
     fault_writer: &mut F,
 ) -> Status
-    // where the words ask for a replay's or a run's report, for its bundle, for an audit, or for the version, that is done
+    // where the words ask for a replay's or a run's report, for its bundle, for an audit, for an upgrade, or for the version, that is done
     ensures asked { (asked : Asked) → AskFor asked (map T.text words.now) → (zs : List ℕ) → S.left reader.old ≡ Some zs → Performs asked result zs (input (S.has_failed reader.old) (S.has_failed reader.new))
         (output (W.held writer.old) (W.held writer.new) (W.has_failed writer.old) (W.has_failed writer.new))
         (output (F.held fault_writer.old) (F.held fault_writer.new) (F.has_failed fault_writer.old) (F.has_failed fault_writer.new)) }
@@ -121,6 +122,7 @@ fn attempt<R: Threads + Wait + Sync, S: Source, W: Sink>(
         Asked::Replay(Emit::Bundle) => emit_bundle(alloc, reader, writer),
         Asked::Run(options) => print_run(rt, alloc, &options, reader, writer),
         Asked::Audit => print_audit(alloc, reader, writer),
+        Asked::Upgrade => print_upgraded(alloc, reader, writer),
         Asked::Version => {
             writer.put(b"epaxos 0.1.0\n")?;
             Ok(Status::Accepted)

@@ -12,10 +12,10 @@ ghost use Rattle.ep_main.specs.Runs.{Plays, Leaves, IsVerdict};
 ghost use Rattle.ep_main.specs.declared.fault.Fault.TheVariants.{Memory};
 
 use crate::fault::Fault;
+use crate::gathering::gather_bundle;
 use crate::status::Status;
 use ep_audit::{Refusal, audit};
-use ep_base::{Noted, Sink, Source};
-use ep_bundle::write_bundle;
+use ep_base::{Sink, Source};
 use ep_replay::{Replayed, replay};
 use ep_report::report;
 use ep_script::read_script;
@@ -64,17 +64,13 @@ pub(crate) fn emit_bundle<S: Source, W: Sink>(
     Ok(Status::Accepted)
 }
 
-/// The bytes of the bundle of what a script's run left. They are gathered first and then put in one go, as a report's are.
+/// The bytes of the bundle of what a script's run left.
 fn bundle_of(alloc: Global, played: &Replayed) -> Result<Vec<u8>, Fault>
     requires { length played.now.receipts.items < 2 ^ 32 }
     ensures value { IfOk result (λ bytes. bytes.items ≡ bundle_bytes played.now.journals played.now.receipts.items) }
     ensures memory { IfErr result (λ e. e ≡ Memory) }
 {
-    let mut gathered = Noted::new(Vec::new(alloc));
-    match write_bundle(&played.journals, played.receipts.as_slice(), &mut gathered) {
-        Ok(()) => Ok(gathered.into_inner()),
-        Err(_) => Err(Fault::Memory),
-    }
+    gather_bundle(alloc, &played.journals, played.receipts.as_slice())
 }
 
 /// The report of what a script's run left, which the audit accepts.

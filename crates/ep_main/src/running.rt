@@ -15,12 +15,12 @@ ghost use Rattle.ep_main.specs.declared.status.Status.TheVariants.{Accepted};
 
 use crate::asked::Emit;
 use crate::fault::Fault;
+use crate::gathering::gather_bundle;
 use crate::host::Host;
 use crate::judged::Judged;
 use crate::run_options::RunOptions;
 use crate::status::Status;
-use ep_base::{Noted, Sink, Source};
-use ep_bundle::write_bundle;
+use ep_base::{Sink, Source};
 use ep_report::{Losses, refusal, run_report};
 use ep_run::{Ran, RunFault, run, run_rings};
 use ep_script::{RunScript, read_run};
@@ -135,7 +135,7 @@ fn judge_bundled(alloc: Global, ran: &Ran) -> Result<Judged, Fault>
     }
 }
 
-/// The bytes of the bundle of what a run left. They are gathered first and then put in one go, as a report's are.
+/// The bytes of the bundle of what a run left.
 fn bundle_of(alloc: Global, ran: &Ran) -> Result<Vec<u8>, Fault>
     ensures value { IfOk result (λ bytes. bytes.items ≡ bundle_bytes ran.now.finished.journals ran.now.receipts.items) }
     ensures memory { IfErr result (λ e. e ≡ Memory) }
@@ -143,13 +143,5 @@ fn bundle_of(alloc: Global, ran: &Ran) -> Result<Vec<u8>, Fault>
     if ran.receipts.len() >= 4_294_967_296 {
         return Err(Fault::Memory);
     }
-    let mut gathered = Noted::new(Vec::new(alloc));
-    match write_bundle(
-        &ran.finished.journals,
-        ran.receipts.as_slice(),
-        &mut gathered,
-    ) {
-        Ok(()) => Ok(gathered.into_inner()),
-        Err(_) => Err(Fault::Memory),
-    }
+    gather_bundle(alloc, &ran.finished.journals, ran.receipts.as_slice())
 }

@@ -6,7 +6,7 @@ ghost use Rattle.ep_main.specs.Faults.{code_of};
 /// How the program ends.
 #[derive(Clone, Copy, Debug, PartialEq, Eq)]
 pub enum Status {
-    /// The audit accepts, or help or the version was asked for, and what was asked for is printed.
+    /// The audit accepts, or an upgrade, help or the version was asked for, and what was asked for is printed.
     Accepted,
     /// The audit refuses.
     AuditRefused,

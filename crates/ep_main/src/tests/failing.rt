@@ -28,6 +28,8 @@ const RUN_FOR_A_BUNDLE: [&str; 4] = ["epaxos", "run", "--emit", "bundle"];
 
 const AUDIT: [&str; 2] = ["epaxos", "audit"];
 
+const UPGRADE: [&str; 2] = ["epaxos", "upgrade"];
+
 /// At which call, counted from 1, the reader, the writer and the fault output fail; at none where that is 0.
 #[derive(Clone, Copy)]
 struct Failing {
@@ -182,6 +184,14 @@ fn each_device_of_an_audit_fails(rt: HostRuntime) {
     let script = long_script(&rt, alloc);
     let bundle = run_failing(&rt, alloc, &BUNDLE, &script, Failing::at(0, 0, 0)).output;
     fail_each(&rt, alloc, &AUDIT, &bundle);
+}
+
+#[test]
+fn each_device_of_an_upgrade_fails(rt: HostRuntime) {
+    let alloc = rt.alloc();
+    let script = long_script(&rt, alloc);
+    let bundle = run_failing(&rt, alloc, &BUNDLE, &script, Failing::at(0, 0, 0)).output;
+    fail_each(&rt, alloc, &UPGRADE, &bundle);
 }
 
 /// A script is refused, and the line that says so can't be written.

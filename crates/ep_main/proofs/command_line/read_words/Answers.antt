@@ -3,7 +3,7 @@ use Rattle.ep_main.proofs.command_line.read_words.Goals as goal
 
 pub returns-in-Ok-clause-asked : goal.returns-in-Ok-clause-asked
 returns-in-Ok-clause-asked g c want ask =
-    asked_in_match want _ _ _ _ c.in_ok-command.ensures c.in-Ok.ensures.matches c.in-Ok.ensures.kinds c.asked_by.ensures.replay c.asked_by.ensures.run c.asked_by.ensures.audit ask
+    asked_in_match want _ _ _ _ c.in_ok-command.ensures c.in-Ok.ensures.matches c.in-Ok.ensures.kinds c.asked_by.ensures.replay c.asked_by.ensures.run c.asked_by.ensures.audit c.asked_by.ensures.upgrade ask
 
 pub returns-in-Err-clause-asked : goal.returns-in-Err-clause-asked
 returns-in-Err-clause-asked g c want ask =

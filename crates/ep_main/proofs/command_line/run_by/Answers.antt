@@ -2,7 +2,7 @@ use Rattle.std.proofs.Common.{rules, ◌≡◌, Some, codes, option_map, refl}
 use Rattle.clap.specs.Matches.{found_of, subcommand_name_of}
 use Rattle.clap.specs.Simple.{subcommand_rows_of}
 use Rattle.clap.specs.Walk.{rows_of}
-use Rattle.ep_main.proofs.Literals.{as_run, chooses_met, err_not_ok, met_with_by, run_no_audit}
+use Rattle.ep_main.proofs.Literals.{as_run, chooses_met, err_not_ok, met_with_by, run_no_audit, run_no_upgrade}
 use Rattle.ep_main.proofs.command_line.run_by.Goals as goal
 
 pub returns-in_ok-options_of-in-Some-clause-run : goal.returns-in_ok-options_of-in-Some-clause-run
@@ -22,10 +22,20 @@ returns-in_ok-options_of-in-Some-clause-audit c found =
     let named : subcommand_name_of c.args.matches.now ≡ Some (codes "run") = search rules in
     absurd (run_no_audit c.args.matches.now named found)
 
+pub returns-in_ok-options_of-in-Some-clause-upgrade : goal.returns-in_ok-options_of-in-Some-clause-upgrade
+returns-in_ok-options_of-in-Some-clause-upgrade c found =
+    let named : subcommand_name_of c.args.matches.now ≡ Some (codes "run") = search rules in
+    absurd (run_no_upgrade c.args.matches.now named found)
+
 pub returns-in_err-options_of-in-Some-clause-audit : goal.returns-in_err-options_of-in-Some-clause-audit
 returns-in_err-options_of-in-Some-clause-audit c found =
     let named : subcommand_name_of c.args.matches.now ≡ Some (codes "run") = search rules in
     absurd (run_no_audit c.args.matches.now named found)
+
+pub returns-in_err-options_of-in-Some-clause-upgrade : goal.returns-in_err-options_of-in-Some-clause-upgrade
+returns-in_err-options_of-in-Some-clause-upgrade c found =
+    let named : subcommand_name_of c.args.matches.now ≡ Some (codes "run") = search rules in
+    absurd (run_no_upgrade c.args.matches.now named found)
 
 pub returns-in_ok-options_of-in-Some-clause-only : goal.returns-in_ok-options_of-in-Some-clause-only
 returns-in_ok-options_of-in-Some-clause-only c =
