@@ -45,12 +45,13 @@ ROWS = (
     "audit-of-an-equal-stamp",
     "audit-of-another-entry",
     "audit-caller-order",
+    "upgrade-of-one-proposal",
     "docs/FORMATS.md, script for a run ",
 )
-# what is run on devices that fail, all but audits: the words, and the script
+# what is run on devices that fail, all but audits and upgrades: the words, and the script
 DEVICES = (("replay",), ("replay", "--emit", "bundle"), ("run",), ("run", "--host", "ring"), ("run", "--emit", "bundle"))
 PUT = b"replicas 3\npropose 0 1 put x 1\n"
-# the script whose bundle, which takes several reads, is audited on devices that fail
+# the script whose bundle, which takes several reads, is audited and upgraded on devices that fail
 LONG = ".ci/scripts/seven.script"
 
 
@@ -130,7 +131,8 @@ def failing_devices():
     print("with each read and each write failed:", flush=True)
     for words in DEVICES:
         yield swept("failing-devices", ["ep_main", "--", *words], PUT)
-    yield swept("failing-devices", ["ep_main", "--", "audit"], bundle_of(read(LONG)))
+    for words in (["audit"], ["upgrade"]):
+        yield swept("failing-devices", ["ep_main", "--", *words], bundle_of(read(LONG)))
     # (a script that is refused, so that the fault output is written on)
     yield swept("failing-devices", ["ep_main", "--", "replay"], b"replicas 4\n")
 
