@@ -43,13 +43,7 @@ fn assert_read(
 }
 
 /// The entry at byte `start` is refused so, as the first one of a journal.
-fn assert_refused(
-    rt: &impl Abort,
-    alloc: Global,
-    bytes: &[u8],
-    start: usize,
-    wanted: BundleFault,
-) {
+fn assert_refused(rt: &impl Abort, alloc: Global, bytes: &[u8], start: usize, wanted: BundleFault) {
     let mut journal = empty(rt, alloc);
     let (fault, _) = read_next(rt, alloc, &mut journal, bytes, start);
     drop(journal);
@@ -57,13 +51,7 @@ fn assert_refused(
 }
 
 /// The journal's entry at this place is written so.
-fn assert_written(
-    rt: &impl Abort,
-    alloc: Global,
-    journal: &Journal,
-    place: usize,
-    wanted: &[u8],
-) {
+fn assert_written(rt: &impl Abort, alloc: Global, journal: &Journal, place: usize, wanted: &[u8]) {
     assert!(*rt; place < journal.entries().len());
     learn_entry(journal, place);
     let mut sink = FailAt::new(Noted::new(Vec::new(alloc)), 1);
