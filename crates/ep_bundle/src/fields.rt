@@ -45,7 +45,7 @@ pub(crate) fn take<S: Source>(
 }
 
 /// Takes a run of this many bytes.
-pub(crate) fn read_run<S: Source>(
+pub fn read_run<S: Source>(
     alloc: Global,
     source: &mut S,
     place: &mut u64,
@@ -86,7 +86,8 @@ pub(crate) fn read_u32<S: Source>(source: &mut S, place: &mut u64) -> Result<u32
     Ok(BigEndian::read_u32(&bytes))
 }
 
-pub(crate) fn read_u64<S: Source>(source: &mut S, place: &mut u64) -> Result<u64, BundleFault>
+/// A number of eight bytes.
+pub fn read_u64<S: Source>(source: &mut S, place: &mut u64) -> Result<u64, BundleFault>
     ensures bytes { (zs : List ℕ) → S.left source.old ≡ Some zs → Reads (number 8 (record { at = place.old; bytes = zs })) result place.new (S.left source.new) }
     ensures told { FailsAsTold is_read_failed result (S.has_failed source.old) (S.has_failed source.new) }
 {
@@ -96,7 +97,7 @@ pub(crate) fn read_u64<S: Source>(source: &mut S, place: &mut u64) -> Result<u64
 }
 
 /// A number of one byte, from `low` to `high`.
-pub(crate) fn field_u8<S: Source>(
+pub fn field_u8<S: Source>(
     source: &mut S,
     place: &mut u64,
     low: u8,

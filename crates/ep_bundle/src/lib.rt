@@ -29,11 +29,18 @@ mod receipts;
 mod write_laws;
 mod writing;
 
-pub use bundle::{Bundle, read_bundle};
+pub use bundle::{Bundle, read_bundle, read_end};
 pub use bundle_fault::BundleFault;
+pub use events::read_counted;
+pub use fields::{field_u8, read_run, read_u64};
 pub use journal::{read_entry, read_journal};
+pub use parts::{read_command, read_instance};
+pub use putting::{put_run, put_u8, put_u16, put_u32, put_u64};
 pub use read_laws::{bundles_are_canonical, entries_are_canonical, journals_are_canonical};
 pub use write_laws::{
     bundle_is_read_back, entries_are_read_back, journal_is_read_back, learn_entries, learn_entry,
 };
-pub use writing::{write_bundle, write_entry, write_journal};
+pub use writing::{
+    put_command, put_frame, put_instance, put_receipt, put_value, write_bundle, write_entry,
+    write_journal,
+};

@@ -41,7 +41,7 @@ fn read_number<S: Source>(
 }
 
 /// An instance of the version that a replica of the cluster leads.
-pub(crate) fn read_instance<S: Source>(
+pub fn read_instance<S: Source>(
     source: &mut S,
     place: &mut u64,
     version: Version,
@@ -191,7 +191,7 @@ fn read_op<S: Source>(source: &mut S, place: &mut u64, version: Version) -> Resu
 }
 
 /// A command of the version.
-pub(crate) fn read_command<S: Source>(
+pub fn read_command<S: Source>(
     alloc: Global,
     source: &mut S,
     place: &mut u64,

@@ -7,21 +7,24 @@ ghost use Rattle.ep_frame.specs.Fields.{number_bytes};
 use byteorder::{BigEndian, ByteOrder};
 use ep_base::{Sink, WriteFailed};
 
-pub(crate) fn put_run<K: Sink>(sink: &mut K, bytes: &[u8]) -> Result<(), WriteFailed>
+/// Writes these bytes.
+pub fn put_run<K: Sink>(sink: &mut K, bytes: &[u8]) -> Result<(), WriteFailed>
     ensures { Puts (K.held sink.old) (K.held sink.new) (K.has_failed sink.old) (K.has_failed sink.new) result bytes.now }
 {
     sink.put(bytes)
 }
 
 #[tactic(auto, unfolding(ep_frame::specs::Fields::number_bytes))]
-pub(crate) fn put_u8<K: Sink>(sink: &mut K, number: u8) -> Result<(), WriteFailed>
+/// Writes a number of one byte.
+pub fn put_u8<K: Sink>(sink: &mut K, number: u8) -> Result<(), WriteFailed>
     ensures { Puts (K.held sink.old) (K.held sink.new) (K.has_failed sink.old) (K.has_failed sink.new) result (number_bytes 1 number) }
 {
     put_run(sink, &[number])
 }
 
 #[tactic(auto, unfolding(ep_frame::specs::Fields::number_bytes))]
-pub(crate) fn put_u16<K: Sink>(sink: &mut K, number: u16) -> Result<(), WriteFailed>
+/// Writes a number of two bytes.
+pub fn put_u16<K: Sink>(sink: &mut K, number: u16) -> Result<(), WriteFailed>
     ensures { Puts (K.held sink.old) (K.held sink.new) (K.has_failed sink.old) (K.has_failed sink.new) result (number_bytes 2 number) }
 {
     let mut bytes = [0; 2];
@@ -30,7 +33,8 @@ pub(crate) fn put_u16<K: Sink>(sink: &mut K, number: u16) -> Result<(), WriteFai
 }
 
 #[tactic(auto, unfolding(ep_frame::specs::Fields::number_bytes))]
-pub(crate) fn put_u32<K: Sink>(sink: &mut K, number: u32) -> Result<(), WriteFailed>
+/// Writes a number of four bytes.
+pub fn put_u32<K: Sink>(sink: &mut K, number: u32) -> Result<(), WriteFailed>
     ensures { Puts (K.held sink.old) (K.held sink.new) (K.has_failed sink.old) (K.has_failed sink.new) result (number_bytes 4 number) }
 {
     let mut bytes = [0; 4];
@@ -39,7 +43,8 @@ pub(crate) fn put_u32<K: Sink>(sink: &mut K, number: u32) -> Result<(), WriteFai
 }
 
 #[tactic(auto, unfolding(ep_frame::specs::Fields::number_bytes))]
-pub(crate) fn put_u64<K: Sink>(sink: &mut K, number: u64) -> Result<(), WriteFailed>
+/// Writes a number of eight bytes.
+pub fn put_u64<K: Sink>(sink: &mut K, number: u64) -> Result<(), WriteFailed>
     ensures { Puts (K.held sink.old) (K.held sink.new) (K.has_failed sink.old) (K.has_failed sink.new) result (number_bytes 8 number) }
 {
     let mut bytes = [0; 8];

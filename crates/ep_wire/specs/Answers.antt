@@ -1,0 +1,110 @@
+-- The bytes of answers: the length of what follows, a kind, and a body.
+use Rattle.std.specs.Prelude.{◌≡◌, ℕ, ◌+◌, ◌<◌, ◌^◌, List, [], ◌∷◌, ◌++◌, length, Option, Some, None}
+use Rattle.std.specs.List.{flat_map}
+use Rattle.ep_bundle.specs.Bytes.{frame_bytes, receipt_bytes}
+use Rattle.ep_bundle.specs.Writing.{FramesFit}
+use Rattle.ep_frame.specs.Fields.{number_bytes, dep_bytes}
+use Rattle.ep_frame.specs.Meaning.{instance_at, origin_at}
+use Rattle.ep_journal.specs.declared.entry.Entry.{Entry}
+use Rattle.ep_journal.specs.declared.event.Event.{Event}
+use Rattle.ep_journal.specs.declared.event.Event.TheVariants.{Propose, Handle, GiveUp, Recover, Execute}
+use Rattle.ep_journal.specs.declared.step_fault.StepFault.{StepFault}
+use Rattle.ep_journal.specs.declared.step_fault.StepFault.TheVariants.{Memory, OtherVersion, OutOfRange, NotMine, StampFull, SpaceFull, SeqExhausted, NotLeading, TooFewAnswers, AlreadyCommitted, BallotsExhausted, NotCommitted}
+use Rattle.ep_rules.specs.declared.receipt.Receipt.{Receipt}
+use Rattle.ep_wire.specs.declared.refusal.Refusal.{Refusal}
+use Rattle.ep_wire.specs.declared.refusal.Refusal.TheVariants.{BadFrame, Step}
+
+-- an instance, or three zero bytes
+abbrev pub instance_or_none : Option ℕ → List ℕ
+instance_or_none None = 0 ∷ 0 ∷ 0 ∷ []
+instance_or_none (Some i) = dep_bytes i
+
+-- the instance that the first of these frames is about
+abbrev pub first_about : List (List ℕ) → Option ℕ
+first_about [] = None
+first_about (b ∷ bs) = Some (instance_at b)
+
+-- the instance that a proposal took
+abbrev pub taken_as : Event → List (List ℕ) → Option ℕ
+taken_as (Propose client request command seen) frames = first_about frames
+taken_as (Handle b) frames = None
+taken_as (GiveUp i) frames = None
+taken_as (Recover i) frames = None
+taken_as (Execute i) frames = None
+
+-- a frame, with its receiver before it
+abbrev pub sent_bytes : List ℕ → List ℕ
+sent_bytes b = number_bytes 1 (origin_at b).to ++ frame_bytes b
+
+-- an entry's number, stamp and instance
+abbrev pub head_bytes : Entry → List ℕ
+head_bytes e = number_bytes 4 e.number ++ number_bytes 8 e.stamp ++ instance_or_none (taken_as e.event e.frames)
+
+abbrev pub frames_bytes : List (List ℕ) → List ℕ
+frames_bytes bs = number_bytes 2 (length bs) ++ flat_map sent_bytes bs
+
+abbrev pub receipts_bytes : List Receipt → List ℕ
+receipts_bytes rs = number_bytes 2 (length rs) ++ flat_map receipt_bytes rs
+
+-- an entry as it is answered: what it sends, and the receipts of what it executed
+abbrev pub entry_bytes : Entry → List Receipt → List ℕ
+entry_bytes e rs = head_bytes e ++ (frames_bytes e.frames ++ receipts_bytes rs)
+
+-- its counts fit their fields
+abbrev pub Fits : List (List ℕ) → List Receipt → Type 0
+Fits frames rs = FramesFit frames × (length rs < 2 ^ 16)
+
+-- what a node took: the count of entries, and each of them
+abbrev pub taken_bytes : List ℕ → List ℕ
+taken_bytes body = number_bytes 4 (1 + length body) ++ number_bytes 1 1 ++ body
+
+-- the number in the name of a fault, and the instance that it names
+abbrev pub step_code : StepFault → ℕ
+step_code Memory = 1
+step_code OtherVersion = 14
+step_code OutOfRange = 3
+step_code NotMine = 13
+step_code StampFull = 15
+step_code SpaceFull = 4
+step_code SeqExhausted = 5
+step_code NotLeading = 6
+step_code TooFewAnswers = 7
+step_code AlreadyCommitted = 8
+step_code BallotsExhausted = 9
+step_code (NotCommitted i) = 10
+
+abbrev pub step_names : StepFault → Option ℕ
+step_names Memory = None
+step_names OtherVersion = None
+step_names OutOfRange = None
+step_names NotMine = None
+step_names StampFull = None
+step_names SpaceFull = None
+step_names SeqExhausted = None
+step_names NotLeading = None
+step_names TooFewAnswers = None
+step_names AlreadyCommitted = None
+step_names BallotsExhausted = None
+step_names (NotCommitted i) = Some i
+
+abbrev pub code_of : Refusal → ℕ
+code_of BadFrame = 14
+code_of (Step fault) = step_code fault
+
+abbrev pub names : Refusal → Option ℕ
+names BadFrame = None
+names (Step fault) = step_names fault
+
+abbrev pub refused_bytes : Refusal → List ℕ
+refused_bytes r = number_bytes 4 5 ++ number_bytes 1 2 ++ number_bytes 1 (code_of r) ++ instance_or_none (names r)
+
+abbrev pub value_bytes : Option (List ℕ) → List ℕ
+value_bytes None = number_bytes 4 2 ++ number_bytes 1 3 ++ number_bytes 1 0
+value_bytes (Some v) = number_bytes 4 (4 + length v) ++ number_bytes 1 3 ++ (number_bytes 1 1 ++ number_bytes 2 (length v) ++ v)
+
+abbrev pub instance_bytes : Option ℕ → List ℕ
+instance_bytes None = number_bytes 4 2 ++ number_bytes 1 4 ++ number_bytes 1 0
+instance_bytes (Some i) = number_bytes 4 5 ++ number_bytes 1 4 ++ number_bytes 1 1 ++ dep_bytes i
+
+abbrev pub synced_bytes : ℕ → List ℕ
+synced_bytes n = number_bytes 4 5 ++ number_bytes 1 6 ++ number_bytes 4 n

@@ -1,0 +1,257 @@
+//! Writing answers.
+
+ghost use Rattle.std.specs.Prelude.{◌≡◌, ◌<◌, ◌+◌, ◌≤◌, ◌^◌, ◌↔◌, ◌++◌, ℕ, List, Some, IsTrue, length, option_copied};
+ghost use Rattle.std.specs.List.{flat_map};
+ghost use Rattle.ep_base.specs.Devices.{Puts};
+ghost use Rattle.ep_bundle.specs.Bytes.{receipt_bytes};
+ghost use Rattle.ep_frame.specs.Fields.{number_bytes};
+ghost use Rattle.ep_bundle.specs.Writing.{All, FrameFits, FramesFit};
+ghost use Rattle.ep_wire.specs.Answers.{code_of, entry_bytes, first_about, frames_bytes, head_bytes, instance_bytes, instance_or_none, names, receipts_bytes, refused_bytes, sent_bytes, step_code, synced_bytes, taken_as, taken_bytes, value_bytes, Fits};
+
+use crate::refusal::Refusal;
+use ep_base::{InstanceId, Sink, Value, WriteFailed};
+use ep_bundle::{
+    put_frame, put_instance, put_receipt, put_run, put_u8, put_u16, put_u32, put_u64, put_value,
+};
+use ep_frame::Frame;
+use ep_journal::{Entry, Event, StepFault};
+use ep_rules::Receipt;
+
+/// An instance, or three zero bytes.
+fn put_instance_or_none<K: Sink>(
+    sink: &mut K,
+    instance: Option<InstanceId>,
+) -> Result<(), WriteFailed>
+    ensures { Puts (K.held sink.old) (K.held sink.new) (K.has_failed sink.old) (K.has_failed sink.new) result (instance_or_none instance) }
+{
+    match instance {
+        Some(instance) => put_instance(sink, instance),
+        None => put_run(sink, &[0, 0, 0]),
+    }
+}
+
+/// The instance that the first of these frames is about.
+fn first_about(frames: &[Frame]) -> Option<InstanceId>
+    ensures { result ≡ first_about frames.now }
+{
+    match frames.first() {
+        Some(frame) => Some(frame.instance()),
+        None => None,
+    }
+}
+
+/// The instance that the entry's proposal took.
+fn taken_as(entry: &Entry) -> Option<InstanceId>
+    ensures { result ≡ taken_as entry.now.event entry.now.frames }
+{
+    match &entry.event {
+        Event::Propose { .. } => first_about(entry.frames.as_slice()),
+        Event::Handle(_) | Event::GiveUp(_) | Event::Recover(_) | Event::Execute(_) => None,
+    }
+}
+
+/// A frame, with its receiver before it.
+fn put_sent<K: Sink>(sink: &mut K, frame: &Frame) -> Result<(), WriteFailed>
+    requires { FrameFits frame.now }
+    ensures { Puts (K.held sink.old) (K.held sink.new) (K.has_failed sink.old) (K.has_failed sink.new) result (sent_bytes frame.now) }
+{
+    put_u8(sink, frame.origin().to.index())?;
+    put_frame(sink, frame)
+}
+
+fn put_each_sent<K: Sink>(sink: &mut K, frames: &[Frame]) -> Result<(), WriteFailed>
+    requires { All FrameFits frames.now }
+    ensures { Puts (K.held sink.old) (K.held sink.new) (K.has_failed sink.old) (K.has_failed sink.new) result (flat_map sent_bytes frames.now) }
+{
+    for frame in frames {
+        put_sent(sink, frame)?;
+    }
+    Ok(())
+}
+
+fn put_frames<K: Sink>(sink: &mut K, frames: &[Frame]) -> Result<(), WriteFailed>
+    requires { FramesFit frames.now }
+    ensures { Puts (K.held sink.old) (K.held sink.new) (K.has_failed sink.old) (K.has_failed sink.new) result (frames_bytes frames.now) }
+{
+    put_u16(sink, frames.len() as u16)?;
+    put_each_sent(sink, frames)
+}
+
+fn put_each_receipt<K: Sink>(sink: &mut K, receipts: &[Receipt]) -> Result<(), WriteFailed>
+    ensures { Puts (K.held sink.old) (K.held sink.new) (K.has_failed sink.old) (K.has_failed sink.new) result (flat_map receipt_bytes receipts.now) }
+{
+    for receipt in receipts {
+        put_receipt(sink, receipt)?;
+    }
+    Ok(())
+}
+
+fn put_receipts<K: Sink>(sink: &mut K, receipts: &[Receipt]) -> Result<(), WriteFailed>
+    requires { length receipts.now < 2 ^ 16 }
+    ensures { Puts (K.held sink.old) (K.held sink.new) (K.has_failed sink.old) (K.has_failed sink.new) result (receipts_bytes receipts.now) }
+{
+    put_u16(sink, receipts.len() as u16)?;
+    put_each_receipt(sink, receipts)
+}
+
+/// An entry's number, stamp and instance.
+fn put_head<K: Sink>(sink: &mut K, entry: &Entry) -> Result<(), WriteFailed>
+    ensures { Puts (K.held sink.old) (K.held sink.new) (K.has_failed sink.old) (K.has_failed sink.new) result (head_bytes entry.now) }
+{
+    put_u32(sink, entry.number)?;
+    put_u64(sink, entry.stamp.ticks())?;
+    put_instance_or_none(sink, taken_as(entry))
+}
+
+/// Writes an entry as it is answered, with these receipts.
+pub fn put_entry<K: Sink>(
+    sink: &mut K,
+    entry: &Entry,
+    receipts: &[Receipt],
+) -> Result<(), WriteFailed>
+    requires { Fits entry.now.frames receipts.now }
+    ensures { Puts (K.held sink.old) (K.held sink.new) (K.has_failed sink.old) (K.has_failed sink.new) result (entry_bytes entry.now receipts.now) }
+{
+    put_head(sink, entry)?;
+    put_frames(sink, entry.frames.as_slice())?;
+    put_receipts(sink, receipts)
+}
+
+/// Whether the frame's length fits its field.
+fn frame_fits(frame: &Frame) -> bool
+    ensures { IsTrue result ↔ FrameFits frame.now }
+{
+    frame.as_slice().len() < 0x1_0000_0000
+}
+
+fn frames_fit(frames: &[Frame]) -> bool
+    ensures { IsTrue result ↔ All FrameFits frames.now }
+{
+    let mut fit = true;
+    for frame in frames {
+        fit = fit && frame_fits(frame);
+    }
+    fit
+}
+
+/// Whether the entry and its receipts can be answered: each count fits its field. All that a replica takes does.
+pub fn fits(entry: &Entry, receipts: &[Receipt]) -> bool
+    ensures { IsTrue result ↔ Fits entry.now.frames receipts.now }
+{
+    let frames = entry.frames.as_slice();
+    frames.len() < 0x1_0000 && receipts.len() < 0x1_0000 && frames_fit(frames)
+}
+
+/// Writes that a node took an event, or several: `body` is the count of the entries, and each entry.
+pub fn write_taken<K: Sink>(sink: &mut K, body: &[u8]) -> Result<(), WriteFailed>
+    requires { 1 + length body.now < 2 ^ 32 }
+    ensures { Puts (K.held sink.old) (K.held sink.new) (K.has_failed sink.old) (K.has_failed sink.new) result (taken_bytes body.now) }
+{
+    put_u32(sink, 1 + body.len() as u32)?;
+    put_u8(sink, 1)?;
+    put_run(sink, body)
+}
+
+/// The number in the fault's name.
+fn step_code(fault: StepFault) -> u8
+    ensures { result ≡ step_code fault }
+{
+    match fault {
+        StepFault::Memory => 1,
+        StepFault::OutOfRange => 3,
+        StepFault::SpaceFull => 4,
+        StepFault::SeqExhausted => 5,
+        StepFault::NotLeading => 6,
+        StepFault::TooFewAnswers => 7,
+        StepFault::AlreadyCommitted => 8,
+        StepFault::BallotsExhausted => 9,
+        StepFault::NotCommitted(_) => 10,
+        StepFault::NotMine => 13,
+        StepFault::OtherVersion => 14,
+        StepFault::StampFull => 15,
+    }
+}
+
+/// The number in the name of what a refusal tells.
+fn code_of(refusal: Refusal) -> u8
+    ensures { result ≡ code_of refusal }
+{
+    match refusal {
+        Refusal::BadFrame => 14,
+        Refusal::Step(fault) => step_code(fault),
+    }
+}
+
+/// The instance that a refusal names.
+fn names(refusal: Refusal) -> Option<InstanceId>
+    ensures { result ≡ names refusal }
+{
+    match refusal {
+        Refusal::Step(StepFault::NotCommitted(instance)) => Some(instance),
+        Refusal::Step(_) | Refusal::BadFrame => None,
+    }
+}
+
+/// Writes that a node refused an event, and why.
+pub fn write_refused<K: Sink>(sink: &mut K, refusal: Refusal) -> Result<(), WriteFailed>
+    ensures { Puts (K.held sink.old) (K.held sink.new) (K.has_failed sink.old) (K.has_failed sink.new) result (refused_bytes refusal) }
+{
+    put_u32(sink, 5)?;
+    put_u8(sink, 2)?;
+    put_u8(sink, code_of(refusal))?;
+    put_instance_or_none(sink, names(refusal))
+}
+
+/// That there is none, by an answer of this kind.
+fn write_none<K: Sink>(sink: &mut K, kind: u8) -> Result<(), WriteFailed>
+    ensures { Puts (K.held sink.old) (K.held sink.new) (K.has_failed sink.old) (K.has_failed sink.new) result (number_bytes 4 2 ++ number_bytes 1 kind ++ number_bytes 1 0) }
+{
+    put_u32(sink, 2)?;
+    put_u8(sink, kind)?;
+    put_u8(sink, 0)
+}
+
+/// This value.
+fn write_some_value<K: Sink>(sink: &mut K, value: &[u8]) -> Result<(), WriteFailed>
+    requires { length value.now ≤ 1024 }
+    ensures { Puts (K.held sink.old) (K.held sink.new) (K.has_failed sink.old) (K.has_failed sink.new) result (value_bytes (Some value.now)) }
+{
+    put_u32(sink, 4 + value.len() as u32)?;
+    put_u8(sink, 3)?;
+    put_value(sink, value)
+}
+
+/// Writes what a replica's map has at a key.
+pub fn write_value<K: Sink>(sink: &mut K, value: Option<&Value>) -> Result<(), WriteFailed>
+    ensures { Puts (K.held sink.old) (K.held sink.new) (K.has_failed sink.old) (K.has_failed sink.new) result (value_bytes (option_copied value)) }
+{
+    match value {
+        Some(value) => write_some_value(sink, value.as_slice()),
+        None => write_none(sink, 3),
+    }
+}
+
+/// Writes an instance, or that there is none.
+pub fn write_instance<K: Sink>(
+    sink: &mut K,
+    instance: Option<InstanceId>,
+) -> Result<(), WriteFailed>
+    ensures { Puts (K.held sink.old) (K.held sink.new) (K.has_failed sink.old) (K.has_failed sink.new) result (instance_bytes instance) }
+{
+    let Some(instance) = instance else {
+        return write_none(sink, 4);
+    };
+    put_u32(sink, 5)?;
+    put_u8(sink, 4)?;
+    put_u8(sink, 1)?;
+    put_instance(sink, instance)
+}
+
+/// Writes how many entries are on the disk.
+pub fn write_synced<K: Sink>(sink: &mut K, entries: u32) -> Result<(), WriteFailed>
+    ensures { Puts (K.held sink.old) (K.held sink.new) (K.has_failed sink.old) (K.has_failed sink.new) result (synced_bytes entries) }
+{
+    put_u32(sink, 5)?;
+    put_u8(sink, 6)?;
+    put_u32(sink, entries)
+}

@@ -1,0 +1,26 @@
+//! The bytes of a node's requests and answers.
+//!
+//! `ep_serve` reads requests and writes answers by this crate. It keeps to docs/FORMATS.md, section 9: a request is read
+//! exactly where its bytes are one, and an answer's bytes are those of specs/Answers.antt.
+//!
+//! Start with `request.rt`, `reading.rt` and specs/Requests.antt; then `answers.rt` and specs/Answers.antt.
+//!
+//! A request's length, kind and body are read before the body is judged; then a body is read by `ep_bundle`'s stages, of
+//! which nothing may be left.
+#![tactic(auto)]
+
+mod answers;
+mod bodies;
+mod front;
+mod reading;
+mod refusal;
+mod request;
+mod request_fault;
+
+pub use answers::{
+    fits, put_entry, write_instance, write_refused, write_synced, write_taken, write_value,
+};
+pub use reading::read_request;
+pub use refusal::Refusal;
+pub use request::Request;
+pub use request_fault::RequestFault;

@@ -1,0 +1,35 @@
+//! What a node is asked.
+
+use bytes::Bytes;
+use ep_base::{Command, InstanceId, Key};
+
+/// What a node is asked.
+#[derive(Drop)]
+pub enum Request {
+    /// A command of a client, the client and its request from 1; `seen` is the greatest stamp that the client knows of, 0
+    /// where none.
+    Propose {
+        client: u32,
+        request: u32,
+        seen: u64,
+        command: Command,
+    },
+    /// Bytes that came from a peer are handled. They may be no frame.
+    Frame(Bytes),
+    /// The leader of the instance waits no longer for its fast quorum.
+    GiveUp(InstanceId),
+    /// The replica takes over the instance.
+    Recover(InstanceId),
+    /// The instance is executed, and before it all that it depends on.
+    Execute(InstanceId),
+    /// All own instances that are ready are executed.
+    Advance,
+    /// What the replica's map has at the key.
+    Get(Key),
+    /// The next instance above this one, or the first, that the replica knows of and hasn't committed.
+    NextOpen(Option<InstanceId>),
+    /// What the replica leads in the instance.
+    Leads(InstanceId),
+    /// All that was taken is to be on the disk, and answered.
+    Sync,
+}
