@@ -11,9 +11,11 @@
 //! thread is in here; leave those to the program.
 #![tactic(auto)]
 
+mod asking;
 mod blockers;
 mod clock;
 mod due;
+mod firsts;
 mod pending;
 mod proposal;
 mod proposing;
@@ -24,7 +26,9 @@ mod replica_fault;
 mod resume_fault;
 mod slots;
 mod span;
+mod spot;
 
+pub use ep_phase::LeadPhase;
 pub use proposal::Proposal;
 pub use receipt_view::ReceiptView;
 pub use replica::Replica;
