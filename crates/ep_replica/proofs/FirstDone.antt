@@ -1,7 +1,6 @@
 -- Where a replica's own instances were first executed, with one entry more, and the receipts of these executions.
-use Rattle.std.proofs.Common.{◌≡◌, ◌≢◌, ℕ, suc, ◌+◌, ◌<◌, ◌≤◌, length, cond, Bool, true, false, eqb, Option, Some, None, List, [], ◌∷◌, ◌++◌, drop, refl, sym, ap, subst, ◌∙◌, arith, set, slice_get, get_or}
-use Rattle.std.proofs.lemmas.Bool.{eqb-true, eqb-false, ne_eqb}
-use Rattle.std.proofs.lemmas.List.{get_or-set_same, get_or-set_other, drop_more, drop_all}
+use Rattle.std.proofs.Common.{◌≡◌, ℕ, suc, ◌+◌, ◌≤◌, length, cond, Bool, true, false, eqb, Option, Some, None, List, [], ◌∷◌, ◌++◌, refl, sym, ap, subst, ◌∙◌, arith, slice_get}
+use Rattle.std.proofs.lemmas.Bool.{eqb-true}
 use Rattle.ep_base.specs.Instances.{instance_of, leader_of, number_of, highest_number}
 use Rattle.ep_base.specs.declared.reply.Answer.{Answer}
 use Rattle.ep_rules.specs.Journals as rules
@@ -10,7 +9,7 @@ use Rattle.ep_journal.specs.Entries.{Log, entry_of, entries_of}
 use Rattle.ep_journal.specs.declared.entry.Entry.{Entry}
 use Rattle.ep_journal.specs.declared.event.Event.{Event as Happening}
 use Rattle.ep_replica.specs.Applied.{Applied}
-use Rattle.ep_replica.specs.Firsts.{or_spot, first_among, first_done, spot_at, AreFirsts, AreNoted, told_done, told_in, told_at}
+use Rattle.ep_replica.specs.Firsts.{or_spot, first_among, first_done, spot_at, AreFirsts, told_done, told_in, told_at}
 use Rattle.ep_replica.specs.Kept.{Kept, kept_of}
 use Rattle.ep_replica.specs.Outcomes.{receipt, or_this, told_among, told_by}
 use Rattle.ep_replica.specs.Receipts.{proposal_of, own_proposal, outcome_of}

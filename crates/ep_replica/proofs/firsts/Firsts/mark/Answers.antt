@@ -1,7 +1,7 @@
-use Rattle.std.proofs.Common.{◌≡◌, ◌≤◌, ◌∙◌, ℕ, List, Option, ap, subst, sym}
-use Rattle.ep_base.specs.Instances.{instance_of, highest_number}
+use Rattle.std.proofs.Common.{◌∙◌, ℕ, List, Option, ap}
+use Rattle.ep_base.specs.Instances.{instance_of}
 use Rattle.ep_base.specs.declared.reply.Answer.{Answer}
-use Rattle.ep_replica.specs.Firsts.{or_spot, first_among, spot_at, AreFirsts}
+use Rattle.ep_replica.specs.Firsts.{or_spot, first_among, spot_at}
 use Rattle.ep_replica.specs.declared.spot.Spot.{Spot}
 use Rattle.ep_replica.proofs.FirstDone.{firsts_more}
 use Rattle.ep_replica.proofs.firsts.Firsts.mark.Goals as goal
