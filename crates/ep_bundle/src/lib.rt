@@ -3,9 +3,10 @@
 //! `ep_main` reads and writes bundles by this crate, and a program that keeps journals may. It keeps to docs/FORMATS.md,
 //! section 2: what is read is what would be written for it, what is written is read back, and each entry is stepped again as
 //! it is read, so that a `Journal` from a file is as good as one that was made by steps.
+//! Entries are read and written one by one too, for a file that grows with its journal.
 //!
-//! Start with `journal.rt` and `bundle.rt` (reading), `writing.rt`, and specs/Bytes.antt; the four laws are `read_laws.rt` and
-//! `write_laws.rt`.
+//! Start with `journal.rt` and `bundle.rt` (reading), `writing.rt`, and specs/Bytes.antt; the laws, of entries, journals and
+//! bundles, are `read_laws.rt` and `write_laws.rt`.
 //!
 //! Bytes are judged in their order: a field where it is read, an entry once it is whole. A stage added to the reader wants
 //! its definition in specs/Stages.antt first.
@@ -32,11 +33,14 @@ pub use bundle::{Bundle, read_bundle, read_end};
 pub use bundle_fault::BundleFault;
 pub use events::read_counted;
 pub use fields::{field_u8, read_run, read_u64};
-pub use journal::read_journal;
+pub use journal::{read_entry, read_journal};
 pub use parts::{read_command, read_instance};
 pub use putting::{put_run, put_u8, put_u16, put_u32, put_u64};
-pub use read_laws::{bundles_are_canonical, journals_are_canonical};
-pub use write_laws::{bundle_is_read_back, journal_is_read_back};
+pub use read_laws::{bundles_are_canonical, entries_are_canonical, journals_are_canonical};
+pub use write_laws::{
+    bundle_is_read_back, entries_are_read_back, journal_is_read_back, learn_entries, learn_entry,
+};
 pub use writing::{
-    put_command, put_frame, put_instance, put_receipt, put_value, write_bundle, write_journal,
+    put_command, put_frame, put_instance, put_receipt, put_value, write_bundle, write_entry,
+    write_journal,
 };
