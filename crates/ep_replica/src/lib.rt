@@ -14,6 +14,7 @@
 mod blockers;
 mod clock;
 mod due;
+mod entry_receipts;
 mod pending;
 mod proposal;
 mod proposing;
