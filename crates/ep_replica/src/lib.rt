@@ -16,6 +16,7 @@ mod asking;
 mod blockers;
 mod clock;
 mod due;
+mod entry_receipts;
 mod firsts;
 mod pending;
 mod proposal;

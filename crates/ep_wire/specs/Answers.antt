@@ -1,5 +1,5 @@
 -- The bytes of answers: the length of what follows, a kind, and a body.
-use Rattle.std.specs.Prelude.{◌≡◌, ℕ, ◌+◌, ◌<◌, ◌^◌, List, [], ◌∷◌, ◌++◌, length, Option, Some, None}
+use Rattle.std.specs.Prelude.{ℕ, ◌+◌, ◌<◌, ◌^◌, List, [], ◌∷◌, ◌++◌, length, Option, Some, None}
 use Rattle.std.specs.List.{flat_map}
 use Rattle.ep_bundle.specs.Bytes.{frame_bytes, receipt_bytes}
 use Rattle.ep_bundle.specs.Writing.{FramesFit}
@@ -11,6 +11,8 @@ use Rattle.ep_journal.specs.declared.event.Event.TheVariants.{Propose, Handle, G
 use Rattle.ep_journal.specs.declared.step_fault.StepFault.{StepFault}
 use Rattle.ep_journal.specs.declared.step_fault.StepFault.TheVariants.{Memory, OtherVersion, OutOfRange, NotMine, StampFull, SpaceFull, SeqExhausted, NotLeading, TooFewAnswers, AlreadyCommitted, BallotsExhausted, NotCommitted}
 use Rattle.ep_rules.specs.declared.receipt.Receipt.{Receipt}
+use Rattle.ep_wire.specs.declared.leading.Leading.{Leading}
+use Rattle.ep_wire.specs.declared.leading.Leading.TheVariants.{Proposing, Accepting, Preparing}
 use Rattle.ep_wire.specs.declared.refusal.Refusal.{Refusal}
 use Rattle.ep_wire.specs.declared.refusal.Refusal.TheVariants.{BadFrame, Step}
 
@@ -105,6 +107,20 @@ value_bytes (Some v) = number_bytes 4 (4 + length v) ++ number_bytes 1 3 ++ (num
 abbrev pub instance_bytes : Option ℕ → List ℕ
 instance_bytes None = number_bytes 4 2 ++ number_bytes 1 4 ++ number_bytes 1 0
 instance_bytes (Some i) = number_bytes 4 5 ++ number_bytes 1 4 ++ number_bytes 1 1 ++ dep_bytes i
+
+abbrev pub phase_code : Leading → ℕ
+phase_code (Proposing n) = 1
+phase_code (Accepting n) = 2
+phase_code (Preparing n) = 3
+
+abbrev pub answer_count : Leading → ℕ
+answer_count (Proposing n) = n
+answer_count (Accepting n) = n
+answer_count (Preparing n) = n
+
+abbrev pub leading_bytes : Option Leading → List ℕ
+leading_bytes None = number_bytes 4 2 ++ number_bytes 1 5 ++ number_bytes 1 0
+leading_bytes (Some l) = number_bytes 4 4 ++ number_bytes 1 5 ++ number_bytes 1 1 ++ number_bytes 1 (phase_code l) ++ number_bytes 1 (answer_count l)
 
 abbrev pub synced_bytes : ℕ → List ℕ
 synced_bytes n = number_bytes 4 5 ++ number_bytes 1 6 ++ number_bytes 4 n

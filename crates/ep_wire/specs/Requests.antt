@@ -1,10 +1,10 @@
 -- The bytes of requests, of a cluster of n replicas: a length, a kind, and a body, of which nothing may be left.
-use Rattle.std.specs.Prelude.{◌≡◌, ℕ, ◌-◌, ◌||◌, Bool, true, false, cond, eqb, ltb, List, [], ◌∷◌, length, Option, Some, None, Result, Ok, Err, IsErr}
-use Rattle.core.specs.Option.{option_map}
+use Rattle.std.specs.Prelude.{◌≡◌, ℕ, ◌-◌, ◌||◌, ◌&&◌, leb, Bool, true, false, cond, eqb, ltb, List, [], ◌∷◌, length, Option, Some, None, Result, Ok, Err, IsErr}
+use Rattle.std.specs.Option.{option_map}
 use Rattle.ep_base.specs.Attributes.{same_list}
 use Rattle.ep_base.specs.declared.version.Version.TheVariants.{V2}
 use Rattle.ep_bundle.specs.Journals.{ended}
-use Rattle.ep_bundle.specs.Reading.{Left, Reading, and_then, run, number, field, Reads}
+use Rattle.ep_bundle.specs.Reading.{Left, Reading, and_then, run, number, field}
 use Rattle.ep_bundle.specs.Stages.{instance, counted, command}
 use Rattle.ep_bundle.specs.declared.bundle_fault.BundleFault.TheVariants.{BadBundle}
 use Rattle.ep_wire.specs.declared.request.Request.{Request}
@@ -67,9 +67,12 @@ found l None = Err (BadBundle l.at)
 abbrev pub sized : ℕ → ℕ → Left → Reading Request
 sized n len l = and_then (field 1 1 10 l) (λ kind l. and_then (run (len - 1) l) (λ bs l. found l (request_of n kind bs)))
 
+abbrev pub is_length : ℕ → Bool
+is_length x = leb 1 x && leb x 66000
+
 -- the length of what follows
 abbrev pub size_field : Left → Reading ℕ
-size_field l = field 4 1 66000 l
+size_field l = and_then (number 4 l) (λ x m. cond (is_length x) (Ok (x, m)) (Err (BadBundle l.at)))
 
 abbrev pub request : ℕ → Left → Reading Request
 request n l = and_then (size_field l) (sized n)

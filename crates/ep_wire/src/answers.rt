@@ -1,13 +1,14 @@
 //! Writing answers.
 
-ghost use Rattle.std.specs.Prelude.{◌≡◌, ◌<◌, ◌+◌, ◌≤◌, ◌^◌, ◌↔◌, ◌++◌, ℕ, List, Some, IsTrue, length, option_copied};
+ghost use Rattle.std.specs.Prelude.{◌≡◌, ◌<◌, ◌+◌, ◌≤◌, ◌^◌, ◌++◌, ℕ, List, Some, None, length};
 ghost use Rattle.std.specs.List.{flat_map};
 ghost use Rattle.ep_base.specs.Devices.{Puts};
 ghost use Rattle.ep_bundle.specs.Bytes.{receipt_bytes};
 ghost use Rattle.ep_frame.specs.Fields.{number_bytes};
 ghost use Rattle.ep_bundle.specs.Writing.{All, FrameFits, FramesFit};
-ghost use Rattle.ep_wire.specs.Answers.{code_of, entry_bytes, first_about, frames_bytes, head_bytes, instance_bytes, instance_or_none, names, receipts_bytes, refused_bytes, sent_bytes, step_code, synced_bytes, taken_as, taken_bytes, value_bytes, Fits};
+ghost use Rattle.ep_wire.specs.Answers.{answer_count, code_of, entry_bytes, first_about, frames_bytes, head_bytes, instance_bytes, instance_or_none, leading_bytes, names, phase_code, receipts_bytes, refused_bytes, sent_bytes, step_code, synced_bytes, taken_as, taken_bytes, value_bytes, Fits};
 
+use crate::leading::Leading;
 use crate::refusal::Refusal;
 use ep_base::{InstanceId, Sink, Value, WriteFailed};
 use ep_bundle::{
@@ -117,31 +118,6 @@ pub fn put_entry<K: Sink>(
     put_receipts(sink, receipts)
 }
 
-/// Whether the frame's length fits its field.
-fn frame_fits(frame: &Frame) -> bool
-    ensures { IsTrue result ↔ FrameFits frame.now }
-{
-    frame.as_slice().len() < 0x1_0000_0000
-}
-
-fn frames_fit(frames: &[Frame]) -> bool
-    ensures { IsTrue result ↔ All FrameFits frames.now }
-{
-    let mut fit = true;
-    for frame in frames {
-        fit = fit && frame_fits(frame);
-    }
-    fit
-}
-
-/// Whether the entry and its receipts can be answered: each count fits its field. All that a replica takes does.
-pub fn fits(entry: &Entry, receipts: &[Receipt]) -> bool
-    ensures { IsTrue result ↔ Fits entry.now.frames receipts.now }
-{
-    let frames = entry.frames.as_slice();
-    frames.len() < 0x1_0000 && receipts.len() < 0x1_0000 && frames_fit(frames)
-}
-
 /// Writes that a node took an event, or several: `body` is the count of the entries, and each entry.
 pub fn write_taken<K: Sink>(sink: &mut K, body: &[u8]) -> Result<(), WriteFailed>
     requires { 1 + length body.now < 2 ^ 32 }
@@ -173,28 +149,28 @@ fn step_code(fault: StepFault) -> u8
 }
 
 /// The number in the name of what a refusal tells.
-fn code_of(refusal: Refusal) -> u8
-    ensures { result ≡ code_of refusal }
+fn code_of(refusal: &Refusal) -> u8
+    ensures { result ≡ code_of refusal.now }
 {
     match refusal {
         Refusal::BadFrame => 14,
-        Refusal::Step(fault) => step_code(fault),
+        Refusal::Step(fault) => step_code(*fault),
     }
 }
 
 /// The instance that a refusal names.
-fn names(refusal: Refusal) -> Option<InstanceId>
-    ensures { result ≡ names refusal }
+fn names(refusal: &Refusal) -> Option<InstanceId>
+    ensures { result ≡ names refusal.now }
 {
     match refusal {
-        Refusal::Step(StepFault::NotCommitted(instance)) => Some(instance),
+        Refusal::Step(StepFault::NotCommitted(instance)) => Some(*instance),
         Refusal::Step(_) | Refusal::BadFrame => None,
     }
 }
 
 /// Writes that a node refused an event, and why.
-pub fn write_refused<K: Sink>(sink: &mut K, refusal: Refusal) -> Result<(), WriteFailed>
-    ensures { Puts (K.held sink.old) (K.held sink.new) (K.has_failed sink.old) (K.has_failed sink.new) result (refused_bytes refusal) }
+pub fn write_refused<K: Sink>(sink: &mut K, refusal: &Refusal) -> Result<(), WriteFailed>
+    ensures { Puts (K.held sink.old) (K.held sink.new) (K.has_failed sink.old) (K.has_failed sink.new) result (refused_bytes refusal.now) }
 {
     put_u32(sink, 5)?;
     put_u8(sink, 2)?;
@@ -211,24 +187,21 @@ fn write_none<K: Sink>(sink: &mut K, kind: u8) -> Result<(), WriteFailed>
     put_u8(sink, 0)
 }
 
-/// This value.
-fn write_some_value<K: Sink>(sink: &mut K, value: &[u8]) -> Result<(), WriteFailed>
-    requires { length value.now ≤ 1024 }
+/// Writes the value that a replica's map has at a key.
+pub fn write_value<K: Sink>(sink: &mut K, value: &Value) -> Result<(), WriteFailed>
     ensures { Puts (K.held sink.old) (K.held sink.new) (K.has_failed sink.old) (K.has_failed sink.new) result (value_bytes (Some value.now)) }
 {
+    let value = value.as_slice();
     put_u32(sink, 4 + value.len() as u32)?;
     put_u8(sink, 3)?;
     put_value(sink, value)
 }
 
-/// Writes what a replica's map has at a key.
-pub fn write_value<K: Sink>(sink: &mut K, value: Option<&Value>) -> Result<(), WriteFailed>
-    ensures { Puts (K.held sink.old) (K.held sink.new) (K.has_failed sink.old) (K.has_failed sink.new) result (value_bytes (option_copied value)) }
+/// Writes that a replica's map has no value at a key.
+pub fn write_no_value<K: Sink>(sink: &mut K) -> Result<(), WriteFailed>
+    ensures { Puts (K.held sink.old) (K.held sink.new) (K.has_failed sink.old) (K.has_failed sink.new) result (value_bytes None) }
 {
-    match value {
-        Some(value) => write_some_value(sink, value.as_slice()),
-        None => write_none(sink, 3),
-    }
+    write_none(sink, 3)
 }
 
 /// Writes an instance, or that there is none.
@@ -245,6 +218,40 @@ pub fn write_instance<K: Sink>(
     put_u8(sink, 4)?;
     put_u8(sink, 1)?;
     put_instance(sink, instance)
+}
+
+/// The number of the phase.
+fn phase_code(leading: &Leading) -> u8
+    ensures { result ≡ phase_code leading.now }
+{
+    match leading {
+        Leading::Proposing(_) => 1,
+        Leading::Accepting(_) => 2,
+        Leading::Preparing(_) => 3,
+    }
+}
+
+/// How many have answered.
+fn answer_count(leading: &Leading) -> u8
+    ensures { result ≡ answer_count leading.now }
+{
+    match leading {
+        Leading::Proposing(count) | Leading::Accepting(count) | Leading::Preparing(count) => *count,
+    }
+}
+
+/// Writes what a replica leads in an instance, or that it leads nothing there.
+pub fn write_leading<K: Sink>(sink: &mut K, leading: &Option<Leading>) -> Result<(), WriteFailed>
+    ensures { Puts (K.held sink.old) (K.held sink.new) (K.has_failed sink.old) (K.has_failed sink.new) result (leading_bytes leading.now) }
+{
+    let Some(leading) = leading else {
+        return write_none(sink, 5);
+    };
+    put_u32(sink, 4)?;
+    put_u8(sink, 5)?;
+    put_u8(sink, 1)?;
+    put_u8(sink, phase_code(leading))?;
+    put_u8(sink, answer_count(leading))
 }
 
 /// Writes how many entries are on the disk.

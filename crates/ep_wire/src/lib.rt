@@ -12,14 +12,17 @@
 mod answers;
 mod bodies;
 mod front;
+mod leading;
 mod reading;
 mod refusal;
 mod request;
 mod request_fault;
 
 pub use answers::{
-    fits, put_entry, write_instance, write_refused, write_synced, write_taken, write_value,
+    put_entry, write_instance, write_leading, write_no_value, write_refused, write_synced,
+    write_taken, write_value,
 };
+pub use leading::Leading;
 pub use reading::read_request;
 pub use refusal::Refusal;
 pub use request::Request;

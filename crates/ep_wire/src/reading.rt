@@ -1,10 +1,10 @@
 //! Reading requests.
 
-ghost use Rattle.std.specs.Prelude.{◌≡◌, ◌≤◌, ℕ, List, Some, IfOk};
+ghost use Rattle.std.specs.Prelude.{◌≡◌, ◌≤◌, ℕ, List, Some, true, IfOk, IfSome};
 ghost use Rattle.ep_base.specs.Devices.{FailsAsTold};
 ghost use Rattle.ep_base.specs.Quorums.{size};
 ghost use Rattle.ep_bundle.specs.Reading.{is_read_failed as has_read_failed, Reads};
-ghost use Rattle.ep_wire.specs.Requests.{found, is_read_failed, next_request, request_of, size_field, sized, unless_over, ReadsRequest};
+ghost use Rattle.ep_wire.specs.Requests.{found, is_length, is_read_failed, next_request, request_of, size_field, sized, unless_over, ReadsRequest};
 
 use crate::bodies::request_in;
 use crate::front::gather;
@@ -15,9 +15,18 @@ use ep_base::{Size, Source};
 use ep_bundle::{BundleFault, field_u8, read_run};
 use std::alloc::Global;
 
+/// Whether a request may have so many bytes.
+fn is_length(length: u32) -> bool
+    ensures test { result ≡ is_length length }
+    ensures low { result ≡ true → 1 ≤ length }
+{
+    1 <= length && length <= 66_000
+}
+
 /// The length of the next request; none where the input is over.
 fn read_length<S: Source>(source: &mut S, place: &mut u64) -> Result<Option<u32>, BundleFault>
     ensures bytes { (zs : List ℕ) → S.left source.old ≡ Some zs → Reads (unless_over (record { at = place.old; bytes = zs }) (size_field (record { at = place.old; bytes = zs }))) result place.new (S.left source.new) }
+    ensures range { IfOk result (λ o. IfSome o (λ n. 1 ≤ n)) }
     ensures told { FailsAsTold has_read_failed result (S.has_failed source.old) (S.has_failed source.new) }
 {
     let mut bytes = [0; 4];
@@ -29,7 +38,7 @@ fn read_length<S: Source>(source: &mut S, place: &mut u64) -> Result<Option<u32>
         return Err(BundleFault::BadBundle(*place));
     }
     let length = BigEndian::read_u32(&bytes);
-    if length < 1 || 66_000 < length {
+    if !is_length(length) {
         return Err(BundleFault::BadBundle(*place));
     }
     *place = place.saturating_add(4);
@@ -66,7 +75,8 @@ fn read_next<S: Source>(
     ensures bytes { (zs : List ℕ) → S.left source.old ≡ Some zs → Reads (next_request (size cluster) (record { at = place.old; bytes = zs })) result place.new (S.left source.new) }
     ensures told { FailsAsTold has_read_failed result (S.has_failed source.old) (S.has_failed source.new) }
 {
-    let Some(length) = read_length(source, place)? else {
+    let next = read_length(source, place)?;
+    let Some(length) = next else {
         return Ok(None);
     };
     let request = read_sized(alloc, source, place, cluster, length)?;
@@ -89,8 +99,7 @@ pub fn read_request<S: Source>(
         Ok(request) => Ok(request),
         Err(BundleFault::Memory) => Err(RequestFault::Memory),
         Err(BundleFault::ReadFailed) => Err(RequestFault::ReadFailed),
-        Err(BundleFault::BadBundle(_)) | Err(BundleFault::NotARun(_, _)) => {
-            Err(RequestFault::BadRequest(at))
-        }
+        Err(BundleFault::BadBundle(_)) => Err(RequestFault::BadRequest(at)),
+        Err(BundleFault::NotARun(_, _)) => Err(RequestFault::BadRequest(at)),
     }
 }

@@ -3,7 +3,8 @@
 use ep_base::{Command, FailAt, InstanceId, Noted, ReplicaId, Sink, Size, Value, Version};
 use ep_journal::{Entry, Event, Journal, Mark, StepFault};
 use ep_wire::{
-    Refusal, fits, put_entry, write_instance, write_refused, write_synced, write_taken, write_value,
+    Leading, Refusal, put_entry, write_instance, write_leading, write_no_value, write_refused,
+    write_synced, write_taken, write_value,
 };
 use std::alloc::Global;
 use std::process::Abort;
@@ -22,7 +23,7 @@ fn instance(rt: &impl Abort, leader: u8, number: u16) -> InstanceId {
 /// Whether a refusal is written so.
 fn is_refused_as(rt: &impl Abort, alloc: Global, refusal: Refusal, wanted: [u8; 4]) -> bool {
     let mut sink = Noted::new(Vec::new(alloc));
-    write_refused(&mut sink, refusal).expect(rt, "an answer written");
+    write_refused(&mut sink, &refusal).expect(rt, "an answer written");
     let bytes = sink.into_inner();
     bytes.len() == 9 && bytes.starts_with(&[0, 0, 0, 5, 2]) && bytes.ends_with(&wanted)
 }
@@ -55,14 +56,14 @@ fn refusals(rt: HostRuntime) {
 fn is_value(rt: &impl Abort, alloc: Global, bytes: &[u8], wanted: &[u8]) -> bool {
     let value = Value::new(alloc, bytes).expect(rt, "a value");
     let mut sink = Noted::new(Vec::new(alloc));
-    write_value(&mut sink, Some(&value)).expect(rt, "an answer written");
+    write_value(&mut sink, &value).expect(rt, "an answer written");
     sink.into_inner().as_slice() == wanted
 }
 
 /// Whether it is written so that there is no value.
 fn is_no_value(rt: &impl Abort, alloc: Global, wanted: &[u8]) -> bool {
     let mut sink = Noted::new(Vec::new(alloc));
-    write_value(&mut sink, None).expect(rt, "an answer written");
+    write_no_value(&mut sink).expect(rt, "an answer written");
     sink.into_inner().as_slice() == wanted
 }
 
@@ -91,6 +92,25 @@ fn is_instance(
     let mut sink = Noted::new(Vec::new(alloc));
     write_instance(&mut sink, instance).expect(rt, "an answer written");
     sink.into_inner().as_slice() == wanted
+}
+
+/// Whether what is led is written so.
+fn is_leading(rt: &impl Abort, alloc: Global, leading: Option<Leading>, wanted: &[u8]) -> bool {
+    let mut sink = Noted::new(Vec::new(alloc));
+    write_leading(&mut sink, &leading).expect(rt, "an answer written");
+    sink.into_inner().as_slice() == wanted
+}
+
+#[test]
+fn phases(rt: HostRuntime) {
+    let alloc = rt.alloc();
+    let first = Some(Leading::Proposing(2));
+    assert!(rt; is_leading(&rt, alloc, first, &[0, 0, 0, 4, 5, 1, 1, 2]));
+    let second = Some(Leading::Accepting(1));
+    assert!(rt; is_leading(&rt, alloc, second, &[0, 0, 0, 4, 5, 1, 2, 1]));
+    let third = Some(Leading::Preparing(0));
+    assert!(rt; is_leading(&rt, alloc, third, &[0, 0, 0, 4, 5, 1, 3, 0]));
+    assert!(rt; is_leading(&rt, alloc, None, &[0, 0, 0, 2, 5, 0]));
 }
 
 /// Whether so many synced entries are written so.
@@ -127,11 +147,11 @@ fn proposed(rt: &impl Abort, alloc: Global) -> Journal {
 }
 
 /// The entry as it is answered, without receipts.
-fn written(rt: &impl Abort, alloc: Global, entry: &Entry) -> Vec<u8> {
+fn written(rt: &impl Abort, alloc: Global, entry: &Entry) -> Vec<u8>
+    requires { FramesFit entry.now.frames }
+{
     let mut sink = Noted::new(Vec::new(alloc));
-    if fits(entry, &[]) {
-        put_entry(&mut sink, entry, &[]).expect(rt, "an entry written");
-    }
+    put_entry(&mut sink, entry, &[]).expect(rt, "an entry written");
     sink.into_inner()
 }
 
@@ -176,7 +196,7 @@ fn bodies(rt: HostRuntime) {
 fn writing_fails(rt: HostRuntime) {
     for call in 1..5u64 {
         let mut sink = FailAt::new(Noted::new(Vec::new(rt.alloc())), call);
-        assert!(rt; write_refused(&mut sink, Refusal::BadFrame).is_err());
+        assert!(rt; write_refused(&mut sink, &Refusal::BadFrame).is_err());
         assert!(rt; sink.failed());
         drop(sink);
     }
