@@ -1,0 +1,23 @@
+//! Laws of nodes that crash and come back with what they had handed out: their runs are runs without a crash.
+
+ghost use Rattle.ep_node.specs.Crashes.{CrashesKeepAgreement, CrashesKeepReceipts, CrashingRunsAreRuns, HandedOutStays};
+
+/// Whatever crashed, the nodes' entries are the journals of one run without a crash, and no audit of them finds a fault.
+pub fn crashing_runs_are_runs()
+    ensures { CrashingRunsAreRuns }
+{}
+
+/// No crash takes back an entry that something was handed out of, nor a frame.
+pub fn handed_out_stays()
+    ensures { HandedOutStays }
+{}
+
+/// What was handed out of a node at one point of a run, and what any node commits at a later one, agree: in an instance the same, and of two interfering commands one depends on the other.
+pub fn crashes_keep_agreement()
+    ensures { CrashesKeepAgreement }
+{}
+
+/// Receipts that were handed out are accepted with the journals at every later point.
+pub fn crashes_keep_receipts()
+    ensures { CrashesKeepReceipts }
+{}
