@@ -1,0 +1,3 @@
+pub mod CrashMoves
+pub mod CrashRuns
+pub mod CrashLasts
