@@ -3,15 +3,15 @@
 -- A node is a replica whose entries may be lost, but for those that something was handed out of: a frame, an answer, or what it committed.
 use Rattle.std.specs.Prelude.{◌≡◌, ◌≢◌, ◌⊎◌, ℕ, ◌+◌, ◌<◌, ◌≤◌, true, max, eqb, cond, length, List, [], ◌∷◌, ◌++◌, Some, take, drop}
 use Rattle.ep_base.specs.Interference.{interfere}
-use Rattle.ep_base.specs.Places.{Has}
+use Rattle.ep_base.specs.Places.{place, Has}
 use Rattle.ep_base.specs.Quorums.{size}
 use Rattle.ep_base.specs.declared.decree.Decree.{Decree}
 use Rattle.ep_rules.specs.Audits.{IsAccepted}
-use Rattle.ep_rules.specs.Journals.{Entry, IsEntry, left, AreMarked, last_stamp, heard, AreClocked, Journals, WasSent, Scheduled, acts_of, IsAmong}
+use Rattle.ep_rules.specs.Journals.{Entry, IsEntry, left, AreMarked, last_stamp, heard, AreClocked, Journals, WasSent, Scheduled, IsSchedule, acts_of, IsAmong}
 use Rattle.ep_rules.specs.Merging.{Merges}
 use Rattle.ep_rules.specs.States.{fresh_state, committed_in}
 use Rattle.ep_rules.specs.Steps.{Frame}
-use Rattle.ep_rules.specs.Verdicts.{committed_by, IsOwn, AreOwn}
+use Rattle.ep_rules.specs.Verdicts.{committed_by, command_at, history_of, IsReply, IsOwn, AreOwn}
 use Rattle.ep_rules.specs.Worlds.{opening, In, IsRun, ends}
 use Rattle.ep_rules.specs.declared.receipt.Receipt.{Receipt}
 
@@ -142,14 +142,26 @@ pub record AgreeOver (f : ℕ) (before after : Cluster) : Type 0 where
 abbrev pub CrashesKeepAgreement : Type 0
 CrashesKeepAgreement = AtTwoPoints AgreeOver
 
--- each receipt is one that was handed out of its replica
-abbrev pub AreHandedOut : ℕ → Cluster → List Receipt → Type 0
-AreHandedOut f c receipts = (t : Receipt) → In t receipts → (r : ℕ) × IsOwn f r (handed_out c r) t
+-- Receipts.
 
--- Receipts that were handed out are accepted with the journals at every later point.
+-- the receipt was handed out of the replica that proposed and executed its command
+abbrev pub IsHandedOut : ℕ → Cluster → Receipt → Type 0
+IsHandedOut f c t = (r : ℕ) × IsOwn f r (handed_out c r) t
+
+-- Receipts that were handed out are right at every later point.
 pub record ReceiptsStay (f : ℕ) (before after : Cluster) : Type 0 where
+  -- their replicas' entries have them still, and no audit finds a fault in them
   pub own : (r : ℕ) (t : Receipt) → IsOwn f r (handed_out before r) t → IsOwn f r (after.journal r) t
-  pub accepted : (receipts : List Receipt) → AreHandedOut f before receipts → IsAccepted f after.journal receipts
+  pub accepted : (receipts : List Receipt) → ((t : Receipt) → In t receipts → IsHandedOut f before t) → IsAccepted f after.journal receipts
+  -- each answer is one map's reply to the history of that point
+  pub replies :
+      (schedule : List Scheduled) → IsSchedule after.journal schedule → (t : Receipt) → IsHandedOut f before t →
+      IsReply (command_at f after.journal) (history_of (command_at f after.journal) schedule) t.instance t.answer
+  -- where what a client proposes after it saw an earlier one's stamp stands after that one's command
+  pub order :
+      (schedule : List Scheduled) → IsSchedule after.journal schedule → (t u : Receipt) → IsHandedOut f after t → IsHandedOut f before u → u.stamp ≤ t.seen →
+      let h = history_of (command_at f after.journal) schedule in
+      Has h t.instance → Has h u.instance → place h u.instance < place h t.instance
 
 abbrev pub CrashesKeepReceipts : Type 0
 CrashesKeepReceipts = AtTwoPoints ReceiptsStay

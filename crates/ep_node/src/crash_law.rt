@@ -17,7 +17,7 @@ pub fn crashes_keep_agreement()
     ensures { CrashesKeepAgreement }
 {}
 
-/// Receipts that were handed out are accepted with the journals at every later point.
+/// Receipts that were handed out are right at every later point: no audit finds a fault in them, and their answers are one map's replies to its history, in each caller's order.
 pub fn crashes_keep_receipts()
     ensures { CrashesKeepReceipts }
 {}
