@@ -66,14 +66,14 @@ in_frames m (e ∷ es) h = elim (in_split m e.out (frames_in es) h) [
 ]
 
 -- What holds at r of the new value, and of all the old ones, holds everywhere.
-at_each : {X : Type 0} (P : ℕ → X → Type 0) (r : ℕ) (x : X) (was : ℕ → X) → P r x → ((q : ℕ) → P q (was q)) → (q : ℕ) → P q (with_at r x was q)
+pub at_each : {X : Type 0} (P : ℕ → X → Type 0) (r : ℕ) (x : X) (was : ℕ → X) → P r x → ((q : ℕ) → P q (was q)) → (q : ℕ) → P q (with_at r x was q)
 at_each P r x was here there q = go (eqb r q) refl
   where
     go : (b : Bool) → eqb r q ≡ b → P q (cond b x (was q))
     go true e = subst (λ k. P k x) (eqb-true r q e) here
     go false e = there q
 
-at_same : {X : Type 0} (r : ℕ) (x : X) (was : ℕ → X) → with_at r x was r ≡ x
+pub at_same : {X : Type 0} (r : ℕ) (x : X) (was : ℕ → X) → with_at r x was r ≡ x
 at_same r x was = ap (λ b. cond b x (was r)) (eq-eqb r r refl)
 
 -- a frame of an entry that was handed out of

@@ -1,3 +1,4 @@
 pub mod CrashMoves
 pub mod CrashRuns
 pub mod CrashLasts
+pub mod CrashTraces

@@ -104,9 +104,22 @@ pub record IsOneRun (f : ℕ) (c : Cluster) : Type 0 where
   pub clocked : (r : ℕ) → AreClocked 0 (c.journal r)
   pub accepted : (receipts : List Receipt) → AreOwn f c.journal receipts → IsAccepted f c.journal receipts
 
--- What is left of a run with crashes is a run without: an entry that a crash took is as if it had never been.
+-- What is left of a run with crashes is a run without.
 abbrev pub CrashingRunsAreRuns : Type 0
 CrashingRunsAreRuns = (f : ℕ) → 0 < f → size f ≤ 256 → (moves : List Move) → AreMoves f fresh_cluster moves → IsOneRun f (cluster_after fresh_cluster moves)
+
+-- no crash is among them
+abbrev pub IsCalm : List Move → Type 0
+IsCalm [] = Unit {0}
+IsCalm (Take r e ∷ ms) = IsCalm ms
+IsCalm (HandOut r n ∷ ms) = IsCalm ms
+IsCalm (ComeBack r n ∷ ms) = ⊥
+
+-- Whatever moves lead to, moves without a crash lead to: an entry that a crash took is as if it had never been.
+abbrev pub CrashesLeaveNoTrace : Type 0
+CrashesLeaveNoTrace =
+    (f : ℕ) (moves : List Move) → AreMoves f fresh_cluster moves →
+    (calm : List Move) × IsCalm calm × AreMoves f fresh_cluster calm × (cluster_after fresh_cluster calm ≡ cluster_after fresh_cluster moves)
 
 abbrev pub IsBeginning : {X : Type 0} → List X → List X → Type 0
 IsBeginning xs ys = (rest : List _) × (xs ++ rest ≡ ys)

@@ -1,10 +1,15 @@
 //! Laws of nodes that crash and come back with what they had handed out: their runs are runs without a crash.
 
-ghost use Rattle.ep_node.specs.Crashes.{CrashesKeepAgreement, CrashesKeepReceipts, CrashingRunsAreRuns, HandedOutStays};
+ghost use Rattle.ep_node.specs.Crashes.{CrashesKeepAgreement, CrashesKeepReceipts, CrashesLeaveNoTrace, CrashingRunsAreRuns, HandedOutStays};
 
 /// Whatever crashed, the nodes' entries are the journals of one run without a crash, and no audit of them finds a fault.
 pub fn crashing_runs_are_runs()
     ensures { CrashingRunsAreRuns }
+{}
+
+/// Whatever moves lead to, moves without a crash lead to: an entry that a crash took is as if it had never been.
+pub fn crashes_leave_no_trace()
+    ensures { CrashesLeaveNoTrace }
 {}
 
 /// No crash takes back an entry that something was handed out of, nor a frame.
