@@ -113,7 +113,7 @@ module _ (f r n : ℕ) (c : Cluster) where
           let m = Rattle.std.proofs.lemmas.List.length-take j (with_at r (take n (c.journal r)) c.journal q) in omega arith
 
 -- moves without a crash that lead from c to d
-record Leads (f : ℕ) (c d : Cluster) : Type 0 where
+pub record Leads (f : ℕ) (c d : Cluster) : Type 0 where
   pub moves : List Move
   pub calm : IsCalm moves
   pub are : AreMoves f c moves
@@ -125,7 +125,7 @@ calm_and (HandOut r n) ms a h = h
 calm_and (ComeBack r n) ms a h = a
 
 -- one move, and then the others
-leads_on : (f : ℕ) (c d : Cluster) (m : Move) → IsCalm (m ∷ []) → IsMove f c m → Leads f (moved c m) d → Leads f c d
+pub leads_on : (f : ℕ) (c d : Cluster) (m : Move) → IsCalm (m ∷ []) → IsMove f c m → Leads f (moved c m) d → Leads f c d
 leads_on f c d m calm k l = record { moves = m ∷ l.moves; calm = calm_and m l.moves calm l.calm; are = (k, l.are); ends = l.ends }
 
 -- A crash at r to n entries after moves can come before them, where they hand no others out: what it takes is left out of them.

@@ -2,3 +2,4 @@ pub mod CrashMoves
 pub mod CrashRuns
 pub mod CrashLasts
 pub mod CrashTraces
+pub mod CrashPlayed

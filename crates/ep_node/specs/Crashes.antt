@@ -7,7 +7,7 @@ use Rattle.ep_base.specs.Places.{place, Has}
 use Rattle.ep_base.specs.Quorums.{size}
 use Rattle.ep_base.specs.declared.decree.Decree.{Decree}
 use Rattle.ep_rules.specs.Audits.{IsAccepted}
-use Rattle.ep_rules.specs.Journals.{Entry, IsEntry, left, AreMarked, last_stamp, heard, AreClocked, Journals, WasSent, Scheduled, IsSchedule, acts_of, IsAmong}
+use Rattle.ep_rules.specs.Journals.{Entry, IsEntry, left, AreMarked, AreNumbered, last_stamp, heard, AreClocked, Journals, WasSent, Scheduled, of, IsSchedule, acts_of, IsAmong, ArePlayed}
 use Rattle.ep_rules.specs.Merging.{Merges}
 use Rattle.ep_rules.specs.States.{fresh_state, committed_in}
 use Rattle.ep_rules.specs.Steps.{Frame}
@@ -120,6 +120,12 @@ abbrev pub CrashesLeaveNoTrace : Type 0
 CrashesLeaveNoTrace =
     (f : ℕ) (moves : List Move) → AreMoves f fresh_cluster moves →
     (calm : List Move) × IsCalm calm × AreMoves f fresh_cluster calm × (cluster_after fresh_cluster calm ≡ cluster_after fresh_cluster moves)
+
+-- Whatever a world plays by the clock, moves without a crash lead to: the runs with crashes have all runs without.
+abbrev pub PlayedRunsAreMoves : Type 0
+PlayedRunsAreMoves =
+    (f : ℕ) (schedule : List Scheduled) → ArePlayed f opening [] schedule → ((r : ℕ) → AreNumbered 1 0 (of r schedule)) → ((r : ℕ) → AreClocked 0 (of r schedule)) →
+    (moves : List Move) × IsCalm moves × AreMoves f fresh_cluster moves × ((r : ℕ) → (cluster_after fresh_cluster moves).journal r ≡ of r schedule)
 
 abbrev pub IsBeginning : {X : Type 0} → List X → List X → Type 0
 IsBeginning xs ys = (rest : List _) × (xs ++ rest ≡ ys)

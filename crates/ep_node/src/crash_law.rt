@@ -1,6 +1,6 @@
 //! Laws of nodes that crash and come back with what they had handed out: their runs are runs without a crash.
 
-ghost use Rattle.ep_node.specs.Crashes.{CrashesKeepAgreement, CrashesKeepReceipts, CrashesLeaveNoTrace, CrashingRunsAreRuns, HandedOutStays};
+ghost use Rattle.ep_node.specs.Crashes.{CrashesKeepAgreement, CrashesKeepReceipts, CrashesLeaveNoTrace, CrashingRunsAreRuns, HandedOutStays, PlayedRunsAreMoves};
 
 /// Whatever crashed, the nodes' entries are the journals of one run without a crash, and no audit of them finds a fault.
 pub fn crashing_runs_are_runs()
@@ -10,6 +10,11 @@ pub fn crashing_runs_are_runs()
 /// Whatever moves lead to, moves without a crash lead to: an entry that a crash took is as if it had never been.
 pub fn crashes_leave_no_trace()
     ensures { CrashesLeaveNoTrace }
+{}
+
+/// Whatever a world plays by the clock, moves without a crash lead to.
+pub fn played_runs_are_moves()
+    ensures { PlayedRunsAreMoves }
 {}
 
 /// No crash takes back an entry that something was handed out of, nor a frame.
