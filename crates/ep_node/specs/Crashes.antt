@@ -1,6 +1,6 @@
 -- Replicas that crash and come back: their runs, and the laws of these.
 --
--- A node is a replica whose entries may be lost, but for those that something was handed out of: a frame, an answer, or what it committed.
+-- A node is a replica of whose entries a crash may take the last ones, but none that something was handed out of: a frame, an answer, or what it committed.
 use Rattle.std.specs.Prelude.{◌≡◌, ◌≢◌, ◌⊎◌, ℕ, ◌+◌, ◌<◌, ◌≤◌, true, max, eqb, cond, length, List, [], ◌∷◌, ◌++◌, Some, take, drop}
 use Rattle.ep_base.specs.Interference.{interfere}
 use Rattle.ep_base.specs.Places.{place, Has}
@@ -17,19 +17,19 @@ use Rattle.ep_rules.specs.declared.receipt.Receipt.{Receipt}
 
 -- One node.
 
--- the entry goes on with these entries: the next step, numbered next, stamped by the clock, with its frames marked
+-- the entry goes on from these entries: the next step, numbered next, stamped by the clock, with its frames marked
 pub record IsTaken (f me : ℕ) (es : List Entry) (e : Entry) : Type 0 where
   pub entry : IsEntry f me (left f me fresh_state es) e
   pub number : e.number ≡ length es + 1
   pub stamp : e.stamp ≡ 1 + max (last_stamp es) (heard e.event)
   pub marked : AreMarked e 0 e.out
 
--- the first n entries have all that was handed out of
+-- the first n entries are at least those that were handed out of
 pub record IsBetween (out n : ℕ) (es : List Entry) : Type 0 where
   pub least : out ≤ n
   pub most : n ≤ length es
 
--- after a crash the entries are a beginning of those before it, with at least those that were handed out of
+-- after a crash the entries es' are a beginning of those before it, with at least those that were handed out of
 pub record ComesBack (out : ℕ) (es es' : List Entry) : Type 0 where
   pub kept : ℕ
   pub between : IsBetween out kept es
@@ -97,7 +97,7 @@ pub record IsOneRun (f : ℕ) (c : Cluster) : Type 0 where
   pub merges : Merges f c.journal schedule
   pub run : IsRun f opening (acts_of schedule)
   pub states : (r : ℕ) → (ends f opening (acts_of schedule)).states r ≡ left f r fresh_state (c.journal r)
-  -- what was handed out is what the run has sent, so that the run goes on with it
+  -- what was handed out of stands, and the run has sent each frame that was handed out
   pub within : (r : ℕ) → c.out r ≤ length (c.journal r)
   pub given : (m : Frame) → In m c.given → WasSent c.journal m × In m.sent (ends f opening (acts_of schedule)).sent
   -- no audit of them finds a fault
@@ -130,7 +130,7 @@ PlayedRunsAreMoves =
 abbrev pub IsBeginning : {X : Type 0} → List X → List X → Type 0
 IsBeginning xs ys = (rest : List _) × (xs ++ rest ≡ ys)
 
--- what was handed out stays so
+-- what was handed out stays so: its entries, and its frames
 pub record Lasts (before after : Cluster) : Type 0 where
   pub handed : (r : ℕ) → IsBeginning (handed_out before r) (handed_out after r)
   pub stands : (r : ℕ) → IsBeginning (handed_out before r) (after.journal r)
@@ -176,7 +176,7 @@ pub record ReceiptsStay (f : ℕ) (before after : Cluster) : Type 0 where
   pub replies :
       (schedule : List Scheduled) → IsSchedule after.journal schedule → (t : Receipt) → IsHandedOut f before t →
       IsReply (command_at f after.journal) (history_of (command_at f after.journal) schedule) t.instance t.answer
-  -- where what a client proposes after it saw an earlier one's stamp stands after that one's command
+  -- there, what a client proposes after it saw an earlier receipt's stamp stands after that receipt's command
   pub order :
       (schedule : List Scheduled) → IsSchedule after.journal schedule → (t u : Receipt) → IsHandedOut f after t → IsHandedOut f before u → u.stamp ≤ t.seen →
       let h = history_of (command_at f after.journal) schedule in
