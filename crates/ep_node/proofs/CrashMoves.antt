@@ -31,7 +31,7 @@ takes_begin k n xs le = (drop k (take n xs), ap (λ l. l ++ drop k (take n xs)) 
 pub in_begins : {X : Type 0} (x : X) (xs ys : List X) → IsBeginning xs ys → In x xs → In x ys
 in_begins x xs ys b h = subst (λ l. In x l) b.1 (in_left x xs b.0 h)
 
-in_drop : {X : Type 0} (x : X) (n : ℕ) (xs : List X) → In x (drop n xs) → In x xs
+pub in_drop : {X : Type 0} (x : X) (n : ℕ) (xs : List X) → In x (drop n xs) → In x xs
 in_drop x n xs h = subst (λ l. In x l) (take-append-drop n xs) (in_right x (take n xs) (drop n xs) h)
 
 -- A beginning of a local run is one.
@@ -52,6 +52,9 @@ run_take : (f me n : ℕ) (es : List Entry) → IsLocalRun f me es → IsLocalRu
 run_take f me n es h =
     let whole : IsLocalRun f me (take n es ++ drop n es) = subst (IsLocalRun f me) (sym (take-append-drop n es)) h in
     (numbered_front 1 0 (take n es) (drop n es) whole.0, steps_front f me fresh_state (take n es) (drop n es) whole.1)
+
+pub numbered_take : (n : ℕ) (es : List Entry) → AreNumbered 1 0 es → AreNumbered 1 0 (take n es)
+numbered_take n es h = numbered_front 1 0 (take n es) (drop n es) (subst (AreNumbered 1 0) (sym (take-append-drop n es)) h)
 
 clocked_take : (n : ℕ) (es : List Entry) → AreClocked 0 es → AreClocked 0 (take n es)
 clocked_take n es h = clocked_front 0 (take n es) (drop n es) (subst (AreClocked 0) (sym (take-append-drop n es)) h)

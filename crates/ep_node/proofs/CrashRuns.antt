@@ -21,7 +21,7 @@ module _ (f : ℕ) where
   sent_stays [] w s h = h
   sent_stays (a ∷ these) w s h = sent_stays these (moved f w (act_of a)) s (in_left s w.sent (sends f a.replica (w.states a.replica) a.entry.event) h)
 
-  steps_next : (w : World) (a : Scheduled) (these : List Scheduled) (r : ℕ) → AreSteps f r (w.states r) (of r (a ∷ these)) → AreSteps f r ((moved f w (act_of a)).states r) (of r these)
+  pub steps_next : (w : World) (a : Scheduled) (these : List Scheduled) (r : ℕ) → AreSteps f r (w.states r) (of r (a ∷ these)) → AreSteps f r ((moved f w (act_of a)).states r) (of r these)
   steps_next w a these r h = go (eqb a.replica r) h
     where
       go : (b : Bool) → AreSteps f r (w.states r) (cond b (a.entry ∷ of r these) (of r these)) → AreSteps f r (cond b (leaves f r (w.states r) a.entry.event a.entry.done) (w.states r)) (of r these)

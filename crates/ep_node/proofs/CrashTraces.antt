@@ -13,7 +13,7 @@ cluster j out g = record { journal = j; out = out; given = g }
 same_cluster : (j j' : Journals) (out : ℕ → ℕ) (g g' : List Frame) → ((q : ℕ) → j q ≡ j' q) → g ≡ g' → cluster j out g ≡ cluster j' out g'
 same_cluster j j' out g g' js gs = λ i. record { journal = λ q. js q i; out = out; given = gs i }
 
-at_other : {X : Type 0} (r q : ℕ) (x : X) (was : ℕ → X) → (r ≡ q → ⊥) → with_at r x was q ≡ was q
+pub at_other : {X : Type 0} (r q : ℕ) (x : X) (was : ℕ → X) → (r ≡ q → ⊥) → with_at r x was q ≡ was q
 at_other r q x was ne = ap (λ b. cond b x (was q)) (ne_eqb r q ne)
 
 abbrev no_entries : List Entry
@@ -27,7 +27,7 @@ take_more : (n : ℕ) (es : List Entry) (e : Entry) → length es < n → take n
 take_more n es e lt = ap (λ l. l ++ (e ∷ [])) (take_all n es (omega arith)) ∙ sym (take_all n (es ++ (e ∷ [])) (omega (arith, length-append es (e ∷ []))))
 
 -- What is handed out of only grows.
-out_next : (f : ℕ) (c : Cluster) (m : Move) → IsMove f c m → (r : ℕ) → c.out r ≤ (moved c m).out r
+pub out_next : (f : ℕ) (c : Cluster) (m : Move) → IsMove f c m → (r : ℕ) → c.out r ≤ (moved c m).out r
 out_next f c (Take q e) k r = omega arith
 out_next f c (HandOut q n) k r = at_each (λ p j. c.out p ≤ j) q n c.out k.1.least (λ p. omega arith) r
 out_next f c (ComeBack q n) k r = omega arith

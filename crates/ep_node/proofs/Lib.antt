@@ -3,3 +3,4 @@ pub mod CrashRuns
 pub mod CrashLasts
 pub mod CrashTraces
 pub mod CrashPlayed
+pub mod CrashOrders

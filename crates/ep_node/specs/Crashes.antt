@@ -1,13 +1,14 @@
 -- Replicas that crash and come back: their runs, and the laws of these.
 --
 -- A node is a replica of whose entries a crash may take the last ones, but none that something was handed out of: a frame, an answer, or what it committed.
-use Rattle.std.specs.Prelude.{◌≡◌, ◌≢◌, ◌⊎◌, ℕ, ◌+◌, ◌<◌, ◌≤◌, true, max, eqb, cond, length, List, [], ◌∷◌, ◌++◌, Some, take, drop}
+use Rattle.std.specs.Prelude.{◌≡◌, ◌≢◌, ◌⊎◌, ℕ, ◌+◌, ◌<◌, ◌≤◌, true, max, eqb, ltb, cond, length, List, [], ◌∷◌, ◌++◌, Some, take, drop}
 use Rattle.ep_base.specs.Interference.{interfere}
 use Rattle.ep_base.specs.Places.{place, Has}
 use Rattle.ep_base.specs.Quorums.{size}
 use Rattle.ep_base.specs.declared.decree.Decree.{Decree}
 use Rattle.ep_rules.specs.Audits.{IsAccepted}
 use Rattle.ep_rules.specs.Journals.{Entry, IsEntry, left, AreMarked, AreNumbered, last_stamp, heard, AreClocked, Journals, WasSent, Scheduled, of, IsSchedule, acts_of, IsAmong, ArePlayed}
+use Rattle.ep_rules.specs.Linearizable.{IsLinearizable}
 use Rattle.ep_rules.specs.Merging.{Merges}
 use Rattle.ep_rules.specs.States.{fresh_state, committed_in}
 use Rattle.ep_rules.specs.Steps.{Frame}
@@ -108,6 +109,37 @@ pub record IsOneRun (f : ℕ) (c : Cluster) : Type 0 where
 abbrev pub CrashingRunsAreRuns : Type 0
 CrashingRunsAreRuns = (f : ℕ) → 0 < f → size f ≤ 256 → (moves : List Move) → AreMoves f fresh_cluster moves → IsOneRun f (cluster_after fresh_cluster moves)
 
+-- In the order of real time.
+
+-- these without the entries at r that are beyond its first n
+abbrev pub kept : ℕ → ℕ → List Scheduled → List Scheduled
+kept r n [] = []
+kept r n (a ∷ these) = cond (eqb a.replica r) (cond (ltb n a.entry.number) (kept r n these) (a ∷ kept r n these)) (a ∷ kept r n these)
+
+abbrev pub stand_after : Move → List Scheduled → List Scheduled
+stand_after (Take r e) these = these ++ (record { replica = r; entry = e } ∷ [])
+stand_after (HandOut r n) these = these
+stand_after (ComeBack r n) these = kept r n these
+
+-- the entries that stand after moves, in the order in which they were taken, after these
+abbrev pub standing : List Scheduled → List Move → List Scheduled
+standing these [] = these
+standing these (m ∷ ms) = standing (stand_after m these) ms
+
+-- the entries, in this order, are the nodes', and a linearizable run
+pub record IsInRealTime (f : ℕ) (c : Cluster) (these : List Scheduled) : Type 0 where
+  pub own : (r : ℕ) → of r these ≡ c.journal r
+  pub played : ArePlayed f opening [] these
+  pub run : IsRun f opening (acts_of these)
+  pub linearizable : IsLinearizable f (acts_of these)
+
+-- What stands of a run with crashes is linearizable, in the order in which it was taken.
+abbrev pub CrashingRunsAreLinearizable : Type 0
+CrashingRunsAreLinearizable =
+    (f : ℕ) → 0 < f → size f ≤ 256 → (moves : List Move) → AreMoves f fresh_cluster moves → IsInRealTime f (cluster_after fresh_cluster moves) (standing [] moves)
+
+-- Without crashes.
+
 -- no crash is among them
 abbrev pub IsCalm : List Move → Type 0
 IsCalm [] = Unit {0}
@@ -126,6 +158,8 @@ abbrev pub PlayedRunsAreMoves : Type 0
 PlayedRunsAreMoves =
     (f : ℕ) (schedule : List Scheduled) → ArePlayed f opening [] schedule → ((r : ℕ) → AreNumbered 1 0 (of r schedule)) → ((r : ℕ) → AreClocked 0 (of r schedule)) →
     (moves : List Move) × IsCalm moves × AreMoves f fresh_cluster moves × ((r : ℕ) → (cluster_after fresh_cluster moves).journal r ≡ of r schedule)
+
+-- What was handed out.
 
 abbrev pub IsBeginning : {X : Type 0} → List X → List X → Type 0
 IsBeginning xs ys = (rest : List _) × (xs ++ rest ≡ ys)

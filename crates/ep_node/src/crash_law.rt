@@ -1,10 +1,15 @@
 //! Laws of nodes that crash and come back with what they had handed out: their runs are runs without a crash.
 
-ghost use Rattle.ep_node.specs.Crashes.{CrashesKeepAgreement, CrashesKeepReceipts, CrashesLeaveNoTrace, CrashingRunsAreRuns, HandedOutStays, PlayedRunsAreMoves};
+ghost use Rattle.ep_node.specs.Crashes.{CrashesKeepAgreement, CrashesKeepReceipts, CrashesLeaveNoTrace, CrashingRunsAreLinearizable, CrashingRunsAreRuns, HandedOutStays, PlayedRunsAreMoves};
 
 /// Whatever crashed, the nodes' entries are the journals of one run without a crash, and no audit of them finds a fault.
 pub fn crashing_runs_are_runs()
     ensures { CrashingRunsAreRuns }
+{}
+
+/// What stands of a run with crashes, in the order in which it was taken, is a run without a crash, and linearizable.
+pub fn crashing_runs_are_linearizable()
+    ensures { CrashingRunsAreLinearizable }
 {}
 
 /// Whatever moves lead to, moves without a crash lead to: an entry that a crash took is as if it had never been.
