@@ -1,1 +1,1 @@
-mod History
+mod Calls

@@ -10,6 +10,7 @@ mod countdown;
 mod device;
 mod device_fault;
 mod file_device;
+mod history;
 mod memory_device;
 mod outcomes;
 
