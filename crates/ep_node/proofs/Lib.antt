@@ -1,0 +1,5 @@
+pub mod CrashMoves
+pub mod CrashRuns
+pub mod CrashLasts
+pub mod CrashTraces
+pub mod CrashPlayed
