@@ -1,18 +1,18 @@
-//! Why a device did not do what was asked.
+//! Why a device gave no bytes.
 
 ghost use Rattle.std.specs.Prelude.{◌≡◌};
-ghost use Rattle.ep_device.specs.declared.device_fault.DeviceFault.TheVariants.{Memory};
+ghost use Rattle.ep_device.specs.declared.device_fault.DeviceFault.TheVariants.{Failed, Memory};
 
-use std::alloc::{AllocError, AllocFailed};
+use crate::device_failed::DeviceFailed;
+use std::alloc::AllocError;
 use thiserror::Error;
 
-/// Why a device did not do what was asked.
+/// Why a device gave no bytes.
 #[derive(Clone, Copy, Debug, PartialEq, Eq, Error)]
 pub enum DeviceFault {
-    /// Memory was refused, and nothing was done.
     #[error("E1 memory")]
     Memory,
-    /// The device has failed, now or before. What was asked may have been done in part.
+    /// The device has failed, now or before.
     #[error("the device failed")]
     Failed,
 }
@@ -25,10 +25,10 @@ impl From<AllocError> for DeviceFault {
     }
 }
 
-impl<T: Drop> From<AllocFailed<T>> for DeviceFault {
-    ghost from_gives = { λ _ e. e ≡ Memory };
+impl From<DeviceFailed> for DeviceFault {
+    ghost from_gives = { λ _ e. e ≡ Failed };
 
-    fn from(_fault: AllocFailed<T>) -> DeviceFault {
-        DeviceFault::Memory
+    fn from(_fault: DeviceFailed) -> DeviceFault {
+        DeviceFault::Failed
     }
 }

@@ -8,13 +8,17 @@
 
 mod countdown;
 mod device;
+mod device_failed;
 mod device_fault;
 mod file_device;
 mod history;
 mod memory_device;
 mod outcomes;
+mod synced;
 
 pub use device::Device;
+pub use device_failed::DeviceFailed;
 pub use device_fault::DeviceFault;
 pub use file_device::FileDevice;
 pub use memory_device::MemoryDevice;
+pub use synced::{append_and_sync, cut_and_sync};
