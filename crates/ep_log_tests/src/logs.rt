@@ -23,15 +23,11 @@ fn assert_refused(rt: &impl Abort, alloc: Global, bytes: &[u8], wanted: LogFault
 }
 
 /// The first bytes of the log, and then these.
-fn assert_refused_with(
-    rt: &impl Abort,
-    alloc: Global,
-    len: usize,
-    more: &[u8],
-    wanted: LogFault,
-) {
+fn assert_refused_with(rt: &impl Abort, alloc: Global, len: usize, more: &[u8], wanted: LogFault) {
     let mut bytes = Vec::new(alloc);
-    bytes.extend_from_slice(front(len)).expect(rt, "memory for bytes");
+    bytes
+        .extend_from_slice(front(len))
+        .expect(rt, "memory for bytes");
     bytes.extend_from_slice(more).expect(rt, "memory for bytes");
     assert_refused(rt, alloc, bytes.as_slice(), wanted);
     drop(bytes);
@@ -44,7 +40,11 @@ fn front(len: usize) -> &'static [u8] {
 
 /// Its bytes from one place to another.
 fn part(start: usize, end: usize) -> &'static [u8] {
-    if start <= end && end <= LOG.len() { &LOG[start..end] } else { &[] }
+    if start <= end && end <= LOG.len() {
+        &LOG[start..end]
+    } else {
+        &[]
+    }
 }
 
 /// The entries that the first bytes of the log hold, and the bytes of the header and their records.
@@ -82,7 +82,13 @@ fn cut_headers(rt: HostRuntime) {
     }
     assert!(rt; !has_cut_header(&rt, 7, 0));
     assert!(rt; has_cut_header(&rt, 6, 2));
-    assert!(rt; !is_cut_header(Size::new(5).expect(&rt, "a size"), ReplicaId::first(), front(6)));
+    assert!(rt;
+        !is_cut_header(
+            Size::new(5).expect(&rt, "a size"),
+            ReplicaId::first(),
+            front(6)
+        )
+    );
 }
 
 /// Why the log is refused once this byte of it is another one.

@@ -4,7 +4,7 @@ ghost use Rattle.std.specs.Prelude.{◌≡◌};
 ghost use Rattle.ep_base.specs.declared.version.Version.TheVariants.{V2};
 
 use crate::samples::LOG;
-use ep_base::{ReplicaId, Size, Stamp, Command, Version};
+use ep_base::{Command, ReplicaId, Size, Stamp, Version};
 use ep_journal::{Event, Journal, Mark};
 use ep_log::{LogFault, cuts_are_read, push_header, push_record, read_log, short_cuts_are_headers};
 use std::alloc::{AllocError, Global};
