@@ -123,7 +123,7 @@ fn is_put(rt: &impl Abort, alloc: Global, journal: &Journal) -> bool {
     let key = key(rt, alloc);
     match journal.value(&key) {
         None => false,
-        Some(value) => value.as_slice() == b"1",
+        Some(value) => value.as_slice() == b"1".as_slice(),
     }
 }
 

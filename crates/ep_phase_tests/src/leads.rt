@@ -87,16 +87,13 @@ fn all_that_is_led_is_copied(rt: HostRuntime) {
 }
 
 /// The answers so far, and this replica's too.
-fn with(
-    rt: &impl Abort,
-    alloc: Global,
-    answers: &Answers<()>,
-    from: u8,
-) -> Answers<()> {
+fn with(rt: &impl Abort, alloc: Global, answers: &Answers<()>, from: u8) -> Answers<()> {
     let from = ReplicaId::new(from).expect(rt, "a replica");
     match answers.with(alloc, from, ()) {
         Ok(more) => more,
-        Err(_) => answers.with(alloc, from, ()).expect(rt, "memory for answers"),
+        Err(_) => answers
+            .with(alloc, from, ())
+            .expect(rt, "memory for answers"),
     }
 }
 

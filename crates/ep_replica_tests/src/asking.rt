@@ -5,6 +5,7 @@ use crate::samples::{ask, first_of, give, propose, replica, replica_of};
 use ep_base::{InstanceId, Key};
 use ep_journal::Event;
 use ep_replica::{LeadPhase, Replica};
+use ep_rules::Receipt;
 use std::alloc::Global;
 use std::process::Abort;
 
@@ -16,22 +17,38 @@ fn key(rt: &impl Abort, alloc: Global, name: &[u8]) -> Key {
 }
 
 /// Whether the key has this value here; an empty one stands for none.
-fn has(rt: &impl Abort, alloc: Global, replica: &Replica, name: &[u8], value: &[u8]) -> bool {
-    let key = key(rt, alloc, name);
-    match replica.get(&key) {
+fn has(replica: &Replica, key: &Key, value: &[u8]) -> bool {
+    match replica.get(key) {
         None => value.is_empty(),
         Some(held) => held.as_slice() == value,
     }
 }
 
-/// Whether the replica leads the instance in this phase, with so many answers of others.
-fn is_led(replica: &Replica, id: InstanceId, phase: LeadPhase, others: u8) -> bool {
-    replica.leads(id) == Some((phase, others))
+/// The key has this value here; an empty one stands for none.
+fn assert_has(rt: &impl Abort, alloc: Global, replica: &Replica, name: &[u8], value: &[u8]) {
+    let key = key(rt, alloc, name);
+    assert!(rt; has(replica, &key, value));
 }
 
-/// Whether these are the least open instance above none, and the next one above it.
-fn are_open(replica: &Replica, first: Option<InstanceId>, second: Option<InstanceId>) -> bool {
-    replica.next_open(None) == first && (first.is_none() || replica.next_open(first) == second)
+/// The replica leads the instance in this phase, with so many answers of others.
+fn assert_led(rt: &impl Abort, replica: &Replica, id: InstanceId, phase: LeadPhase, others: u8) {
+    assert!(rt; replica.leads(id) == Some((phase, others)));
+}
+
+/// The replica doesn't lead the instance.
+fn assert_not_led(rt: &impl Abort, replica: &Replica, id: InstanceId) {
+    assert!(rt; replica.leads(id).is_none());
+}
+
+/// These are the least open instance above none, and the next one above it.
+fn assert_open(
+    rt: &impl Abort,
+    replica: &Replica,
+    first: Option<InstanceId>,
+    second: Option<InstanceId>,
+) {
+    assert!(rt; replica.next_open(None) == first);
+    assert!(rt; first.is_none() || replica.next_open(first) == second);
 }
 
 /// Two puts that conflict: a value is read where its put was executed, and an instance that another depends on is open without a record.
@@ -42,25 +59,31 @@ fn what_is_read_and_what_is_open(rt: HostRuntime) {
     let other = first_of(&rt, 1);
     let mut zero = replica(&rt, alloc, 0);
     let mut one = replica(&rt, alloc, 1);
-    assert!(rt; are_open(&zero, None, None));
+    assert_open(&rt, &zero, None, None);
     first_is_committed(&rt, alloc, &mut zero, &mut one);
-    assert!(rt; are_open(&zero, Some(other), None));
-    assert!(rt; are_open(&one, Some(own), Some(other)));
+    assert_open(&rt, &zero, Some(other), None);
+    assert_open(&rt, &one, Some(own), Some(other));
     second_is_recovered(&rt, alloc, &mut zero, &mut one);
-    assert!(rt; are_open(&zero, None, None));
-    assert!(rt; has(&rt, alloc, &zero, b"x", b""));
+    assert_open(&rt, &zero, None, None);
+    assert_has(&rt, alloc, &zero, b"x", b"");
     ask(&rt, alloc, &mut zero, Event::Execute(own), 11);
-    assert!(rt; has(&rt, alloc, &zero, b"x", b"2"));
-    assert!(rt; has(&rt, alloc, &zero, b"y", b""));
-    assert!(rt; has(&rt, alloc, &one, b"x", b""));
+    assert_has(&rt, alloc, &zero, b"x", b"2");
+    assert_has(&rt, alloc, &zero, b"y", b"");
+    assert_has(&rt, alloc, &one, b"x", b"");
     drop(zero);
     drop(one);
 }
 
-/// Whether the outcome is that of the entry of this number, with this stamp.
-fn is_told(rt: &impl Abort, alloc: Global, replica: &Replica, entry: u32, stamp: u64) -> bool {
-    let told = outcome(rt, alloc, replica, first_of(rt, 0));
+/// Whether the receipt is of this entry, with this stamp.
+fn is_of(told: &Receipt, entry: u32, stamp: u64) -> bool {
     told.entry == entry && told.stamp == stamp && told.client == 1
+}
+
+/// The outcome is that of the entry of this number, with this stamp.
+fn assert_told(rt: &impl Abort, alloc: Global, replica: &Replica, entry: u32, stamp: u64) {
+    let told = outcome(rt, alloc, replica, first_of(rt, 0));
+    assert!(rt; is_of(&told, entry, stamp));
+    drop(told);
 }
 
 /// The replica again, from its journal.
@@ -82,9 +105,9 @@ fn an_outcome_is_that_of_the_first_execution(rt: HostRuntime) {
     drop(one);
     ask(&rt, alloc, &mut zero, Event::Execute(first_of(&rt, 1)), 11);
     ask(&rt, alloc, &mut zero, Event::Execute(own), 12);
-    assert!(rt; is_told(&rt, alloc, &zero, 7, 11));
+    assert_told(&rt, alloc, &zero, 7, 11);
     let again = resumed(&rt, alloc, zero);
-    assert!(rt; is_told(&rt, alloc, &again, 7, 11));
+    assert_told(&rt, alloc, &again, 7, 11);
     assert!(rt; again.outcome(first_of(&rt, 1)).is_none());
     drop(again);
 }
@@ -112,24 +135,24 @@ fn a_leader_counts_answers(rt: HostRuntime) {
     let mut one = replica_of(&rt, alloc, 7, 1);
     let mut two = replica_of(&rt, alloc, 7, 2);
     let mut three = replica_of(&rt, alloc, 7, 3);
-    assert!(rt; zero.leads(id).is_none());
+    assert_not_led(&rt, &zero, id);
     ask(&rt, alloc, &mut zero, propose(&rt, alloc, 1, b"1", 0), 1);
-    assert!(rt; is_led(&zero, id, LeadPhase::Proposing, 0));
+    assert_led(&rt, &zero, id, LeadPhase::Proposing, 0);
     answers(&rt, alloc, &mut zero, &mut one, (1, 0), (2, 3));
-    assert!(rt; is_led(&zero, id, LeadPhase::Proposing, 1));
+    assert_led(&rt, &zero, id, LeadPhase::Proposing, 1);
     answers(&rt, alloc, &mut zero, &mut two, (1, 1), (2, 4));
     answers(&rt, alloc, &mut zero, &mut three, (1, 2), (2, 5));
-    assert!(rt; is_led(&zero, id, LeadPhase::Proposing, 3));
-    assert!(rt; one.leads(id).is_none());
+    assert_led(&rt, &zero, id, LeadPhase::Proposing, 3);
+    assert_not_led(&rt, &one, id);
     ask(&rt, alloc, &mut zero, Event::GiveUp(id), 6);
-    assert!(rt; is_led(&zero, id, LeadPhase::Accepting, 0));
+    assert_led(&rt, &zero, id, LeadPhase::Accepting, 0);
     answers(&rt, alloc, &mut zero, &mut one, (5, 0), (7, 8));
     answers(&rt, alloc, &mut zero, &mut two, (5, 1), (7, 9));
-    assert!(rt; is_led(&zero, id, LeadPhase::Accepting, 2));
-    assert!(rt; are_open(&zero, Some(id), None));
+    assert_led(&rt, &zero, id, LeadPhase::Accepting, 2);
+    assert_open(&rt, &zero, Some(id), None);
     answers(&rt, alloc, &mut zero, &mut three, (5, 2), (7, 10));
-    assert!(rt; zero.leads(id).is_none());
-    assert!(rt; are_open(&zero, None, None));
+    assert_not_led(&rt, &zero, id);
+    assert_open(&rt, &zero, None, None);
     drop(zero);
     drop(one);
     drop(two);
@@ -144,10 +167,10 @@ fn a_recovery_counts_the_answers_of_others(rt: HostRuntime) {
     let mut five = replica_of(&rt, alloc, 7, 5);
     let mut six = replica_of(&rt, alloc, 7, 6);
     ask(&rt, alloc, &mut six, Event::Recover(id), 1);
-    assert!(rt; is_led(&six, id, LeadPhase::Preparing, 0));
+    assert_led(&rt, &six, id, LeadPhase::Preparing, 0);
     answers(&rt, alloc, &mut six, &mut five, (1, 5), (2, 3));
-    assert!(rt; is_led(&six, id, LeadPhase::Preparing, 1));
-    assert!(rt; are_open(&six, Some(id), None));
+    assert_led(&rt, &six, id, LeadPhase::Preparing, 1);
+    assert_open(&rt, &six, Some(id), None);
     drop(five);
     drop(six);
 }
