@@ -1,0 +1,242 @@
+//! Connections of clients, each with a thread that takes one command at a time.
+use crate::commands::{Asked, understand};
+use crate::driver::{Ask, Event, Told, What};
+use crate::protocol::{self, Command, Fault};
+use crate::resp::{Input, Reply, read_command};
+use crate::say::say;
+use std::io::{self, BufReader, BufWriter, Write};
+use std::net::{TcpListener, TcpStream};
+use std::sync::atomic::{AtomicUsize, Ordering};
+use std::sync::mpsc::{SyncSender, channel};
+use std::sync::{Arc, Mutex};
+use std::thread;
+use std::time::{Duration, Instant};
+
+const MOST_CONNECTIONS: usize = 1_000;
+const STACK: usize = 256 << 10;
+/// A command that a no-op was put in the place of is proposed at most so often.
+const MOST_TRIES: usize = 5;
+/// One start hands out so many client numbers: more than it can take commands.
+const CLIENTS_EACH_START: u32 = 2_048;
+/// More starts have no numbers left.
+pub const MOST_STARTS: u32 = u32::MAX / CLIENTS_EACH_START / 8;
+
+/// Client numbers, none of which any replica ever gives twice: they name the start, the replica, and the place.
+pub struct Numbers {
+    starts: u32,
+    replica: u8,
+    given: u32,
+}
+
+impl Numbers {
+    /// `starts`, which is below `MOST_STARTS`, is how often this replica was started before.
+    pub fn new(starts: u32, replica: u8) -> Numbers {
+        Numbers { starts, replica, given: 0 }
+    }
+
+    fn next(&mut self) -> Option<u32> {
+        if self.given == CLIENTS_EACH_START {
+            return None;
+        }
+        let place = self.starts * CLIENTS_EACH_START + self.given;
+        self.given += 1;
+        Some(place * 8 + u32::from(self.replica) + 1)
+    }
+}
+
+/// What all connections share.
+pub struct Shared {
+    pub events: SyncSender<Event>,
+    pub numbers: Mutex<Numbers>,
+    pub patience: Duration,
+    pub connections: AtomicUsize,
+}
+
+/// Takes connections, each in a thread.
+pub fn listen(listener: TcpListener, shared: Arc<Shared>) {
+    for stream in listener.incoming() {
+        let Ok(stream) = stream else {
+            thread::sleep(Duration::from_millis(20));
+            continue;
+        };
+        if shared.connections.fetch_add(1, Ordering::Relaxed) >= MOST_CONNECTIONS {
+            let _ = (&stream).write_all(b"-ERR max number of clients reached\r\n");
+            shared.connections.fetch_sub(1, Ordering::Relaxed);
+            continue;
+        }
+        let served = shared.clone();
+        let started = thread::Builder::new().name("client".into()).stack_size(STACK).spawn(move || {
+            let _ = Connection::new(served.clone()).serve(stream);
+            served.connections.fetch_sub(1, Ordering::Relaxed);
+        });
+        if let Err(error) = started {
+            shared.connections.fetch_sub(1, Ordering::Relaxed);
+            say(&format!("no thread for a client: {error}"));
+        }
+    }
+}
+
+/// A connection: a client of the protocol, once it asks for a command.
+struct Connection {
+    shared: Arc<Shared>,
+    client: Option<u32>,
+    /// How many requests it has made.
+    requests: u32,
+    /// The greatest stamp of its receipts.
+    seen: u64,
+    is_read_only: bool,
+}
+
+impl Connection {
+    fn new(shared: Arc<Shared>) -> Connection {
+        Connection { shared, client: None, requests: 0, seen: 0, is_read_only: false }
+    }
+
+    fn serve(&mut self, stream: TcpStream) -> io::Result<()> {
+        stream.set_nodelay(true)?;
+        let mut writer = BufWriter::new(stream.try_clone()?);
+        let mut reader = BufReader::new(stream);
+        loop {
+            let words = match read_command(&mut reader)? {
+                Input::Command(words) => words,
+                Input::End => return Ok(()),
+                Input::Fault(what) => {
+                    Reply::Error(format!("ERR Protocol error: {what}")).write(&mut writer)?;
+                    return writer.flush();
+                }
+            };
+            let asked = understand(words);
+            if asked == Asked::Quit {
+                Reply::Simple("OK").write(&mut writer)?;
+                return writer.flush();
+            }
+            let reply = self.answer(asked).unwrap_or_else(Reply::Error);
+            reply.write(&mut writer)?;
+            if reader.buffer().is_empty() {
+                writer.flush()?;
+            }
+        }
+    }
+
+    fn answer(&mut self, asked: Asked) -> Result<Reply, String> {
+        if let (Asked::Get(key), true) = (&asked, self.is_read_only) {
+            return self.read(key.clone());
+        }
+        let mut replies = Vec::new();
+        for command in asked.commands() {
+            replies.push(self.execute(command)?);
+        }
+        match asked {
+            Asked::Get(_) => Ok(value_of(replies.pop())),
+            Asked::Set(..) | Asked::Quit => Ok(Reply::Simple("OK")),
+            Asked::Del(_) => {
+                let present = replies.iter().filter(|reply| matches!(reply, protocol::Reply::Present(_)));
+                Ok(Reply::Integer(present.count() as i64))
+            }
+            Asked::Info => self.info(),
+            Asked::ReadOnly(is_read_only) => {
+                self.is_read_only = is_read_only;
+                Ok(Reply::Simple("OK"))
+            }
+            Asked::Answered(reply) => Ok(reply),
+        }
+    }
+
+    /// Has a command executed; one that is lost is proposed again.
+    fn execute(&mut self, command: Command) -> Result<protocol::Reply, String> {
+        let start = Instant::now();
+        for _ in 0..MOST_TRIES {
+            let what = self.proposal(command.clone())?;
+            match self.ask(what, start)? {
+                Told::Done { stamp, reply } => {
+                    self.seen = self.seen.max(stamp);
+                    if reply != protocol::Reply::Lost {
+                        return Ok(reply);
+                    }
+                }
+                Told::Refused(fault) => return Err(refusal(fault)),
+                Told::Value(_) | Told::Info(_) => {
+                    return Err("ERR another answer was expected".into());
+                }
+            }
+        }
+        Err("TRYAGAIN the command wasn't done: others have taken its places".into())
+    }
+
+    /// A new request of this client.
+    fn proposal(&mut self, command: Command) -> Result<What, String> {
+        let client = match self.client {
+            Some(client) => client,
+            None => {
+                let mut numbers = self.shared.numbers.lock().map_err(|_| "ERR the numbers are lost".to_string())?;
+                numbers.next().ok_or("FULL no client number is left until this replica is started again")?
+            }
+        };
+        self.client = Some(client);
+        self.requests += 1;
+        Ok(What::Propose { client, request: self.requests, seen: self.seen, command })
+    }
+
+    /// Asks the driver, and waits as long as patience goes.
+    fn ask(&self, what: What, start: Instant) -> Result<Told, String> {
+        let (reply, told) = channel();
+        let gone = || "ERR the store ends".to_string();
+        self.shared.events.send(Event::Ask(Ask { what, reply })).map_err(|_| gone())?;
+        let left = self.shared.patience.saturating_sub(start.elapsed());
+        told.recv_timeout(left)
+            .map_err(|_| "TRYAGAIN no majority has answered in time; the command may still be done".into())
+    }
+
+    /// The local read.
+    fn read(&self, key: Vec<u8>) -> Result<Reply, String> {
+        match self.ask(What::Read(key), Instant::now())? {
+            Told::Value(value) => Ok(value.map_or(Reply::Nil, Reply::Bulk)),
+            Told::Refused(fault) => Err(refusal(fault)),
+            _ => Err("ERR another answer was expected".into()),
+        }
+    }
+
+    fn info(&self) -> Result<Reply, String> {
+        match self.ask(What::Info, Instant::now())? {
+            Told::Info(text) => Ok(Reply::Bulk(text.into_bytes())),
+            _ => Err("ERR another answer was expected".into()),
+        }
+    }
+}
+
+fn value_of(reply: Option<protocol::Reply>) -> Reply {
+    match reply {
+        Some(protocol::Reply::Present(value)) => Reply::Bulk(value),
+        _ => Reply::Nil,
+    }
+}
+
+fn refusal(fault: Fault) -> String {
+    match fault {
+        Fault::SPACE_FULL => "FULL this replica has used all of its 2,000 instances; ask another one".into(),
+        Fault::SEQ_EXHAUSTED | Fault::STAMP_FULL => format!("FULL the node refused: {fault}"),
+        Fault::MEMORY => format!("OOM the node refused, ask again: {fault}"),
+        _ => format!("ERR the node refused: {fault}"),
+    }
+}
+
+#[cfg(test)]
+mod tests {
+    use super::*;
+    use std::collections::HashSet;
+
+    #[test]
+    fn client_numbers_are_given_once() {
+        let mut all = HashSet::new();
+        for starts in [0, 1, MOST_STARTS - 1] {
+            for replica in 0..7 {
+                let mut numbers = Numbers::new(starts, replica);
+                for _ in 0..CLIENTS_EACH_START {
+                    let number = numbers.next().unwrap();
+                    assert!(number > 0 && all.insert(number));
+                }
+                assert_eq!(numbers.next(), None);
+            }
+        }
+    }
+}
