@@ -1,4 +1,5 @@
 //! The one thread that drives the node: it gathers what is waiting, asks the node all of it, and hands out the answers.
+use crate::commits::Commits;
 use crate::node::{Node, NodeFault};
 use crate::options::Plant;
 use crate::peers::{Peers, Place};
@@ -70,6 +71,7 @@ enum Purpose {
     Proposal { client: u32, request: u32, is_put: bool, reply: Sender<Told> },
     Frame,
     Late(Instance),
+    Execution(Instance),
     Read(Sender<Told>),
     Host,
 }
@@ -79,6 +81,8 @@ enum Purpose {
 struct Batch {
     requests: Vec<Request>,
     purposes: Vec<Purpose>,
+    /// Local reads come last, and tell of all that was executed before them.
+    reads: Vec<(Vec<u8>, Sender<Told>)>,
 }
 
 impl Batch {
@@ -110,6 +114,8 @@ pub struct Driver {
     pub receipts: Receipts,
     pub timers: Timers,
     pub events: Receiver<Event>,
+    /// Committed instances of others.
+    pub commits: Commits,
     pub plant: Option<Plant>,
     /// The clients that wait, by client and request.
     pub waiting: HashMap<(u32, u32), Sender<Told>>,
@@ -164,14 +170,17 @@ impl Driver {
 
     fn take(&mut self, event: Event, batch: &mut Batch) {
         match event {
-            Event::Frame(frame) => batch.push(Request::Frame(frame), Purpose::Frame),
+            Event::Frame(frame) => {
+                self.commits.note(self.place.replica, &frame);
+                batch.push(Request::Frame(frame), Purpose::Frame);
+            }
             Event::PeerReached => self.timers.hurry(Instant::now()),
             Event::Ask(Ask { what: What::Propose { client, request, seen, command }, reply }) => {
                 let is_put = matches!(command, Command::Put { .. });
                 let purpose = Purpose::Proposal { client, request, is_put, reply };
                 batch.push(Request::Propose { client, request, seen, command }, purpose);
             }
-            Event::Ask(Ask { what: What::Read(key), reply }) => batch.push(Request::Get(key), Purpose::Read(reply)),
+            Event::Ask(Ask { what: What::Read(key), reply }) => batch.reads.push((key, reply)),
             Event::Ask(Ask { what: What::Info, reply }) => {
                 let _ = reply.send(Told::Info(self.info()));
             }
@@ -239,12 +248,23 @@ impl Driver {
 
     /// Asks all of a batch with one sync, and hands out what comes of it: first the receipts to their file.
     fn carry_out(&mut self, mut batch: Batch) -> Result<(), Stop> {
+        if !batch.reads.is_empty() {
+            for instance in self.commits.take() {
+                batch.push(Request::Execute(instance), Purpose::Execution(instance));
+            }
+        }
+        let takes = !batch.requests.is_empty();
+        if takes {
+            batch.push(Request::Advance, Purpose::Host);
+        }
+        for (key, reply) in std::mem::take(&mut batch.reads) {
+            batch.push(Request::Get(key), Purpose::Read(reply));
+        }
+        if takes {
+            batch.push(Request::Sync, Purpose::Host);
+        }
         if batch.requests.is_empty() {
             return Ok(());
-        }
-        if batch.requests.iter().any(|request| !matches!(request, Request::Get(_))) {
-            batch.push(Request::Advance, Purpose::Host);
-            batch.push(Request::Sync, Purpose::Host);
         }
         let answers = self.ask(&batch.requests)?;
         let mut outcome = Outcome::default();
@@ -253,6 +273,7 @@ impl Driver {
         }
         self.receipts.append(&outcome.receipts).map_err(Stop::Receipts)?;
         for Outgoing { to, frame } in outcome.frames {
+            self.commits.note(self.place.replica, &frame);
             self.peers.send(to, frame);
         }
         for receipt in outcome.receipts {
@@ -292,6 +313,7 @@ impl Driver {
                     self.timers.forget(instance);
                 }
             }
+            (Purpose::Execution(instance), Answer::Refused(_, missing)) => self.commits.put_back(instance, missing),
             (Purpose::Host, Answer::Refused(..) | Answer::Synced(_)) => {}
             (Purpose::Read(reply), Answer::Value(value)) => {
                 let _ = reply.send(Told::Value(value));

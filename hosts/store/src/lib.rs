@@ -2,6 +2,7 @@
 pub mod bytes;
 pub mod clients;
 pub mod commands;
+pub mod commits;
 pub mod directory;
 pub mod driver;
 pub mod node;

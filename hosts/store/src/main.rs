@@ -8,6 +8,7 @@ use std::sync::{Arc, Mutex};
 use std::thread;
 use std::time::Instant;
 use store::clients::{self, MOST_STARTS, Numbers, Shared};
+use store::commits::Commits;
 use store::directory::Directory;
 use store::driver::{Driver, Stop};
 use store::node::{Node, Start};
@@ -76,6 +77,7 @@ fn start(options: Options) -> Result<Driver, String> {
         receipts,
         timers: Timers::new(place.replica, Instant::now(), Random::new()),
         events,
+        commits: Commits::default(),
         plant: options.plant,
         waiting: HashMap::new(),
         refused_frames: 0,

@@ -13,7 +13,8 @@ use std::sync::{Arc, Condvar, Mutex, MutexGuard};
 use std::thread;
 use std::time::Duration;
 
-/// The longest frame that a bundle can hold.
+/// How long a frame may be, as in a bundle.
+const SHORTEST_FRAME: usize = 40;
 const LONGEST_FRAME: usize = 65_535;
 /// What waits for one peer is at most so many bytes; then the oldest frames are lost.
 const MOST_WAITING: usize = 8 << 20;
@@ -222,7 +223,7 @@ fn read_frame(reader: &mut impl Read) -> io::Result<Vec<u8>> {
     let mut length = [0; 4];
     reader.read_exact(&mut length)?;
     let length = u32::from_be_bytes(length) as usize;
-    if !(1..=LONGEST_FRAME).contains(&length) {
+    if !(SHORTEST_FRAME..=LONGEST_FRAME).contains(&length) {
         return Err(io::ErrorKind::InvalidData.into());
     }
     let mut frame = vec![0; length];
@@ -301,7 +302,8 @@ mod tests {
         assert_eq!(read_frame(&mut reader).unwrap(), [7; 300]);
         assert!(read_frame(&mut reader).is_err());
         assert!(read_frame(&mut [0, 1, 0, 0].as_slice()).is_err());
-        assert!(read_frame(&mut [0, 0, 0, 0].as_slice()).is_err());
+        assert!(read_frame(&mut [0, 0, 0, 39].as_slice()).is_err());
+        assert!(read_frame(&mut [&[0, 0, 0, 39][..], &[0; 39]].concat().as_slice()).is_err());
     }
 
     #[test]
