@@ -6,7 +6,7 @@ use std::io;
 use std::net::TcpListener;
 use std::os::unix::process::CommandExt;
 use std::path::PathBuf;
-use std::process::{Child, Command, Stdio};
+use std::process::{Child, Command, ExitStatus, Stdio};
 use std::sync::{Arc, Mutex};
 use std::thread;
 use std::time::{Duration, Instant};
@@ -115,23 +115,25 @@ impl Cluster {
         Ok(())
     }
 
-    /// Kills what is said of a replica, as a crash would; then nothing of it is left, or it is about to end.
-    pub fn kill(&self, replica: usize, target: Target) {
-        let Some(mut child) = self.running[replica].lock().unwrap().take() else { return };
-        match target {
-            Target::Both => signal("KILL", &format!("-{}", child.id())),
-            Target::Store => {
-                let _ = child.kill();
-            }
-            Target::Node => match self.node_process(replica) {
-                Some(process) => signal("KILL", &process),
-                None => signal("KILL", &format!("-{}", child.id())),
-            },
+    /// Kills what is said of a replica, as a crash would. A store whose node was killed has to end by itself, with
+    /// status 1; a node whose store was killed ends too, which the next start waits for.
+    pub fn kill(&self, replica: usize, target: Target) -> Result<(), String> {
+        let Some(mut child) = self.running[replica].lock().unwrap().take() else { return Ok(()) };
+        let group = format!("-{}", child.id());
+        let node = self.node_process(replica);
+        match (target, node) {
+            (Target::Store, _) => signal("KILL", &child.id().to_string()),
+            (Target::Node, Some(node)) => signal("KILL", &node),
+            _ => signal("KILL", &group),
         }
-        if end_within(&mut child, Duration::from_secs(10)).is_none() {
-            println!("replica {replica}: the store hasn't ended though its node was killed");
-            signal("KILL", &format!("-{}", child.id()));
-            let _ = child.wait();
+        signal("CONT", &group);
+        let Some(status) = end_within(&mut child, Duration::from_secs(10)) else {
+            signal("KILL", &group);
+            return Err(format!("the store of replica {replica} hasn't ended though its node was killed"));
+        };
+        match status.code() {
+            None | Some(1) => Ok(()),
+            Some(code) => Err(format!("the store of replica {replica} has ended with status {code}")),
         }
     }
 
@@ -190,7 +192,7 @@ impl Drop for Cluster {
     fn drop(&mut self) {
         for replica in 0..self.replicas {
             self.pause(replica, false);
-            self.kill(replica, Target::Both);
+            let _ = self.kill(replica, Target::Both);
         }
     }
 }
@@ -214,11 +216,11 @@ fn signal(name: &str, target: &str) {
     let _ = Command::new("sh").args(["-c", &format!("kill -s {name} -- {target}")]).stderr(Stdio::null()).status();
 }
 
-fn end_within(child: &mut Child, patience: Duration) -> Option<()> {
+fn end_within(child: &mut Child, patience: Duration) -> Option<ExitStatus> {
     let start = Instant::now();
     while start.elapsed() < patience {
-        if !matches!(child.try_wait(), Ok(None)) {
-            return Some(());
+        if let Ok(Some(status)) = child.try_wait() {
+            return Some(status);
         }
         thread::sleep(Duration::from_millis(5));
     }

@@ -5,6 +5,7 @@ mod cluster;
 mod linearizable;
 mod links;
 mod options;
+mod smoke;
 mod troubles;
 mod verdict;
 mod workers;
@@ -15,8 +16,7 @@ use std::process::ExitCode;
 use std::sync::atomic::{AtomicBool, AtomicU32, Ordering};
 use std::thread;
 use std::time::Instant;
-use store::random::Random;
-use troubles::{Count, Troubles};
+use troubles::Count;
 use workers::{Note, Work};
 
 fn main() -> ExitCode {
@@ -57,6 +57,9 @@ fn main() -> ExitCode {
 /// Plays a round and judges it: how many faults were found.
 fn play(options: &Options, round: usize) -> Result<usize, String> {
     let cluster = Cluster::start(options, round).map_err(|error| format!("the cluster can't be started: {error}"))?;
+    if options.smoke {
+        return smoke(options, &cluster);
+    }
     let (notes, count, mut faults) = work(options, round, &cluster)?;
     cluster.stop()?;
     let told = notes.iter().filter(|note| note.operation.end.is_some()).count();
@@ -69,10 +72,22 @@ fn play(options: &Options, round: usize) -> Result<usize, String> {
         waits(&notes)
     );
     faults.extend(verdict::judge(options, &cluster, &notes));
-    for fault in &faults {
+    Ok(report(&faults))
+}
+
+fn smoke(options: &Options, cluster: &Cluster) -> Result<usize, String> {
+    let mut faults = smoke::run(cluster);
+    cluster.stop()?;
+    faults.extend(verdict::judge(options, cluster, &[]));
+    Ok(report(&faults))
+}
+
+/// Prints the faults: how many they are.
+fn report(faults: &[String]) -> usize {
+    for fault in faults {
         println!("fault: {fault}");
     }
-    Ok(faults.len())
+    faults.len()
 }
 
 /// Clients and troubles, then the last reads: the notes, and faults that the clients met.
@@ -92,19 +107,12 @@ fn work(options: &Options, round: usize, cluster: &Cluster) -> Result<(Vec<Note>
                 scope.spawn(move || work.run(client % options.replicas, seed.wrapping_mul(0x9e37_79b9_7f4a_7c15)))
             })
             .collect();
-        let troubles = Troubles {
-            cluster,
-            random: Random::from_seed(seed.wrapping_mul(0x2545_f491_4f6c_dd1d)),
-            time: options.time,
-            kills: options.kills,
-            plant: options.plant,
-        };
-        let count = troubles.run();
+        let count = troubles::run(options, cluster, seed.wrapping_mul(0x2545_f491_4f6c_dd1d));
         work.is_over.store(true, Ordering::Relaxed);
         clients.into_iter().for_each(|client| gather(client.join().unwrap_or_else(|_| Err("a client failed".into()))));
         count
     });
-    let count = count.map_err(|error| format!("a replica can't be started: {error}"))?;
+    let count = count?;
     for replica in (0..options.replicas).filter(|replica| !cluster.is_running(*replica)) {
         gather(Err(format!("the store of replica {replica} has ended by itself")));
     }

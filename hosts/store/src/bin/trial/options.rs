@@ -5,12 +5,13 @@ use std::time::Duration;
 pub const HELP: &str = "\
 trial: a cluster of stores on this machine, clients, kills and cuts; then what the clients were told is checked
 
-    trial --node PATH [--short | --long] [--replicas N] [--seconds S] [--kills K] [--rounds R] [--audit]
+    trial --node PATH [--short | --long | --smoke] [--replicas N] [--seconds S] [--kills K] [--rounds R] [--audit]
           [--plant early|emptied] [--store PATH] [--dir DIR] [--seed S]
 
     --node PATH      the program `epaxos`
     --short          20 seconds, 3 kills: the default
     --long           20 rounds of 30 seconds with 5 kills each, every round with fresh folders
+    --smoke          no kills: `redis-cli` and `redis-benchmark`, where they are, are told what they should be
     --replicas N     3, the default, or 5 or 7
     --seconds S, --kills K, --rounds R    other numbers
     --audit          also has `epaxos collect` and `epaxos audit` judge the logs and receipts of each round
@@ -39,6 +40,7 @@ pub struct Options {
     pub time: Duration,
     pub kills: usize,
     pub rounds: usize,
+    pub smoke: bool,
     pub audit: bool,
     pub plant: Option<Plant>,
     pub seed: u64,
@@ -62,6 +64,7 @@ pub fn read(words: impl IntoIterator<Item = String>) -> Result<Option<Options>, 
             "--kills" => options.kills = number(&value()?)?,
             "--rounds" => options.rounds = number(&value()?)?,
             "--seed" => options.seed = number(&value()?)? as u64,
+            "--smoke" => options.smoke = true,
             "--audit" => options.audit = true,
             "--plant" => options.plant = Some(read_plant(&value()?)?),
             _ => return Err(format!("unknown word {word}; --help tells the words")),
@@ -88,6 +91,7 @@ fn defaults() -> Result<Options, String> {
         time: Duration::from_secs(20),
         kills: 3,
         rounds: 1,
+        smoke: false,
         audit: false,
         plant: None,
         seed,

@@ -1,7 +1,6 @@
-//! What goes wrong in a round: kills, cuts, pauses.
+//! What goes wrong in a round: kills, and at the same time cuts and pauses.
 use crate::cluster::{Cluster, Target};
-use crate::options::Plant;
-use std::io;
+use crate::options::{Options, Plant};
 use std::thread;
 use std::time::{Duration, Instant};
 use store::random::Random;
@@ -14,13 +13,23 @@ pub struct Count {
     pub pauses: usize,
 }
 
-/// One thing after the other goes wrong and is mended, until the time is over.
-pub struct Troubles<'a> {
-    pub cluster: &'a Cluster,
-    pub random: Random,
-    pub time: Duration,
-    pub kills: usize,
-    pub plant: Option<Plant>,
+/// Lets things go wrong until the time of a round is over; then all are running, and nothing is cut.
+pub fn run(options: &Options, cluster: &Cluster, seed: u64) -> Result<Count, String> {
+    let mut kills = Troubles { cluster, random: Random::from_seed(seed), start: Instant::now(), time: options.time };
+    let mut weather = Troubles { random: Random::from_seed(seed.rotate_left(32)), ..kills };
+    thread::scope(|scope| {
+        let weather = scope.spawn(move || weather.weather());
+        let killed = kills.kills(options.kills, options.plant == Some(Plant::Emptied));
+        let (cuts, pauses) = weather.join().map_err(|_| "the weather failed")?;
+        killed.map(|kills| Count { kills, cuts, pauses })
+    })
+}
+
+struct Troubles<'a> {
+    cluster: &'a Cluster,
+    random: Random,
+    start: Instant,
+    time: Duration,
 }
 
 impl Troubles<'_> {
@@ -32,66 +41,65 @@ impl Troubles<'_> {
         self.random.below(self.cluster.replicas as u64) as usize
     }
 
-    pub fn run(mut self) -> io::Result<Count> {
-        let start = Instant::now();
-        let mut count = Count::default();
-        let mut is_emptied = false;
-        // The kills come at random moments, each in its share of the time.
-        let moments: Vec<Duration> = (0..self.kills)
-            .map(|kill| self.time.mul_f64((kill as f64 + self.random.below(900) as f64 / 1_000.0) / self.kills as f64))
-            .collect();
-        while start.elapsed() < self.time {
-            if moments.get(count.kills).is_some_and(|moment| *moment <= start.elapsed()) {
-                count.kills += 1;
-                let is_late = start.elapsed() * 3 > self.time || count.kills == self.kills;
-                let empties = self.plant == Some(Plant::Emptied) && is_late && !is_emptied;
-                is_emptied |= empties;
-                self.kill(empties)?;
-            } else if self.random.below(3) == 0 {
-                count.pauses += 1;
-                self.pause();
-            } else if self.random.below(2) == 0 {
-                count.cuts += 1;
-                self.cut();
-            } else {
-                self.wait(50, 400);
-            }
+    /// So many replicas that follow one another.
+    fn some_replicas(&mut self, count: usize) -> Vec<usize> {
+        let first = self.any_replica();
+        (0..count).map(|place| (first + place) % self.cluster.replicas).collect()
+    }
+
+    /// Kills at random moments, each in its share of the time. `empties`: one finds its log emptied when it starts again.
+    fn kills(&mut self, count: usize, empties: bool) -> Result<usize, String> {
+        let to_empty = empties.then_some(count / 3);
+        for kill in 0..count {
+            let share = (kill as f64 + self.random.below(800) as f64 / 1_000.0) / count as f64;
+            thread::sleep(self.time.mul_f64(share).saturating_sub(self.start.elapsed()));
+            self.kill(to_empty == Some(kill))?;
         }
+        thread::sleep(self.time.saturating_sub(self.start.elapsed()));
         Ok(count)
     }
 
-    fn kill(&mut self, empties: bool) -> io::Result<()> {
+    fn kill(&mut self, empties: bool) -> Result<(), String> {
         let target = match self.random.below(5) {
             0 if !empties => Target::Store,
             1 if !empties => Target::Node,
             _ => Target::Both,
         };
-        let first = self.any_replica();
         // Now and then all of them, as when the current fails.
         let count = if self.random.below(8) == 0 { self.cluster.replicas } else { 1 };
-        let killed: Vec<usize> = (0..count).map(|place| (first + place) % self.cluster.replicas).collect();
-        for replica in &killed {
-            self.cluster.kill(*replica, target);
-        }
-        self.wait(50, 1_500);
+        let killed = self.some_replicas(count);
+        killed.iter().try_for_each(|replica| self.cluster.kill(*replica, target))?;
+        self.wait(20, 1_500);
+        let told = |error: std::io::Error| format!("a replica can't be started: {error}");
         if empties {
-            std::fs::write(self.cluster.log(first), b"")?;
+            std::fs::write(self.cluster.log(killed[0]), b"").map_err(told)?;
         }
-        killed.into_iter().try_for_each(|replica| self.cluster.launch(replica))
+        killed.into_iter().try_for_each(|replica| self.cluster.launch(replica)).map_err(told)
+    }
+
+    /// Cuts and pauses: how many of each.
+    fn weather(&mut self) -> (usize, usize) {
+        let (mut cuts, mut pauses) = (0, 0);
+        while self.start.elapsed() < self.time {
+            self.wait(20, 800);
+            if self.random.below(3) == 0 {
+                pauses += 1;
+                self.pause();
+            } else {
+                cuts += 1;
+                self.cut();
+            }
+        }
+        (cuts, pauses)
     }
 
     /// Stops a minority for a while.
     fn pause(&mut self) {
-        let first = self.any_replica();
         let count = 1 + self.random.below(self.cluster.replicas as u64 / 2) as usize;
-        let paused: Vec<usize> = (0..count).map(|place| (first + place) % self.cluster.replicas).collect();
-        for replica in &paused {
-            self.cluster.pause(*replica, true);
-        }
+        let paused = self.some_replicas(count);
+        paused.iter().for_each(|replica| self.cluster.pause(*replica, true));
         self.wait(100, 1_500);
-        for replica in &paused {
-            self.cluster.pause(*replica, false);
-        }
+        paused.iter().for_each(|replica| self.cluster.pause(*replica, false));
     }
 
     /// Cuts a replica off from another one, or from all others; for a moment, or for longer.
@@ -101,14 +109,10 @@ impl Troubles<'_> {
         let is_alone = self.random.below(3) == 0;
         let others = (0..replicas).filter(|replica| *replica != one && (is_alone || *replica == other));
         let others: Vec<usize> = others.collect();
-        for other in &others {
-            self.cluster.set_cut(one, *other, true);
-        }
+        others.iter().for_each(|other| self.cluster.set_cut(one, *other, true));
         if self.random.below(2) == 0 {
             self.wait(100, 1_500);
         }
-        for other in &others {
-            self.cluster.set_cut(one, *other, false);
-        }
+        others.iter().for_each(|other| self.cluster.set_cut(one, *other, false));
     }
 }
