@@ -224,6 +224,7 @@ fn refusal(fault: Fault) -> String {
 mod tests {
     use super::*;
     use std::collections::HashSet;
+    use std::sync::mpsc::sync_channel;
 
     #[test]
     fn client_numbers_are_given_once() {
@@ -238,5 +239,53 @@ mod tests {
                 assert_eq!(numbers.next(), None);
             }
         }
+    }
+
+    /// What a connection makes of these answers to its proposals, one after the other, and what it proposed: the
+    /// requests and the stamps that it had seen. After the last answer nothing is told.
+    fn execute(answers: Vec<Told>) -> (Result<protocol::Reply, String>, Vec<(u32, u64)>) {
+        let (events, asked) = sync_channel(8);
+        let numbers = Mutex::new(Numbers::new(0, 0));
+        let patience = Duration::from_millis(200);
+        let shared = Shared { events, numbers, patience, connections: AtomicUsize::new(0) };
+        let driver = thread::spawn(move || {
+            let mut answers = answers.into_iter();
+            let (mut proposed, mut unanswered) = (Vec::new(), Vec::new());
+            while let Ok(Event::Ask(Ask { what: What::Propose { client: 1, request, seen, .. }, reply })) = asked.recv()
+            {
+                proposed.push((request, seen));
+                match answers.next() {
+                    Some(answer) => reply.send(answer).unwrap(),
+                    None => unanswered.push(reply),
+                }
+            }
+            proposed
+        });
+        let reply = Connection::new(Arc::new(shared)).execute(Command::Get { key: b"x".to_vec() });
+        (reply, driver.join().unwrap())
+    }
+
+    fn done(stamp: u64, reply: protocol::Reply) -> Told {
+        Told::Done { stamp, reply }
+    }
+
+    #[test]
+    fn what_is_lost_is_proposed_again() {
+        let answers = vec![done(7, protocol::Reply::Lost), done(9, protocol::Reply::Absent)];
+        assert_eq!(execute(answers), (Ok(protocol::Reply::Absent), vec![(1, 0), (2, 7)]));
+        let (reply, proposed) = execute((1..9).map(|stamp| done(stamp, protocol::Reply::Lost)).collect());
+        assert!(reply.unwrap_err().starts_with("TRYAGAIN the command wasn't done"));
+        assert_eq!(proposed.len(), MOST_TRIES);
+    }
+
+    #[test]
+    fn patience_ends_and_refusals_are_told() {
+        let (reply, proposed) = execute(Vec::new());
+        assert!(reply.unwrap_err().contains("may still be done"));
+        assert_eq!(proposed, [(1, 0)]);
+        let (reply, proposed) = execute(vec![Told::Refused(Fault::SPACE_FULL)]);
+        assert!(reply.unwrap_err().starts_with("FULL "));
+        assert_eq!(proposed.len(), 1);
+        assert!(execute(vec![Told::Refused(Fault::MEMORY)]).0.unwrap_err().starts_with("OOM "));
     }
 }

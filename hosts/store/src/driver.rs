@@ -158,7 +158,7 @@ impl Driver {
     }
 
     fn wait(&mut self) -> Result<Option<Event>, Stop> {
-        let Some(next) = self.timers.next() else {
+        let Some(next) = self.timers.next(self.is_alone()) else {
             return self.events.recv().map(Some).map_err(|_| Stop::Alone);
         };
         match self.events.recv_timeout(next.saturating_duration_since(Instant::now())) {
@@ -224,8 +224,17 @@ impl Driver {
         (0..replicas).any(|replica| replica != me && replica != below && !self.peers.is_reached(replica as u8))
     }
 
+    /// Whether so few peers are reached that nothing can be recovered.
+    fn is_alone(&self) -> bool {
+        let reached = (0..self.place.replicas).filter(|replica| self.peers.is_reached(*replica as u8));
+        reached.count() < self.place.replicas / 2
+    }
+
     /// Gives up or recovers what is late.
     fn remedy_late(&mut self, batch: &mut Batch) -> Result<(), Stop> {
+        if self.is_alone() {
+            return Ok(());
+        }
         for due in self.timers.take_due(Instant::now()) {
             let is_own = due.instance.replica == self.place.replica;
             let remedy = if is_own && due.is_first { self.first_remedy(due.instance)? } else { Remedy::Recover };

@@ -57,7 +57,15 @@ fn start(options: Options) -> Result<Driver, String> {
     let receipts = Receipts::open(&receipts_path)
         .map_err(|error| format!("the receipts {} can't be opened: {error}", receipts_path.display()))?;
     let numbers = Mutex::new(Numbers::new(directory.starts, place.replica));
-    let node = start_node(&options, place, directory)?;
+    let log = directory.log();
+    let (node, entries) = start_node(&options, place, directory)?;
+    if entries < receipts.named.entry {
+        let (log, named) = (log.display(), receipts.named.entry);
+        return Err(format!(
+            "{log} has forgotten: it has {entries} entries, and a client was told of entry {named}. \
+             This replica must not come back"
+        ));
+    }
     let (sender, events) = sync_channel(WAITING_EVENTS);
     let told = |error: std::io::Error| format!("a thread can't be started: {error}");
     let peers = Peers::start(place, &options.peers, &sender).map_err(told)?;
@@ -73,7 +81,7 @@ fn start(options: Options) -> Result<Driver, String> {
         place,
         node,
         peers,
-        used: receipts.greatest,
+        used: receipts.named.instance,
         receipts,
         timers: Timers::new(place.replica, Instant::now(), Random::new()),
         events,
@@ -92,8 +100,8 @@ fn spawn(name: &str, work: impl FnOnce() + Send + 'static) -> std::io::Result<()
     thread::Builder::new().name(name.into()).spawn(work).map(|_| ())
 }
 
-/// Starts the node, and waits until it has read its log.
-fn start_node(options: &Options, place: Place, directory: Directory) -> Result<Node, String> {
+/// Starts the node, and waits until it has read its log: how many entries that has.
+fn start_node(options: &Options, place: Place, directory: Directory) -> Result<(Node, u32), String> {
     let (log, errors_path) = (directory.log(), directory.errors_path());
     let start = Start {
         program: &options.node,
@@ -105,7 +113,7 @@ fn start_node(options: &Options, place: Place, directory: Directory) -> Result<N
     };
     let mut node = Node::start(start).map_err(|fault| fault.to_string())?;
     match node.ask(&[Request::Sync]).map_err(|fault| Stop::Node(fault).to_string())?[..] {
-        [Answer::Synced(_)] => Ok(node),
+        [Answer::Synced(entries)] => Ok((node, entries)),
         _ => Err("the node's first answer isn't of the protocol".into()),
     }
 }

@@ -14,7 +14,8 @@ const OWN_WAIT: Duration = Duration::from_millis(100);
 const OTHERS_WAIT: Duration = Duration::from_millis(300);
 /// After the first try; it doubles with each further one.
 const LEAST_WAIT: Duration = Duration::from_millis(150);
-const MOST_DOUBLINGS: u32 = 4;
+/// So the longest wait is about 30 seconds: a recovery takes a ballot, and an instance has 60,000.
+const MOST_DOUBLINGS: u32 = 7;
 /// At most so many instances at once.
 const MOST_DUE: usize = 64;
 
@@ -79,10 +80,11 @@ impl Timers {
         self.is_changed = true;
     }
 
-    /// When there is something to do next; None: not before something is taken.
-    pub fn next(&self) -> Option<Instant> {
+    /// When there is something to do next; None: not before something comes. `is_alone`: too few peers are reached for
+    /// anything to be recovered.
+    pub fn next(&self, is_alone: bool) -> Option<Instant> {
         let look = (self.is_looking || self.is_changed).then_some(self.next_look);
-        let due = self.open.values().map(|wait| wait.due).min();
+        let due = self.open.values().map(|wait| wait.due).min().filter(|_| !is_alone);
         look.into_iter().chain(due).min()
     }
 
@@ -175,9 +177,9 @@ mod tests {
         let mut timers = Timers::new(0, now, Random::from_seed(1));
         assert!(timers.is_look_due(now));
         looked(&mut timers, &[], now);
-        assert_eq!(timers.next(), None);
+        assert_eq!(timers.next(false), None);
         timers.change();
-        assert_eq!(timers.next(), Some(now + BETWEEN_LOOKS));
+        assert_eq!(timers.next(true), Some(now + BETWEEN_LOOKS));
     }
 
     #[test]
@@ -186,6 +188,7 @@ mod tests {
         let mut timers = Timers::new(0, now, Random::from_seed(1));
         looked(&mut timers, &[OWN, OTHER], now);
         assert_eq!(timers.take_due(now), []);
+        assert_eq!((timers.next(false), timers.next(true)), (Some(now + OWN_WAIT), None));
         now += OWN_WAIT;
         assert_eq!(timers.take_due(now), [Due { instance: OWN, is_first: true }]);
         now += OTHERS_WAIT * 2;

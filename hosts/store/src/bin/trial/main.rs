@@ -64,8 +64,9 @@ fn play(options: &Options, round: usize) -> Result<usize, String> {
     cluster.stop()?;
     let told = notes.iter().filter(|note| note.operation.end.is_some()).count();
     println!(
-        "round {round}: {told} commands told, {} not; {} kills, {} cuts, {} pauses; {}",
+        "round {round}: {told} commands told, {} not, {} proposed again; {} kills, {} cuts, {} pauses; {}",
         notes.len() - told,
+        verdict::count_lost(&cluster),
         count.kills,
         count.cuts,
         count.pauses,

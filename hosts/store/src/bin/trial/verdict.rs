@@ -34,18 +34,29 @@ fn judge_notes(notes: &[Note]) -> Vec<String> {
     faults
 }
 
+/// How many receipts of a replica there are: of commands that were done, and that were lost.
+fn count_receipts(cluster: &Cluster, replica: usize) -> Result<(usize, usize), String> {
+    let bytes = std::fs::read(cluster.receipts(replica)).map_err(|error| format!("no receipts: {error}"))?;
+    let mut fields = Fields::new(&bytes);
+    let (mut done, mut lost) = (0, 0);
+    while let Some(receipt) = Receipt::read(&mut fields) {
+        *if receipt.reply == Reply::Lost { &mut lost } else { &mut done } += 1;
+    }
+    match fields.left() {
+        0 => Ok((done, lost)),
+        _ => Err(format!("the receipts of replica {replica} end within one")),
+    }
+}
+
+/// How many proposals of a round were lost.
+pub fn count_lost(cluster: &Cluster) -> usize {
+    (0..cluster.replicas).filter_map(|replica| count_receipts(cluster, replica).ok()).map(|(_, lost)| lost).sum()
+}
+
 /// Each command that was told has a receipt that isn't lost.
 fn judge_receipts(cluster: &Cluster, notes: &[Note]) -> Result<(), String> {
     for replica in 0..cluster.replicas {
-        let bytes = std::fs::read(cluster.receipts(replica)).map_err(|error| format!("no receipts: {error}"))?;
-        let mut fields = Fields::new(&bytes);
-        let mut receipts = 0;
-        while let Some(receipt) = Receipt::read(&mut fields) {
-            receipts += usize::from(receipt.reply != Reply::Lost);
-        }
-        if fields.left() > 0 {
-            return Err(format!("the receipts of replica {replica} end within one"));
-        }
+        let (receipts, _) = count_receipts(cluster, replica)?;
         let told = notes.iter().filter(|note| note.replica == replica && note.operation.end.is_some()).count();
         if receipts < told {
             return Err(format!("replica {replica} told of {told} commands and has {receipts} receipts"));
