@@ -1,6 +1,7 @@
 //! The folder of a replica: its log, its receipts, how often it was started, and a lock.
+use crate::identities::replace;
 use std::fs::{self, File, OpenOptions, TryLockError};
-use std::io::{self, Write};
+use std::io;
 use std::path::{Path, PathBuf};
 use std::thread;
 use std::time::{Duration, Instant};
@@ -27,7 +28,7 @@ impl Directory {
         lock(&errors, path)?;
         errors.set_len(0).map_err(told)?;
         let starts = read_starts(path)?;
-        write_starts(path, starts + 1).map_err(told)?;
+        replace(path, "starts", &format!("{}\n", starts + 1)).map_err(told)?;
         Ok(Directory { path: path.to_path_buf(), errors, starts })
     }
 
@@ -67,14 +68,4 @@ fn read_starts(path: &Path) -> Result<u32, String> {
         Err(error) if error.kind() == io::ErrorKind::NotFound => Ok(0),
         Err(error) => Err(format!("{} can't be read: {error}", path.display())),
     }
-}
-
-/// Puts the number on the disk: the old one or the new one is there, whenever the machine stops.
-fn write_starts(path: &Path, starts: u32) -> io::Result<()> {
-    let new = path.join("starts.new");
-    let mut file = File::create(&new)?;
-    writeln!(file, "{starts}")?;
-    file.sync_all()?;
-    fs::rename(&new, path.join("starts"))?;
-    File::open(path)?.sync_all()
 }

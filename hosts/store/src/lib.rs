@@ -5,6 +5,7 @@ pub mod commands;
 pub mod commits;
 pub mod directory;
 pub mod driver;
+pub mod identities;
 pub mod node;
 pub mod options;
 pub mod peers;

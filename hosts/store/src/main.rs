@@ -11,9 +11,10 @@ use store::clients::{self, MOST_STARTS, Numbers, Shared};
 use store::commits::Commits;
 use store::directory::Directory;
 use store::driver::{Driver, Stop};
+use store::identities::Identities;
 use store::node::{Node, Start};
 use store::options::{HELP, Options, Words, read};
-use store::peers::{self, Peers, Place};
+use store::peers::{self, Peers, Place, Receiving};
 use store::protocol::{Answer, Request};
 use store::random::Random;
 use store::receipts::Receipts;
@@ -56,6 +57,7 @@ fn start(options: Options) -> Result<Driver, String> {
     let receipts_path = directory.receipts();
     let receipts = Receipts::open(&receipts_path)
         .map_err(|error| format!("the receipts {} can't be opened: {error}", receipts_path.display()))?;
+    let identities = Arc::new(Identities::open(&options.directory, place.replicas, place.replica)?);
     let numbers = Mutex::new(Numbers::new(directory.starts, place.replica));
     let log = directory.log();
     let (node, entries) = start_node(&options, place, directory)?;
@@ -68,9 +70,9 @@ fn start(options: Options) -> Result<Driver, String> {
     }
     let (sender, events) = sync_channel(WAITING_EVENTS);
     let told = |error: std::io::Error| format!("a thread can't be started: {error}");
-    let peers = Peers::start(place, &options.peers, &sender).map_err(told)?;
-    let to_driver = sender.clone();
-    spawn("peers", move || peers::listen(place, for_peers, to_driver)).map_err(told)?;
+    let peers = Peers::start(place, &options.peers, &identities, &sender).map_err(told)?;
+    let receiving = Arc::new(Receiving::new(place, identities, sender.clone()));
+    spawn("peers", move || peers::listen(for_peers, &receiving)).map_err(told)?;
     let connections = AtomicUsize::new(0);
     let shared = Arc::new(Shared { events: sender, numbers, patience: options.patience, connections });
     spawn("clients", move || clients::listen(for_clients, shared)).map_err(told)?;

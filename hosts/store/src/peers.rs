@@ -1,8 +1,9 @@
 //! The connections to the other replicas: one for each direction, so that each end opens again what it needs.
 //!
-//! A connection begins by a greeting; then come frames, each as its length in 4 bytes and its bytes. A frame that can't
+//! A connection begins by a greeting and its answer, by which both ends know each other. Then come frames, each as its length in 4 bytes and its bytes. A frame that can't
 //! be sent is lost: the protocol allows for it.
 use crate::driver::Event;
+use crate::identities::{Identities, Identity};
 use crate::say::say;
 use std::collections::VecDeque;
 use std::io::{self, BufReader, BufWriter, Read, Write};
@@ -19,6 +20,8 @@ const LONGEST_FRAME: usize = 65_535;
 /// What waits for one peer is at most so many bytes; then the oldest frames are lost.
 const MOST_WAITING: usize = 8 << 20;
 const MAGIC: [u8; 5] = *b"EPST\x01";
+/// The greeting: the magic, how many replicas, from, to, and the identity of who greets.
+const GREETING: usize = 8 + 16;
 const CONNECT_PATIENCE: Duration = Duration::from_secs(2);
 const WRITE_PATIENCE: Duration = Duration::from_secs(5);
 const LEAST_PAUSE: Duration = Duration::from_millis(20);
@@ -38,14 +41,19 @@ pub struct Peers {
 
 impl Peers {
     /// Starts a thread for each other replica.
-    pub fn start(place: Place, addresses: &[String], events: &SyncSender<Event>) -> io::Result<Peers> {
+    pub fn start(
+        place: Place,
+        addresses: &[String],
+        identities: &Arc<Identities>,
+        events: &SyncSender<Event>,
+    ) -> io::Result<Peers> {
         let mut links = Vec::new();
         for (to, address) in addresses.iter().enumerate() {
             if to == usize::from(place.replica) {
                 links.push(None);
                 continue;
             }
-            let link = Arc::new(Link::new(to as u8, address.clone(), place));
+            let link = Arc::new(Link::new(to as u8, address.clone(), place, identities.clone()));
             let (runner, events) = (link.clone(), events.clone());
             thread::Builder::new().name(format!("to {to}")).spawn(move || runner.run(&events))?;
             links.push(Some(link));
@@ -83,6 +91,7 @@ struct Link {
     to: u8,
     address: String,
     place: Place,
+    identities: Arc<Identities>,
     queue: Mutex<Queue>,
     changed: Condvar,
     is_reached: AtomicBool,
@@ -90,11 +99,12 @@ struct Link {
 }
 
 impl Link {
-    fn new(to: u8, address: String, place: Place) -> Link {
+    fn new(to: u8, address: String, place: Place, identities: Arc<Identities>) -> Link {
         Link {
             to,
             address,
             place,
+            identities,
             queue: Mutex::default(),
             changed: Condvar::new(),
             is_reached: AtomicBool::new(false),
@@ -123,9 +133,17 @@ impl Link {
     /// Connects, sends until the connection is lost, and again.
     fn run(&self, events: &SyncSender<Event>) {
         let mut pause = LEAST_PAUSE;
-        let mut was_lost = false;
+        let (mut was_lost, mut was_refused) = (false, false);
         loop {
-            if let Ok(stream) = self.connect() {
+            let connected = self.connect();
+            if let Err(Refused::For(why)) = &connected
+                && !was_refused
+            {
+                was_refused = true;
+                say(&format!("peer {} at {} {why}", self.to, self.address));
+            }
+            if let Ok(stream) = connected {
+                was_refused = false;
                 pause = LEAST_PAUSE;
                 let again = if was_lost { "regained" } else { "reached" };
                 say(&format!("peer {} at {} {again}", self.to, self.address));
@@ -143,18 +161,27 @@ impl Link {
         }
     }
 
-    fn connect(&self) -> io::Result<TcpStream> {
+    fn connect(&self) -> Result<TcpStream, Refused> {
         let mut stream = connect_to(&self.address)?;
         stream.set_nodelay(true)?;
         stream.set_write_timeout(Some(WRITE_PATIENCE))?;
         let mut greeting = MAGIC.to_vec();
         greeting.extend([self.place.replicas as u8, self.place.replica, self.to]);
+        greeting.extend(self.identities.own());
         stream.write_all(&greeting)?;
         // The other end answers the greeting: whoever only takes the connection, and closes it, wasn't reached.
         stream.set_read_timeout(Some(CONNECT_PATIENCE))?;
         let mut answer = [0];
         stream.read_exact(&mut answer)?;
+        let mut identity = [0; 16];
+        stream.read_exact(&mut identity)?;
         stream.set_read_timeout(None)?;
+        if answer == [REFUSED] {
+            return Err(Refused::For("knows another replica under this one's number: this one must not come back"));
+        }
+        if !self.identities.meet(self.to, identity)? {
+            return Err(Refused::For("isn't the replica that is known under its number: it must not come back"));
+        }
         Ok(stream)
     }
 
@@ -202,6 +229,20 @@ impl Link {
     }
 }
 
+/// Why there is no connection.
+enum Refused {
+    /// Nobody is there, or the network is at fault.
+    Failed,
+    /// One of both is another one than the other end knows.
+    For(&'static str),
+}
+
+impl From<io::Error> for Refused {
+    fn from(_: io::Error) -> Refused {
+        Refused::Failed
+    }
+}
+
 fn connect_to(address: &str) -> io::Result<TcpStream> {
     let mut last = io::Error::from(io::ErrorKind::AddrNotAvailable);
     for address in address.to_socket_addrs()? {
@@ -231,62 +272,94 @@ fn read_frame(reader: &mut impl Read) -> io::Result<Vec<u8>> {
     Ok(frame)
 }
 
+/// What those who receive from peers have in common.
+pub struct Receiving {
+    place: Place,
+    identities: Arc<Identities>,
+    events: SyncSender<Event>,
+    /// The connection of each replica.
+    current: Vec<Mutex<Option<TcpStream>>>,
+    /// Whether a stranger was told of.
+    has_complained: AtomicBool,
+}
+
+impl Receiving {
+    pub fn new(place: Place, identities: Arc<Identities>, events: SyncSender<Event>) -> Receiving {
+        let current = (0..place.replicas).map(|_| Mutex::default()).collect();
+        Receiving { place, identities, events, current, has_complained: AtomicBool::new(false) }
+    }
+}
+
 /// Takes connections of other replicas, each in a thread. A new one of a replica closes the one before.
-pub fn listen(place: Place, listener: TcpListener, events: SyncSender<Event>) {
-    let current: Arc<Vec<Mutex<Option<TcpStream>>>> = Arc::new((0..place.replicas).map(|_| Mutex::default()).collect());
+pub fn listen(listener: TcpListener, receiving: &Arc<Receiving>) {
     for stream in listener.incoming() {
         let Ok(stream) = stream else {
             thread::sleep(LEAST_PAUSE);
             continue;
         };
-        let (events, current) = (events.clone(), current.clone());
+        let receiving = receiving.clone();
         let _ = thread::Builder::new().name("from a peer".into()).spawn(move || {
-            let _ = receive(place, stream, &events, &current);
+            let _ = receiving.receive(stream);
         });
     }
 }
 
-fn receive(
-    place: Place,
-    mut stream: TcpStream,
-    events: &SyncSender<Event>,
-    current: &[Mutex<Option<TcpStream>>],
-) -> io::Result<()> {
-    stream.set_nodelay(true)?;
-    stream.set_read_timeout(Some(WRITE_PATIENCE))?;
-    let mut greeting = [0; 8];
-    stream.read_exact(&mut greeting)?;
-    let Some(from) = greeter(place, &greeting) else {
-        let who = stream.peer_addr()?;
-        say(&format!("a connection from {who} to the peers' port isn't of this cluster, or is for another replica"));
-        return Ok(());
-    };
-    stream.set_read_timeout(None)?;
-    stream.write_all(&[1])?;
-    let copy = stream.try_clone()?;
-    if let Ok(mut now) = current[usize::from(from)].lock()
-        && let Some(before) = now.replace(copy)
-    {
-        let _ = before.shutdown(Shutdown::Both);
-    }
-    let mut reader = BufReader::with_capacity(1 << 16, stream);
-    loop {
-        let frame = read_frame(&mut reader)?;
-        if events.send(Event::Frame(frame)).is_err() {
+const ACCEPTED: u8 = 1;
+const REFUSED: u8 = 0;
+
+impl Receiving {
+    fn receive(&self, mut stream: TcpStream) -> io::Result<()> {
+        stream.set_nodelay(true)?;
+        stream.set_read_timeout(Some(WRITE_PATIENCE))?;
+        let mut greeting = [0; GREETING];
+        stream.read_exact(&mut greeting)?;
+        let Some((from, identity)) = greeter(self.place, &greeting) else {
+            if !self.has_complained.swap(true, Ordering::Relaxed) {
+                let who = stream.peer_addr()?;
+                say(&format!(
+                    "a connection from {who} to the peers' port is not from a replica that has this one as its peer"
+                ));
+            }
             return Ok(());
+        };
+        let is_known = self.identities.meet(from, identity)?;
+        let mut answer = vec![if is_known { ACCEPTED } else { REFUSED }];
+        answer.extend(self.identities.own());
+        stream.write_all(&answer)?;
+        if !is_known {
+            return Ok(());
+        }
+        stream.set_read_timeout(None)?;
+        self.replace(from, stream.try_clone()?);
+        let mut reader = BufReader::with_capacity(1 << 16, stream);
+        loop {
+            let frame = read_frame(&mut reader)?;
+            if self.events.send(Event::Frame(frame)).is_err() {
+                return Ok(());
+            }
+        }
+    }
+
+    /// Keeps a replica's connection, and closes the one before.
+    fn replace(&self, from: u8, stream: TcpStream) {
+        if let Ok(mut current) = self.current[usize::from(from)].lock()
+            && let Some(before) = current.replace(stream)
+        {
+            let _ = before.shutdown(Shutdown::Both);
         }
     }
 }
 
-/// Who greets, where the greeting is of another replica of this cluster and for this one.
-fn greeter(place: Place, greeting: &[u8; 8]) -> Option<u8> {
-    let [magic @ .., replicas, from, to] = greeting;
+/// Who greets, where the greeting is of another replica of such a cluster and for this one.
+fn greeter(place: Place, greeting: &[u8; GREETING]) -> Option<(u8, Identity)> {
+    let (head, identity) = greeting.split_first_chunk::<8>()?;
+    let [magic @ .., replicas, from, to] = head;
     let is_ours = *magic == MAGIC
         && usize::from(*replicas) == place.replicas
         && usize::from(*from) < place.replicas
         && *from != place.replica
         && *to == place.replica;
-    is_ours.then_some(*from)
+    is_ours.then_some((*from, *identity.first_chunk()?))
 }
 
 #[cfg(test)]
@@ -310,21 +383,25 @@ mod tests {
     fn greetings() {
         let place = Place { replicas: 3, replica: 1 };
         let greeting = |end: [u8; 3]| {
-            let mut all = [0; 8];
+            let mut all = [9; GREETING];
             all[..5].copy_from_slice(&MAGIC);
-            all[5..].copy_from_slice(&end);
+            all[5..8].copy_from_slice(&end);
             all
         };
-        assert_eq!(greeter(place, &greeting([3, 2, 1])), Some(2));
+        assert_eq!(greeter(place, &greeting([3, 2, 1])), Some((2, [9; 16])));
         for end in [[5, 2, 1], [3, 2, 0], [3, 1, 1], [3, 3, 1]] {
             assert_eq!(greeter(place, &greeting(end)), None);
         }
-        assert_eq!(greeter(place, b"GET / HT"), None);
+        assert_eq!(greeter(place, b"GET / HTTP/1.1\r\nHost: a\r"), None);
     }
 
     #[test]
     fn a_full_queue_loses_the_oldest() {
-        let link = Link::new(1, "127.0.0.1:1".into(), Place { replicas: 3, replica: 0 });
+        let folder = std::env::temp_dir().join(format!("store-queue-{}", std::process::id()));
+        std::fs::create_dir_all(&folder).unwrap();
+        let identities = Arc::new(Identities::open(&folder, 3, 0).unwrap());
+        std::fs::remove_dir_all(&folder).unwrap();
+        let link = Link::new(1, "127.0.0.1:1".into(), Place { replicas: 3, replica: 0 }, identities);
         for number in 0..200 {
             link.push(vec![number; LONGEST_FRAME]);
         }
