@@ -13,7 +13,7 @@ use store::directory::Directory;
 use store::driver::{Driver, Stop};
 use store::identities::Identities;
 use store::node::{Node, Start};
-use store::options::{HELP, Options, Words, read};
+use store::options::{HELP, Options, Plant, Words, read};
 use store::peers::{self, Peers, Place, Receiving};
 use store::protocol::{Answer, Request};
 use store::random::Random;
@@ -61,7 +61,7 @@ fn start(options: Options) -> Result<Driver, String> {
     let numbers = Mutex::new(Numbers::new(directory.starts, place.replica));
     let log = directory.log();
     let (node, entries) = start_node(&options, place, directory)?;
-    if entries < receipts.named.entry {
+    if entries < receipts.named.entry && options.plant != Some(Plant::Forgetful) {
         let (log, named) = (log.display(), receipts.named.entry);
         return Err(format!(
             "{log} has forgotten: it has {entries} entries, and a client was told of entry {named}. \

@@ -21,6 +21,8 @@ store: one replica of a replicated store, for clients of the Redis protocol
 pub enum Plant {
     /// A SET is answered before its receipt has come.
     Early,
+    /// A log that has forgotten what clients were told is taken.
+    Forgetful,
 }
 
 /// What the store was told.
@@ -85,6 +87,7 @@ fn seconds(word: &str) -> Result<Duration, String> {
 fn read_plant(word: &str) -> Result<Plant, String> {
     match word {
         "early" => Ok(Plant::Early),
+        "forgetful" => Ok(Plant::Forgetful),
         _ => Err(format!("--plant {word}: not known")),
     }
 }

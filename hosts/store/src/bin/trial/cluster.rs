@@ -107,8 +107,11 @@ impl Cluster {
         command.args(["--replica", &replica.to_string(), "--peers", &self.peers(replica)]);
         command.args(["--listen", &self.client_ports[replica].to_string(), "--patience", "3"]);
         command.arg("--dir").arg(self.folder(replica)).arg("--node").arg(&self.options.node);
-        if self.options.plant == Some(Plant::Early) {
-            command.args(["--plant", "early"]);
+        match self.options.plant {
+            Some(Plant::Early) => _ = command.args(["--plant", "early"]),
+            // A store that isn't told to wouldn't start over an emptied log.
+            Some(Plant::Emptied) => _ = command.args(["--plant", "forgetful"]),
+            None => {}
         }
         let child = command.stdin(Stdio::null()).stderr(told).process_group(0).spawn()?;
         *self.running[replica].lock().unwrap() = Some(child);

@@ -15,9 +15,9 @@ trial: a cluster of stores on this machine, clients, kills and cuts; then what t
     --replicas N     3, the default, or 5 or 7
     --seconds S, --kills K, --rounds R    other numbers
     --audit          also has `epaxos collect` and `epaxos audit` judge the logs and receipts of each round
-    --plant early    the stores answer a SET before its receipt has come; wants stores built with the feature `plants`
+    --plant early    the stores answer a SET before its receipt has come
     --plant emptied  a replica is started with an emptied log
-                     (with a plant the trial succeeds where it is caught)
+                     (plants want stores built with the feature `plants`; the trial succeeds where one is caught)
     --store PATH     the program `store`; default: beside this one
     --dir DIR        a folder for logs; default: a new one under the system's folder for temporary files
     --seed S         for the choices that are random

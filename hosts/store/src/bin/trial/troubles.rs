@@ -72,9 +72,7 @@ impl Troubles<'_> {
         self.wait(20, 1_500);
         let told = |error: std::io::Error| format!("a replica can't be started: {error}");
         if empties {
-            // Its receipts too: a store doesn't start over a log that lacks what receipts name.
             std::fs::write(self.cluster.log(killed[0]), b"").map_err(told)?;
-            std::fs::write(self.cluster.receipts(killed[0]), b"").map_err(told)?;
         }
         killed.into_iter().try_for_each(|replica| self.cluster.launch(replica)).map_err(told)
     }
