@@ -13,6 +13,8 @@ use std::thread;
 use std::time::{Duration, Instant};
 
 const MOST_CONNECTIONS: usize = 1_000;
+/// For a client that doesn't take its replies.
+const WRITE_PATIENCE: Duration = Duration::from_secs(30);
 const STACK: usize = 256 << 10;
 /// A command that a no-op was put in the place of is proposed at most so often.
 const MOST_TRIES: usize = 5;
@@ -94,6 +96,7 @@ impl Connection {
 
     fn serve(&mut self, stream: TcpStream) -> io::Result<()> {
         stream.set_nodelay(true)?;
+        stream.set_write_timeout(Some(WRITE_PATIENCE))?;
         let mut writer = BufWriter::new(stream.try_clone()?);
         let mut reader = BufReader::new(stream);
         loop {

@@ -5,11 +5,13 @@ use std::collections::{BTreeMap, BTreeSet};
 use std::time::{Duration, Instant};
 
 /// Between two looks for open instances.
-const BETWEEN_LOOKS: Duration = Duration::from_millis(50);
+const BETWEEN_LOOKS: Duration = Duration::from_millis(20);
 /// Looking may take at most one part in so many of the time.
 const SHARE_OF_LOOKS: u32 = 10;
 /// For an own instance, whose leader this is.
 const OWN_WAIT: Duration = Duration::from_millis(100);
+/// The same where not all answers can come.
+const HOPELESS_WAIT: Duration = Duration::from_millis(10);
 /// For another one's: it may well be under way.
 const OTHERS_WAIT: Duration = Duration::from_millis(300);
 /// After the first try; it doubles with each further one.
@@ -111,7 +113,7 @@ impl Timers {
         };
         self.found.insert(instance);
         let wait = match instance.replica == self.replica {
-            true if is_hopeless => Duration::ZERO,
+            true if is_hopeless => HOPELESS_WAIT,
             true => OWN_WAIT,
             false => self.random.from_once_to_twice(OTHERS_WAIT),
         };

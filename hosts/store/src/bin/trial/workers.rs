@@ -48,7 +48,7 @@ fn key_bytes(key: u64) -> Vec<u8> {
 
 fn value_bytes(value: u32) -> Vec<u8> {
     let mut bytes = value.to_be_bytes().to_vec();
-    if value % 8 == 0 {
+    if value.is_multiple_of(8) {
         bytes.resize(1_024, value as u8);
     }
     bytes
