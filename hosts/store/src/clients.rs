@@ -1,6 +1,7 @@
 //! Connections of clients, each with a thread that takes one command at a time.
 use crate::commands::{Asked, understand};
 use crate::driver::{Ask, Event, Told, What};
+use crate::numbers::Numbers;
 use crate::protocol::{self, Command, Fault};
 use crate::resp::{Input, Reply, read_command};
 use crate::say::say;
@@ -18,33 +19,6 @@ const WRITE_PATIENCE: Duration = Duration::from_secs(30);
 const STACK: usize = 256 << 10;
 /// A command that a no-op was put in the place of is proposed at most so often.
 const MOST_TRIES: usize = 5;
-/// One start hands out so many client numbers: more than it can take commands.
-const CLIENTS_EACH_START: u32 = 2_048;
-/// More starts have no numbers left.
-pub const MOST_STARTS: u32 = u32::MAX / CLIENTS_EACH_START / 8;
-
-/// Client numbers, none of which any replica ever gives twice: they name the start, the replica, and the place.
-pub struct Numbers {
-    starts: u32,
-    replica: u8,
-    given: u32,
-}
-
-impl Numbers {
-    /// `starts`, which is below `MOST_STARTS`, is how often this replica was started before.
-    pub fn new(starts: u32, replica: u8) -> Numbers {
-        Numbers { starts, replica, given: 0 }
-    }
-
-    fn next(&mut self) -> Option<u32> {
-        if self.given == CLIENTS_EACH_START {
-            return None;
-        }
-        let place = self.starts * CLIENTS_EACH_START + self.given;
-        self.given += 1;
-        Some(place * 8 + u32::from(self.replica) + 1)
-    }
-}
 
 /// What all connections share.
 pub struct Shared {
@@ -172,7 +146,7 @@ impl Connection {
             Some(client) => client,
             None => {
                 let mut numbers = self.shared.numbers.lock().map_err(|_| "ERR the numbers are lost".to_string())?;
-                numbers.next().ok_or("FULL no client number is left until this replica is started again")?
+                numbers.next().map_err(|what| format!("ERR {what}"))?
             }
         };
         self.client = Some(client);
@@ -226,29 +200,17 @@ fn refusal(fault: Fault) -> String {
 #[cfg(test)]
 mod tests {
     use super::*;
-    use std::collections::HashSet;
     use std::sync::mpsc::sync_channel;
-
-    #[test]
-    fn client_numbers_are_given_once() {
-        let mut all = HashSet::new();
-        for starts in [0, 1, MOST_STARTS - 1] {
-            for replica in 0..7 {
-                let mut numbers = Numbers::new(starts, replica);
-                for _ in 0..CLIENTS_EACH_START {
-                    let number = numbers.next().unwrap();
-                    assert!(number > 0 && all.insert(number));
-                }
-                assert_eq!(numbers.next(), None);
-            }
-        }
-    }
 
     /// What a connection makes of these answers to its proposals, one after the other, and what it proposed: the
     /// requests and the stamps that it had seen. After the last answer nothing is told.
     fn execute(answers: Vec<Told>) -> (Result<protocol::Reply, String>, Vec<(u32, u64)>) {
         let (events, asked) = sync_channel(8);
-        let numbers = Mutex::new(Numbers::new(0, 0));
+        static PLACE: AtomicUsize = AtomicUsize::new(0);
+        let place = PLACE.fetch_add(1, Ordering::Relaxed);
+        let folder = std::env::temp_dir().join(format!("store-clients-{}-{place}", std::process::id()));
+        std::fs::create_dir_all(&folder).unwrap();
+        let numbers = Mutex::new(Numbers::new(&folder, 0));
         let patience = Duration::from_millis(200);
         let shared = Shared { events, numbers, patience, connections: AtomicUsize::new(0) };
         let driver = thread::spawn(move || {
@@ -265,6 +227,7 @@ mod tests {
             proposed
         });
         let reply = Connection::new(Arc::new(shared)).execute(Command::Get { key: b"x".to_vec() });
+        std::fs::remove_dir_all(&folder).unwrap();
         (reply, driver.join().unwrap())
     }
 

@@ -1,5 +1,4 @@
-//! The folder of a replica: its log, its receipts, how often it was started, and a lock.
-use crate::identities::replace;
+//! The folder of a replica: where its files are, and a lock.
 use std::fs::{self, File, OpenOptions, TryLockError};
 use std::io;
 use std::path::{Path, PathBuf};
@@ -14,12 +13,10 @@ pub struct Directory {
     path: PathBuf,
     /// Takes the node's standard error. The lock on it is held as long as this process or the node lives.
     pub errors: File,
-    /// How often a store was started here before.
-    pub starts: u32,
 }
 
 impl Directory {
-    /// Opens or creates the folder, and counts this start, on the disk.
+    /// Opens or creates the folder.
     pub fn open(path: &Path) -> Result<Directory, String> {
         let told = |error: io::Error| format!("the folder {} can't be used: {error}", path.display());
         fs::create_dir_all(path).map_err(told)?;
@@ -27,9 +24,7 @@ impl Directory {
         let errors = OpenOptions::new().append(true).create(true).open(&errors_path).map_err(told)?;
         lock(&errors, path)?;
         errors.set_len(0).map_err(told)?;
-        let starts = read_starts(path)?;
-        replace(path, "starts", &format!("{}\n", starts + 1)).map_err(told)?;
-        Ok(Directory { path: path.to_path_buf(), errors, starts })
+        Ok(Directory { path: path.to_path_buf(), errors })
     }
 
     pub fn log(&self) -> PathBuf {
@@ -58,14 +53,5 @@ fn lock(file: &File, path: &Path) -> Result<(), String> {
                 return Err(format!("the folder {} can't be locked: {error}", path.display()));
             }
         }
-    }
-}
-
-fn read_starts(path: &Path) -> Result<u32, String> {
-    let path = path.join("starts");
-    match fs::read_to_string(&path) {
-        Ok(text) => text.trim().parse().map_err(|_| format!("{} holds no number", path.display())),
-        Err(error) if error.kind() == io::ErrorKind::NotFound => Ok(0),
-        Err(error) => Err(format!("{} can't be read: {error}", path.display())),
     }
 }

@@ -7,6 +7,7 @@ pub mod directory;
 pub mod driver;
 pub mod identities;
 pub mod node;
+pub mod numbers;
 pub mod options;
 pub mod peers;
 pub mod protocol;

@@ -7,12 +7,13 @@ use std::sync::mpsc::sync_channel;
 use std::sync::{Arc, Mutex};
 use std::thread;
 use std::time::Instant;
-use store::clients::{self, MOST_STARTS, Numbers, Shared};
+use store::clients::{self, Shared};
 use store::commits::Commits;
 use store::directory::Directory;
 use store::driver::{Driver, Stop};
 use store::identities::Identities;
 use store::node::{Node, Start};
+use store::numbers::Numbers;
 use store::options::{HELP, Options, Plant, Words, read};
 use store::peers::{self, Peers, Place, Receiving};
 use store::protocol::{Answer, Request};
@@ -51,14 +52,11 @@ fn start(options: Options) -> Result<Driver, String> {
     let for_peers = bind(own)?;
     let for_clients = bind(&options.listen)?;
     let directory = Directory::open(&options.directory)?;
-    if directory.starts >= MOST_STARTS {
-        return Err("this replica was started too often: no client numbers are left".into());
-    }
     let receipts_path = directory.receipts();
     let receipts = Receipts::open(&receipts_path)
         .map_err(|error| format!("the receipts {} can't be opened: {error}", receipts_path.display()))?;
     let identities = Arc::new(Identities::open(&options.directory, place.replicas, place.replica)?);
-    let numbers = Mutex::new(Numbers::new(directory.starts, place.replica));
+    let numbers = Mutex::new(Numbers::new(&options.directory, place.replica));
     let log = directory.log();
     let (node, entries) = start_node(&options, place, directory)?;
     if entries < receipts.named.entry && options.plant != Some(Plant::Forgetful) {
