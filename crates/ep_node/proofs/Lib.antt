@@ -3,3 +3,6 @@ pub mod CrashRuns
 pub mod CrashLasts
 pub mod CrashTraces
 pub mod CrashPlayed
+mod Growing
+mod Mending
+mod Moments
