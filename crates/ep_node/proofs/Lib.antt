@@ -6,3 +6,4 @@ pub mod CrashPlayed
 mod Growing
 mod Mending
 mod Moments
+mod Syncing
