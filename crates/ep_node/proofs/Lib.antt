@@ -7,3 +7,4 @@ mod Growing
 mod Mending
 mod Moments
 mod Syncing
+mod Opened

@@ -69,6 +69,9 @@ fn refused_by_name(rt: HostRuntime) {
     let log = two_puts(&rt, alloc);
     assert_eq!(rt; refusal(&rt, alloc, &log, 3, 2), Some(OpenFault::OtherLog));
     assert_eq!(rt; refusal(&rt, alloc, &log, 5, 1), Some(OpenFault::OtherLog));
-    assert_eq!(rt; refusal(&rt, alloc, &log, 3, 3), Some(OpenFault::OutOfRange));
+    assert_eq!(rt;
+        refusal(&rt, alloc, &log, 3, 3),
+        Some(OpenFault::OutOfRange)
+    );
     assert!(rt; matches!(refusal(&rt, alloc, &[0], 3, 1), Some(OpenFault::Log(_))));
 }
