@@ -1,2 +1,3 @@
-pub mod Runs
 pub mod Lists
+pub mod Advancing
+pub mod Runs

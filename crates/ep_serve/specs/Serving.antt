@@ -55,6 +55,14 @@ pub record InService (n : ℕ) (k : Kept) (l : Left) (old new : Option (List ℕ
 abbrev pub Waits : Kept → Request → List Due → Option (List ℕ) → Kept → List Due → Option (List ℕ) → Type 0
 Waits k r before old k' after new = (d : Due) × Acts k r d k' × (((after ≡ before ++ d ∷ []) × (new ≡ old)) ⊎ (Tell k' (before ++ d ∷ []) old new × (after ≡ [])))
 
+-- a fault of what a request does
+abbrev pub IsActing : ServeFault → Type 0
+IsActing Memory = Unit {0}
+IsActing ReadFailed = ⊥
+IsActing (BadRequest at) = ⊥
+IsActing WriteFailed = ⊥
+IsActing LogFailed = Unit {0}
+
 -- a fault but that of writing leaves what is written as it was
 abbrev pub IsSilent : ServeFault → Option (List ℕ) → Option (List ℕ) → Type 0
 IsSilent Memory old new = new ≡ old

@@ -1,6 +1,6 @@
 //! What an answer tells, once all that its node took is on the disk.
 
-ghost use Rattle.std.specs.Prelude.{◌≡◌, ◌<◌, ℕ, List, Some, OnOk, IfOk, length, slice_get};
+ghost use Rattle.std.specs.Prelude.{◌≡◌, ◌<◌, ◌≤◌, ◌+◌, true, ℕ, List, Some, OnOk, IfOk, length, slice_get};
 ghost use Rattle.std.specs.Io.KnownBytes.{Appends};
 ghost use Rattle.ep_journal.specs.declared.entry.Entry.{Entry as Written};
 ghost use Rattle.ep_serve.specs.Answering.{told_entry, told_from, AllTold, Tell, Tells};
@@ -43,15 +43,21 @@ fn put_told_entries<K: Sink>(
     from: usize,
     count: usize,
 ) -> Result<(), NoRoom>
+    requires { from + count ≤ length replica.now.entries }
     ensures { OnOk result (Appends (K.held sink.old) (K.held sink.new) (told_from replica.now from count)) }
 {
-    let entries = replica.journal().entries().len();
-    let first = from.min(entries);
-    let end = entries.min(first.saturating_add(count));
-    for place in first..end {
-        put_told_entry(alloc, sink, replica, place)?;
+    for index in 0..count {
+        put_told_entry(alloc, sink, replica, from + index)?;
     }
     Ok(())
+}
+
+/// Whether there are so many entries from this place on.
+fn are_there(replica: &Replica, from: usize, count: usize) -> bool
+    ensures { result ≡ true → from + count ≤ length replica.now.entries }
+{
+    let entries = replica.journal().entries().len();
+    from <= entries && count <= entries - from
 }
 
 /// That so many entries were taken from this place on.
@@ -68,6 +74,10 @@ fn put_taken<K: Sink>(
     let Ok(number) = u32::try_from(count) else {
         return Err(NoRoom);
     };
+    // What was taken is there.
+    if !are_there(replica, from, count) {
+        return Err(NoRoom);
+    }
     put_u32(&mut body, number)?;
     put_told_entries(alloc, &mut body, replica, from, count)?;
     let body = body.into_inner();

@@ -28,13 +28,12 @@ pub(crate) struct Queue {
 }
 
 impl Queue {
-    ghost use Rattle.std.specs.Prelude.{◌≡◌, ◌≢◌, ◌++◌, ◌∷◌, [], OnOk, IfErr};
+    ghost use Rattle.std.specs.Prelude.{◌≡◌, ◌++◌, ◌∷◌, [], OnOk, IfErr};
     ghost use Rattle.ep_node.specs.Nodes.{IsQuiet};
     ghost use Rattle.ep_serve.specs.Acting.{Acts};
     ghost use Rattle.ep_serve.specs.Answering.{Tell};
-    ghost use Rattle.ep_serve.specs.Serving.{IsSilent, Waits};
+    ghost use Rattle.ep_serve.specs.Serving.{IsActing, IsSilent, Waits};
     ghost use Rattle.ep_serve.specs.declared.due.Due.{Due};
-    ghost use Rattle.ep_serve.specs.declared.serve_fault.ServeFault.TheVariants.{WriteFailed};
 
     /// No answers.
     pub(crate) fn new(alloc: Global, mode: Mode) -> Queue

@@ -32,7 +32,10 @@ pub fn serve<D: Device, S: Source, K: Sink>(
     for _ in 0..u64::MAX {
         match read_request(alloc, source, &mut place, size) {
             Ok(Some(request)) => queue.serve(node, sink, request)?,
-            Ok(None) => return queue.settle(node, sink),
+            Ok(None) => {
+                queue.settle(node, sink)?;
+                return Ok(());
+            }
             Err(fault) => {
                 queue.settle(node, sink)?;
                 return Err(fault.into());
