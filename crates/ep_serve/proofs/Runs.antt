@@ -1,6 +1,5 @@
 -- Runs of requests, one more at their end.
 use Rattle.std.proofs.Common.{◌≡◌, ℕ, zero, suc, ◌+◌, ◌<◌, length, take, get_or, List, [], ◌∷◌, ◌++◌, append-nil, append_assoc, Option, Some, None, Result, Ok, Err, inl, inr, refl, sym, ap, ◌∙◌, subst}
-use Rattle.std.specs.Io.KnownBytes.{Appends}
 use Rattle.std.proofs.KnownBytes.{Appends-nil, Appends-trans}
 use Rattle.ep_bundle.specs.Reading.{Left}
 use Rattle.ep_replica.specs.Kept.{Kept}
@@ -139,13 +138,28 @@ pub cut_short : (n : ℕ) (k k' m : Kept) (l l' : Left) (old held new : Option (
 cut_short n k k' m l l' old held new ds (Ok x) e s silent is = absurd is
 cut_short n k k' m l l' old held new ds (Err f) e s silent is = short n k k' m l l' old held new ds f s (subst (λ (x : ServeFault). IsSilent x held new) (sym is) silent)
 
-pub ends_well : (n : ℕ) (k k' k'' : Kept) (l l' : Left) (old held new : Option (List ℕ)) (ds after : List Due) (p : ℕ) (left : Option (List ℕ)) → InService n k l old held k' l' ds → k'' ≡ k' → Tell k' ds held new × (after ≡ []) → ReadsRequest n l' (Ok None) p left → Ends n k l old new (Ok tt) k''
-ends_well n k k' k'' l l' old held new ds after p left s same t read =
-    (l', subst (λ (x : Kept). Serves n k l old new x l') (sym same) (all_served n k k' l l' old held new ds s t.0), (record { at = p; bytes = read.0 }, read.2))
+-- a request more
+pub served_next :
+    (n n' : ℕ) (k k' m : Kept) (l : Left) (p q : ℕ) (ys : List ℕ) (old held new : Option (List ℕ)) (before after : List Due) (found : Option Request) (r : Request) (left : Option (List ℕ)) → n' ≡ n → InService n k l old held k' (record { at = p; bytes = ys }) before
+    → ReadsRequest n' (record { at = p; bytes = ys }) (Ok found) q left → found ≡ Some r → Waits k' r before held m after new → (xs : List ℕ) × (left ≡ Some xs) × InService n k l old new m (record { at = q; bytes = xs }) after
+served_next n n' k k' m l p q ys old held new before after found r left same s read is w =
+    let next : next_request n (record { at = p; bytes = ys }) ≡ Ok (Some r, record { at = q; bytes = read.0 }) =
+        subst (λ (x : ℕ). next_request x (record { at = p; bytes = ys }) ≡ Ok (Some r, record { at = q; bytes = read.0 })) same (read.2 ∙ ap (λ (f : Option Request). Ok (f, record { at = q; bytes = read.0 })) is) in
+    (read.0, read.1, served_after n k k' m l (record { at = p; bytes = ys }) (record { at = q; bytes = read.0 }) old held new before after r s next w)
 
-pub ends_badly : (n : ℕ) (k k' k'' : Kept) (l l' : Left) (old held new : Option (List ℕ)) (ds after : List Due) (f : RequestFault) (e : ServeFault) (p : ℕ) (left : Option (List ℕ)) → InService n k l old held k' l' ds → k'' ≡ k' → Tell k' ds held new × (after ≡ []) → ReadsRequest n l' (Err f) p left → e ≡ of_request f
-    → Ends n k l old new (Err e) k''
-ends_badly n k k' k'' l l' old held new ds after f e p left s same t read is = subst (λ (x : ServeFault). Ends n k l old new (Err x) k'') (sym is) (go f read)
+pub ends_well :
+    (n n' : ℕ) (k k' k'' : Kept) (l l' : Left) (old held new : Option (List ℕ)) (ds after : List Due) (found : Option Request) (p : ℕ) (left : Option (List ℕ)) → n' ≡ n → InService n k l old held k' l' ds → k'' ≡ k' → Tell k' ds held new × (after ≡ [])
+    → ReadsRequest n' l' (Ok found) p left → found ≡ None → Ends n k l old new (Ok tt) k''
+ends_well n n' k k' k'' l l' old held new ds after found p left e s same t read is = (
+  l',
+  subst (λ (x : Kept). Serves n k l old new x l') (sym same) (all_served n k k' l l' old held new ds s t.0),
+  (record { at = p; bytes = read.0 }, subst (λ (x : ℕ). next_request x l' ≡ Ok (None, record { at = p; bytes = read.0 })) e (read.2 ∙ ap (λ (f : Option Request). Ok (f, record { at = p; bytes = read.0 })) is)),
+)
+
+pub ends_badly :
+    (n n' : ℕ) (k k' k'' : Kept) (l l' : Left) (old held new : Option (List ℕ)) (ds after : List Due) (f : RequestFault) (e : ServeFault) (p : ℕ) (left : Option (List ℕ)) → n' ≡ n → InService n k l old held k' l' ds → k'' ≡ k' → Tell k' ds held new × (after ≡ [])
+    → ReadsRequest n' l' (Err f) p left → e ≡ of_request f → Ends n k l old new (Err e) k''
+ends_badly n n' k k' k'' l l' old held new ds after f e p left size_is s same t read is = subst (λ (x : ServeFault). Ends n k l old new (Err x) k'') (sym is) (go f (subst (λ (x : ℕ). ReadsRequest x l' (Err f) p left) size_is read))
   where
     all : Serves n k l old new k'' l'
     all = subst (λ (x : Kept). Serves n k l old new x l') (sym same) (all_served n k k' l l' old held new ds s t.0)

@@ -1,6 +1,6 @@
 //! What an answer tells, once all that its node took is on the disk.
 
-ghost use Rattle.std.specs.Prelude.{◌≡◌, ◌<◌, ◌≤◌, ◌+◌, true, ℕ, List, Some, OnOk, IfOk, length, slice_get};
+ghost use Rattle.std.specs.Prelude.{◌≡◌, ◌<◌, ◌≤◌, ◌+◌, ◌^◌, true, ℕ, List, Some, OnOk, IfOk, length, slice_get};
 ghost use Rattle.std.specs.Io.KnownBytes.{Appends};
 ghost use Rattle.ep_journal.specs.declared.entry.Entry.{Entry as Written};
 ghost use Rattle.ep_serve.specs.Answering.{told_entry, told_from, AllTold, Tell, Tells};
@@ -43,7 +43,8 @@ fn put_told_entries<K: Sink>(
     from: usize,
     count: usize,
 ) -> Result<(), NoRoom>
-    requires { from + count ≤ length replica.now.entries }
+    requires there { from + count ≤ length replica.now.entries }
+    requires fits { from + count < 2 ^ 64 }
     ensures { OnOk result (Appends (K.held sink.old) (K.held sink.new) (told_from replica.now from count)) }
 {
     for index in 0..count {
@@ -54,7 +55,8 @@ fn put_told_entries<K: Sink>(
 
 /// Whether there are so many entries from this place on.
 fn are_there(replica: &Replica, from: usize, count: usize) -> bool
-    ensures { result ≡ true → from + count ≤ length replica.now.entries }
+    ensures there { result ≡ true → from + count ≤ length replica.now.entries }
+    ensures fits { result ≡ true → from + count < 2 ^ 64 }
 {
     let entries = replica.journal().entries().len();
     from <= entries && count <= entries - from

@@ -47,7 +47,10 @@ impl Queue {
     }
 
     /// The node does what is asked, and the answer waits.
-    fn add<D: Device>(&mut self, node: &mut Node<D>, request: Request) -> Result<(), ServeFault> {
+    fn add<D: Device>(&mut self, node: &mut Node<D>, request: Request) -> Result<(), ServeFault>
+        ensures ok { OnOk result ((d : Due) × Acts node.old.replica request d node.new.replica × (self.new.dues.items ≡ self.old.dues.items ++ d ∷ [])) }
+        ensures err { IfErr result (λ fault. IsActing fault) }
+    {
         let due = act(node, request)?;
         self.dues.push(due)?;
         Ok(())

@@ -1,4 +1,4 @@
-use Rattle.std.proofs.Common.{◌≡◌, ◌∙◌, ◌-◌, zero, suc, subst}
+use Rattle.std.proofs.Common.{◌∙◌, zero, suc, subst}
 use Rattle.ep_replica.specs.Pending.{ExecutesNext}
 use Rattle.ep_serve.proofs.Advancing.{due_is}
 use Rattle.ep_serve.proofs.acting.advance.Goals as goal
@@ -11,5 +11,5 @@ returns-then-not-branch-clause-ok g c =
 pub loop-preserved : goal.loop-preserved
 loop-preserved g c = (
   c.execute_next.ensures.same ∙ (λ t. record (c.loop.invariant.0 t) { replica = c.execute_next.new.self.replica }),
-  λ n k ex. c.loop.invariant.1 (suc n) k (c.execute_next.new.self.replica, (subst (λ b. ExecutesNext c.loop.node.replica b c.execute_next.new.self.replica) c.if-not-branch.false c.in_ok-execute_next.ensures.ok.1, ex)),
+  λ n k ex. c.loop.invariant.1 (suc n) k (c.execute_next.new.self.replica, subst (λ b. ExecutesNext c.loop.node.replica b c.execute_next.new.self.replica) c.if-not-branch.false c.in_ok-execute_next.ensures.ok.1, ex),
 )
