@@ -1,8 +1,9 @@
 //! A journal takes events: it has their entries, and tells what these commit.
 
 use crate::samples::{PRE_ACCEPT_OK, first_of, handle, propose, replica};
-use ep_base::{InstanceId, Size, Stamp, Version};
+use ep_base::{InstanceId, Key, Size, Stamp, Version};
 use ep_journal::{Event, Journal, Mark, StepFault};
+use ep_phase::LeadPhase;
 use std::alloc::Global;
 use std::process::Abort;
 
@@ -108,4 +109,49 @@ fn a_copy_goes_on_alone(rt: HostRuntime) {
     drop(journal);
     assert_eq!(rt; shown(&copy, id), (2, 3, 1));
     drop(copy);
+}
+
+fn key(rt: &impl Abort, alloc: Global) -> Key {
+    match Key::new(alloc, b"x") {
+        Ok(key) => key,
+        Err(_) => Key::new(alloc, b"x").expect(rt, "memory for a key"),
+    }
+}
+
+/// Whether `x` is 1 here.
+fn is_put(rt: &impl Abort, alloc: Global, journal: &Journal) -> bool {
+    let key = key(rt, alloc);
+    match journal.value(&key) {
+        None => false,
+        Some(value) => value.as_slice() == b"1".as_slice(),
+    }
+}
+
+/// Whether the instance is open, and the journal's replica leads phase 1 there, with no answers.
+fn is_proposed(journal: &Journal, id: InstanceId) -> bool {
+    journal.leads(id) == Some((LeadPhase::Proposing, 0)) && journal.next_open(None) == Some(id)
+}
+
+/// Whether nothing is open or led there.
+fn is_done(journal: &Journal, id: InstanceId) -> bool {
+    journal.leads(id).is_none() && journal.next_open(None).is_none()
+}
+
+#[test]
+fn a_journal_tells_what_it_leads_and_has(rt: HostRuntime) {
+    let alloc = rt.alloc();
+    let id = first_of(&rt, 0);
+    let mut journal = journal(&rt, alloc);
+    assert!(rt; is_done(&journal, id));
+    let proposed = taken(&rt, alloc, &mut journal, propose(&rt, alloc, 1, 1), 1);
+    assert_eq!(rt; proposed, Ok(()));
+    assert!(rt; is_proposed(&journal, id));
+    let event = handle(&rt, alloc, &PRE_ACCEPT_OK);
+    let answered = taken(&rt, alloc, &mut journal, event, 3);
+    assert_eq!(rt; answered, Ok(()));
+    assert!(rt; is_done(&journal, id) && !is_put(&rt, alloc, &journal));
+    let executed = taken(&rt, alloc, &mut journal, Event::Execute(id), 4);
+    assert_eq!(rt; executed, Ok(()));
+    assert!(rt; is_put(&rt, alloc, &journal));
+    drop(journal);
 }

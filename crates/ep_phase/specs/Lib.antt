@@ -2,3 +2,4 @@ pub mod Leads
 pub mod Known
 pub mod Changes
 pub mod Refused
+pub mod Progress

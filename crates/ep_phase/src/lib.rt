@@ -8,7 +8,7 @@
 //! recovery goes on to. Each call decides what its rule in `ep_rules`, specs/Phases.antt, says, test by test.
 //!
 //! Start with `cell.rt` and `change.rt`, then specs/Changes.antt, which says what a `Change` stands for; then `propose.rt`,
-//! `accept.rt`, `commit.rt`.
+//! `accept.rt`, `commit.rt`. `progress.rt` tells a builder how far a lead is.
 #![tactic(auto)]
 
 mod accept;
@@ -19,6 +19,7 @@ mod counting;
 mod lead;
 mod leading;
 mod phase_fault;
+mod progress;
 mod propose;
 mod receivers;
 mod recorded;
@@ -31,6 +32,7 @@ pub use commit::{begin_commit, on_commit};
 pub use lead::Lead;
 pub use leading::Leading;
 pub use phase_fault::PhaseFault;
+pub use progress::{LeadPhase, progress_of};
 pub use propose::{
     give_up, is_usable, next_instance, on_pre_accept, on_pre_accept_ok, start, start_at,
 };

@@ -2,8 +2,8 @@
 
 use crate::samples::{ballot, first_of};
 use crate::trial::lead;
-use ep_base::InstanceId;
-use ep_phase::Lead;
+use ep_base::{InstanceId, ReplicaId, Size};
+use ep_phase::{Lead, LeadPhase, progress_of};
 use ep_rules::{Answers, Led};
 use std::alloc::Global;
 use std::process::Abort;
@@ -84,4 +84,42 @@ fn all_that_is_led_is_copied(rt: HostRuntime) {
     assert!(rt; is_proposing(&same, id));
     assert_told(&rt, &same, id, Some(7), 7);
     drop(same);
+}
+
+/// The answers so far, and this replica's too.
+fn with(rt: &impl Abort, alloc: Global, answers: &Answers<()>, from: u8) -> Answers<()> {
+    let from = ReplicaId::new(from).expect(rt, "a replica");
+    match answers.with(alloc, from, ()) {
+        Ok(more) => more,
+        Err(_) => answers
+            .with(alloc, from, ())
+            .expect(rt, "memory for answers"),
+    }
+}
+
+/// How far replica 0 of seven is with this.
+fn progress(rt: &impl Abort, led: &Led) -> (LeadPhase, u8) {
+    let size = Size::new(7).expect(rt, "a size");
+    let me = ReplicaId::new(0).expect(rt, "a replica");
+    progress_of(size, me, led)
+}
+
+/// Replicas 6 and 1 answered, and replica 0 itself, which doesn't count.
+#[test]
+fn the_answers_of_others_count(rt: HostRuntime) {
+    let alloc = rt.alloc();
+    let default = ballot(&rt, 0, 0);
+    let none = Answers::new(alloc);
+    let one = with(&rt, alloc, &none, 6);
+    let own = with(&rt, alloc, &one, 0);
+    let two = with(&rt, alloc, &own, 1);
+    let led = Led::Accepting(default, two);
+    assert_eq!(rt; progress(&rt, &led), (LeadPhase::Accepting, 2));
+    drop(led);
+    let led = Led::Proposing(default, Answers::new(alloc));
+    assert_eq!(rt; progress(&rt, &led), (LeadPhase::Proposing, 0));
+    drop(led);
+    let led = Led::Preparing(default, Answers::new(alloc));
+    assert_eq!(rt; progress(&rt, &led), (LeadPhase::Preparing, 0));
+    drop(led);
 }

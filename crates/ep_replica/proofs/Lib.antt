@@ -9,3 +9,4 @@ pub mod Taking
 pub mod Remembering
 pub mod Waking
 pub mod Resuming
+pub mod FirstDone

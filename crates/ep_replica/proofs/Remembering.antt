@@ -1,5 +1,5 @@
 -- What a replica remembers stays true as its journal grows.
-use Rattle.std.proofs.Common.{◌≡◌, ◌≢◌, ◌⊎◌, inl, inr, ℕ, ◌+◌, ◌≤◌, Bool, true, false, Option, Some, None, Result, Ok, Err, List, [], ◌∷◌, ◌++◌, IfSome, IsSome, refl, sym, ap, subst, ◌∙◌, arith}
+use Rattle.std.proofs.Common.{◌≡◌, ◌≢◌, ◌⊎◌, inl, inr, ℕ, ◌+◌, ◌≤◌, Bool, true, Option, Some, None, Ok, Err, List, [], IfSome, IsSome, refl, sym, ap, subst, ◌∙◌, arith}
 use Rattle.std.proofs.lemmas.Bool.{cases_eq}
 use Rattle.ep_base.specs.Instances.{instance_of, leader_of, number_of, highest_number}
 use Rattle.ep_base.specs.Messages.{instance_of_message}
@@ -10,7 +10,7 @@ use Rattle.ep_base.specs.declared.decree.Decree.{Decree}
 use Rattle.ep_base.specs.declared.reply.Answer.{Answer}
 use Rattle.ep_base.specs.declared.vote.Status.TheVariants.{PreAccepted}
 use Rattle.ep_base.specs.Quorums.{is_fast}
-use Rattle.ep_rules.specs.Cells.{Change, Refusal, SeqExhausted, committed_decree, record_or_fresh, voted}
+use Rattle.ep_rules.specs.Cells.{SeqExhausted, committed_decree, record_or_fresh, voted}
 use Rattle.ep_rules.specs.Graph.{Graph, Reaches}
 use Rattle.ep_rules.specs.Graph.Reaches.{itself, onward}
 use Rattle.ep_rules.specs.InterferenceSet.{interference}

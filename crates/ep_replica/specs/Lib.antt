@@ -4,6 +4,7 @@ pub mod Applied
 pub mod Receipts
 pub mod Slots
 pub mod Outcomes
+pub mod Firsts
 pub mod Pending
 pub mod Spans
 pub mod Blockers

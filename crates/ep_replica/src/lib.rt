@@ -4,17 +4,20 @@
 //! keeps the new entry, and sends its frames.
 //! docs/EMBEDDING.md tells how, and `ep_example` does it. `ep_world` holds replicas too.
 //!
-//! Start with `replica.rt`, then specs/Applied.antt (one event), specs/Receipts.antt (what callers are told) and `clock.rt`.
+//! Start with `replica.rt`, then specs/Applied.antt (one event), specs/Receipts.antt (what callers are told) and `clock.rt`. What a
+//! program asks beside is in `asking.rt`; where instances were first executed, in `firsts.rt`.
 //!
 //! It keeps to `ep_journal`'s step, with the number and the stamp of its own clock, and its state is what its journal leaves,
 //! by its type. It is of version 2, which is said in `Replica::new` and specs/Kept.antt. No disk, no socket, no time and no
 //! thread is in here; leave those to the program.
 #![tactic(auto)]
 
+mod asking;
 mod blockers;
 mod clock;
 mod due;
 mod entry_receipts;
+mod firsts;
 mod pending;
 mod proposal;
 mod proposing;
@@ -25,7 +28,9 @@ mod replica_fault;
 mod resume_fault;
 mod slots;
 mod span;
+mod spot;
 
+pub use ep_phase::LeadPhase;
 pub use proposal::Proposal;
 pub use receipt_view::ReceiptView;
 pub use replica::Replica;

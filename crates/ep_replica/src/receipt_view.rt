@@ -1,10 +1,10 @@
 //! Receipts, borrowed.
 
 ghost use Rattle.std.specs.Prelude.{◌≡◌, IfOk};
-ghost use Rattle.ep_journal.specs.Entries.{entry_of, entries_of};
-ghost use Rattle.ep_replica.specs.Outcomes.{told_among, told_by};
+ghost use Rattle.ep_replica.specs.Firsts.{told_at};
 
 use crate::proposal::Proposal;
+use crate::spot::Spot;
 use ep_base::{Answer, InstanceId, ReplicaId, Stamp};
 use ep_journal::Entry;
 use ep_rules::Receipt;
@@ -56,43 +56,24 @@ impl<'a> ReceiptView<'a> {
     }
 }
 
-/// The receipt of the entry's first execution of the instance, for this proposal of the replica.
-fn told_in<'a>(
-    replica: ReplicaId,
-    instance: InstanceId,
-    proposal: Proposal,
-    entry: &'a Entry,
-) -> Option<ReceiptView<'a>>
-    ensures { result ≡ told_among replica instance proposal (entry_of entry.now) entry.now.done }
-{
-    for (other, answer) in entry.done.as_slice() {
-        if *other == instance {
-            return Some(ReceiptView {
-                proposal,
-                instance,
-                replica,
-                entry: entry.number,
-                stamp: entry.stamp,
-                answer,
-            });
-        }
-    }
-    None
-}
-
-/// The receipt of the first execution of the instance by these entries, for this proposal of the replica.
-pub(crate) fn first_told<'a>(
+/// The receipt of what was executed at this spot, as the instance, for this proposal of the replica; none where nothing was.
+pub(crate) fn told_at<'a>(
     replica: ReplicaId,
     instance: InstanceId,
     proposal: Proposal,
     entries: &'a [Entry],
+    spot: Spot,
 ) -> Option<ReceiptView<'a>>
-    ensures { result ≡ told_by replica instance proposal (entries_of entries.now) }
+    ensures { result ≡ told_at replica instance proposal entries.now spot }
 {
-    for entry in entries {
-        if let Some(view) = told_in(replica, instance, proposal, entry) {
-            return Some(view);
-        }
-    }
-    None
+    let entry = entries.get(spot.entry)?;
+    let (_, answer) = entry.done.as_slice().get(spot.place)?;
+    Some(ReceiptView {
+        proposal,
+        instance,
+        replica,
+        entry: entry.number,
+        stamp: entry.stamp,
+        answer,
+    })
 }

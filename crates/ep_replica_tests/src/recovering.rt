@@ -35,7 +35,7 @@ const NACK: [u8; 40] = [
 ];
 
 /// Replicas 0 and 1 propose, and 0.1 is committed: it depends on 1.1.
-fn first_is_committed(rt: &impl Abort, alloc: Global, zero: &mut Replica, one: &mut Replica) {
+pub fn first_is_committed(rt: &impl Abort, alloc: Global, zero: &mut Replica, one: &mut Replica) {
     ask(rt, alloc, zero, propose(rt, alloc, 1, b"1", 0), 1);
     assert!(rt; sends(zero, 1, &PRE_ACCEPT));
     ask(rt, alloc, one, propose(rt, alloc, 2, b"2", 0), 1);
@@ -46,7 +46,7 @@ fn first_is_committed(rt: &impl Abort, alloc: Global, zero: &mut Replica, one: &
 }
 
 /// Replica 0 recovers 1.1, which its leader had pre-accepted.
-fn second_is_recovered(rt: &impl Abort, alloc: Global, zero: &mut Replica, one: &mut Replica) {
+pub fn second_is_recovered(rt: &impl Abort, alloc: Global, zero: &mut Replica, one: &mut Replica) {
     ask(rt, alloc, zero, Event::Recover(first_of(rt, 1)), 4);
     give(rt, alloc, zero, (3, 0), one, 5);
     assert!(rt; sends(one, 1, &PREPARE_OK));
@@ -60,7 +60,7 @@ fn second_is_recovered(rt: &impl Abort, alloc: Global, zero: &mut Replica, one: 
 }
 
 /// The receipt of the instance's first execution.
-fn outcome(rt: &impl Abort, alloc: Global, replica: &Replica, id: InstanceId) -> Receipt {
+pub fn outcome(rt: &impl Abort, alloc: Global, replica: &Replica, id: InstanceId) -> Receipt {
     let view = replica.outcome(id).expect(rt, "an outcome");
     match view.to_receipt(alloc) {
         Ok(receipt) => receipt,

@@ -24,7 +24,12 @@ pub fn first_of(rt: &impl Abort, leader: u8) -> InstanceId {
 
 /// A new replica, of three.
 pub fn replica(rt: &impl Abort, alloc: Global, me: u8) -> Replica {
-    let size = Size::new(3).expect(rt, "a size");
+    replica_of(rt, alloc, 3, me)
+}
+
+/// A new replica, of so many.
+pub fn replica_of(rt: &impl Abort, alloc: Global, count: u8, me: u8) -> Replica {
+    let size = Size::new(count).expect(rt, "a size");
     let me = ReplicaId::new(me).expect(rt, "a replica");
     Replica::new(alloc, size, me).expect(rt, "a replica of the cluster")
 }

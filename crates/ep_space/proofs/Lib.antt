@@ -11,3 +11,4 @@ pub mod Gathering
 pub mod FirstTaken
 pub mod Least
 pub mod Twice
+pub mod Opening

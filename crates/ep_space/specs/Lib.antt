@@ -5,3 +5,4 @@ pub mod Index
 pub mod Records
 pub mod Taken
 pub mod Gathering
+pub mod Open

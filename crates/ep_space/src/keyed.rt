@@ -10,6 +10,7 @@ ghost use Rattle.ep_rules.specs.States.{with_held, is_free};
 ghost use Rattle.ep_space.specs.Held.{HasPlace};
 ghost use Rattle.ep_space.specs.Index.{IsKept};
 ghost use Rattle.ep_space.specs.Keys.{recorded_keys, keys_at, holders, NeedsNoRoom};
+ghost use Rattle.ep_space.specs.Open.{AreRecords};
 
 use crate::index::{self, Index, enter, leave, run_of};
 use crate::place::instance_of;
@@ -76,6 +77,13 @@ impl Keyed {
         ensures { option_copied result ≡ get self.now.held id }
     {
         self.table.get(id)
+    }
+
+    /// The instances that have a place, each with its record, if it has one.
+    pub fn entries(&self) -> &[(InstanceId, Option<Record>)]
+        ensures { AreRecords self.now.held result.now }
+    {
+        self.table.entries()
     }
 
     /// Makes a place for the instance, if it has none.

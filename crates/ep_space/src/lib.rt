@@ -4,8 +4,8 @@
 //! finite map. An instance's place is made before its record is written. A vote may be refused memory for the index by key, and then
 //! nothing has changed; a promise and all that is read take none.
 //!
-//! Start with `space.rt`: `get`, `join_ballot`, `vote_pre`, `vote_accept`, `commit`, and `interference`. `table.rt` is the
-//! table below it, which `ep_phase` uses too.
+//! Start with `space.rt`: `get`, `join_ballot`, `vote_pre`, `vote_accept`, `commit`, and `interference`; `open.rt` finds what isn't
+//! committed. `table.rt` is the table below, which `ep_phase` uses too.
 //!
 //! How places, the index by key and the least free number are kept may change freely: no contract above names them, but for
 //! `key_run` and `instance_at`.
@@ -15,6 +15,7 @@ mod gathered;
 mod index;
 mod interference_fault;
 mod keyed;
+mod open;
 mod place;
 mod space;
 mod space_full;

@@ -15,6 +15,7 @@ ghost use Rattle.ep_rules.specs.States.{is_free, free_number, committed_in};
 ghost use Rattle.ep_space.specs.Gathering.{next_attrs};
 ghost use Rattle.ep_space.specs.Held.{HasPlace};
 ghost use Rattle.ep_space.specs.Keys.{recorded_keys, keys_at, holders, NeedsNoRoom};
+ghost use Rattle.ep_space.specs.Open.{AreRecords};
 ghost use Rattle.ep_space.specs.Records.{record_at, with_record, with_earlier};
 
 use crate::gathered::{Gathered, gathered_from};
@@ -86,6 +87,13 @@ impl Space {
         ensures { option_copied result ≡ get self.now.records id }
     {
         self.table.get(id)
+    }
+
+    /// The instances that have a place, each with its record, if it has one.
+    pub(crate) fn entries(&self) -> &[(InstanceId, Option<Record>)]
+        ensures { AreRecords self.now.records result.now }
+    {
+        self.table.entries()
     }
 
     /// All records again.

@@ -7,6 +7,7 @@ ghost use Rattle.std.specs.Map.{keys_of, lookup, set_value};
 ghost use Rattle.ep_base.specs.Instances.{IsInstance};
 ghost use Rattle.ep_rules.specs.Maps.{none, get};
 ghost use Rattle.ep_rules.specs.States.{with_held};
+ghost use Rattle.ep_rules.specs.Worlds.{In};
 ghost use Rattle.ep_space.specs.Held.{HasPlace};
 ghost use Rattle.ep_space.specs.Entries.{flat, same, with_place, held, slot, spot, value_at, AreSpots};
 
@@ -57,6 +58,13 @@ impl<V: Drop> Table<V> {
         ensures { option_copied result ≡ get self.now.held id }
     {
         value_at(&self.entries, spot_of(&self.spots, id))
+    }
+
+    /// The instances that have a place, in the order in which these were made, each with its value, if it has one.
+    pub(crate) fn entries(&self) -> &[(InstanceId, Option<V>)]
+        ensures { (i : ℕ) (x : V) → (get self.now.held i ≡ Some x → In (i, Some x) result.now) × (In (i, Some x) result.now → get self.now.held i ≡ Some x) }
+    {
+        self.entries.as_slice()
     }
 
     /// Makes a place for the instance, if it has none. Nothing else takes memory in the table.

@@ -530,3 +530,71 @@ fn all_records_are_copied(rt: HostRuntime) {
     assert_eq!(rt; same.voted_ballot(second), ballot(&rt, 1, 3));
     drop(same);
 }
+
+/// `put x 1` with these dependencies.
+fn depending(rt: &impl Abort, alloc: Global, on: &[InstanceId]) -> Decree {
+    let mut deps = Deps::new(alloc);
+    for id in on {
+        if deps.insert(alloc, *id).is_err() {
+            deps.insert(alloc, *id)
+                .expect(rt, "memory for a dependency");
+        }
+    }
+    let seq = Seq::new(2).expect(rt, "a sequence number");
+    Decree {
+        command: put(rt, alloc),
+        attrs: Attrs { seq, deps },
+    }
+}
+
+/// Commits `put x 1` with these dependencies.
+fn commit(rt: &impl Abort, alloc: Global, space: &mut Space, id: InstanceId, on: &[InstanceId]) {
+    place(rt, space, id);
+    let decree = depending(rt, alloc, on);
+    let second = copy_of(rt, alloc, &decree);
+    if space.commit(id, decree).is_err() {
+        space.commit(id, second).expect(rt, "memory for a commit");
+    }
+}
+
+/// What is open above nothing, and above 0.2, 1.1 and 2.1 in turn.
+fn assert_open(rt: &impl Abort, space: &Space, wanted: [Option<InstanceId>; 4]) {
+    assert_eq!(rt; space.next_open(None), wanted[0]);
+    assert_eq!(rt; space.next_open(Some(instance(rt, 0, 2))), wanted[1]);
+    assert_eq!(rt; space.next_open(Some(instance(rt, 1, 1))), wanted[2]);
+    assert_eq!(rt; space.next_open(Some(instance(rt, 2, 1))), wanted[3]);
+}
+
+/// 1.1 is committed, and depends on 0.2 and 2.1, which have no record; then 0.2 has one, and is committed.
+#[test]
+fn a_dependency_is_open_until_it_is_committed(rt: HostRuntime) {
+    let alloc = rt.alloc();
+    let first = instance(&rt, 0, 2);
+    let last = instance(&rt, 2, 1);
+    let mut space = empty(&rt, alloc);
+    assert_open(&rt, &space, [None, None, None, None]);
+    commit(&rt, alloc, &mut space, instance(&rt, 1, 1), &[first, last]);
+    assert_open(&rt, &space, [Some(first), Some(last), Some(last), None]);
+    hold(&rt, alloc, &mut space, first, 1);
+    assert_open(&rt, &space, [Some(first), Some(last), Some(last), None]);
+    commit(&rt, alloc, &mut space, first, &[]);
+    assert_open(&rt, &space, [Some(last), Some(last), Some(last), None]);
+}
+
+/// A promise is a record, and so is a vote; a place is none.
+#[test]
+fn a_record_is_open_until_it_is_committed(rt: HostRuntime) {
+    let alloc = rt.alloc();
+    let first = instance(&rt, 0, 2);
+    let second = instance(&rt, 1, 1);
+    let mut space = empty(&rt, alloc);
+    place(&rt, &mut space, first);
+    assert_open(&rt, &space, [None, None, None, None]);
+    hold(&rt, alloc, &mut space, second, 1);
+    assert_open(&rt, &space, [Some(second), Some(second), None, None]);
+    place(&rt, &mut space, first);
+    space.join_ballot(first, ballot(&rt, 1, 3));
+    assert_open(&rt, &space, [Some(first), Some(second), None, None]);
+    commit(&rt, alloc, &mut space, second, &[]);
+    assert_open(&rt, &space, [Some(first), None, None, None]);
+}

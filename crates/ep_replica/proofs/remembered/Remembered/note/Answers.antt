@@ -1,4 +1,4 @@
-use Rattle.std.proofs.Common.{◌≡◌, ◌≢◌, ◌∙◌, ap, sym, None, rules}
+use Rattle.std.proofs.Common.{◌≡◌, ◌≢◌, None, rules}
 use Rattle.ep_base.specs.Instances.{leader_of}
 use Rattle.ep_rules.specs.States.{committed_in}
 use Rattle.ep_replica.specs.Kept.{kept_of}

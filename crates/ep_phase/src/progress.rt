@@ -1,0 +1,30 @@
+//! How far a replica is with what it leads.
+
+ghost use Rattle.std.specs.Prelude.{◌≡◌};
+ghost use Rattle.ep_phase.specs.Progress.{progress_of};
+
+use crate::counting::others;
+use ep_base::{ReplicaId, Size};
+use ep_rules::Led;
+
+/// The phase of a ballot that a replica leads in an instance.
+#[derive(Clone, Copy, Debug, PartialEq, Eq)]
+pub enum LeadPhase {
+    /// Phase 1: PreAccepts are out.
+    Proposing,
+    /// The accept phase: Accepts are out.
+    Accepting,
+    /// Recovery: Prepares are out.
+    Preparing,
+}
+
+/// The phase of what replica `me` leads, and how many other replicas answered in it, 0 to 6.
+pub fn progress_of(size: Size, me: ReplicaId, led: &Led) -> (LeadPhase, u8)
+    ensures { result ≡ progress_of size me led.now }
+{
+    match led {
+        Led::Proposing(_, answers) => (LeadPhase::Proposing, others(size, me, answers)),
+        Led::Accepting(_, answers) => (LeadPhase::Accepting, others(size, me, answers)),
+        Led::Preparing(_, answers) => (LeadPhase::Preparing, others(size, me, answers)),
+    }
+}

@@ -1,0 +1,107 @@
+//! The index of first executions.
+
+ghost use Rattle.std.specs.Prelude.{◌≡◌, ◌<◌, ◌≤◌, ◌++◌, ◌∷◌, [], ℕ, List, Some, None, cond, eqb, length, IfOk, OnOk};
+ghost use Rattle.ep_base.specs.Instances.{highest_number, instance_of};
+ghost use Rattle.ep_journal.specs.declared.entry.Entry.{Entry};
+ghost use Rattle.ep_replica.specs.Firsts.{or_spot, first_among, spot_at, AreFirsts};
+
+use crate::spot::Spot;
+use ep_base::{Answer, InstanceId, ReplicaId};
+use ep_journal::Entry;
+use std::alloc::{AllocError, Global};
+use std::marker::Model;
+
+/// Notes where the instance was executed, if it is the replica's own and nothing is noted of it yet.
+fn note_one(items: &mut Vec<Option<Spot>>, me: ReplicaId, instance: InstanceId, spot: Spot)
+    requires room { highest_number < length items.old.items }
+    ensures noted { (number : ℕ) → number ≤ highest_number → spot_at items.new.items number ≡ or_spot (spot_at items.old.items number) (cond (eqb instance (instance_of me number)) (Some spot) None) }
+    ensures room { length items.new.items ≡ length items.old.items }
+{
+    if instance.replica() != me {
+        return;
+    }
+    let number = instance.number() as usize;
+    let first = items[number].unwrap_or(spot);
+    items[number] = Some(first);
+}
+
+/// Notes where each own instance was first executed that the entry of this place executed, and none before it.
+fn note_all(
+    items: &mut Vec<Option<Spot>>,
+    me: ReplicaId,
+    entry: usize,
+    done: &[(InstanceId, Answer)],
+)
+    requires room { highest_number < length items.old.items }
+    ensures noted { (number : ℕ) → number ≤ highest_number → spot_at items.new.items number ≡ or_spot (spot_at items.old.items number) (first_among entry 0 done.now (instance_of me number)) }
+    ensures room { length items.new.items ≡ length items.old.items }
+{
+    for (place, execution) in done.iter().enumerate() {
+        note_one(items, me, execution.0, Spot { entry, place });
+    }
+}
+
+/// Where a replica's own instances were first executed in its journal, each at its number. It has places for all of them or for none.
+#[derive(Drop)]
+pub(crate) struct Firsts {
+    items: Vec<Option<Spot>>,
+}
+
+impl Model for Firsts {
+    ghost use Rattle.std.specs.Prelude.{List, Option};
+    ghost use Rattle.ep_replica.specs.declared.spot.Spot.{Spot};
+
+    ghost Value = { List (Option Spot) };
+
+    ghost view = { λ f. f.items.items };
+}
+
+impl Firsts {
+    /// No executions.
+    pub(crate) fn new(alloc: Global) -> Firsts
+        ensures { result ≡ [] }
+    {
+        Firsts {
+            items: Vec::new(alloc),
+        }
+    }
+
+    /// Makes a place for each instance that the replica leads.
+    pub(crate) fn make_room(&mut self) -> Result<(), AllocError>
+        ensures room { OnOk result (highest_number < length self.new) }
+        ensures same { (number : ℕ) → spot_at self.new number ≡ spot_at self.old number }
+    {
+        for _ in self.items.len()..2001 {
+            self.items.push(None)?;
+        }
+        Ok(())
+    }
+
+    /// Where the own instance of this number was first executed.
+    pub(crate) fn get(&self, number: u16) -> Option<Spot>
+        ensures { result ≡ spot_at self.now number }
+    {
+        *self.items.get(number as usize)?
+    }
+
+    /// The first executions by these entries of this replica.
+    pub(crate) fn of(alloc: Global, me: ReplicaId, entries: &[Entry]) -> Result<Firsts, AllocError>
+        ensures { IfOk result (λ f. AreFirsts me entries.now f) }
+    {
+        let mut firsts = Firsts::new(alloc);
+        firsts.make_room()?;
+        for (place, entry) in entries.iter().enumerate() {
+            firsts.mark(me, place, entry);
+        }
+        Ok(firsts)
+    }
+
+    /// Keeps what the entry of this replica executed first, which this many entries come before. It takes no memory.
+    pub(crate) fn mark(&mut self, me: ReplicaId, before: usize, entry: &Entry)
+        requires room { highest_number < length self.old }
+        ensures told { (es : List Entry) → length es ≡ before → AreFirsts me es self.old → AreFirsts me (es ++ entry.now ∷ []) self.new }
+        ensures room { length self.new ≡ length self.old }
+    {
+        note_all(&mut self.items, me, before, entry.done.as_slice());
+    }
+}

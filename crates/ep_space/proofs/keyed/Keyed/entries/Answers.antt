@@ -1,0 +1,8 @@
+use Rattle.std.proofs.Common.{subst}
+use Rattle.ep_rules.specs.declared.record.Record.{Record}
+use Rattle.ep_space.specs.Held.{Held}
+use Rattle.ep_space.specs.Open.{AreRecords}
+use Rattle.ep_space.proofs.keyed.Keyed.entries.Goals as goal
+
+pub returns : goal.returns
+returns c = subst (λ (h : Held Record). AreRecords h.held c.entries.result.now) c.self.view_is (λ i r. c.entries.ensures i r)
