@@ -1,0 +1,4 @@
+pub mod Device
+pub mod Left
+pub mod Memory
+pub mod Files

@@ -1,0 +1,24 @@
+//! Files that only grow: what a read returns, and what a crash may leave.
+//!
+//! `Device` is what a log is kept on, with what is assumed of it. `FileDevice` is one over a file of the operating system, for
+//! which the assumptions are taken on trust; `MemoryDevice` is one in memory, for tests, which meets them and can crash.
+//!
+//! Start with `device.rt` and specs/Device.antt.
+#![tactic(auto)]
+
+mod countdown;
+mod device;
+mod device_failed;
+mod device_fault;
+mod file_device;
+mod history;
+mod memory_device;
+mod outcomes;
+mod synced;
+
+pub use device::Device;
+pub use device_failed::DeviceFailed;
+pub use device_fault::DeviceFault;
+pub use file_device::FileDevice;
+pub use memory_device::MemoryDevice;
+pub use synced::{append_and_sync, cut_and_sync};

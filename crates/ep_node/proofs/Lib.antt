@@ -1,0 +1,9 @@
+pub mod CrashMoves
+pub mod CrashRuns
+pub mod CrashLasts
+pub mod CrashTraces
+pub mod CrashPlayed
+mod Growing
+mod Mending
+mod Moments
+mod Syncing

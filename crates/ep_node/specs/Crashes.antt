@@ -1,0 +1,186 @@
+-- Replicas that crash and come back: their runs, and the laws of these.
+--
+-- A node is a replica of whose entries a crash may take the last ones, but none that something was handed out of: a frame, an answer, or what it committed.
+use Rattle.std.specs.Prelude.{◌≡◌, ◌≢◌, ◌⊎◌, ℕ, ◌+◌, ◌<◌, ◌≤◌, true, max, eqb, cond, length, List, [], ◌∷◌, ◌++◌, Some, take, drop}
+use Rattle.ep_base.specs.Interference.{interfere}
+use Rattle.ep_base.specs.Places.{place, Has}
+use Rattle.ep_base.specs.Quorums.{size}
+use Rattle.ep_base.specs.declared.decree.Decree.{Decree}
+use Rattle.ep_rules.specs.Audits.{IsAccepted}
+use Rattle.ep_rules.specs.Journals.{Entry, IsEntry, left, AreMarked, AreNumbered, last_stamp, heard, AreClocked, Journals, WasSent, Scheduled, of, IsSchedule, acts_of, IsAmong, ArePlayed}
+use Rattle.ep_rules.specs.Merging.{Merges}
+use Rattle.ep_rules.specs.States.{fresh_state, committed_in}
+use Rattle.ep_rules.specs.Steps.{Frame}
+use Rattle.ep_rules.specs.Verdicts.{committed_by, command_at, history_of, IsReply, IsOwn, AreOwn}
+use Rattle.ep_rules.specs.Worlds.{opening, In, IsRun, ends}
+use Rattle.ep_rules.specs.declared.receipt.Receipt.{Receipt}
+
+-- One node.
+
+-- the entry goes on from these entries: the next step, numbered next, stamped by the clock, with its frames marked
+pub record IsTaken (f me : ℕ) (es : List Entry) (e : Entry) : Type 0 where
+  pub entry : IsEntry f me (left f me fresh_state es) e
+  pub number : e.number ≡ length es + 1
+  pub stamp : e.stamp ≡ 1 + max (last_stamp es) (heard e.event)
+  pub marked : AreMarked e 0 e.out
+
+-- the first n entries are at least those that were handed out of
+pub record IsBetween (out n : ℕ) (es : List Entry) : Type 0 where
+  pub least : out ≤ n
+  pub most : n ≤ length es
+
+-- after a crash the entries es' are a beginning of those before it, with at least those that were handed out of
+pub record ComesBack (out : ℕ) (es es' : List Entry) : Type 0 where
+  pub kept : ℕ
+  pub between : IsBetween out kept es
+  pub is : es' ≡ take kept es
+
+-- Many nodes.
+
+pub record Cluster : Type 0 where
+  -- the entries that each node has
+  pub journal : Journals
+  -- how many of them were handed out of
+  pub out : ℕ → ℕ
+  -- every frame that was ever handed out: it only grows
+  pub given : List Frame
+
+abbrev pub fresh_cluster : Cluster
+fresh_cluster = record { journal = λ r. []; out = λ r. 0; given = [] }
+
+pub data Move : Type 0 where
+  -- the node takes an event, which leaves the entry
+  Take : (replica : ℕ) → (entry : Entry) → Move
+  -- its first n entries are handed out of
+  HandOut : (replica n : ℕ) → Move
+  -- it crashes, and comes back with its first n entries
+  ComeBack : (replica n : ℕ) → Move
+
+-- A frame that is handled was handed out. It is handled never, once, or often, and in any order, also where its sender has crashed since.
+abbrev pub IsMove : ℕ → Cluster → Move → Type 0
+IsMove f c (Take r e) = (r < size f) × IsTaken f r (c.journal r) e × IsAmong c.given e.event
+IsMove f c (HandOut r n) = (r < size f) × IsBetween (c.out r) n (c.journal r)
+IsMove f c (ComeBack r n) = (r < size f) × IsBetween (c.out r) n (c.journal r)
+
+abbrev pub frames_in : List Entry → List Frame
+frames_in [] = []
+frames_in (e ∷ es) = e.out ++ frames_in es
+
+-- x at r, and elsewhere as it was
+abbrev pub with_at : {X : Type 0} → ℕ → X → (ℕ → X) → ℕ → X
+with_at r x was = λ q. cond (eqb r q) x (was q)
+
+abbrev pub moved : Cluster → Move → Cluster
+moved c (Take r e) = record { journal = with_at r (c.journal r ++ (e ∷ [])) c.journal; out = c.out; given = c.given }
+moved c (HandOut r n) = record { journal = c.journal; out = with_at r n c.out; given = c.given ++ frames_in (drop (c.out r) (take n (c.journal r))) }
+moved c (ComeBack r n) = record { journal = with_at r (take n (c.journal r)) c.journal; out = c.out; given = c.given }
+
+-- each move is one of the cluster that the earlier ones leave
+abbrev pub AreMoves : ℕ → Cluster → List Move → Type 0
+AreMoves f c [] = Unit {0}
+AreMoves f c (m ∷ ms) = IsMove f c m × AreMoves f (moved c m) ms
+
+-- the cluster that moves leave
+abbrev pub cluster_after : Cluster → List Move → Cluster
+cluster_after c [] = c
+cluster_after c (m ∷ ms) = cluster_after (moved c m) ms
+
+-- the entries that were handed out of
+abbrev pub handed_out : Cluster → ℕ → List Entry
+handed_out c r = take (c.out r) (c.journal r)
+
+-- What holds whatever crashed.
+
+-- the nodes' entries are the journals of one run without a crash, whose states the nodes have
+pub record IsOneRun (f : ℕ) (c : Cluster) : Type 0 where
+  pub schedule : List Scheduled
+  pub merges : Merges f c.journal schedule
+  pub run : IsRun f opening (acts_of schedule)
+  pub states : (r : ℕ) → (ends f opening (acts_of schedule)).states r ≡ left f r fresh_state (c.journal r)
+  -- what was handed out of stands, and the run has sent each frame that was handed out
+  pub within : (r : ℕ) → c.out r ≤ length (c.journal r)
+  pub given : (m : Frame) → In m c.given → WasSent c.journal m × In m.sent (ends f opening (acts_of schedule)).sent
+  -- no audit of them finds a fault
+  pub clocked : (r : ℕ) → AreClocked 0 (c.journal r)
+  pub accepted : (receipts : List Receipt) → AreOwn f c.journal receipts → IsAccepted f c.journal receipts
+
+-- What is left of a run with crashes is a run without.
+abbrev pub CrashingRunsAreRuns : Type 0
+CrashingRunsAreRuns = (f : ℕ) → 0 < f → size f ≤ 256 → (moves : List Move) → AreMoves f fresh_cluster moves → IsOneRun f (cluster_after fresh_cluster moves)
+
+-- no crash is among them
+abbrev pub IsCalm : List Move → Type 0
+IsCalm [] = Unit {0}
+IsCalm (Take r e ∷ ms) = IsCalm ms
+IsCalm (HandOut r n ∷ ms) = IsCalm ms
+IsCalm (ComeBack r n ∷ ms) = ⊥
+
+-- Whatever moves lead to, moves without a crash lead to: an entry that a crash took is as if it had never been.
+abbrev pub CrashesLeaveNoTrace : Type 0
+CrashesLeaveNoTrace =
+    (f : ℕ) (moves : List Move) → AreMoves f fresh_cluster moves →
+    (calm : List Move) × IsCalm calm × AreMoves f fresh_cluster calm × (cluster_after fresh_cluster calm ≡ cluster_after fresh_cluster moves)
+
+-- Whatever a world plays by the clock, moves without a crash lead to: the runs with crashes have all runs without.
+abbrev pub PlayedRunsAreMoves : Type 0
+PlayedRunsAreMoves =
+    (f : ℕ) (schedule : List Scheduled) → ArePlayed f opening [] schedule → ((r : ℕ) → AreNumbered 1 0 (of r schedule)) → ((r : ℕ) → AreClocked 0 (of r schedule)) →
+    (moves : List Move) × IsCalm moves × AreMoves f fresh_cluster moves × ((r : ℕ) → (cluster_after fresh_cluster moves).journal r ≡ of r schedule)
+
+abbrev pub IsBeginning : {X : Type 0} → List X → List X → Type 0
+IsBeginning xs ys = (rest : List _) × (xs ++ rest ≡ ys)
+
+-- what was handed out stays so: its entries, and its frames
+pub record Lasts (before after : Cluster) : Type 0 where
+  pub handed : (r : ℕ) → IsBeginning (handed_out before r) (handed_out after r)
+  pub stands : (r : ℕ) → IsBeginning (handed_out before r) (after.journal r)
+  pub given : IsBeginning before.given after.given
+
+-- No crash takes back what was handed out.
+abbrev pub HandedOutStays : Type 0
+HandedOutStays =
+    (f : ℕ) (early late : List Move) → AreMoves f fresh_cluster (early ++ late) → Lasts (cluster_after fresh_cluster early) (cluster_after fresh_cluster (early ++ late))
+
+-- what is said of two points of one run
+abbrev pub AtTwoPoints : (ℕ → Cluster → Cluster → Type 0) → Type 0
+AtTwoPoints P =
+    (f : ℕ) → 0 < f → size f ≤ 256 → (early late : List Move) → AreMoves f fresh_cluster (early ++ late) → P f (cluster_after fresh_cluster early) (cluster_after fresh_cluster (early ++ late))
+
+-- what the entries that r was handed out of commit in instance i
+abbrev pub CommittedOut : ℕ → Cluster → ℕ → ℕ → Decree → Type 0
+CommittedOut f c r i x = committed_in (left f r fresh_state (handed_out c r)).records i ≡ Some x
+
+-- What was handed out of a node and what any node commits later agree: its own commits stay, no two of one instance differ, and of two that interfere one depends on the other.
+pub record AgreeOver (f : ℕ) (before after : Cluster) : Type 0 where
+  pub stays : (r i : ℕ) (x : Decree) → CommittedOut f before r i x → committed_by f after.journal r i ≡ Some x
+  pub agree : (i r q : ℕ) (x y : Decree) → CommittedOut f before r i x → committed_by f after.journal q i ≡ Some y → x ≡ y
+  pub depend :
+      (i j r q : ℕ) (x y : Decree) → i ≢ j → CommittedOut f before r i x → committed_by f after.journal q j ≡ Some y →
+      interfere x.command y.command ≡ true → Has x.attrs.deps j ⊎ Has y.attrs.deps i
+
+abbrev pub CrashesKeepAgreement : Type 0
+CrashesKeepAgreement = AtTwoPoints AgreeOver
+
+-- Receipts.
+
+-- the receipt was handed out of the replica that proposed and executed its command
+abbrev pub IsHandedOut : ℕ → Cluster → Receipt → Type 0
+IsHandedOut f c t = (r : ℕ) × IsOwn f r (handed_out c r) t
+
+-- Receipts that were handed out are right at every later point.
+pub record ReceiptsStay (f : ℕ) (before after : Cluster) : Type 0 where
+  -- their replicas' entries have them still, and no audit finds a fault in them
+  pub own : (r : ℕ) (t : Receipt) → IsOwn f r (handed_out before r) t → IsOwn f r (after.journal r) t
+  pub accepted : (receipts : List Receipt) → ((t : Receipt) → In t receipts → IsHandedOut f before t) → IsAccepted f after.journal receipts
+  -- each answer is one map's reply to the history of that point
+  pub replies :
+      (schedule : List Scheduled) → IsSchedule after.journal schedule → (t : Receipt) → IsHandedOut f before t →
+      IsReply (command_at f after.journal) (history_of (command_at f after.journal) schedule) t.instance t.answer
+  -- there, what a client proposes after it saw an earlier receipt's stamp stands after that receipt's command
+  pub order :
+      (schedule : List Scheduled) → IsSchedule after.journal schedule → (t u : Receipt) → IsHandedOut f after t → IsHandedOut f before u → u.stamp ≤ t.seen →
+      let h = history_of (command_at f after.journal) schedule in
+      Has h t.instance → Has h u.instance → place h u.instance < place h t.instance
+
+abbrev pub CrashesKeepReceipts : Type 0
+CrashesKeepReceipts = AtTwoPoints ReceiptsStay

@@ -1,0 +1,4 @@
+pub mod Crashes
+pub mod Nodes
+pub mod OpenFaults
+pub mod Opening

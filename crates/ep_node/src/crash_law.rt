@@ -1,0 +1,33 @@
+//! Laws of nodes that crash and come back with what they had handed out: their runs are runs without a crash.
+
+ghost use Rattle.ep_node.specs.Crashes.{CrashesKeepAgreement, CrashesKeepReceipts, CrashesLeaveNoTrace, CrashingRunsAreRuns, HandedOutStays, PlayedRunsAreMoves};
+
+/// Whatever crashed, the nodes' entries are the journals of one run without a crash, and no audit of them finds a fault.
+pub fn crashing_runs_are_runs()
+    ensures { CrashingRunsAreRuns }
+{}
+
+/// Whatever moves lead to, moves without a crash lead to: an entry that a crash took is as if it had never been.
+pub fn crashes_leave_no_trace()
+    ensures { CrashesLeaveNoTrace }
+{}
+
+/// Whatever a world plays by the clock, moves without a crash lead to.
+pub fn played_runs_are_moves()
+    ensures { PlayedRunsAreMoves }
+{}
+
+/// No crash takes back an entry that something was handed out of, nor a frame.
+pub fn handed_out_stays()
+    ensures { HandedOutStays }
+{}
+
+/// What was handed out of a node at one point of a run, and what any node commits at a later one, agree: in an instance the same, and of two interfering commands one depends on the other.
+pub fn crashes_keep_agreement()
+    ensures { CrashesKeepAgreement }
+{}
+
+/// Receipts that were handed out are right at every later point: no audit finds a fault in them, and their answers are one map's replies to its history, in each caller's order.
+pub fn crashes_keep_receipts()
+    ensures { CrashesKeepReceipts }
+{}

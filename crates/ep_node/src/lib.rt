@@ -1,0 +1,20 @@
+//! Nodes: replicas with their logs on devices, which crash and come back.
+//!
+//! `Node` is a replica of which nothing gets out before it is on the disk. Start with `node.rt` and specs/Nodes.antt, then
+//! `opening.rt`; what a crash may take, and what holds all the same, is in specs/Crashes.antt.
+#![tactic(auto)]
+
+mod crash_law;
+mod node;
+mod node_fault;
+mod open_fault;
+mod opening;
+mod records;
+
+pub use crash_law::{
+    crashes_keep_agreement, crashes_keep_receipts, crashes_leave_no_trace, crashing_runs_are_runs,
+    handed_out_stays,
+};
+pub use node::Node;
+pub use node_fault::NodeFault;
+pub use open_fault::OpenFault;
