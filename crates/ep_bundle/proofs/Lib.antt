@@ -13,6 +13,7 @@ pub mod WrittenParts
 pub mod WrittenFrames
 pub mod WrittenRuns
 pub mod WrittenCounts
+pub mod WrittenEntries
 pub mod WrittenJournals
 pub mod WrittenBundles
 pub mod WrittenRanges

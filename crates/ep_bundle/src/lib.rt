@@ -3,9 +3,10 @@
 //! `ep_main` reads and writes bundles by this crate, and a program that keeps journals may. It keeps to docs/FORMATS.md,
 //! section 2: what is read is what would be written for it, what is written is read back, and each entry is stepped again as
 //! it is read, so that a `Journal` from a file is as good as one that was made by steps.
+//! Entries are read and written one by one too, for a file that grows with its journal.
 //!
-//! Start with `journal.rt` and `bundle.rt` (reading), `writing.rt`, and specs/Bytes.antt; the four laws are `read_laws.rt` and
-//! `write_laws.rt`.
+//! Start with `journal.rt` and `bundle.rt` (reading), `writing.rt`, and specs/Bytes.antt; the laws, of entries, journals and
+//! bundles, are `read_laws.rt` and `write_laws.rt`.
 //!
 //! Bytes are judged in their order: a field where it is read, an entry once it is whole. A stage added to the reader wants
 //! its definition in specs/Stages.antt first.
@@ -30,7 +31,9 @@ mod writing;
 
 pub use bundle::{Bundle, read_bundle};
 pub use bundle_fault::BundleFault;
-pub use journal::read_journal;
-pub use read_laws::{bundles_are_canonical, journals_are_canonical};
-pub use write_laws::{bundle_is_read_back, journal_is_read_back};
-pub use writing::{write_bundle, write_journal};
+pub use journal::{read_entry, read_journal};
+pub use read_laws::{bundles_are_canonical, entries_are_canonical, journals_are_canonical};
+pub use write_laws::{
+    bundle_is_read_back, entries_are_read_back, journal_is_read_back, learn_entries, learn_entry,
+};
+pub use writing::{write_bundle, write_entry, write_journal};

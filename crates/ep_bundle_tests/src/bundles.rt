@@ -73,7 +73,7 @@ fn byte_at(bytes: &[u8], place: usize) -> u8 {
 }
 
 /// The bytes from one place to another, none where they aren't there.
-fn part(bytes: &[u8], start: usize, end: usize) -> &[u8] {
+pub(crate) fn part(bytes: &[u8], start: usize, end: usize) -> &[u8] {
     if start <= end && end <= bytes.len() {
         &bytes[start..end]
     } else {
@@ -109,7 +109,7 @@ fn one_swap(rt: &impl Abort, alloc: Global) -> Vec<u8> {
 }
 
 /// The bundle of the put, committed on the fast path and executed, with its receipt.
-fn executed(rt: &impl Abort, alloc: Global) -> Vec<u8> {
+pub(crate) fn executed(rt: &impl Abort, alloc: Global) -> Vec<u8> {
     let mut bytes = Vec::new(alloc);
     append(rt, &mut bytes, &START);
     set(bytes.as_mut_slice(), 9, 1);
