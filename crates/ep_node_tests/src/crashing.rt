@@ -45,8 +45,8 @@ fn run(rt: &impl Abort, alloc: Global, node: Node<MemoryDevice>) -> Crashed {
 /// Opens what each crash may leave: it has all that got out, and nothing that wasn't taken. Tells how many such contents there are.
 fn crash(rt: &impl Abort, alloc: Global, run: Crashed) -> usize {
     let Crashed { out, taken, device } = run;
-    let mut choice = 0;
-    while choice < 10000 {
+    let mut contents = 0;
+    for choice in 0..10000 {
         let left = device.left(alloc, choice).expect(rt, "memory for bytes");
         let Some(bytes) = left else {
             break;
@@ -55,10 +55,10 @@ fn crash(rt: &impl Abort, alloc: Global, run: Crashed) -> usize {
         assert!(rt; count.is_some());
         let count = count.unwrap_or(0);
         assert!(rt; out <= count && count <= taken);
-        choice += 1;
+        contents = choice + 1;
     }
     drop(device);
-    choice
+    contents
 }
 
 /// What a run leaves whose device fails at its k-th call.

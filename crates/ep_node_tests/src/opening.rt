@@ -41,7 +41,7 @@ fn each_cut_is_opened(rt: HostRuntime) {
         let taken = opened(&rt, alloc, &log[..len]);
         assert!(rt; taken.is_some());
         let taken = taken.unwrap_or(0);
-        assert!(rt; taken == most || taken == most + 1);
+        assert!(rt; most <= taken && taken - most <= 1);
         most = taken;
     }
     assert_eq!(rt; most, 2);

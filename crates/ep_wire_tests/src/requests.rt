@@ -37,7 +37,7 @@ fn bytes_told(kind: u32, bytes: &[u8]) -> [u32; 4] {
         Some(byte) => u32::from(*byte),
         None => 0,
     };
-    [kind, bytes.len() as u32 & 0xff_ffff, first, 0]
+    [kind, u32::try_from(bytes.len()).unwrap_or(0), first, 0]
 }
 
 /// What a request is, in numbers: its kind, and what stands in its body.
