@@ -144,7 +144,7 @@ pub served_next :
     → ReadsRequest n' (record { at = p; bytes = ys }) (Ok found) q left → found ≡ Some r → Waits k' r before held m after new → (xs : List ℕ) × (left ≡ Some xs) × InService n k l old new m (record { at = q; bytes = xs }) after
 served_next n n' k k' m l p q ys old held new before after found r left same s read is w =
     let next : next_request n (record { at = p; bytes = ys }) ≡ Ok (Some r, record { at = q; bytes = read.0 }) =
-        subst (λ (x : ℕ). next_request x (record { at = p; bytes = ys }) ≡ Ok (Some r, record { at = q; bytes = read.0 })) same (read.2 ∙ ap (λ (f : Option Request). Ok (f, record { at = q; bytes = read.0 })) is) in
+    subst (λ (x : ℕ). next_request x (record { at = p; bytes = ys }) ≡ Ok (Some r, record { at = q; bytes = read.0 })) same (read.2 ∙ ap (λ (f : Option Request). Ok (f, record { at = q; bytes = read.0 })) is) in
     (read.0, read.1, served_after n k k' m l (record { at = p; bytes = ys }) (record { at = q; bytes = read.0 }) old held new before after r s next w)
 
 pub ends_well :

@@ -63,11 +63,13 @@ pub good_length : (n at place x : ℕ) (zs buf : List ℕ) (left : Option (List 
     → Reads (unless_over (record { at = at; bytes = zs }) (size_field (record { at = at; bytes = zs }))) (Ok (Some x)) place left
 good_length n at place x zs buf left all within len g to is test =
     let f = filled n at zs buf left all within len g in
-    let read = numbered_so n at place x zs buf left len f to is in
-    (read.0, read.1,
-    there at zs (size_field (from at zs)) (not_over zs buf left len f)
-    ∙ ap (λ (o : Reading ℕ). some (and_then o (λ y m. cond (is_length y) (Ok (y, m)) (Err (BadBundle at))))) read.2
-    ∙ ap (λ b. some (cond b (Ok (x, record { at = place; bytes = read.0 })) (Err (BadBundle at)))) test)
+    let read = numbered_so n at place x zs buf left len f to is in (
+      read.0,
+      read.1,
+      there at zs (size_field (from at zs)) (not_over zs buf left len f)
+          ∙ ap (λ (o : Reading ℕ). some (and_then o (λ y m. cond (is_length y) (Ok (y, m)) (Err (BadBundle at))))) read.2
+          ∙ ap (λ b. some (cond b (Ok (x, record { at = place; bytes = read.0 })) (Err (BadBundle at)))) test,
+    )
 
 -- The next request.
 
