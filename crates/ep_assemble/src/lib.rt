@@ -1,6 +1,6 @@
 //! The logs of a cluster, in any order, made into one bundle: from bytes to bytes.
 //!
-//! `epaxos collect` calls it with what its files hold. A log whose end is torn is taken up to it, which is told; whatever else
+//! A log whose end is torn is taken up to it, which is told; whatever else
 //! is wrong is told as the first fault.
 //!
 //! Start with `assembling.rt` and specs/Logs.antt: `IsAssembled`, `IsRefused`.

@@ -1,6 +1,6 @@
 //! The loop of a node: requests in, answers out, and nothing out before it is on the disk.
 //!
-//! The program's `node` is `serve` over its standard streams. It keeps to docs/FORMATS.md, section 9.
+//! It keeps to docs/FORMATS.md, section 10.
 //!
 //! Start with `serving.rt` and specs/Serving.antt; then `acting.rt` (what a request does), `queue.rt` (the answers that wait)
 //! and `answering.rt` (what an answer tells).

@@ -1,6 +1,6 @@
 //! The bytes of a node's requests and answers.
 //!
-//! `ep_serve` reads requests and writes answers by this crate. It keeps to docs/FORMATS.md, section 9: a request is read
+//! `ep_serve` reads requests and writes answers by this crate. It keeps to docs/FORMATS.md, section 10: a request is read
 //! exactly where its bytes are one, and an answer's bytes are those of specs/Answers.antt.
 //!
 //! Start with `request.rt`, `reading.rt` and specs/Requests.antt; then `answers.rt` and specs/Answers.antt.
