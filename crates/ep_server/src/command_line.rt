@@ -17,7 +17,7 @@ Standard input is requests, standard output their answers, one for each, in orde
 A log that is there is gone on with, and one that isn't is made. An answer is written once all that it tells is on the disk.
 
 Example (client 1 proposes its request 1, to put x = 1, and a sync, by which the answers come):
-  printf '\\0\\0\\0\\27\\1\\0\\0\\0\\1\\0\\0\\0\\1\\0\\0\\0\\0\\0\\0\\0\\0\\1\\1\\0\\1x1\\0\\0\\0\\1\\12' |
+  printf '\\0\\0\\0\\27\\1\\0\\0\\0\\1\\0\\0\\0\\1\\0\\0\\0\\0\\0\\0\\0\\0\\3\\1\\0\\1x1\\0\\0\\0\\1\\12' |
     epaxos node --replicas 3 --replica 0 --log zero.log | od -An -tx1
 
 Exit status:
