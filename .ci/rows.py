@@ -9,6 +9,7 @@ A row is a folder .ci/rows/NAME with files, each of which may lack:
   change     lines 'PLACE BYTE', in decimal and hexadecimal: bytes that are others where the second run reads them
   redirect   the shell's redirections of the last run
   stdout stderr status     what is wanted: nothing, nothing and 0 where there is no such file; stdout.gz: packed
+Three runs of `epaxos node` on one log are made here, where the program ep_server is built beside ep_main.
 More rows are made of the scripts and reports in docs/FORMATS.md, examples/ and .ci/scripts/ (NAME.script is played, NAME.run is run
 by both hosts), and by .ci/made.py.
 """
@@ -18,6 +19,7 @@ import os
 import re
 import subprocess
 import sys
+import tempfile
 from dataclasses import dataclass, field
 
 sys.dont_write_bytecode = True
@@ -147,6 +149,29 @@ def every():
             yield Row(name, [subcommand], script, told=b"script refused at line %d\n" % line, status=2)
 
 
+# A node's requests: client 1 proposes `put x 1` as its request 1; a sync; the leads of 0.1; and bytes that are none.
+PROPOSE = bytes.fromhex("00000017 01 00000001 00000001 0000000000000000 03 01 0001 78 31")
+SYNC, LEADS, NONE = bytes.fromhex("00000001 0a"), bytes.fromhex("00000004 09 000001"), bytes.fromhex("00000001 0b")
+# Entry 1 of stamp 1, which took 0.1, with one frame, to 1, and no receipts; that one entry is on the disk; and phase 1, with no answer so far.
+TAKEN = bytes.fromhex(
+    "00000047 01 00000001 00000001 0000000000000001 000001 0001 01 0000002a"
+    "45500201 0001 000000000001 0000000000000001 000001 0000000000000000000001 03 01 0001 0000 7831 0000"
+)
+SYNCED, LEADING = bytes.fromhex("00000005 06 00000001"), bytes.fromhex("00000004 05 01 01 00")
+
+
+def noded(program):
+    """Runs `epaxos node` three times on one log, and gives the name of each run and what is wrong with it, or nothing."""
+    with tempfile.TemporaryDirectory() as folder:
+        words = ["node", "--replicas", "3", "--replica", "0", "--log", f"{folder}/log"]
+        for row in (
+            Row("node, a proposal", words, PROPOSE + SYNC, TAKEN + SYNCED),
+            Row("node, come back", words, SYNC + LEADS, SYNCED + LEADING),
+            Row("node, no request", words, SYNC + NONE, SYNCED, b"request refused at byte 5\n", 2),
+        ):
+            yield row.name, row.run(program)
+
+
 def tried(program, word="", by=""):
     """Runs the program on the rows, prints a line for each that fails, and returns how many passed and how many failed."""
     passed = failed = 0
@@ -156,6 +181,12 @@ def tried(program, word="", by=""):
             passed, failed = passed + (not wrong), failed + bool(wrong)
             if wrong:
                 print(f"row {row.name}{by}: {wrong}", flush=True)
+    server = program.replace("ep_main", "ep_server")
+    for name, wrong in noded(server) if server != program and os.path.isfile(server) else ():
+        if word in name:
+            passed, failed = passed + (not wrong), failed + bool(wrong)
+            if wrong:
+                print(f"row {name}{by}: {wrong}", flush=True)
     print(f"rows{by}: {passed} passed, {failed} failed", flush=True)
     return passed, failed
 
