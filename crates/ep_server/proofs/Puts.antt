@@ -26,4 +26,3 @@ pub puts_in_two :
     {T E : Type 0} (a b c : Option (List ℕ)) (first second third : Bool) (xs ys text : List ℕ) (r : Result T E) → Appends a b xs → second ≡ first → ys ≡ text →
     Puts b c second third r ys → Puts a c first third r (xs ++ text)
 puts_in_two a b c first second third xs ys text r p same is q = puts_after a b c first second third xs text r p same (subst (λ l. Puts b c second third r l) is q)
-

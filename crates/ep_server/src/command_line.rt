@@ -83,11 +83,7 @@ fn size_named(word: &str) -> Option<Size> {
 }
 
 /// The replica's number, which is below the cluster's size.
-fn replica_of(
-    alloc: Global,
-    options: &ArgMatches<'_>,
-    size: Size,
-) -> Result<ReplicaId, Declined> {
+fn replica_of(alloc: Global, options: &ArgMatches<'_>, size: Size) -> Result<ReplicaId, Declined> {
     let word = options.get_str("replica").unwrap_or("");
     let most = size.count() - 1;
     match replica_named(word, most) {
@@ -134,7 +130,9 @@ fn program<'a>(alloc: Global) -> Result<Command<'a>, AllocError> {
 
 fn node_command<'a>(alloc: Global) -> Result<Command<'a>, AllocError> {
     let command = Command::new(alloc, "node")
-        .about("Serves as one replica, with its log in a file: requests on standard input, answers on standard output")
+        .about(
+            "Serves as one replica, with its log in a file: requests on standard input, answers on standard output",
+        )
         .after_help(AFTER);
     let command = command.arg(required(
         alloc,
@@ -142,18 +140,15 @@ fn node_command<'a>(alloc: Global) -> Result<Command<'a>, AllocError> {
         "N",
         "How many replicas the cluster has: 3, 5 or 7",
     ))?;
-    let command = command.arg(required(
-        alloc,
-        "replica",
-        "R",
-        "Which of them this is, from 0 on",
-    ))?;
+    let command = command.arg(required(alloc, "replica", "R", "Which of them this is, from 0 on"))?;
     let command = command.arg(required(alloc, "log", "FILE", "Its log"))?;
     command.arg(
         Arg::new(alloc, "sync")
             .long("sync")
             .value_name("WHEN")
-            .help("When answers are written: each (after each request) or asked (the default: at a sync request)")
+            .help(
+                "When answers are written: each (after each request) or asked (the default: at a sync request)",
+            )
             .action(ArgAction::Set),
     )
 }

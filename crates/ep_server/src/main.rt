@@ -73,14 +73,7 @@ fn run_node<R: AllocGlobal + Files<File = File>, I: Read + Drop, W: Sink, F: Sin
     let mut reader = read_ahead(alloc, input)?;
     let held = hold_streams(rt)?;
     let device = open_log(rt, options.log.as_str())?;
-    let status = serve_log(
-        alloc,
-        options,
-        device,
-        &mut reader,
-        writer,
-        fault_writer,
-    );
+    let status = serve_log(alloc, options, device, &mut reader, writer, fault_writer);
     drop(held);
     Ok(status)
 }
