@@ -2,16 +2,23 @@
 
 use crate::samples::{BYTE_BEHIND, EMPTY_RECORD, LOG, OTHER_ANSWER, SIXTH_KIND};
 use ep_base::{ReplicaId, Size};
-use ep_log::{LogFault, is_cut_header, read_log};
+use ep_log::{LogFault, ReadLog, is_cut_header, read_log};
 use std::alloc::Global;
 use std::process::Abort;
 
-/// How many entries are read, how many bytes the whole records have, and whether the end is torn; or why nothing is.
-fn outcome(alloc: Global, bytes: &[u8]) -> Result<(usize, usize, bool), LogFault> {
-    let log = read_log(alloc, bytes)?;
+/// How many entries are read, how many bytes the whole records have, and whether the end is torn.
+fn shown(log: ReadLog) -> (usize, usize, bool) {
     let shown = (log.journal.entries().len(), log.whole, log.is_torn);
     drop(log);
-    Ok(shown)
+    shown
+}
+
+/// What is read, or why nothing is.
+fn outcome(alloc: Global, bytes: &[u8]) -> Result<(usize, usize, bool), LogFault> {
+    match read_log(alloc, bytes) {
+        Ok(log) => Ok(shown(log)),
+        Err(fault) => Err(fault),
+    }
 }
 
 fn assert_read(rt: &impl Abort, alloc: Global, bytes: &[u8], wanted: (usize, usize, bool)) {

@@ -75,6 +75,7 @@ fn proposed(rt: &impl Abort, alloc: Global) -> Journal {
 fn the_log_of_seven(rt: HostRuntime) {
     let alloc = rt.alloc();
     let journal = proposed(&rt, alloc);
+    assert!(rt; journal.version() == Version::V2);
     let bytes = written(alloc, &journal).expect(&rt, "a log");
     drop(journal);
     assert_eq!(rt; bytes.len(), 7 + 16 + 33 + 2 + 5 * 46);

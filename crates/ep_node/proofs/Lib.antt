@@ -4,3 +4,8 @@ pub mod CrashLasts
 pub mod CrashTraces
 pub mod CrashPlayed
 pub mod CrashOrders
+mod Growing
+mod Mending
+mod Moments
+mod Syncing
+mod Opened

@@ -2,3 +2,4 @@ pub mod Crashes
 pub mod Nodes
 pub mod OpenFaults
 pub mod Opening
+pub mod OpenLaws

@@ -8,6 +8,7 @@ mod crash_law;
 mod node;
 mod node_fault;
 mod open_fault;
+mod open_laws;
 mod opening;
 mod records;
 
@@ -19,3 +20,4 @@ pub use crash_law::{
 pub use node::Node;
 pub use node_fault::NodeFault;
 pub use open_fault::OpenFault;
+pub use open_laws::cuts_are_opened;

@@ -1,6 +1,9 @@
 //! Answers, as bytes.
 
+ghost use Rattle.ep_bundle.specs.Writing.{FramesFit};
+
 use ep_base::{Command, FailAt, InstanceId, Noted, ReplicaId, Sink, Size, Value, Version};
+use ep_bundle::learn_entry;
 use ep_journal::{Entry, Event, Journal, Mark, StepFault};
 use ep_wire::{
     Leading, Refusal, put_entry, write_instance, write_leading, write_no_value, write_refused,
@@ -160,6 +163,7 @@ fn is_written(rt: &impl Abort, alloc: Global, journal: &Journal) -> bool {
     let Some(entry) = journal.entries().first() else {
         return false;
     };
+    learn_entry(journal, 0);
     let bytes = written(rt, alloc, entry);
     bytes.len() == 66
         && bytes.starts_with(&[0, 0, 0, 1, 0, 0, 0, 0, 0, 0, 0, 1, 0, 0, 1, 0, 1])

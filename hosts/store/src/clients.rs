@@ -8,7 +8,7 @@ use crate::say::say;
 use std::io::{self, BufReader, BufWriter, Write};
 use std::net::{TcpListener, TcpStream};
 use std::sync::atomic::{AtomicUsize, Ordering};
-use std::sync::mpsc::{SyncSender, channel};
+use std::sync::mpsc::{RecvTimeoutError, SyncSender, channel};
 use std::sync::{Arc, Mutex};
 use std::thread;
 use std::time::{Duration, Instant};
@@ -157,11 +157,15 @@ impl Connection {
     /// Asks the driver, and waits as long as patience goes.
     fn ask(&self, what: What, start: Instant) -> Result<Told, String> {
         let (reply, told) = channel();
-        let gone = || "ERR the store ends".to_string();
-        self.shared.events.send(Event::Ask(Ask { what, reply })).map_err(|_| gone())?;
+        let ends = || "TRYAGAIN the store ends; the command may still be done".to_string();
+        self.shared.events.send(Event::Ask(Ask { what, reply })).map_err(|_| ends())?;
         let left = self.shared.patience.saturating_sub(start.elapsed());
-        told.recv_timeout(left)
-            .map_err(|_| "TRYAGAIN no majority has answered in time; the command may still be done".into())
+        told.recv_timeout(left).map_err(|error| match error {
+            RecvTimeoutError::Timeout => {
+                "TRYAGAIN no majority has answered in time; the command may still be done".into()
+            }
+            RecvTimeoutError::Disconnected => ends(),
+        })
     }
 
     /// The local read.

@@ -17,7 +17,7 @@ use std::sync::atomic::{AtomicBool, AtomicU32, Ordering};
 use std::thread;
 use std::time::Instant;
 use troubles::Count;
-use workers::{Note, Work};
+use workers::{Note, Notes, Work};
 
 fn main() -> ExitCode {
     let options = match read(std::env::args().skip(1)) {
@@ -60,7 +60,7 @@ fn play(options: &Options, round: usize) -> Result<usize, String> {
     if options.smoke {
         return smoke(options, &cluster);
     }
-    let (notes, count, mut faults) = work(options, round, &cluster)?;
+    let (Notes { all: notes, mut faults }, count) = work(options, round, &cluster)?;
     cluster.stop()?;
     let told = notes.iter().filter(|note| note.operation.end.is_some()).count();
     println!(
@@ -91,16 +91,12 @@ fn report(faults: &[String]) -> usize {
     faults.len()
 }
 
-/// Clients and troubles, then the last reads: the notes, and faults that the clients met.
-fn work(options: &Options, round: usize, cluster: &Cluster) -> Result<(Vec<Note>, Count, Vec<String>), String> {
+/// Clients and troubles, then the last reads: the notes, and how much went wrong.
+fn work(options: &Options, round: usize, cluster: &Cluster) -> Result<(Notes, Count), String> {
     let seed = options.seed.wrapping_mul(1_000).wrapping_add(round as u64);
     let start = Instant::now();
     let work = Work { cluster, start, is_over: AtomicBool::new(false), values: AtomicU32::new(0) };
-    let (mut notes, mut faults) = (Vec::new(), Vec::new());
-    let mut gather = |done: Result<Vec<Note>, String>| match done {
-        Ok(more) => notes.extend(more),
-        Err(fault) => faults.push(fault),
-    };
+    let mut notes = Notes::default();
     let count = thread::scope(|scope| {
         let clients: Vec<_> = (0..2 * options.replicas)
             .map(|client| {
@@ -110,15 +106,20 @@ fn work(options: &Options, round: usize, cluster: &Cluster) -> Result<(Vec<Note>
             .collect();
         let count = troubles::run(options, cluster, seed.wrapping_mul(0x2545_f491_4f6c_dd1d));
         work.is_over.store(true, Ordering::Relaxed);
-        clients.into_iter().for_each(|client| gather(client.join().unwrap_or_else(|_| Err("a client failed".into()))));
+        for client in clients {
+            match client.join() {
+                Ok(more) => notes.extend(more),
+                Err(_) => notes.faults.push("a client of the trial has failed".into()),
+            }
+        }
         count
     });
     let count = count?;
     for replica in (0..options.replicas).filter(|replica| !cluster.is_running(*replica)) {
-        gather(Err(format!("the store of replica {replica} has ended by itself")));
+        notes.faults.push(format!("the store of replica {replica} has ended by itself"));
     }
-    (0..options.replicas).for_each(|replica| gather(work.read_all(replica)));
-    Ok((notes, count, faults))
+    (0..options.replicas).for_each(|replica| notes.extend(work.read_all(replica)));
+    Ok((notes, count))
 }
 
 /// How long clients waited for what they were told.

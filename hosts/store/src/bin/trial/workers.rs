@@ -24,6 +24,20 @@ pub struct Note {
     pub operation: Operation,
 }
 
+/// What clients noted, and replies that no store may give.
+#[derive(Default)]
+pub struct Notes {
+    pub all: Vec<Note>,
+    pub faults: Vec<String>,
+}
+
+impl Notes {
+    pub fn extend(&mut self, more: Notes) {
+        self.all.extend(more.all);
+        self.faults.extend(more.faults);
+    }
+}
+
 /// What the clients of a round have in common.
 pub struct Work<'a> {
     pub cluster: &'a Cluster,
@@ -74,9 +88,9 @@ impl Work<'_> {
     }
 
     /// A client's work until the round is over: what it noted.
-    pub fn run(&self, home: usize, seed: u64) -> Result<Vec<Note>, String> {
+    pub fn run(&self, home: usize, seed: u64) -> Notes {
         let mut random = Random::from_seed(seed);
-        let mut notes = Vec::new();
+        let mut notes = Notes::default();
         let mut replica = home;
         let mut connection = None;
         let mut count = 0;
@@ -88,23 +102,20 @@ impl Work<'_> {
             };
             let key = self.choose_key(&mut random);
             let action = self.choose_action(&mut random);
-            let (note, told) = self.note(client, replica, key, action)?;
+            let told = self.note(client, replica, key, action, &mut notes);
             count += 1;
             match told {
-                Told::Answer(_) => notes.push(note),
+                Told::Answer(_) => {}
                 Told::Refused => replica = random.below(self.cluster.replicas as u64) as usize,
-                Told::Nothing => {
-                    notes.push(note);
-                    // Home, or wherever else somebody listens.
-                    replica =
-                        if random.below(2) == 0 { home } else { random.below(self.cluster.replicas as u64) as usize };
-                }
+                // Home, or wherever else somebody listens.
+                Told::Nothing if random.below(2) == 0 => replica = home,
+                Told::Nothing => replica = random.below(self.cluster.replicas as u64) as usize,
             }
             if !matches!(told, Told::Answer(_)) || count % MOST_COMMANDS == 0 {
                 connection = None;
             }
         }
-        Ok(notes)
+        notes
     }
 
     fn connection<'c>(&self, connection: &'c mut Option<Client>, replica: usize) -> Option<&'c mut Client> {
@@ -126,40 +137,48 @@ impl Work<'_> {
         }
     }
 
-    /// Asks, and notes what was told and when.
-    fn note(&self, client: &mut Client, replica: usize, key: u64, action: Action) -> Result<(Note, Told), String> {
+    /// Asks, and notes what was told and when; but not what surely wasn't done.
+    fn note(&self, client: &mut Client, replica: usize, key: u64, action: Action, notes: &mut Notes) -> Told {
         let start = self.now();
-        let told = ask(client, key, action)?;
-        let end = matches!(told, Told::Answer(_)).then(|| self.now());
-        let action = if let Told::Answer(action) = told { action } else { action };
-        Ok((Note { key, replica, operation: Operation { action, start, end } }, told))
+        let told = ask(client, key, action).unwrap_or_else(|fault| {
+            notes.faults.push(fault);
+            Told::Nothing
+        });
+        let (action, end) = match told {
+            Told::Answer(action) => (action, Some(self.now())),
+            Told::Nothing => (action, None),
+            Told::Refused => return told,
+        };
+        notes.all.push(Note { key, replica, operation: Operation { action, start, end } });
+        told
     }
 
     /// Reads all keys at a replica, in the end, with patience.
-    pub fn read_all(&self, replica: usize) -> Result<Vec<Note>, String> {
-        let mut notes = Vec::new();
+    pub fn read_all(&self, replica: usize) -> Notes {
+        let mut notes = Notes::default();
         let start = Instant::now();
         let mut connection = None;
         let mut left: Vec<u64> = keys().collect();
         while let Some(key) = left.pop() {
             if start.elapsed() > Duration::from_secs(60) {
-                return Err(format!("replica {replica} doesn't answer in the end"));
+                notes.faults.push(format!("replica {replica} doesn't answer in the end"));
+                return notes;
             }
             let told = match self.connection(&mut connection, replica) {
-                Some(client) => Some(self.note(client, replica, key, Action::Get(None))?),
-                None => None,
+                Some(client) => self.note(client, replica, key, Action::Get(None), &mut notes),
+                None => Told::Nothing,
             };
             match told {
-                Some((note, Told::Answer(_))) => notes.push(note),
-                Some((_, Told::Refused)) => return Ok(notes),
-                _ => {
+                Told::Answer(_) => {}
+                Told::Refused => return notes,
+                Told::Nothing => {
                     connection = None;
                     left.push(key);
                     thread::sleep(Duration::from_millis(100));
                 }
             }
         }
-        Ok(notes)
+        notes
     }
 }
 

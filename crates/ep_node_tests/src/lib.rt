@@ -1,0 +1,11 @@
+//! Tests of `ep_node`: nodes over devices in memory, which fail at each call, crash at each moment, and are opened again.
+//!
+//! They stand apart from the crate, so that its functions aren't proved again with them.
+#![tactic(auto)]
+
+#[cfg(test)]
+mod crashing;
+#[cfg(test)]
+mod opening;
+#[cfg(test)]
+mod samples;

@@ -1,0 +1,57 @@
+-- What a request does to a node's replica, and the answer that is due for it.
+use Rattle.std.specs.Prelude.{◌≡◌, ℕ, zero, suc, ◌-◌, true, false, List, length, MatchResult}
+use Rattle.ep_frame.specs.Faults.{fault_of}
+use Rattle.ep_journal.specs.declared.event.Event.{Event as Happening}
+use Rattle.ep_journal.specs.declared.event.Event.TheVariants as event
+use Rattle.ep_node.specs.Nodes.{Takes}
+use Rattle.ep_replica.specs.Applied.{IsDeclined}
+use Rattle.ep_replica.specs.Kept.{Kept}
+use Rattle.ep_replica.specs.Pending.{ExecutesNext}
+use Rattle.ep_serve.specs.declared.due.Due.{Due}
+use Rattle.ep_serve.specs.declared.due.Due.TheVariants.{Taken, Refused, Value, Open, Leads, Synced}
+use Rattle.ep_wire.specs.declared.refusal.Refusal.{Refusal}
+use Rattle.ep_wire.specs.declared.refusal.Refusal.TheVariants.{BadFrame, Step}
+use Rattle.ep_wire.specs.declared.request.Request.{Request}
+use Rattle.ep_wire.specs.declared.request.Request.TheVariants as request
+
+-- why an event isn't taken
+abbrev pub IsRefusal : Kept → Happening → Refusal → Type 0
+IsRefusal k happening BadFrame = ⊥
+IsRefusal k happening (Step fault) = IsDeclined k happening fault
+
+-- the event's step is taken, the next entry; or it is refused, and nothing changes
+abbrev pub TakesOrRefuses : Kept → Happening → Due → Kept → Type 0
+TakesOrRefuses k happening (Taken from count) k' = (from ≡ length k.entries) × (count ≡ 1) × Takes k happening k'
+TakesOrRefuses k happening (Refused refusal) k' = IsRefusal k happening refusal × (k' ≡ k)
+TakesOrRefuses k happening (Value key) k' = ⊥
+TakesOrRefuses k happening (Open after) k' = ⊥
+TakesOrRefuses k happening (Leads i) k' = ⊥
+TakesOrRefuses k happening Synced k' = ⊥
+
+-- bytes that are no frame are refused; a frame is handled
+abbrev pub Handles : Kept → List ℕ → Due → Kept → Type 0
+Handles k bytes due k' = MatchResult (fault_of bytes) (λ _. TakesOrRefuses k (event.Handle bytes) due k') (λ _. (due ≡ Refused BadFrame) × (k' ≡ k))
+
+-- so many times the least own instance that is ready is executed, and then none is, or one is refused for want of memory or a full stamp
+abbrev pub Executes : ℕ → Kept → Kept → Type 0
+Executes zero k k' = ExecutesNext k false k'
+Executes (suc n) k k' = (m : Kept) × ExecutesNext k true m × Executes n m k'
+
+abbrev pub AdvancesAll : Kept → Due → Kept → Type 0
+AdvancesAll k due k' = (times : ℕ) × Executes times k k' × (due ≡ Taken (length k.entries) (length k'.entries - length k.entries))
+
+-- a request that asks changes nothing
+abbrev pub Asks : Kept → Due → Due → Kept → Type 0
+Asks k asked due k' = (due ≡ asked) × (k' ≡ k)
+
+abbrev pub Acts : Kept → Request → Due → Kept → Type 0
+Acts k (request.Propose client number seen command) due k' = TakesOrRefuses k (event.Propose client number command seen) due k'
+Acts k (request.Frame bytes) due k' = Handles k bytes due k'
+Acts k (request.GiveUp i) due k' = TakesOrRefuses k (event.GiveUp i) due k'
+Acts k (request.Recover i) due k' = TakesOrRefuses k (event.Recover i) due k'
+Acts k (request.Execute i) due k' = TakesOrRefuses k (event.Execute i) due k'
+Acts k request.Advance due k' = AdvancesAll k due k'
+Acts k (request.Get key) due k' = Asks k (Value key) due k'
+Acts k (request.NextOpen after) due k' = Asks k (Open after) due k'
+Acts k (request.Leads i) due k' = Asks k (Leads i) due k'
+Acts k request.Sync due k' = Asks k Synced due k'

@@ -1,0 +1,4 @@
+pub mod Faults
+pub mod Answering
+pub mod Acting
+pub mod Serving

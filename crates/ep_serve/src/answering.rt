@@ -1,0 +1,139 @@
+//! What an answer tells, once all that its node took is on the disk.
+
+ghost use Rattle.std.specs.Prelude.{◌≡◌, ◌<◌, ◌≤◌, ◌+◌, ◌^◌, true, ℕ, List, Some, OnOk, IfOk, length, slice_get};
+ghost use Rattle.std.specs.Io.KnownBytes.{Appends};
+ghost use Rattle.ep_journal.specs.declared.entry.Entry.{Entry as Written};
+ghost use Rattle.ep_serve.specs.Answering.{told_entry, told_from, AllTold, Tell, Tells};
+ghost use Rattle.ep_serve.specs.declared.due.Due.TheVariants.{Synced, Taken};
+
+use crate::asked::{put_asked_lead, put_asked_open, put_asked_value};
+use crate::due::Due;
+use crate::no_room::NoRoom;
+use ep_base::{Noted, Sink};
+use ep_bundle::{learn_entry, put_u32};
+use ep_replica::Replica;
+use ep_wire::{put_entry, write_refused, write_synced, write_taken};
+use std::alloc::Global;
+
+/// The entry at this place, with its receipts.
+fn put_told_entry<K: Sink>(
+    alloc: Global,
+    sink: &mut K,
+    replica: &Replica,
+    place: usize,
+) -> Result<(), NoRoom>
+    requires { place < length replica.now.entries }
+    ensures { (e : Written) → slice_get replica.now.entries place ≡ Some e → OnOk result (Appends (K.held sink.old) (K.held sink.new) (told_entry replica.now e)) }
+{
+    let journal = replica.journal();
+    learn_entry(journal, place);
+    let receipts = replica.receipts_of(alloc, place)?;
+    if receipts.len() >= 0x1_0000 {
+        return Err(NoRoom);
+    }
+    put_entry(sink, &journal.entries()[place], &receipts)?;
+    Ok(())
+}
+
+/// So many entries from this place on.
+fn put_told_entries<K: Sink>(
+    alloc: Global,
+    sink: &mut K,
+    replica: &Replica,
+    from: usize,
+    count: usize,
+) -> Result<(), NoRoom>
+    requires there { from + count ≤ length replica.now.entries }
+    requires fits { from + count < 2 ^ 64 }
+    ensures { OnOk result (Appends (K.held sink.old) (K.held sink.new) (told_from replica.now from count)) }
+{
+    for index in 0..count {
+        put_told_entry(alloc, sink, replica, from + index)?;
+    }
+    Ok(())
+}
+
+/// Whether there are so many entries from this place on.
+fn are_there(replica: &Replica, from: usize, count: usize) -> bool
+    ensures there { result ≡ true → from + count ≤ length replica.now.entries }
+    ensures fits { result ≡ true → from + count < 2 ^ 64 }
+{
+    let entries = replica.journal().entries().len();
+    from <= entries && count <= entries - from
+}
+
+/// That so many entries were taken from this place on.
+fn put_taken<K: Sink>(
+    alloc: Global,
+    sink: &mut K,
+    replica: &Replica,
+    from: usize,
+    count: usize,
+) -> Result<(), NoRoom>
+    ensures { OnOk result (Tells replica.now (Taken from count) (K.held sink.old) (K.held sink.new)) }
+{
+    let mut body = Noted::new(Vec::new(alloc));
+    let Ok(number) = u32::try_from(count) else {
+        return Err(NoRoom);
+    };
+    // What was taken is there.
+    if !are_there(replica, from, count) {
+        return Err(NoRoom);
+    }
+    put_u32(&mut body, number)?;
+    put_told_entries(alloc, &mut body, replica, from, count)?;
+    let body = body.into_inner();
+    if body.len() >= 0xffff_ffff {
+        return Err(NoRoom);
+    }
+    write_taken(sink, &body)?;
+    Ok(())
+}
+
+/// How many entries are on the disk.
+fn put_synced<K: Sink>(sink: &mut K, replica: &Replica) -> Result<(), NoRoom>
+    ensures { OnOk result (Tells replica.now Synced (K.held sink.old) (K.held sink.new)) }
+{
+    let Ok(number) = u32::try_from(replica.journal().entries().len()) else {
+        return Err(NoRoom);
+    };
+    write_synced(sink, number)?;
+    Ok(())
+}
+
+/// Appends the answer that waits, as the replica tells it.
+fn put_due<K: Sink>(alloc: Global, sink: &mut K, replica: &Replica, due: &Due) -> Result<(), NoRoom>
+    ensures { OnOk result (Tells replica.now due.now (K.held sink.old) (K.held sink.new)) }
+{
+    match due {
+        Due::Taken { from, count } => put_taken(alloc, sink, replica, *from, *count),
+        Due::Refused(refusal) => Ok(write_refused(sink, refusal)?),
+        Due::Value(key) => put_asked_value(sink, replica, key),
+        Due::Open(after) => put_asked_open(sink, replica, *after),
+        Due::Leads(instance) => put_asked_lead(sink, replica, *instance),
+        Due::Synced => put_synced(sink, replica),
+    }
+}
+
+fn put_dues<K: Sink>(
+    alloc: Global,
+    sink: &mut K,
+    replica: &Replica,
+    dues: &[Due],
+) -> Result<(), NoRoom>
+    ensures { OnOk result (Tell replica.now dues.now (K.held sink.old) (K.held sink.new)) }
+{
+    for due in dues {
+        put_due(alloc, sink, replica, due)?;
+    }
+    Ok(())
+}
+
+/// The answers that wait, one after the other, as the replica tells them.
+pub(crate) fn answers_of(alloc: Global, replica: &Replica, dues: &[Due]) -> Result<Vec<u8>, NoRoom>
+    ensures { IfOk result (λ out. AllTold replica.now dues.now out.items) }
+{
+    let mut sink = Noted::new(Vec::new(alloc));
+    put_dues(alloc, &mut sink, replica, dues)?;
+    Ok(sink.into_inner())
+}

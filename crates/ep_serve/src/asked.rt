@@ -1,0 +1,66 @@
+//! Answers of what a replica is asked.
+
+ghost use Rattle.std.specs.Prelude.{◌≡◌, ℕ, List, OnOk};
+ghost use Rattle.ep_serve.specs.Answering.{leading_of, Tells};
+ghost use Rattle.ep_serve.specs.declared.due.Due.TheVariants.{Leads, Open, Value};
+
+use crate::no_room::NoRoom;
+use ep_base::{InstanceId, Key, Sink};
+use ep_phase::LeadPhase;
+use ep_replica::Replica;
+use ep_wire::{Leading, write_instance, write_leading, write_no_value, write_value};
+
+/// What the replica's map has at the key.
+pub(crate) fn put_asked_value<K: Sink>(
+    sink: &mut K,
+    replica: &Replica,
+    key: &Key,
+) -> Result<(), NoRoom>
+    ensures { OnOk result (Tells replica.now (Value key.now) (K.held sink.old) (K.held sink.new)) }
+{
+    match replica.get(key) {
+        Some(value) => write_value(sink, value)?,
+        None => write_no_value(sink)?,
+    }
+    Ok(())
+}
+
+/// The next open instance above this one.
+pub(crate) fn put_asked_open<K: Sink>(
+    sink: &mut K,
+    replica: &Replica,
+    after: Option<InstanceId>,
+) -> Result<(), NoRoom>
+    ensures { OnOk result (Tells replica.now (Open after) (K.held sink.old) (K.held sink.new)) }
+{
+    let found = replica.next_open(after);
+    write_instance(sink, found)?;
+    Ok(())
+}
+
+/// What the replica leads, as it is written.
+fn leading_of(phase: LeadPhase, answers: u8) -> Leading
+    ensures { result ≡ leading_of (phase, answers) }
+{
+    match phase {
+        LeadPhase::Proposing => Leading::Proposing(answers),
+        LeadPhase::Accepting => Leading::Accepting(answers),
+        LeadPhase::Preparing => Leading::Preparing(answers),
+    }
+}
+
+/// What the replica leads in the instance.
+pub(crate) fn put_asked_lead<K: Sink>(
+    sink: &mut K,
+    replica: &Replica,
+    instance: InstanceId,
+) -> Result<(), NoRoom>
+    ensures { OnOk result (Tells replica.now (Leads instance) (K.held sink.old) (K.held sink.new)) }
+{
+    let leading = match replica.leads(instance) {
+        Some((phase, answers)) => Some(leading_of(phase, answers)),
+        None => None,
+    };
+    write_leading(sink, &leading)?;
+    Ok(())
+}

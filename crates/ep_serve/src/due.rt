@@ -1,0 +1,21 @@
+//! Answers that wait.
+
+use ep_base::{InstanceId, Key};
+use ep_wire::Refusal;
+
+/// An answer that waits until all that its node took is on the disk.
+#[derive(Drop)]
+pub enum Due {
+    /// So many entries were taken, from this place among the node's entries on, counted from 0.
+    Taken { from: usize, count: usize },
+    /// An event was refused.
+    Refused(Refusal),
+    /// What the map has at the key is asked.
+    Value(Key),
+    /// The next open instance is asked, above this one.
+    Open(Option<InstanceId>),
+    /// What is led in the instance is asked.
+    Leads(InstanceId),
+    /// How many entries are on the disk is asked.
+    Synced,
+}

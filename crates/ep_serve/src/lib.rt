@@ -1,0 +1,24 @@
+//! The loop of a node: requests in, answers out, and nothing out before it is on the disk.
+//!
+//! The program's `node` is `serve` over its standard streams. It keeps to docs/FORMATS.md, section 9.
+//!
+//! Start with `serving.rt` and specs/Serving.antt; then `acting.rt` (what a request does), `queue.rt` (the answers that wait)
+//! and `answering.rt` (what an answer tells).
+//!
+//! An answer that waits says what happened; its bytes are made when all that the node took is on the disk, from the replica
+//! that the node then lends.
+#![tactic(auto)]
+
+mod acting;
+mod answering;
+mod asked;
+mod due;
+mod mode;
+mod no_room;
+mod queue;
+mod serve_fault;
+mod serving;
+
+pub use mode::Mode;
+pub use serve_fault::ServeFault;
+pub use serving::serve;
