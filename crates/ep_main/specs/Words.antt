@@ -1,18 +1,19 @@
 -- The words of the command line.
-use Rattle.std.specs.Prelude.{ℕ, ◌≡◌, ◌⊎◌, List, [], ◌∷◌, Option, Some, None, true, codes, option_map}
-use Rattle.clap.specs.Walk.{Row, Rule, Text, first_of}
+use Rattle.std.specs.Prelude.{ℕ, ◌≡◌, ◌⊎◌, List, [], ◌∷◌, Option, Some, None, true, codes, option_map, unwrap_or}
+use Rattle.clap.specs.Walk.{Row, Rule, Text, all_of, first_of}
+use Rattle.clap.specs.Takes.{takes}
 use Rattle.clap.specs.Faults.{fault_of}
 use Rattle.clap.specs.Kinds.{IsAmong}
 use Rattle.clap.specs.Simple.{App, new_app, new_rule, on_top, subcommand_of, with_rule, with_subcommand}
 use Rattle.ep_main.specs.declared.asked.Asked.{Asked}
 use Rattle.ep_main.specs.Options.{Options, plain}
-use Rattle.ep_main.specs.declared.asked.Asked.TheVariants.{Replay, Run, Audit, Upgrade, Version, Help}
+use Rattle.ep_main.specs.declared.asked.Asked.TheVariants.{Replay, Run, Audit, Upgrade, Collect, Version, Help}
 use Rattle.ep_script.specs.Grammar.{number_in}
 use Rattle.ep_main.specs.declared.asked.Emit.{Emit}
 use Rattle.ep_main.specs.declared.asked.Emit.TheVariants.{Report, Bundle}
 use Rattle.ep_main.specs.declared.host.Host.{Host}
 use Rattle.ep_main.specs.declared.host.Host.TheVariants.{Lock, Ring}
-use Rattle.clap.specs.declared.builder.action.ArgAction.TheVariants.{Set}
+use Rattle.clap.specs.declared.builder.action.ArgAction.TheVariants.{Append, Set}
 use Rattle.clap.specs.declared.error.kind.ErrorKind.{ErrorKind}
 use Rattle.clap.specs.declared.error.kind.ErrorKind.TheVariants.{DisplayHelp, DisplayVersion}
 
@@ -26,35 +27,14 @@ abbrev pub emit_word : Emit → Text
 emit_word Report = codes "report"
 emit_word Bundle = codes "bundle"
 
--- the words ask for this. The first one is the program's own name, and then: for a report `replay`, and perhaps `--emit report` or `--emit=report`;
--- for a bundle `replay`, and `--emit bundle` or `--emit=bundle`; for a run, with the limits that hold where none are given, `run`, perhaps `--host` and a
--- host, and then perhaps `--emit` and what is printed; for an audit `audit`; for an upgrade `upgrade`; for the version `--version` or `-V`
-abbrev pub AskFor : Asked → List Text → Type 0
-AskFor (Replay Report) words =
-    (name : Text)
-    × ((words ≡ name ∷ codes "replay" ∷ [])
-    ⊎ ((words ≡ name ∷ codes "replay" ∷ codes "--emit" ∷ codes "report" ∷ []) ⊎ (words ≡ name ∷ codes "replay" ∷ codes "--emit=report" ∷ [])))
-AskFor (Replay Bundle) words =
-    (name : Text) × ((words ≡ name ∷ codes "replay" ∷ codes "--emit" ∷ codes "bundle" ∷ []) ⊎ (words ≡ name ∷ codes "replay" ∷ codes "--emit=bundle" ∷ []))
-AskFor (Run options) words =
-    (name : Text)
-    × (((options ≡ plain Lock Report) × (words ≡ name ∷ codes "run" ∷ []))
-    ⊎ (((options ≡ plain options.host Report) × (words ≡ name ∷ codes "run" ∷ codes "--host" ∷ host_word options.host ∷ []))
-    ⊎ (((options ≡ plain Lock options.emit) × (words ≡ name ∷ codes "run" ∷ codes "--emit" ∷ emit_word options.emit ∷ []))
-    ⊎ ((options ≡ plain options.host options.emit)
-    × (words ≡ name ∷ codes "run" ∷ codes "--host" ∷ host_word options.host ∷ codes "--emit" ∷ emit_word options.emit ∷ [])))))
-AskFor Audit words = (name : Text) × (words ≡ name ∷ codes "audit" ∷ [])
-AskFor Upgrade words = (name : Text) × (words ≡ name ∷ codes "upgrade" ∷ [])
-AskFor Version words = (name : Text) × ((words ≡ name ∷ codes "--version" ∷ []) ⊎ (words ≡ name ∷ codes "-V" ∷ []))
-AskFor (Help text) words = ⊥
-
 -- the words ask for help: `--help` or `-h`, right after the program's own name or after a subcommand
 abbrev pub AskForHelp : List Text → Type 0
 AskForHelp words = (name : Text) × ((words ≡ name ∷ codes "--help" ∷ []) ⊎ ((words ≡ name ∷ codes "-h" ∷ [])
     ⊎ ((words ≡ name ∷ codes "replay" ∷ codes "--help" ∷ []) ⊎ ((words ≡ name ∷ codes "replay" ∷ codes "-h" ∷ [])
     ⊎ ((words ≡ name ∷ codes "audit" ∷ codes "--help" ∷ []) ⊎ ((words ≡ name ∷ codes "audit" ∷ codes "-h" ∷ [])
     ⊎ ((words ≡ name ∷ codes "upgrade" ∷ codes "--help" ∷ []) ⊎ ((words ≡ name ∷ codes "upgrade" ∷ codes "-h" ∷ [])
-    ⊎ ((words ≡ name ∷ codes "run" ∷ codes "--help" ∷ []) ⊎ (words ≡ name ∷ codes "run" ∷ codes "-h" ∷ []))))))))))
+    ⊎ ((words ≡ name ∷ codes "collect" ∷ codes "--help" ∷ []) ⊎ ((words ≡ name ∷ codes "collect" ∷ codes "-h" ∷ [])
+    ⊎ ((words ≡ name ∷ codes "run" ∷ codes "--help" ∷ []) ⊎ (words ≡ name ∷ codes "run" ∷ codes "-h" ∷ []))))))))))))
 
 -- What the program has, as `clap` sees it.
 
@@ -92,8 +72,18 @@ auditing = with_subcommand (with_subcommand replaying run.top) audit.top
 abbrev pub upgrade : App
 upgrade = new_app (codes "upgrade")
 
+abbrev pub upgrading : App
+upgrading = with_subcommand auditing upgrade.top
+
+-- the files' names: one, or more
+abbrev pub files : Rule
+files = record (new_rule (codes "FILE")) { action = Some Append; required = true }
+
+abbrev pub collect : App
+collect = with_rule (new_app (codes "collect")) files
+
 abbrev pub epaxos : App
-epaxos = with_subcommand auditing upgrade.top
+epaxos = with_subcommand upgrading collect.top
 
 -- the subcommand that was met, and the word after `--emit`
 abbrev pub met : Option (Text × List Row) → Option (Text × Option Text)
@@ -154,12 +144,45 @@ MetAudit found = option_map (λ p. p.0) found ≡ Some (codes "audit")
 abbrev pub MetUpgrade : Option (Text × List Row) → Type 0
 MetUpgrade found = option_map (λ p. p.0) found ≡ Some (codes "upgrade")
 
+-- the texts after these are the files' names
+abbrev pub names_in : List Row → List Text
+names_in rows = unwrap_or (all_of (codes "FILE") rows) []
+
+-- logs are to be collected, of these files
+abbrev pub MetCollect : List Text → Option (Text × List Row) → Type 0
+MetCollect names found = option_map (λ p. (p.0, names_in p.1)) found ≡ Some (codes "collect", names)
+
+-- the words ask for this. The first one is the program's own name, and then: for a report `replay`, and perhaps `--emit report` or `--emit=report`;
+-- for a bundle `replay`, and `--emit bundle` or `--emit=bundle`; for a run, with the limits that hold where none are given, `run`, perhaps `--host` and a
+-- host, and then perhaps `--emit` and what is printed; for an audit `audit`; for an upgrade `upgrade`; to collect logs, whatever words `clap` takes and in which it meets `collect` with these files; for the
+-- version `--version` or `-V`
+abbrev pub AskFor : Asked → List Text → Type 0
+AskFor (Replay Report) words =
+    (name : Text)
+    × ((words ≡ name ∷ codes "replay" ∷ [])
+    ⊎ ((words ≡ name ∷ codes "replay" ∷ codes "--emit" ∷ codes "report" ∷ []) ⊎ (words ≡ name ∷ codes "replay" ∷ codes "--emit=report" ∷ [])))
+AskFor (Replay Bundle) words =
+    (name : Text) × ((words ≡ name ∷ codes "replay" ∷ codes "--emit" ∷ codes "bundle" ∷ []) ⊎ (words ≡ name ∷ codes "replay" ∷ codes "--emit=bundle" ∷ []))
+AskFor (Run options) words =
+    (name : Text)
+    × (((options ≡ plain Lock Report) × (words ≡ name ∷ codes "run" ∷ []))
+    ⊎ (((options ≡ plain options.host Report) × (words ≡ name ∷ codes "run" ∷ codes "--host" ∷ host_word options.host ∷ []))
+    ⊎ (((options ≡ plain Lock options.emit) × (words ≡ name ∷ codes "run" ∷ codes "--emit" ∷ emit_word options.emit ∷ []))
+    ⊎ ((options ≡ plain options.host options.emit)
+    × (words ≡ name ∷ codes "run" ∷ codes "--host" ∷ host_word options.host ∷ codes "--emit" ∷ emit_word options.emit ∷ [])))))
+AskFor Audit words = (name : Text) × (words ≡ name ∷ codes "audit" ∷ [])
+AskFor Upgrade words = (name : Text) × (words ≡ name ∷ codes "upgrade" ∷ [])
+AskFor (Collect names) words = (takes epaxos words ≡ true) × MetCollect names (subcommand_of epaxos words)
+AskFor Version words = (name : Text) × ((words ≡ name ∷ codes "--version" ∷ []) ⊎ (words ≡ name ∷ codes "-V" ∷ []))
+AskFor (Help text) words = ⊥
+
 -- what was met is this
 abbrev pub IsMet : Asked → Option (Text × List Row) → Type 0
 IsMet (Replay emit) found = MetReplay emit found
 IsMet (Run options) found = MetRun options found
 IsMet Audit found = MetAudit found
 IsMet Upgrade found = MetUpgrade found
+IsMet (Collect names) found = MetCollect names found
 IsMet Version found = ⊥
 IsMet (Help text) found = ⊥
 
@@ -169,6 +192,7 @@ IsAsked (Replay emit) words = MetReplay emit (subcommand_of epaxos words)
 IsAsked (Run options) words = MetRun options (subcommand_of epaxos words)
 IsAsked Audit words = MetAudit (subcommand_of epaxos words)
 IsAsked Upgrade words = MetUpgrade (subcommand_of epaxos words)
+IsAsked (Collect names) words = MetCollect names (subcommand_of epaxos words)
 IsAsked Version words = IsAmong DisplayVersion (fault_of epaxos words)
 IsAsked (Help text) words = IsAmong DisplayHelp (fault_of epaxos words)
 
@@ -177,6 +201,7 @@ IsHelp (Replay emit) = ⊥
 IsHelp (Run options) = ⊥
 IsHelp Audit = ⊥
 IsHelp Upgrade = ⊥
+IsHelp (Collect names) = ⊥
 IsHelp Version = ⊥
 IsHelp (Help text) = Unit {0}
 
@@ -186,5 +211,6 @@ IsShown (Replay emit) kind = ⊥
 IsShown (Run options) kind = ⊥
 IsShown Audit kind = ⊥
 IsShown Upgrade kind = ⊥
+IsShown (Collect names) kind = ⊥
 IsShown Version kind = kind ≡ DisplayVersion
 IsShown (Help text) kind = kind ≡ DisplayHelp

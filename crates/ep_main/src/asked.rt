@@ -1,5 +1,6 @@
 //! What the program is asked for.
 
+use crate::paths::Paths;
 use crate::run_options::RunOptions;
 
 /// What the words of the command line ask for.
@@ -13,6 +14,8 @@ pub enum Asked {
     Audit,
     /// To upgrade a bundle to version 2.
     Upgrade,
+    /// To collect the logs in these files.
+    Collect(Paths),
     /// The program's name and its version.
     Version,
     /// Help: this text.

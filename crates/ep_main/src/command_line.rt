@@ -1,16 +1,16 @@
 //! The words of the command line.
 
-ghost use Rattle.std.specs.Prelude.{◌≡◌, ◌≤◌, ℕ, Some, Ok, Err, IfErr, IfOk, IsOk, OnOk, MatchResult, codes, false, map};
+ghost use Rattle.std.specs.Prelude.{◌≡◌, ◌≤◌, ℕ, List, Some, Ok, Err, IfErr, IfOk, IsOk, OnOk, MatchResult, codes, false, map, string_bytes};
 ghost use Rattle.clap.specs.Values.{kind_of};
 ghost use Rattle.clap.specs.declared.error.ErrorKind.TheVariants.{DisplayHelp, DisplayVersion, OutOfMemory};
-ghost use Rattle.clap.specs.Walk.{first_of, rows_of, rule_of};
+ghost use Rattle.clap.specs.Walk.{Text, first_of, rows_of, rule_of};
 ghost use Rattle.clap.specs.Matches.{found_of};
 ghost use Rattle.clap.specs.Simple.{app_of, subcommand_rows_of};
 ghost use Rattle.clap.specs.declared.builder.command.Command.TheViews.{out-Command as fields_of};
 ghost use Rattle.ep_main.specs.Options.{Options};
-ghost use Rattle.ep_main.specs.Words.{AskFor, AskForHelp, Chooses, IsAsked, IsHelp, IsMet, IsShown, MetReplay, MetRun, MetAudit, MetUpgrade, Names, NamesHost, auditing, bounded, emit as emit_rule, hosted, limit_in, replay as replay_app, replaying, run as run_app, run_words, epaxos, turned};
+ghost use Rattle.ep_main.specs.Words.{AskFor, AskForHelp, Chooses, IsAsked, IsHelp, IsMet, IsShown, MetReplay, MetRun, MetAudit, MetUpgrade, MetCollect, Names, NamesHost, auditing, bounded, collect as collect_app, emit as emit_rule, hosted, limit_in, replay as replay_app, replaying, run as run_app, names_in, run_words, epaxos, turned, upgrading};
 ghost use Rattle.ep_main.specs.declared.asked.Asked.{Asked};
-ghost use Rattle.ep_main.specs.declared.asked.Asked.TheVariants.{Replay, Run, Audit, Upgrade, Version};
+ghost use Rattle.ep_main.specs.declared.asked.Asked.TheVariants.{Replay, Run, Audit, Upgrade, Collect, Version};
 ghost use Rattle.ep_main.specs.declared.declined.Declined.TheVariants.{Memory};
 ghost use Rattle.ep_main.specs.declared.asked.Emit.{Emit};
 ghost use Rattle.ep_main.specs.declared.asked.Emit.TheVariants.{Report, Bundle};
@@ -21,6 +21,7 @@ ghost use Rattle.ep_script.specs.Grammar.{number_in as number_between};
 use crate::asked::{Asked, Emit};
 use crate::declined::Declined;
 use crate::host::Host;
+use crate::paths::Paths;
 use crate::run_options::RunOptions;
 use clap::error::ErrorKind;
 use clap::{Arg, ArgAction, ArgMatches, Command, Error};
@@ -93,6 +94,21 @@ Exit status:
   3  memory was refused
   4  reading or writing failed";
 
+/// What the help of `collect` says at its end.
+const AFTER_COLLECT: &str = "\
+Each FILE is the log of one replica of a cluster, as `epaxos node` writes it; they may stand in any order. Standard output is
+the bundle of their journals, with no receipts. A log whose end is torn is taken up to it, which standard error says.
+Nothing is audited, and nothing is printed before all files are read. Standard input is not read.
+
+Example:
+  epaxos collect zero.log one.log two.log | epaxos audit
+
+Exit status:
+  0  the bundle is written
+  2  the command line or a log is refused, or the logs aren't one for each replica of one cluster; standard error says why
+  3  memory was refused
+  4  a file could not be opened or read, or writing failed";
+
 /// What the words ask for, of which the first is the program's own name. `Words` where they are none that the program knows.
 pub(crate) fn read_words<T: AsStr>(alloc: Global, words: &[T]) -> Result<Asked, Declined>
     ensures asked { (asked : Asked) → AskFor asked (map T.text words.now) → MatchResult result (λ a. a ≡ asked) (λ d. d ≡ Memory) }
@@ -101,7 +117,7 @@ pub(crate) fn read_words<T: AsStr>(alloc: Global, words: &[T]) -> Result<Asked, 
 {
     let command = program(alloc)?;
     match command.try_get_matches_from(words) {
-        Ok(matches) => asked_by(alloc, &matches),
+        Ok(matches) => words_by(alloc, &matches),
         Err(error) => asked_instead(alloc, &error),
     }
 }
@@ -119,6 +135,45 @@ fn asked_instead(alloc: Global, error: &Error) -> Result<Asked, Declined>
         ErrorKind::OutOfMemory => Err(Declined::Memory),
         _ => Err(Declined::Words(error.to_string(alloc)?)),
     }
+}
+
+fn words_by(alloc: Global, matches: &ArgMatches<'_>) -> Result<Asked, Declined>
+    ensures replay { (emit : Emit) → MetReplay emit (subcommand_rows_of matches.now) → result ≡ Ok (Replay emit) }
+    ensures run { (options : Options) → MetRun options (subcommand_rows_of matches.now) → result ≡ Ok (Run options) }
+    ensures audit { MetAudit (subcommand_rows_of matches.now) → result ≡ Ok Audit }
+    ensures upgrade { MetUpgrade (subcommand_rows_of matches.now) → result ≡ Ok Upgrade }
+    ensures collect { (names : List Text) → MetCollect names (subcommand_rows_of matches.now) → MatchResult result (λ a. a ≡ Collect names) (λ d. d ≡ Memory) }
+    ensures only { IfOk result (λ a. IsMet a (subcommand_rows_of matches.now)) }
+{
+    match matches.subcommand_matches("collect") {
+        Some(options) => Ok(Asked::Collect(paths_of(alloc, options)?)),
+        None => asked_by(alloc, matches),
+    }
+}
+
+/// The names of the files.
+fn paths_of(alloc: Global, options: &ArgMatches<'_>) -> Result<Paths, Declined>
+    ensures named { IfOk result (λ names. names ≡ names_in (rows_of (found_of options.now))) }
+    ensures memory { IfErr result (λ d. d ≡ Memory) }
+{
+    match options.get_raw("FILE") {
+        Some(names) => Ok(Paths::new(copied(alloc, names)?)),
+        None => Ok(Paths::new(Vec::new(alloc))),
+    }
+}
+
+/// These texts again.
+fn copied(alloc: Global, names: &[&str]) -> Result<Vec<String>, AllocError>
+    ensures { IfOk result (λ v. map string_bytes v.items ≡ map (λ n. n.now) names.now) }
+{
+    let mut copy = Vec::new(alloc);
+    for name in names {
+        let text = String::from_str(alloc, name)?;
+        if copy.push(text).is_err() {
+            return Err(AllocError);
+        }
+    }
+    Ok(copy)
 }
 
 fn asked_by(alloc: Global, matches: &ArgMatches<'_>) -> Result<Asked, Declined>
@@ -266,6 +321,28 @@ fn emit_named(alloc: Global, what: &str) -> Result<Emit, Declined>
 
 fn program<'a>(alloc: Global) -> Result<Command<'a>, AllocError>
     ensures { IfOk result (λ c. app_of c ≡ epaxos) }
+{
+    let command = upgrading_program(alloc)?;
+    let collect = collect_command(alloc)?;
+    command.subcommand(collect)
+}
+
+fn collect_command<'a>(alloc: Global) -> Result<Command<'a>, AllocError>
+    ensures { IfOk result (λ c. (app_of c ≡ collect_app) × ((fields_of c).has_globals ≡ false)) }
+{
+    let files = Arg::new(alloc, "FILE")
+        .required(true)
+        .help("The log of a replica")
+        .action(ArgAction::Append);
+    let command = Command::new(alloc, "collect")
+        .about("Reads the logs of a cluster's replicas, and writes the bundle of their journals")
+        .after_help(AFTER_COLLECT);
+    command.arg(files)
+}
+
+/// The program without its subcommand `collect`.
+fn upgrading_program<'a>(alloc: Global) -> Result<Command<'a>, AllocError>
+    ensures { IfOk result (λ c. app_of c ≡ upgrading) }
 {
     let command = auditing_program(alloc)?;
     let upgrade = Command::new(alloc, "upgrade")

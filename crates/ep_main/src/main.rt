@@ -19,6 +19,7 @@ mod fault;
 mod gathering;
 mod host;
 mod judged;
+mod paths;
 mod program;
 mod replaying;
 mod run_options;

@@ -1,0 +1,43 @@
+-- The lines that are told of logs, by the names of their files.
+use Rattle.std.specs.Prelude.{ℕ, suc, Bool, cond, List, [], ◌∷◌, ◌++◌, codes, decimal, slice_index_or as get_or}
+use Rattle.ep_collect.specs.declared.collect_fault.CollectFault.TheVariants.{NoJournal, OtherCluster, Twice, Missing}
+use Rattle.ep_log.specs.declared.log_fault.LogFault.{LogFault}
+use Rattle.ep_log.specs.declared.log_fault.LogFault.TheVariants as log
+use Rattle.ep_assemble.specs.declared.assembled.End.{End}
+use Rattle.ep_assemble.specs.declared.assemble_fault.AssembleFault.{AssembleFault}
+use Rattle.ep_assemble.specs.declared.assemble_fault.AssembleFault.TheVariants.{Memory, Log, Collect}
+
+abbrev pub log_text : LogFault → List ℕ
+log_text log.Memory = codes "out of memory"
+log_text log.NoHeader = codes "no header of a log"
+log_text log.OtherVersion = codes "another version"
+log_text (log.BadLength at) = codes "bad length at byte " ++ decimal at
+log_text (log.BadChecksum at) = codes "bad checksum at byte " ++ decimal at
+log_text (log.BadEntry at) = codes "bad entry at byte " ++ decimal at
+log_text (log.NotNext at) = codes "not the next entry at byte " ++ decimal at
+
+abbrev pub log_line : List ℕ → LogFault → List ℕ
+log_line name fault = codes "log refused " ++ name ++ codes ": " ++ log_text fault ++ codes "\n"
+
+-- the name at the place
+abbrev pub name_at : List (List ℕ) → ℕ → List ℕ
+name_at names place = get_or names place []
+
+abbrev pub refusal_line : List (List ℕ) → AssembleFault → List ℕ
+refusal_line names Memory = codes "out of memory\n"
+refusal_line names (Log place fault) = log_line (name_at names place) fault
+refusal_line names (Collect NoJournal) = codes "no log\n"
+refusal_line names (Collect (OtherCluster place)) = name_at names place ++ codes " is of another cluster\n"
+refusal_line names (Collect (Twice r)) = codes "replica " ++ decimal r ++ codes " has two logs\n"
+refusal_line names (Collect (Missing r)) = codes "replica " ++ decimal r ++ codes " has no log\n"
+
+abbrev pub torn_line : List ℕ → ℕ → List ℕ
+torn_line name whole = codes "torn end in " ++ name ++ (codes " after byte " ++ decimal whole) ++ codes "\n"
+
+abbrev pub end_line : List ℕ → End → List ℕ
+end_line name end = cond end.is_torn (torn_line name end.whole) []
+
+-- of the logs from this place on
+abbrev pub torn_lines : ℕ → List (List ℕ) → List End → List ℕ
+torn_lines place names [] = []
+torn_lines place names (end ∷ ends) = end_line (name_at names place) end ++ torn_lines (suc place) names ends

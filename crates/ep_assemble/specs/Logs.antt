@@ -1,0 +1,87 @@
+-- The bundle that logs make, and the first fault of those that make none.
+use Rattle.std.specs.Prelude.{◌≡◌, ℕ, List, [], ◌∷◌, Some, map, take, slice_get}
+use Rattle.std.specs.Global.{Vec}
+use Rattle.ep_bundle.specs.Bytes.{bundle_bytes}
+use Rattle.ep_collect.specs.Clusters.{Collects}
+use Rattle.ep_collect.specs.Clusters.{IsRefused as IsUncollected}
+use Rattle.ep_collect.specs.declared.collect_fault.CollectFault.{CollectFault}
+use Rattle.ep_journal.specs.Entries.{Collected, Log as Journal}
+use Rattle.ep_log.specs.Reading.{IsRead}
+use Rattle.ep_log.specs.Refusing.{IsRefused as IsNoLog}
+use Rattle.ep_log.specs.declared.log_fault.LogFault.{LogFault}
+use Rattle.ep_log.specs.declared.log_fault.LogFault.TheVariants as log
+use Rattle.ep_assemble.specs.declared.assembled.End.{End}
+use Rattle.ep_assemble.specs.declared.assemble_fault.AssembleFault.{AssembleFault}
+use Rattle.ep_assemble.specs.declared.assemble_fault.AssembleFault.TheVariants.{Memory, Log, Collect}
+
+-- the bytes of each
+abbrev pub contents : List (Vec ℕ) → List (List ℕ)
+contents vs = map (λ v. v.items) vs
+
+-- each is a log, of this journal, up to its torn end where it has one
+abbrev pub AreRead : List (List ℕ) → List Journal → List End → Type 0
+AreRead [] [] [] = Unit {0}
+AreRead (bytes ∷ logs) (journal ∷ journals) (end ∷ ends) = IsRead bytes journal end.whole end.is_torn × AreRead logs journals ends
+AreRead _ _ _ = ⊥
+
+-- the text is the bundle of the journals that the logs hold, with no receipts
+pub record IsAssembled (logs : List (List ℕ)) (text : List ℕ) (ends : List End) : Type 0 where
+  pub journals : List Journal
+  pub read : AreRead logs journals ends
+  pub collected : Collected
+  pub collects : Collects journals collected
+  pub is : text ≡ bundle_bytes collected []
+
+-- a log's fault, other than want of memory
+abbrev pub IsOfLog : LogFault → Type 0
+IsOfLog log.Memory = ⊥
+IsOfLog log.NoHeader = Unit {0}
+IsOfLog log.OtherVersion = Unit {0}
+IsOfLog (log.BadLength at) = Unit {0}
+IsOfLog (log.BadChecksum at) = Unit {0}
+IsOfLog (log.BadEntry at) = Unit {0}
+IsOfLog (log.NotNext at) = Unit {0}
+
+-- these are the bytes at the place, they are no log for this reason, and those before them are logs
+pub record IsFirstRefused (place : ℕ) (fault : LogFault) (logs : List (List ℕ)) : Type 0 where
+  pub journals : List Journal
+  pub ends : List End
+  pub before : AreRead (take place logs) journals ends
+  pub bytes : List ℕ
+  pub stands : slice_get logs place ≡ Some bytes
+  pub of : IsOfLog fault
+  pub refused : IsNoLog fault bytes
+
+-- all are logs, and their journals aren't one for each replica of one cluster, for this reason
+pub record IsNoCluster (fault : CollectFault) (logs : List (List ℕ)) : Type 0 where
+  pub journals : List Journal
+  pub ends : List End
+  pub read : AreRead logs journals ends
+  pub refused : IsUncollected fault journals
+
+-- the first fault
+abbrev pub IsRefused : AssembleFault → List (List ℕ) → Type 0
+IsRefused Memory logs = Unit {0}
+IsRefused (Log place fault) logs = IsFirstRefused place fault logs
+IsRefused (Collect fault) logs = IsNoCluster fault logs
+
+-- the first fault of a log
+abbrev pub IsLogRefused : AssembleFault → List (List ℕ) → Type 0
+IsLogRefused Memory logs = Unit {0}
+IsLogRefused (Log place fault) logs = IsFirstRefused place fault logs
+IsLogRefused (Collect fault) logs = ⊥
+
+-- why these bytes, at this place, are no log
+abbrev pub IsNotRead : AssembleFault → ℕ → List ℕ → Type 0
+IsNotRead Memory place bytes = Unit {0}
+IsNotRead (Log at fault) place bytes = (at ≡ place) × IsOfLog fault × IsNoLog fault bytes
+IsNotRead (Collect fault) place bytes = ⊥
+
+abbrev pub of_log : ℕ → LogFault → AssembleFault
+of_log place log.Memory = Memory
+of_log place log.NoHeader = Log place log.NoHeader
+of_log place log.OtherVersion = Log place log.OtherVersion
+of_log place (log.BadLength at) = Log place (log.BadLength at)
+of_log place (log.BadChecksum at) = Log place (log.BadChecksum at)
+of_log place (log.BadEntry at) = Log place (log.BadEntry at)
+of_log place (log.NotNext at) = Log place (log.NotNext at)

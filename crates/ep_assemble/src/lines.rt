@@ -1,0 +1,140 @@
+//! The lines that are told of logs, by the names of their files.
+
+ghost use Rattle.std.specs.Prelude.{◌≡◌, ◌++◌, codes, decimal, map, string_bytes, OnOk};
+ghost use Rattle.ep_assemble.specs.declared.assemble_fault.AssembleFault.TheVariants.{Collect};
+ghost use Rattle.ep_assemble.specs.Lines.{log_text, log_line, name_at, end_line, refusal_line, torn_line, torn_lines};
+
+use crate::assemble_fault::AssembleFault;
+use crate::assembled::End;
+use ep_base::ReplicaId;
+use ep_collect::CollectFault;
+use ep_log::LogFault;
+use itoa::Buffer;
+use std::alloc::AllocError;
+
+/// Appends a name and the number after it.
+fn push_number(name: &[u8], number: u64, out: &mut Vec<u8>) -> Result<(), AllocError>
+    ensures { OnOk result (out.new.items ≡ out.old.items ++ (name.now ++ decimal number)) }
+{
+    let mut digits = Buffer::new();
+    out.extend_from_slice(name)?;
+    out.extend_from_slice(digits.format(number).as_bytes())
+}
+
+/// Appends why a log was not read.
+fn push_log_text(fault: LogFault, out: &mut Vec<u8>) -> Result<(), AllocError>
+    ensures { OnOk result (out.new.items ≡ out.old.items ++ log_text fault) }
+{
+    match fault {
+        LogFault::Memory => out.extend_from_slice(b"out of memory"),
+        LogFault::NoHeader => out.extend_from_slice(b"no header of a log"),
+        LogFault::OtherVersion => out.extend_from_slice(b"another version"),
+        LogFault::BadLength(at) => push_number(b"bad length at byte ", at, out),
+        LogFault::BadChecksum(at) => push_number(b"bad checksum at byte ", at, out),
+        LogFault::BadEntry(at) => push_number(b"bad entry at byte ", at, out),
+        LogFault::NotNext(at) => push_number(b"not the next entry at byte ", at, out),
+    }
+}
+
+/// Appends the line of a log that is refused.
+fn push_log_line(name: &str, fault: LogFault, out: &mut Vec<u8>) -> Result<(), AllocError>
+    ensures { OnOk result (out.new.items ≡ out.old.items ++ log_line name.now fault) }
+{
+    out.extend_from_slice(b"log refused ")?;
+    out.extend_from_slice(name.as_bytes())?;
+    out.extend_from_slice(b": ")?;
+    push_log_text(fault, out)?;
+    out.extend_from_slice(b"\n")
+}
+
+/// Appends a line on a replica.
+fn push_replica(replica: ReplicaId, what: &[u8], out: &mut Vec<u8>) -> Result<(), AllocError>
+    ensures { OnOk result (out.new.items ≡ out.old.items ++ (codes "replica " ++ decimal replica ++ what.now)) }
+{
+    push_number(b"replica ", u64::from(replica.index()), out)?;
+    out.extend_from_slice(what)
+}
+
+/// The name at this place.
+fn name_of(names: &[String], place: usize) -> &str
+    ensures { result.now ≡ name_at (map string_bytes names.now) place }
+{
+    match names.get(place) {
+        Some(name) => name.as_str(),
+        None => "",
+    }
+}
+
+/// Appends the line of a fault.
+pub(crate) fn push_refusal(
+    names: &[String],
+    fault: AssembleFault,
+    out: &mut Vec<u8>,
+) -> Result<(), AllocError>
+    ensures { OnOk result (out.new.items ≡ out.old.items ++ refusal_line (map string_bytes names.now) fault) }
+{
+    match fault {
+        AssembleFault::Memory => out.extend_from_slice(b"out of memory\n"),
+        AssembleFault::Log(place, fault) => push_log_line(name_of(names, place), fault, out),
+        AssembleFault::Collect(fault) => push_collect(names, &fault, out),
+    }
+}
+
+/// Appends the line of journals that aren't a cluster's.
+fn push_collect(
+    names: &[String],
+    fault: &CollectFault,
+    out: &mut Vec<u8>,
+) -> Result<(), AllocError>
+    ensures { OnOk result (out.new.items ≡ out.old.items ++ refusal_line (map string_bytes names.now) (Collect fault.now)) }
+{
+    match fault {
+        CollectFault::NoJournal => out.extend_from_slice(b"no log\n"),
+        CollectFault::OtherCluster(place) => push_other(name_of(names, *place), out),
+        CollectFault::Twice(replica) => push_replica(*replica, b" has two logs\n", out),
+        CollectFault::Missing(replica) => push_replica(*replica, b" has no log\n", out),
+    }
+}
+
+/// Appends the line of a log of another cluster.
+fn push_other(name: &str, out: &mut Vec<u8>) -> Result<(), AllocError>
+    ensures { OnOk result (out.new.items ≡ out.old.items ++ (name.now ++ codes " is of another cluster\n")) }
+{
+    out.extend_from_slice(name.as_bytes())?;
+    out.extend_from_slice(b" is of another cluster\n")
+}
+
+/// Appends the line of a torn end.
+fn push_torn_line(name: &str, whole: usize, out: &mut Vec<u8>) -> Result<(), AllocError>
+    ensures { OnOk result (out.new.items ≡ out.old.items ++ torn_line name.now whole) }
+{
+    out.extend_from_slice(b"torn end in ")?;
+    out.extend_from_slice(name.as_bytes())?;
+    push_number(b" after byte ", whole as u64, out)?;
+    out.extend_from_slice(b"\n")
+}
+
+/// Appends the line of a log's end, where it is torn.
+fn push_end(name: &str, end: End, out: &mut Vec<u8>) -> Result<(), AllocError>
+    ensures { OnOk result (out.new.items ≡ out.old.items ++ end_line name.now end) }
+{
+    if end.is_torn {
+        push_torn_line(name, end.whole, out)
+    } else {
+        Ok(())
+    }
+}
+
+/// Appends the lines of the ends that are torn.
+pub(crate) fn push_torn(
+    names: &[String],
+    ends: &[End],
+    out: &mut Vec<u8>,
+) -> Result<(), AllocError>
+    ensures { OnOk result (out.new.items ≡ out.old.items ++ torn_lines 0 (map string_bytes names.now) ends.now) }
+{
+    for (place, end) in ends.iter().enumerate() {
+        push_end(name_of(names, place), *end, out)?;
+    }
+    Ok(())
+}

@@ -1,0 +1,57 @@
+//! Logs, read one after the other.
+
+ghost use Rattle.std.specs.Prelude.{◌≡◌, ◌++◌, ◌∷◌, [], IfOk, IfErr, OnOk};
+ghost use Rattle.ep_assemble.specs.Logs.{AreRead, IsLogRefused, IsNotRead, contents, of_log};
+ghost use Rattle.ep_log.specs.Reading.{IsRead};
+
+use crate::assemble_fault::AssembleFault;
+use crate::assembled::End;
+use ep_journal::Journal;
+use ep_log::{LogFault, ReadLog, read_log};
+use std::alloc::Global;
+
+/// What the logs hold: the journal of each, and where its whole records end.
+#[derive(Drop)]
+pub(crate) struct Logs {
+    pub journals: Vec<Journal>,
+    pub ends: Vec<End>,
+}
+
+/// Reads the logs.
+pub(crate) fn read_logs(alloc: Global, logs: &[Vec<u8>]) -> Result<Logs, AssembleFault>
+    ensures ok { IfOk result (λ r. AreRead (contents logs.now) r.journals.items r.ends.items) }
+    ensures err { IfErr result (λ e. IsLogRefused e (contents logs.now)) }
+{
+    let mut journals = Vec::new(alloc);
+    let mut ends = Vec::new(alloc);
+    for (place, bytes) in logs.iter().enumerate() {
+        let log = read_one(alloc, place, bytes)?;
+        ends.push(End {
+            whole: log.whole,
+            is_torn: log.is_torn,
+        })?;
+        journals.push(log.journal)?;
+    }
+    Ok(Logs { journals, ends })
+}
+
+/// Reads the log at this place.
+fn read_one(alloc: Global, place: usize, bytes: &[u8]) -> Result<ReadLog, AssembleFault>
+    ensures ok { IfOk result (λ log. IsRead bytes.now log.journal log.whole log.is_torn) }
+    ensures err { IfErr result (λ e. IsNotRead e place bytes.now) }
+{
+    match read_log(alloc, bytes) {
+        Ok(log) => Ok(log),
+        Err(fault) => Err(fault_of(place, fault)),
+    }
+}
+
+/// The fault of the log at this place.
+fn fault_of(place: usize, fault: LogFault) -> AssembleFault
+    ensures { result ≡ of_log place fault }
+{
+    match fault {
+        LogFault::Memory => AssembleFault::Memory,
+        _ => AssembleFault::Log(place, fault),
+    }
+}
