@@ -8,6 +8,7 @@ A row is a folder .ci/rows/NAME with files, each of which may lack:
   stdin      the input; stdin.gz: packed; stdin.hex: in hexadecimal, a line from '#' on is a comment
   change     lines 'PLACE BYTE', in decimal and hexadecimal: bytes that are others where the second run reads them
   redirect   the shell's redirections of the last run
+  files      a folder: files that lie where the runs are; NAME.hex is NAME, in hexadecimal
   stdout stderr status     what is wanted: nothing, nothing and 0 where there is no such file; stdout.gz: packed
 More rows are made of the scripts and reports in docs/FORMATS.md, examples/ and .ci/scripts/ (NAME.script is played, NAME.run is run
 by both hosts), and by .ci/made.py.
@@ -18,6 +19,7 @@ import os
 import re
 import subprocess
 import sys
+import tempfile
 from dataclasses import dataclass, field
 
 sys.dont_write_bytecode = True
@@ -35,20 +37,31 @@ class Row:
     status: int = 0
     redirect: str = ""
     change: list = field(default_factory=list)
+    files: dict = field(default_factory=dict)
     # outputs that are as good as the one that is wanted
     others: list = field(default_factory=list)
 
     def run(self, program):
         """Returns what is wrong with a run of the program, or nothing."""
+        if not self.files:
+            return self.run_in(None, program)
+        with tempfile.TemporaryDirectory() as folder:
+            for name, held in self.files.items():
+                with open(f"{folder}/{name}", "wb") as it:
+                    it.write(held)
+            return self.run_in(folder, os.path.abspath(program))
+
+    def run_in(self, folder, program):
+        """The same in this folder; in the caller's where there is none."""
         given, runs = self.given, [it.split("\n") for it in "\n".join(self.words).split("\n|\n")]
         for words in runs[:-1]:
-            first = self.one(program, words, given, "")
+            first = self.one(folder, program, words, given, "")
             if first[0] or first[2]:
                 return f"the first run ended with status {first[0]}: {first[2][:200]!r}"
             given = bytearray(first[1])
         for place, byte in self.change:
             given[place] = byte
-        status, wrote, told = self.one(program, runs[-1], bytes(given), self.redirect)
+        status, wrote, told = self.one(folder, program, runs[-1], bytes(given), self.redirect)
         if status != self.status:
             return f"status {status} and not {self.status}; on standard error {told[:200]!r}"
         if told != self.told:
@@ -58,12 +71,12 @@ class Row:
             return f"standard output has {len(wrote)} bytes and not {len(self.wanted)}, or differs first in line {wrote[:at].count(10) + 1}: {wrote[at : at + 80]!r} and not {self.wanted[at : at + 80]!r}"
         return ""
 
-    def one(self, program, words, given, redirect):
+    def one(self, folder, program, words, given, redirect):
         """Runs the program as epaxos, and gives its status, its output and its fault output."""
         script = 'program=$1; shift; exec -a epaxos "$program" "$@" ' + redirect
         words = ["bash", "-c", script, "", program, *[it for it in words if it]]
         try:
-            ran = subprocess.run(words, input=given, stdout=subprocess.PIPE, stderr=subprocess.PIPE, timeout=SECONDS)
+            ran = subprocess.run(words, input=given, stdout=subprocess.PIPE, stderr=subprocess.PIPE, timeout=SECONDS, cwd=folder)
         except subprocess.TimeoutExpired:
             return None, b"", b"it had not ended after %d seconds" % SECONDS
         return ran.returncode, ran.stdout, ran.stderr
@@ -84,6 +97,14 @@ def text(folder, name):
         return it.read()
 
 
+def laid(folder):
+    """The files that lie where a row's runs are."""
+    if not os.path.isdir(folder):
+        return {}
+    names = sorted({it.removesuffix(".hex") for it in os.listdir(folder)})
+    return {name: text(folder, name) for name in names}
+
+
 def stored():
     """The rows of .ci/rows."""
     for name in sorted(os.listdir(f"{TOP}/.ci/rows")):
@@ -99,6 +120,7 @@ def stored():
             int(text(folder, "status") or 0),
             text(folder, "redirect").decode().strip(),
             [(int(place), int(byte, 16)) for place, byte in change],
+            laid(f"{folder}/files"),
         )
 
 

@@ -1,6 +1,6 @@
 -- Several texts, appended one after another.
-use Rattle.std.proofs.Common.{◌≡◌, ◌<◌, ◌+◌, ℕ, suc, List, [], ◌∷◌, ◌++◌, Result, Ok, Err, drop, length, get_or, sym, ap, subst, ◌∙◌, append_assoc, arith}
-use Rattle.std.specs.Prelude.{OnOk}
+use Rattle.std.proofs.Common.{◌≡◌, ◌<◌, ◌+◌, ℕ, suc, List, ◌∷◌, ◌++◌, Result, Ok, Err, drop, length, get_or, sym, ap, ◌∙◌, append_assoc, arith}
+use Rattle.std.specs.Prelude.{OnOk, is_ok, if◌then◌else◌}
 use Rattle.std.proofs.lemmas.List.{drop_more}
 use Rattle.ep_assemble.specs.Lines.{end_line, name_at, torn_lines}
 use Rattle.ep_assemble.specs.declared.assembled.End.{End}
@@ -8,7 +8,7 @@ use Rattle.ep_assemble.specs.declared.assembled.End.{End}
 pub joined : (old mid new a b : List ℕ) → mid ≡ old ++ a → new ≡ mid ++ b → new ≡ old ++ (a ++ b)
 joined old mid new a b is then' = then' ∙ ap (λ (l : List ℕ). l ++ b) is ∙ append_assoc old a b
 
-pub last_joined : {T E : Type 0} (r : Result T E) (old mid new a b : List ℕ) → mid ≡ old ++ a → OnOk r (new ≡ mid ++ b) → OnOk r (new ≡ old ++ (a ++ b))
+pub last_joined : {T E : Type 0} (r : Result T E) (old mid new a b : List ℕ) → mid ≡ old ++ a → new ≡ (if is_ok r then (mid ++ b) else mid) → OnOk r (new ≡ old ++ (a ++ b))
 last_joined (Ok x) old mid new a b is then' = joined old mid new a b is then'
 last_joined (Err e) old mid new a b is then' = tt
 

@@ -1,7 +1,7 @@
 //! A bundle made of logs.
 
 /// Where a log's whole records end.
-#[derive(Clone, Copy, Debug, PartialEq, Eq)]
+#[derive(Debug, Drop, PartialEq, Eq)]
 pub struct End {
     /// How many bytes the header and the whole records have.
     pub whole: usize,

@@ -56,10 +56,7 @@ pub fn collect_files<R: Files + AllocGlobal>(
 }
 
 /// The bytes of the files.
-fn read_files<R: Files + AllocGlobal>(
-    rt: &R,
-    names: &[String],
-) -> Result<Vec<Vec<u8>>, FilesFault>
+fn read_files<R: Files + AllocGlobal>(rt: &R, names: &[String]) -> Result<Vec<Vec<u8>>, FilesFault>
     ensures count { IfOk result (λ logs. length logs.items ≡ length names.now) }
     ensures err { IfErr result (λ e. IsUnread e) }
 {
@@ -109,11 +106,7 @@ fn assemble_files(
 }
 
 /// The fault, with its line.
-fn refused(
-    alloc: Global,
-    names: &[String],
-    fault: AssembleFault,
-) -> Result<Collection, FilesFault>
+fn refused(alloc: Global, names: &[String], fault: AssembleFault) -> Result<Collection, FilesFault>
     ensures line { IfErr result (λ e. IsLineOf (map string_bytes names.now) fault e) }
     ensures never { IsErr result }
 {

@@ -81,11 +81,7 @@ pub(crate) fn push_refusal(
 }
 
 /// Appends the line of journals that aren't a cluster's.
-fn push_collect(
-    names: &[String],
-    fault: &CollectFault,
-    out: &mut Vec<u8>,
-) -> Result<(), AllocError>
+fn push_collect(names: &[String], fault: &CollectFault, out: &mut Vec<u8>) -> Result<(), AllocError>
     ensures { OnOk result (out.new.items ≡ out.old.items ++ refusal_line (map string_bytes names.now) (Collect fault.now)) }
 {
     match fault {
@@ -115,8 +111,8 @@ fn push_torn_line(name: &str, whole: usize, out: &mut Vec<u8>) -> Result<(), All
 }
 
 /// Appends the line of a log's end, where it is torn.
-fn push_end(name: &str, end: End, out: &mut Vec<u8>) -> Result<(), AllocError>
-    ensures { OnOk result (out.new.items ≡ out.old.items ++ end_line name.now end) }
+fn push_end(name: &str, end: &End, out: &mut Vec<u8>) -> Result<(), AllocError>
+    ensures { OnOk result (out.new.items ≡ out.old.items ++ end_line name.now end.now) }
 {
     if end.is_torn {
         push_torn_line(name, end.whole, out)
@@ -126,15 +122,11 @@ fn push_end(name: &str, end: End, out: &mut Vec<u8>) -> Result<(), AllocError>
 }
 
 /// Appends the lines of the ends that are torn.
-pub(crate) fn push_torn(
-    names: &[String],
-    ends: &[End],
-    out: &mut Vec<u8>,
-) -> Result<(), AllocError>
+pub(crate) fn push_torn(names: &[String], ends: &[End], out: &mut Vec<u8>) -> Result<(), AllocError>
     ensures { OnOk result (out.new.items ≡ out.old.items ++ torn_lines 0 (map string_bytes names.now) ends.now) }
 {
     for (place, end) in ends.iter().enumerate() {
-        push_end(name_of(names, place), *end, out)?;
+        push_end(name_of(names, place), end, out)?;
     }
     Ok(())
 }

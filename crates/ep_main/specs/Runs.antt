@@ -1,5 +1,6 @@
 -- What the program does, by the status that it answers: of the bytes zs that it reads, its reader, its output and its fault output.
 use Rattle.std.specs.Prelude.{◌≡◌, ◌⊎◌, ◌++◌, ℕ, true, List, Result, Ok, Err, codes, string_bytes}
+use Rattle.ep_assemble.specs.Files.{IsCollected, IsNotCollected}
 use Rattle.ep_bundle.specs.Journals.{ReadsBundle}
 use Rattle.ep_bundle.specs.declared.bundle_fault.BundleFault.TheVariants as bundle
 use Rattle.ep_script.specs.Plan.{Plan, RunPlan, script_of, run_of}
@@ -12,7 +13,7 @@ use Rattle.ep_main.specs.Outputs.{Input, Output, Wrote, WroteNothing, Told, None
 use Rattle.ep_main.specs.Reported.{IsReport}
 use Rattle.ep_main.specs.Upgrades.{IsRewritten}
 use Rattle.ep_main.specs.declared.asked.Asked.{Asked}
-use Rattle.ep_main.specs.declared.asked.Asked.TheVariants.{Replay, Run, Audit, Upgrade, Version, Help}
+use Rattle.ep_main.specs.declared.asked.Asked.TheVariants.{Replay, Run, Audit, Upgrade, Collect, Version, Help}
 use Rattle.ep_main.specs.declared.declined.Declined.{Declined}
 use Rattle.ep_main.specs.declared.declined.Declined.TheVariants as declined
 use Rattle.ep_main.specs.declared.asked.Emit.TheVariants.{Report, Bundle}
@@ -119,6 +120,33 @@ Upgrades Refused zs reader out fault = IsBadBundle zs out fault ⊎ IsNotARun zs
 Upgrades OutOfMemory zs reader out fault = IsOutOfMemory out fault
 Upgrades Failed zs reader out fault = HasFailed reader out fault
 
+-- The files gave bytes that are logs; what was written is the bundle of their journals, and a line is told for each torn end.
+pub record IsGathered (names : List (List ℕ)) (out fault : Output) : Type 0 where
+  pub text : List ℕ
+  pub lines : List ℕ
+  pub collected : IsCollected names text lines
+  pub wrote : Wrote out text
+  pub told : Told fault lines
+
+-- The files gave bytes that make no bundle: the first fault is told, and nothing was written on the output.
+pub record IsTurnedAway (names : List (List ℕ)) (out fault : Output) : Type 0 where
+  pub line : List ℕ
+  pub refused : IsNotCollected names line
+  pub silent : WroteNothing out
+  pub told : Told fault line
+
+-- a file could not be read, and nothing was written on the output; or the output has failed
+abbrev pub HasFailedAtFiles : Output → Output → Type 0
+HasFailedAtFiles out fault = ((out.failed ≡ out.had_failed) × WroteNothing out × Told fault reading_failed) ⊎ ((out.failed ≡ true) × Told fault writing_failed)
+
+-- logs are collected, of the files of these names: no contract can say which bytes a file gives
+abbrev pub Collects : List (List ℕ) → Status → Output → Output → Type 0
+Collects names Accepted out fault = IsGathered names out fault
+Collects names AuditRefused out fault = ⊥
+Collects names Refused out fault = IsTurnedAway names out fault
+Collects names OutOfMemory out fault = IsOutOfMemory out fault
+Collects names Failed out fault = HasFailedAtFiles out fault
+
 -- the program's name and its version
 abbrev pub version_line : List ℕ
 version_line = codes "epaxos 0.1.0\n"
@@ -153,6 +181,7 @@ Performs (Replay Bundle) status zs reader out fault = Emits status zs reader out
 Performs (Run options) status zs reader out fault = RunsInThreads options status zs reader out fault
 Performs Audit status zs reader out fault = Audits status zs reader out fault
 Performs Upgrade status zs reader out fault = Upgrades status zs reader out fault
+Performs (Collect names) status zs reader out fault = Collects names status out fault
 Performs Version status zs reader out fault = Versions status out fault
 Performs (Help text) status zs reader out fault = Helps status (string_bytes text) out fault
 
@@ -172,6 +201,33 @@ Ends AuditRefused reader out fault = NoneFailed reader out × (fault.failed ≡ 
 Ends Refused reader out fault = NoneFailed reader out
 Ends OutOfMemory reader out fault = NoneFailed reader out
 Ends Failed reader out fault = (InputFailed reader out × Told fault reading_failed) ⊎ (OutputFailed reader out × Told fault writing_failed)
+
+-- the same where files are read: status 4 is that of a file, or of the output that failed in this run
+abbrev pub EndsAtFiles : Status → Input → Output → Output → Type 0
+EndsAtFiles Accepted reader out fault = NoneFailed reader out
+EndsAtFiles AuditRefused reader out fault = ⊥
+EndsAtFiles Refused reader out fault = NoneFailed reader out
+EndsAtFiles OutOfMemory reader out fault = NoneFailed reader out
+EndsAtFiles Failed reader out fault = (NoneFailed reader out × Told fault reading_failed) ⊎ (OutputFailed reader out × Told fault writing_failed)
+
+abbrev pub EndsAs : Asked → Status → Input → Output → Output → Type 0
+EndsAs (Replay emit) status reader out fault = Ends status reader out fault
+EndsAs (Run options) status reader out fault = Ends status reader out fault
+EndsAs Audit status reader out fault = Ends status reader out fault
+EndsAs Upgrade status reader out fault = Ends status reader out fault
+EndsAs (Collect names) status reader out fault = EndsAtFiles status reader out fault
+EndsAs Version status reader out fault = Ends status reader out fault
+EndsAs (Help text) status reader out fault = Ends status reader out fault
+
+-- what is done with the reader and the output alone
+abbrev pub IsOfStreams : Asked → Type 0
+IsOfStreams (Replay emit) = Unit {0}
+IsOfStreams (Run options) = Unit {0}
+IsOfStreams Audit = Unit {0}
+IsOfStreams Upgrade = Unit {0}
+IsOfStreams (Collect names) = ⊥
+IsOfStreams Version = Unit {0}
+IsOfStreams (Help text) = Unit {0}
 
 -- a status that tells no fault
 abbrev pub IsVerdict : Status → Type 0
@@ -243,6 +299,7 @@ Does (Replay Bundle) outcome zs out = Leaves outcome zs out
 Does (Run options) outcome zs out = Runs options outcome zs out
 Does Audit outcome zs out = Finishes outcome zs out
 Does Upgrade outcome zs out = Rewrites outcome zs out
+Does (Collect names) outcome zs out = ⊥
 Does Version outcome zs out = Prints outcome version_line out
 Does (Help text) outcome zs out = Prints outcome (string_bytes text) out
 

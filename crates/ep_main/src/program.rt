@@ -4,12 +4,13 @@ ghost use Rattle.std.specs.Prelude.{◌≡◌, ◌⊎◌, ℕ, List, Some, IfOk,
 ghost use Rattle.ep_base.specs.Devices.{FailsAsTold};
 ghost use Rattle.ep_main.specs.Faults.{is_read, is_write};
 ghost use Rattle.ep_main.specs.Outputs.{input, output};
-ghost use Rattle.ep_main.specs.Runs.{Performs, IsHelped, Declines, Ends, Does, Concludes, IsVerdict, TellsWhy};
+ghost use Rattle.ep_main.specs.Runs.{Performs, IsHelped, Declines, Ends, EndsAs, Does, IsOfStreams, Concludes, IsVerdict, TellsWhy};
 ghost use Rattle.ep_main.specs.Words.{AskFor, AskForHelp, IsAsked};
 ghost use Rattle.ep_main.specs.declared.asked.Asked.{Asked};
 
 use crate::asked::{Asked, Emit};
 use crate::auditing::print_audit;
+use crate::collecting::print_collected;
 use crate::command_line::read_words;
 use crate::declined::Declined;
 use crate::fault::Fault;
@@ -22,6 +23,7 @@ use ep_base::{Sink, Source};
 use std::alloc::Global;
 use std::convert::AsStr;
 use std::marker::Sync;
+use std::rt::Files;
 use std::sync::Wait;
 use std::thread::Threads;
 
@@ -30,10 +32,11 @@ use std::thread::Threads;
 /// `replay` reads a script to its end, plays it, audits what it leaves, and writes the report in one go, or, with `--emit
 /// bundle`, the bundle of that. `run` reads a script, runs it in threads, audits what they leave (with `--host ring` the audit
 /// never refuses it), and writes the report, or the bundle, in one go. `audit` reads a bundle to its end, audits it, and writes
-/// what the audit says in one go. `upgrade` reads a bundle to its end and writes it in version 2, in one go.
+/// what the audit says in one go. `upgrade` reads a bundle to its end and writes it in version 2, in one go. `collect` reads files,
+/// each the log of a replica, and writes the bundle of their journals in one go; it doesn't touch the reader.
 /// What stops it (a refused script or bundle, want of memory, a reader or a writer that fails) is told by one line on the
 /// fault output; a refused command line by one, and what is wrong with it after that. Where telling fails, the status stays.
-pub fn engine<R: Threads + Wait + Sync, T: AsStr, S: Source, W: Sink, F: Sink>(
+pub fn engine<R: Files + AllocGlobal + Threads + Wait + Sync, T: AsStr, S: Source, W: Sink, F: Sink>(
     rt: &R,
     alloc: Global,
     words: &[T],
@@ -59,10 +62,13 @@ pub fn engine<R: Threads + Wait + Sync, T: AsStr, S: Source, W: Sink, F: Sink>(
         (output (W.held writer.old) (W.held writer.new) (W.has_failed writer.old) (W.has_failed writer.new))
         (output (F.held fault_writer.old) (F.held fault_writer.new) (F.has_failed fault_writer.old) (F.has_failed fault_writer.new))) }
 
-    // whatever the words and the bytes are, status 4 is that of a device that failed in this run
+    // whatever the words and the bytes are, status 4 is that of a device that failed in this run, or of a file where logs are collected
     ensures ends { Ends result (input (S.has_failed reader.old) (S.has_failed reader.new))
         (output (W.held writer.old) (W.held writer.new) (W.has_failed writer.old) (W.has_failed writer.new))
-        (output (F.held fault_writer.old) (F.held fault_writer.new) (F.has_failed fault_writer.old) (F.has_failed fault_writer.new)) }
+        (output (F.held fault_writer.old) (F.held fault_writer.new) (F.has_failed fault_writer.old) (F.has_failed fault_writer.new))
+        ⊎ ((asked : Asked) × IsAsked asked (map T.text words.now) × EndsAs asked result (input (S.has_failed reader.old) (S.has_failed reader.new))
+        (output (W.held writer.old) (W.held writer.new) (W.has_failed writer.old) (W.has_failed writer.new))
+        (output (F.held fault_writer.old) (F.held fault_writer.new) (F.has_failed fault_writer.old) (F.has_failed fault_writer.new))) }
 {
     match read_words(alloc, words) {
         Ok(asked) => perform(rt, alloc, asked, reader, writer, fault_writer),
@@ -84,7 +90,7 @@ pub(crate) fn decline<F: Sink>(why: Declined, fault_writer: &mut F) -> Status
 }
 
 /// Does what is asked, and answers how the program ends.
-pub fn perform<R: Threads + Wait + Sync, S: Source, W: Sink, F: Sink>(
+pub fn perform<R: Files + AllocGlobal + Threads + Wait + Sync, S: Source, W: Sink, F: Sink>(
     rt: &R,
     alloc: Global,
     asked: Asked,
@@ -95,22 +101,28 @@ pub fn perform<R: Threads + Wait + Sync, S: Source, W: Sink, F: Sink>(
     ensures performs { (zs : List ℕ) → S.left reader.old ≡ Some zs → Performs asked result zs (input (S.has_failed reader.old) (S.has_failed reader.new))
         (output (W.held writer.old) (W.held writer.new) (W.has_failed writer.old) (W.has_failed writer.new))
         (output (F.held fault_writer.old) (F.held fault_writer.new) (F.has_failed fault_writer.old) (F.has_failed fault_writer.new)) }
-    ensures ends { Ends result (input (S.has_failed reader.old) (S.has_failed reader.new))
+    ensures ends { EndsAs asked result (input (S.has_failed reader.old) (S.has_failed reader.new))
         (output (W.held writer.old) (W.held writer.new) (W.has_failed writer.old) (W.has_failed writer.new))
         (output (F.held fault_writer.old) (F.held fault_writer.new) (F.has_failed fault_writer.old) (F.has_failed fault_writer.new)) }
 {
-    let outcome = attempt(rt, alloc, asked, reader, writer);
-    concluded(outcome, fault_writer)
+    match asked {
+        Asked::Collect(paths) => print_collected(rt, &paths, writer, fault_writer),
+        asked => {
+            let outcome = attempt(rt, alloc, asked, reader, writer);
+            concluded(outcome, fault_writer)
+        }
+    }
 }
 
 /// Does what is asked, as far as no fault stops it.
-fn attempt<R: Threads + Wait + Sync, S: Source, W: Sink>(
+fn attempt<R: Files + AllocGlobal + Threads + Wait + Sync, S: Source, W: Sink>(
     rt: &R,
     alloc: Global,
     asked: Asked,
     reader: &mut S,
     writer: &mut W,
 ) -> Result<Status, Fault>
+    requires { IsOfStreams asked }
     ensures done { (zs : List ℕ) → S.left reader.old ≡ Some zs → Does asked result zs
         (output (W.held writer.old) (W.held writer.new) (W.has_failed writer.old) (W.has_failed writer.new)) }
     ensures verdict { IfOk result IsVerdict }
@@ -123,6 +135,7 @@ fn attempt<R: Threads + Wait + Sync, S: Source, W: Sink>(
         Asked::Run(options) => print_run(rt, alloc, &options, reader, writer),
         Asked::Audit => print_audit(alloc, reader, writer),
         Asked::Upgrade => print_upgraded(alloc, reader, writer),
+        Asked::Collect(_) => unreachable!(),
         Asked::Version => {
             writer.put(b"epaxos 0.1.0\n")?;
             Ok(Status::Accepted)

@@ -14,12 +14,13 @@ use crate::status::Status;
 use ep_base::Noted;
 use std::alloc::Global;
 use std::marker::Sync;
+use std::rt::Files;
 use std::sync::Wait;
 use std::thread::Threads;
 
 /// Whether the program, with these words and this input, ends so, and writes just this on its output and just that on its
 /// fault output.
-fn ends<R: Threads + Wait + Sync>(
+fn ends<R: Files + AllocGlobal + Threads + Wait + Sync>(
     rt: &R,
     alloc: Global,
     words: &[&str],
@@ -45,7 +46,7 @@ fn ends<R: Threads + Wait + Sync>(
 }
 
 /// Whether a replay of the script is accepted, with just this report.
-fn is_played<R: Threads + Wait + Sync>(
+fn is_played<R: Files + AllocGlobal + Threads + Wait + Sync>(
     rt: &R,
     alloc: Global,
     script: &[u8],
@@ -63,7 +64,7 @@ fn is_played<R: Threads + Wait + Sync>(
 }
 
 /// Whether an audit accepts the bundle, with the report's lines up to those of what was refused.
-fn is_audited<R: Threads + Wait + Sync>(
+fn is_audited<R: Files + AllocGlobal + Threads + Wait + Sync>(
     rt: &R,
     alloc: Global,
     bundle: &[u8],
@@ -89,7 +90,7 @@ fn is_audited<R: Threads + Wait + Sync>(
 }
 
 /// Whether the script's bundle is audited to the lines of this report.
-fn is_audited_again<R: Threads + Wait + Sync>(
+fn is_audited_again<R: Files + AllocGlobal + Threads + Wait + Sync>(
     rt: &R,
     alloc: Global,
     script: &[u8],
@@ -111,7 +112,7 @@ fn is_audited_again<R: Threads + Wait + Sync>(
 }
 
 /// Whether a replay of the script is accepted, with just this report, and its bundle is audited to the same lines.
-fn is_played_and_audited<R: Threads + Wait + Sync>(
+fn is_played_and_audited<R: Files + AllocGlobal + Threads + Wait + Sync>(
     rt: &R,
     alloc: Global,
     script: &[u8],
@@ -121,7 +122,7 @@ fn is_played_and_audited<R: Threads + Wait + Sync>(
 }
 
 /// Whether a replay of the script is refused, with just this line on the fault output.
-fn is_refused<R: Threads + Wait + Sync>(rt: &R, alloc: Global, script: &[u8], line: &[u8]) -> bool {
+fn is_refused<R: Files + AllocGlobal + Threads + Wait + Sync>(rt: &R, alloc: Global, script: &[u8], line: &[u8]) -> bool {
     ends(
         rt,
         alloc,

@@ -6,6 +6,7 @@ use crate::status::Status;
 use ep_base::Noted;
 use std::alloc::Global;
 use std::marker::Sync;
+use std::rt::Files;
 use std::process::Abort;
 use std::sync::Wait;
 use std::thread::Threads;
@@ -47,7 +48,7 @@ const ONE_PROPOSAL: [u8; 106] = [
 ];
 
 /// The bundle of this script.
-fn bundle_of<R: Threads + Wait + Sync + Abort>(rt: &R, alloc: Global, script: &[u8]) -> Vec<u8> {
+fn bundle_of<R: Files + AllocGlobal + Threads + Wait + Sync + Abort>(rt: &R, alloc: Global, script: &[u8]) -> Vec<u8> {
     let words = ["epaxos", "replay", "--emit", "bundle"];
     let mut writer = Noted::new(Vec::new(alloc));
     let mut fault_writer = Noted::new(Vec::new(alloc));
@@ -65,7 +66,7 @@ fn bundle_of<R: Threads + Wait + Sync + Abort>(rt: &R, alloc: Global, script: &[
 }
 
 /// Whether an audit of the bundle accepts it, with just this report.
-fn is_accepted<R: Threads + Wait + Sync>(
+fn is_accepted<R: Files + AllocGlobal + Threads + Wait + Sync>(
     rt: &R,
     alloc: Global,
     bundle: &[u8],
@@ -75,7 +76,7 @@ fn is_accepted<R: Threads + Wait + Sync>(
 }
 
 /// Whether an audit of the bundle ends so, with just this line on the fault output.
-fn tells<R: Threads + Wait + Sync>(
+fn tells<R: Files + AllocGlobal + Threads + Wait + Sync>(
     rt: &R,
     alloc: Global,
     bundle: &[u8],
@@ -86,7 +87,7 @@ fn tells<R: Threads + Wait + Sync>(
 }
 
 /// Whether an audit of the put's bundle, where these bytes are others, refuses it with just this report.
-fn is_refused_with<R: Threads + Wait + Sync + Abort>(
+fn is_refused_with<R: Files + AllocGlobal + Threads + Wait + Sync + Abort>(
     rt: &R,
     alloc: Global,
     bytes: &[(usize, u8)],

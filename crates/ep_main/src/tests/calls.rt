@@ -7,6 +7,7 @@ use ep_base::Noted;
 use std::alloc::{AllocError, Global};
 use std::io::{self, ErrorKind, Read, Write};
 use std::marker::Sync;
+use std::rt::Files;
 use std::process::Abort;
 use std::sync::Wait;
 use std::thread::Threads;
@@ -60,7 +61,7 @@ fn script(alloc: Global) -> Result<Vec<u8>, AllocError> {
 }
 
 /// The bundle of the script, and in how many writes it was written.
-fn bundle<R: Threads + Wait + Sync>(rt: &R, alloc: Global, script: &[u8]) -> (Vec<u8>, u64) {
+fn bundle<R: Files + AllocGlobal + Threads + Wait + Sync>(rt: &R, alloc: Global, script: &[u8]) -> (Vec<u8>, u64) {
     let words = ["epaxos", "replay", "--emit", "bundle"];
     let mut reader = Noted::new(script);
     let mut writer = Noted::new(Counted {
@@ -82,7 +83,7 @@ fn bundle<R: Threads + Wait + Sync>(rt: &R, alloc: Global, script: &[u8]) -> (Ve
 
 /// How an audit of what this reader gives ends, and in how many reads. `None` where a failed read isn't told just so, or
 /// memory was refused.
-fn audited<R: Threads + Wait + Sync>(
+fn audited<R: Files + AllocGlobal + Threads + Wait + Sync>(
     rt: &R,
     alloc: Global,
     slow: Slow<'_>,
@@ -109,7 +110,7 @@ fn audited<R: Threads + Wait + Sync>(
 }
 
 /// Whether an audit of the bundle by such a reader ends so, in this many reads.
-fn ends_in<R: Threads + Wait + Sync>(
+fn ends_in<R: Files + AllocGlobal + Threads + Wait + Sync>(
     rt: &R,
     alloc: Global,
     bundle: &[u8],
@@ -127,7 +128,7 @@ fn ends_in<R: Threads + Wait + Sync>(
 }
 
 /// The bundle of the script, written at once.
-fn whole<R: Threads + Wait + Sync + Abort>(rt: &R, alloc: Global) -> Vec<u8> {
+fn whole<R: Files + AllocGlobal + Threads + Wait + Sync + Abort>(rt: &R, alloc: Global) -> Vec<u8> {
     let script = script(alloc).expect(rt, "memory");
     let (bundle, writes) = bundle(rt, alloc, script.as_slice());
     assert!(*rt; writes == 1 && bundle.len() > 16_384);

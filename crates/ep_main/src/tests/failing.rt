@@ -5,6 +5,7 @@ use crate::status::Status;
 use ep_base::{FailAt, Noted, Sink, Source};
 use std::alloc::Global;
 use std::marker::Sync;
+use std::rt::Files;
 use std::process::Abort;
 use std::sync::Wait;
 use std::thread::Threads;
@@ -63,7 +64,7 @@ impl Ended {
 }
 
 /// How the program ends on devices that fail so.
-fn run_failing<R: Threads + Wait + Sync>(
+fn run_failing<R: Files + AllocGlobal + Threads + Wait + Sync>(
     rt: &R,
     alloc: Global,
     words: &[&str],
@@ -100,7 +101,7 @@ fn long_script(rt: &impl Abort, alloc: Global) -> Vec<u8> {
 }
 
 /// Fails each read in turn, up to one that isn't made: it is told, and nothing is written.
-fn fail_reads<R: Threads + Wait + Sync + Abort>(
+fn fail_reads<R: Files + AllocGlobal + Threads + Wait + Sync + Abort>(
     rt: &R,
     alloc: Global,
     words: &[&str],
@@ -119,7 +120,7 @@ fn fail_reads<R: Threads + Wait + Sync + Abort>(
 }
 
 /// Fails each write in turn, up to one that isn't made: it is told.
-fn fail_writes<R: Threads + Wait + Sync + Abort>(
+fn fail_writes<R: Files + AllocGlobal + Threads + Wait + Sync + Abort>(
     rt: &R,
     alloc: Global,
     words: &[&str],
@@ -137,7 +138,7 @@ fn fail_writes<R: Threads + Wait + Sync + Abort>(
 }
 
 /// Fails a read, and then a write, where the fault can't be told either: the status stays.
-fn fail_lines<R: Threads + Wait + Sync + Abort>(
+fn fail_lines<R: Files + AllocGlobal + Threads + Wait + Sync + Abort>(
     rt: &R,
     alloc: Global,
     words: &[&str],
@@ -150,7 +151,7 @@ fn fail_lines<R: Threads + Wait + Sync + Abort>(
 }
 
 /// Fails each device in turn.
-fn fail_each<R: Threads + Wait + Sync + Abort>(
+fn fail_each<R: Files + AllocGlobal + Threads + Wait + Sync + Abort>(
     rt: &R,
     alloc: Global,
     words: &[&str],
@@ -206,7 +207,7 @@ fn a_fault_output_that_fails(rt: HostRuntime) {
 }
 
 /// Whether a reader that failed in an earlier run is read as any other.
-fn is_read_again<R: Threads + Wait + Sync>(rt: &R, alloc: Global) -> bool {
+fn is_read_again<R: Files + AllocGlobal + Threads + Wait + Sync>(rt: &R, alloc: Global) -> bool {
     let mut reader = FailAt::new(Noted::new(SCRIPT), 1);
     let mut writer = Noted::new(Vec::new(alloc));
     let mut fault_writer = Noted::new(Vec::new(alloc));
@@ -231,7 +232,7 @@ fn is_read_again<R: Threads + Wait + Sync>(rt: &R, alloc: Global) -> bool {
 }
 
 /// Whether a writer that failed in an earlier run is written on as any other.
-fn is_written_again<R: Threads + Wait + Sync>(rt: &R, alloc: Global) -> bool {
+fn is_written_again<R: Files + AllocGlobal + Threads + Wait + Sync>(rt: &R, alloc: Global) -> bool {
     let mut writer = FailAt::new(Noted::new(Vec::new(alloc)), 1);
     let mut fault_writer = Noted::new(Vec::new(alloc));
     let mut reader = Noted::new(SCRIPT);

@@ -6,6 +6,7 @@ use crate::status::Status;
 use ep_base::Noted;
 use std::alloc::Global;
 use std::marker::Sync;
+use std::rt::Files;
 use std::sync::Wait;
 use std::thread::Threads;
 
@@ -32,12 +33,12 @@ lost 0
 ";
 
 /// Whether these words have the script run, and its report printed.
-fn runs<R: Threads + Wait + Sync>(rt: &R, alloc: Global, words: &[&str]) -> bool {
+fn runs<R: Files + AllocGlobal + Threads + Wait + Sync>(rt: &R, alloc: Global, words: &[&str]) -> bool {
     ends(rt, alloc, words, SCRIPT, Status::Accepted, REPORT, b"")
 }
 
 /// Whether the bundle of the script's run by this host is audited to the same lines.
-fn is_bundled<R: Threads + Wait + Sync>(rt: &R, alloc: Global, host: &str) -> bool {
+fn is_bundled<R: Files + AllocGlobal + Threads + Wait + Sync>(rt: &R, alloc: Global, host: &str) -> bool {
     let mut reader = Noted::new(SCRIPT);
     let mut writer = Noted::new(Vec::new(alloc));
     let mut fault_writer = Noted::new(Vec::new(alloc));

@@ -6,6 +6,7 @@ use crate::status::Status;
 use ep_base::Noted;
 use std::alloc::Global;
 use std::marker::Sync;
+use std::rt::Files;
 use std::sync::Wait;
 use std::thread::Threads;
 
@@ -17,7 +18,7 @@ refused 0
 ";
 
 /// Whether these words have an empty script replayed, and its report printed.
-fn replays<R: Threads + Wait + Sync>(rt: &R, alloc: Global, words: &[&str]) -> bool {
+fn replays<R: Files + AllocGlobal + Threads + Wait + Sync>(rt: &R, alloc: Global, words: &[&str]) -> bool {
     ends(
         rt,
         alloc,
@@ -30,7 +31,7 @@ fn replays<R: Threads + Wait + Sync>(rt: &R, alloc: Global, words: &[&str]) -> b
 }
 
 /// Whether these words are refused, which is told in lines that begin so and end with a pointer to help.
-fn refuses<R: Threads + Wait + Sync>(rt: &R, alloc: Global, words: &[&str], begins: &[u8]) -> bool {
+fn refuses<R: Files + AllocGlobal + Threads + Wait + Sync>(rt: &R, alloc: Global, words: &[&str], begins: &[u8]) -> bool {
     let mut reader = Noted::new(b"replicas 3\n".as_slice());
     let mut writer = Noted::new(Vec::new(alloc));
     let mut fault_writer = Noted::new(Vec::new(alloc));
@@ -53,7 +54,7 @@ fn refuses<R: Threads + Wait + Sync>(rt: &R, alloc: Global, words: &[&str], begi
 }
 
 /// Whether these words have a text printed that begins so.
-fn helps<R: Threads + Wait + Sync>(rt: &R, alloc: Global, words: &[&str], begins: &[u8]) -> bool {
+fn helps<R: Files + AllocGlobal + Threads + Wait + Sync>(rt: &R, alloc: Global, words: &[&str], begins: &[u8]) -> bool {
     let mut reader = Noted::new(b"".as_slice());
     let mut writer = Noted::new(Vec::new(alloc));
     let mut fault_writer = Noted::new(Vec::new(alloc));

@@ -1,11 +1,20 @@
-use Rattle.std.proofs.Common.{rules, ◌≡◌, ◌++◌, List, ℕ, ap, ◌∙◌}
+use Rattle.std.proofs.Common.{rules, ◌≡◌, ◌++◌, List, ℕ, codes, ap, ◌∙◌}
+use Rattle.ep_assemble.specs.Lines.{log_text}
 use Rattle.ep_assemble.proofs.Appending.{joined, last_joined}
 use Rattle.ep_assemble.proofs.lines.push_log_line.Goals as goal
 
 pub returns : goal.returns
 returns c =
-    let text : c.as_bytes.result.now ≡ c.args.name.now = search rules in
-    let second = c.in_ok-extend_from_slice-2.ensures.items ∙ ap (λ (l : List ℕ). c.extend_from_slice.new.self.items ++ l) text in
-    last_joined c.extend_from_slice-4.result _ _ _ _ _
-    (joined _ _ _ _ _ (joined _ _ _ _ _ (joined _ _ _ _ _ c.in_ok-extend_from_slice.ensures.items second) c.in_ok-extend_from_slice-3.ensures.items) c.in_ok-push_log_text.ensures)
+    let out : List ℕ = c.args.out.now.items in
+    let one : List ℕ = c.extend_from_slice.new.self.items in
+    let two : List ℕ = c.extend_from_slice-2.new.self.items in
+    let three : List ℕ = c.extend_from_slice-3.new.self.items in
+    let four : List ℕ = c.push_log_text.new.out.items in
+    let name : List ℕ = c.args.name.now in
+    let text : c.as_bytes.result.now ≡ name = search rules in
+    let second : two ≡ one ++ name = c.in_ok-extend_from_slice-2.ensures.items ∙ ap (λ (l : List ℕ). one ++ l) text in
+    last_joined c.extend_from_slice-4.result out four c.extend_from_slice-4.new.self.items (codes "log refused " ++ name ++ codes ": " ++ log_text c.args.fault) (codes "\n")
+    (joined out three four (codes "log refused " ++ name ++ codes ": ") (log_text c.args.fault)
+    (joined out two three (codes "log refused " ++ name) (codes ": ") (joined out one two (codes "log refused ") name c.in_ok-extend_from_slice.ensures.items second) c.in_ok-extend_from_slice-3.ensures.items)
+    c.in_ok-push_log_text.ensures)
     c.extend_from_slice-4.ensures.items

@@ -1,11 +1,17 @@
-use Rattle.std.proofs.Common.{rules, ◌≡◌, ◌++◌, List, ℕ, ap, ◌∙◌}
+use Rattle.std.proofs.Common.{rules, ◌≡◌, ◌++◌, List, ℕ, codes, decimal, ap, ◌∙◌}
 use Rattle.ep_assemble.proofs.Appending.{joined, last_joined}
 use Rattle.ep_assemble.proofs.lines.push_torn_line.Goals as goal
 
 pub returns : goal.returns
 returns c =
-    let text : c.as_bytes.result.now ≡ c.args.name.now = search rules in
-    let second = c.in_ok-extend_from_slice-2.ensures.items ∙ ap (λ (l : List ℕ). c.extend_from_slice.new.self.items ++ l) text in
-    last_joined c.extend_from_slice-3.result _ _ _ _ _
-    (joined _ _ _ _ _ (joined _ _ _ _ _ c.in_ok-extend_from_slice.ensures.items second) c.in_ok-push_number.ensures)
+    let out : List ℕ = c.args.out.now.items in
+    let one : List ℕ = c.extend_from_slice.new.self.items in
+    let two : List ℕ = c.extend_from_slice-2.new.self.items in
+    let three : List ℕ = c.push_number.new.out.items in
+    let name : List ℕ = c.args.name.now in
+    let number : List ℕ = codes " after byte " ++ decimal c.args.whole in
+    let text : c.as_bytes.result.now ≡ name = search rules in
+    let second : two ≡ one ++ name = c.in_ok-extend_from_slice-2.ensures.items ∙ ap (λ (l : List ℕ). one ++ l) text in
+    last_joined c.extend_from_slice-3.result out three c.extend_from_slice-3.new.self.items (codes "torn end in " ++ name ++ number) (codes "\n")
+    (joined out two three (codes "torn end in " ++ name) number (joined out one two (codes "torn end in ") name c.in_ok-extend_from_slice.ensures.items second) c.in_ok-push_number.ensures)
     c.extend_from_slice-3.ensures.items

@@ -1,4 +1,4 @@
-use Rattle.std.proofs.Common.{rules, ◌≡◌, ◌<◌, ◌+◌, ℕ, List, ◌++◌, ◌∷◌, [], take, length, sym, subst}
+use Rattle.std.proofs.Common.{rules, ◌<◌, ◌+◌, ℕ, List, ◌++◌, ◌∷◌, [], take, length, sym, subst}
 use Rattle.std.proofs.lemmas.Result.{err_from_is_err_and}
 use Rattle.ep_assemble.specs.Logs.{AreRead, IsNotRead, contents}
 use Rattle.ep_assemble.specs.declared.assembled.End.{End}
