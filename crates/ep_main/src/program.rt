@@ -36,7 +36,13 @@ use std::thread::Threads;
 /// each the log of a replica, and writes the bundle of their journals in one go; it doesn't touch the reader.
 /// What stops it (a refused script or bundle, want of memory, a reader or a writer that fails) is told by one line on the
 /// fault output; a refused command line by one, and what is wrong with it after that. Where telling fails, the status stays.
-pub fn engine<R: Files + AllocGlobal + Threads + Wait + Sync, T: AsStr, S: Source, W: Sink, F: Sink>(
+pub fn engine<
+    R: Files + AllocGlobal + Threads + Wait + Sync,
+    T: AsStr,
+    S: Source,
+    W: Sink,
+    F: Sink,
+>(
     rt: &R,
     alloc: Global,
     words: &[T],

@@ -122,7 +122,12 @@ fn is_played_and_audited<R: Files + AllocGlobal + Threads + Wait + Sync>(
 }
 
 /// Whether a replay of the script is refused, with just this line on the fault output.
-fn is_refused<R: Files + AllocGlobal + Threads + Wait + Sync>(rt: &R, alloc: Global, script: &[u8], line: &[u8]) -> bool {
+fn is_refused<R: Files + AllocGlobal + Threads + Wait + Sync>(
+    rt: &R,
+    alloc: Global,
+    script: &[u8],
+    line: &[u8],
+) -> bool {
     ends(
         rt,
         alloc,

@@ -6,8 +6,8 @@ use crate::status::Status;
 use ep_base::Noted;
 use std::alloc::Global;
 use std::marker::Sync;
-use std::rt::Files;
 use std::process::Abort;
+use std::rt::Files;
 use std::sync::Wait;
 use std::thread::Threads;
 
@@ -48,7 +48,11 @@ const ONE_PROPOSAL: [u8; 106] = [
 ];
 
 /// The bundle of this script.
-fn bundle_of<R: Files + AllocGlobal + Threads + Wait + Sync + Abort>(rt: &R, alloc: Global, script: &[u8]) -> Vec<u8> {
+fn bundle_of<R: Files + AllocGlobal + Threads + Wait + Sync + Abort>(
+    rt: &R,
+    alloc: Global,
+    script: &[u8],
+) -> Vec<u8> {
     let words = ["epaxos", "replay", "--emit", "bundle"];
     let mut writer = Noted::new(Vec::new(alloc));
     let mut fault_writer = Noted::new(Vec::new(alloc));

@@ -7,8 +7,8 @@ use ep_base::Noted;
 use std::alloc::{AllocError, Global};
 use std::io::{self, ErrorKind, Read, Write};
 use std::marker::Sync;
-use std::rt::Files;
 use std::process::Abort;
+use std::rt::Files;
 use std::sync::Wait;
 use std::thread::Threads;
 
@@ -61,7 +61,11 @@ fn script(alloc: Global) -> Result<Vec<u8>, AllocError> {
 }
 
 /// The bundle of the script, and in how many writes it was written.
-fn bundle<R: Files + AllocGlobal + Threads + Wait + Sync>(rt: &R, alloc: Global, script: &[u8]) -> (Vec<u8>, u64) {
+fn bundle<R: Files + AllocGlobal + Threads + Wait + Sync>(
+    rt: &R,
+    alloc: Global,
+    script: &[u8],
+) -> (Vec<u8>, u64) {
     let words = ["epaxos", "replay", "--emit", "bundle"];
     let mut reader = Noted::new(script);
     let mut writer = Noted::new(Counted {

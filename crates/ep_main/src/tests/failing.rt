@@ -5,8 +5,8 @@ use crate::status::Status;
 use ep_base::{FailAt, Noted, Sink, Source};
 use std::alloc::Global;
 use std::marker::Sync;
-use std::rt::Files;
 use std::process::Abort;
+use std::rt::Files;
 use std::sync::Wait;
 use std::thread::Threads;
 

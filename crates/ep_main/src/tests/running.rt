@@ -33,12 +33,20 @@ lost 0
 ";
 
 /// Whether these words have the script run, and its report printed.
-fn runs<R: Files + AllocGlobal + Threads + Wait + Sync>(rt: &R, alloc: Global, words: &[&str]) -> bool {
+fn runs<R: Files + AllocGlobal + Threads + Wait + Sync>(
+    rt: &R,
+    alloc: Global,
+    words: &[&str],
+) -> bool {
     ends(rt, alloc, words, SCRIPT, Status::Accepted, REPORT, b"")
 }
 
 /// Whether the bundle of the script's run by this host is audited to the same lines.
-fn is_bundled<R: Files + AllocGlobal + Threads + Wait + Sync>(rt: &R, alloc: Global, host: &str) -> bool {
+fn is_bundled<R: Files + AllocGlobal + Threads + Wait + Sync>(
+    rt: &R,
+    alloc: Global,
+    host: &str,
+) -> bool {
     let mut reader = Noted::new(SCRIPT);
     let mut writer = Noted::new(Vec::new(alloc));
     let mut fault_writer = Noted::new(Vec::new(alloc));

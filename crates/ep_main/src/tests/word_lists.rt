@@ -18,7 +18,11 @@ refused 0
 ";
 
 /// Whether these words have an empty script replayed, and its report printed.
-fn replays<R: Files + AllocGlobal + Threads + Wait + Sync>(rt: &R, alloc: Global, words: &[&str]) -> bool {
+fn replays<R: Files + AllocGlobal + Threads + Wait + Sync>(
+    rt: &R,
+    alloc: Global,
+    words: &[&str],
+) -> bool {
     ends(
         rt,
         alloc,
@@ -31,7 +35,12 @@ fn replays<R: Files + AllocGlobal + Threads + Wait + Sync>(rt: &R, alloc: Global
 }
 
 /// Whether these words are refused, which is told in lines that begin so and end with a pointer to help.
-fn refuses<R: Files + AllocGlobal + Threads + Wait + Sync>(rt: &R, alloc: Global, words: &[&str], begins: &[u8]) -> bool {
+fn refuses<R: Files + AllocGlobal + Threads + Wait + Sync>(
+    rt: &R,
+    alloc: Global,
+    words: &[&str],
+    begins: &[u8],
+) -> bool {
     let mut reader = Noted::new(b"replicas 3\n".as_slice());
     let mut writer = Noted::new(Vec::new(alloc));
     let mut fault_writer = Noted::new(Vec::new(alloc));
@@ -54,7 +63,12 @@ fn refuses<R: Files + AllocGlobal + Threads + Wait + Sync>(rt: &R, alloc: Global
 }
 
 /// Whether these words have a text printed that begins so.
-fn helps<R: Files + AllocGlobal + Threads + Wait + Sync>(rt: &R, alloc: Global, words: &[&str], begins: &[u8]) -> bool {
+fn helps<R: Files + AllocGlobal + Threads + Wait + Sync>(
+    rt: &R,
+    alloc: Global,
+    words: &[&str],
+    begins: &[u8],
+) -> bool {
     let mut reader = Noted::new(b"".as_slice());
     let mut writer = Noted::new(Vec::new(alloc));
     let mut fault_writer = Noted::new(Vec::new(alloc));
