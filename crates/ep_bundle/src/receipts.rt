@@ -14,7 +14,8 @@ use ep_base::{Size, Source, Version};
 use ep_rules::Receipt;
 use std::alloc::Global;
 
-fn read_receipt<S: Source>(
+/// One receipt, in this version and cluster. `place` is the offset of its first byte, and then of the first byte after it.
+pub fn read_receipt<S: Source>(
     alloc: Global,
     source: &mut S,
     place: &mut u64,

@@ -21,4 +21,5 @@ pub use audit_fault::AuditFault;
 pub use cause::Cause;
 pub use happening::Happening;
 pub use losses::Losses;
+pub use parts::{push_answer, push_command, push_deps, push_instance, push_number, push_reply};
 pub use reports::{accepted, refusal, report, run_report};

@@ -10,7 +10,7 @@ use itoa::Buffer;
 use std::alloc::AllocError;
 
 /// Appends a number in decimal digits.
-pub(crate) fn push_number(text: &mut Vec<u8>, number: u64) -> Result<(), AllocError>
+pub fn push_number(text: &mut Vec<u8>, number: u64) -> Result<(), AllocError>
     ensures { OnOk result (text.new.items ≡ text.old.items ++ decimal number) }
 {
     if number < 10 {
@@ -22,7 +22,7 @@ pub(crate) fn push_number(text: &mut Vec<u8>, number: u64) -> Result<(), AllocEr
 }
 
 /// Appends an instance.
-pub(crate) fn push_instance(text: &mut Vec<u8>, instance: InstanceId) -> Result<(), AllocError>
+pub fn push_instance(text: &mut Vec<u8>, instance: InstanceId) -> Result<(), AllocError>
     ensures { OnOk result (text.new.items ≡ text.old.items ++ instance_text instance) }
 {
     push_number(text, u64::from(instance.replica().index()))?;
@@ -31,7 +31,7 @@ pub(crate) fn push_instance(text: &mut Vec<u8>, instance: InstanceId) -> Result<
 }
 
 /// Appends a set of instances.
-pub(crate) fn push_deps(text: &mut Vec<u8>, deps: &Deps) -> Result<(), AllocError>
+pub fn push_deps(text: &mut Vec<u8>, deps: &Deps) -> Result<(), AllocError>
     ensures { OnOk result (text.new.items ≡ text.old.items ++ deps_text deps.now) }
 {
     let [first, rest @ ..] = deps.as_slice() else {
@@ -53,7 +53,7 @@ fn push_more_deps(text: &mut Vec<u8>, deps: &[InstanceId]) -> Result<(), AllocEr
 }
 
 /// Appends a command.
-pub(crate) fn push_command(text: &mut Vec<u8>, command: &Command) -> Result<(), AllocError>
+pub fn push_command(text: &mut Vec<u8>, command: &Command) -> Result<(), AllocError>
     ensures { OnOk result (text.new.items ≡ text.old.items ++ command_text command.now) }
 {
     match command {
@@ -88,7 +88,7 @@ fn push_spelled(text: &mut Vec<u8>, before: &[u8], bytes: &[u8]) -> Result<(), A
 }
 
 /// Appends a reply.
-pub(crate) fn push_reply(text: &mut Vec<u8>, reply: &Reply) -> Result<(), AllocError>
+pub fn push_reply(text: &mut Vec<u8>, reply: &Reply) -> Result<(), AllocError>
     ensures { OnOk result (text.new.items ≡ text.old.items ++ reply_text reply.now) }
 {
     match reply {
@@ -98,7 +98,7 @@ pub(crate) fn push_reply(text: &mut Vec<u8>, reply: &Reply) -> Result<(), AllocE
 }
 
 /// Appends an answer.
-pub(crate) fn push_answer(text: &mut Vec<u8>, answer: &Answer) -> Result<(), AllocError>
+pub fn push_answer(text: &mut Vec<u8>, answer: &Answer) -> Result<(), AllocError>
     ensures { OnOk result (text.new.items ≡ text.old.items ++ answer_text answer.now) }
 {
     match answer {
