@@ -1,0 +1,87 @@
+//! Client numbers, none of which is ever given twice, by any replica and over all its starts.
+use crate::identities::replace;
+use std::fs;
+use std::io;
+use std::path::{Path, PathBuf};
+
+/// So many numbers are set aside at once, on the disk.
+const BLOCK: u32 = 256;
+/// Numbers are shared out among so many replicas.
+const SHARES: u32 = 8;
+/// No further block has numbers below 2^32.
+const MOST_BLOCKS: u32 = u32::MAX / BLOCK / SHARES;
+const NAME: &str = "client-blocks";
+
+/// The numbers of one replica. A block is set aside when its first number is asked for; what is left of it when the store
+/// ends is never given.
+pub struct Numbers {
+    folder: PathBuf,
+    replica: u8,
+    block: u32,
+    /// How many of the block were given.
+    given: u32,
+}
+
+impl Numbers {
+    /// Those of a replica, whose folder tells how many blocks were set aside.
+    pub fn new(folder: &Path, replica: u8) -> Numbers {
+        Numbers { folder: folder.to_path_buf(), replica, block: 0, given: BLOCK }
+    }
+
+    /// The next number, from 1.
+    pub fn give(&mut self) -> Result<u32, String> {
+        if self.given == BLOCK {
+            self.block = set_aside(&self.folder)?;
+            self.given = 0;
+        }
+        let place = self.block * BLOCK + self.given;
+        self.given += 1;
+        Ok(place * SHARES + u32::from(self.replica) + 1)
+    }
+}
+
+/// Sets the next block aside.
+fn set_aside(folder: &Path) -> Result<u32, String> {
+    let path = folder.join(NAME);
+    let told = |error: io::Error| format!("{}: {error}", path.display());
+    let blocks = match fs::read_to_string(&path) {
+        Ok(text) => text.trim().parse().map_err(|_| format!("{} holds no number", path.display()))?,
+        Err(error) if error.kind() == io::ErrorKind::NotFound => 0,
+        Err(error) => return Err(told(error)),
+    };
+    if blocks >= MOST_BLOCKS {
+        return Err("no client numbers are left".into());
+    }
+    replace(folder, NAME, &format!("{}\n", blocks + 1)).map_err(told)?;
+    Ok(blocks)
+}
+
+#[cfg(test)]
+mod tests {
+    use super::*;
+    use std::collections::HashSet;
+
+    #[test]
+    fn numbers_are_given_once() {
+        let folder = std::env::temp_dir().join(format!("store-numbers-{}", std::process::id()));
+        let mut all = HashSet::new();
+        for replica in 0..7 {
+            let folder = folder.join(replica.to_string());
+            fs::create_dir_all(&folder).unwrap();
+            for count in [1, 0, BLOCK, BLOCK + 1, 3] {
+                let mut numbers = Numbers::new(&folder, replica);
+                for _ in 0..count {
+                    let number = numbers.give().unwrap();
+                    assert!(number > 0 && all.insert(number));
+                }
+            }
+            assert_eq!(fs::read_to_string(folder.join(NAME)).unwrap(), "5\n");
+            for (blocks, is_left) in [(MOST_BLOCKS - 1, true), (MOST_BLOCKS, false)] {
+                fs::write(folder.join(NAME), blocks.to_string()).unwrap();
+                let number = Numbers::new(&folder, replica).give();
+                assert_eq!(number.is_ok_and(|number| all.insert(number)), is_left);
+            }
+        }
+        fs::remove_dir_all(&folder).unwrap();
+    }
+}
