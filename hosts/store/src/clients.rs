@@ -89,9 +89,8 @@ impl Connection {
             }
             let reply = self.answer(asked).unwrap_or_else(Reply::Error);
             reply.write(&mut writer)?;
-            if reader.buffer().is_empty() {
-                writer.flush()?;
-            }
+            // What comes next may wait for other replicas, or for more bytes: no reply waits with it.
+            writer.flush()?;
         }
     }
 
@@ -101,7 +100,13 @@ impl Connection {
         }
         let mut replies = Vec::new();
         for command in asked.commands() {
-            replies.push(self.execute(command)?);
+            match self.execute(command) {
+                Ok(reply) => replies.push(reply),
+                Err(error) if replies.is_empty() => return Err(error),
+                Err(error) => {
+                    return Err(format!("{error} (this is of key {}; those before it are deleted)", replies.len() + 1));
+                }
+            }
         }
         match asked {
             Asked::Get(_) => Ok(value_of(replies.pop())),

@@ -1,4 +1,5 @@
-//! The folder of a replica: where its files are, and a lock.
+//! The folder of a replica: where its files are, a lock, and whether they are whole.
+use crate::identities;
 use std::fs::{self, File, OpenOptions, TryLockError};
 use std::io;
 use std::path::{Path, PathBuf};
@@ -7,12 +8,15 @@ use std::time::{Duration, Instant};
 
 /// How long to wait for a node that still ends.
 const PATIENCE: Duration = Duration::from_secs(10);
+/// A log that is shorter has no header: the node would begin it anew.
+const SHORTEST_LOG: u64 = 7;
+const NEVER: &str = "This replica must not come back: it may have promised what it doesn't know any more";
 
 /// A replica's folder, which this process alone uses.
 pub struct Directory {
     path: PathBuf,
     /// Takes the node's standard error. The lock on it is held as long as this process or the node lives.
-    pub errors: File,
+    errors: File,
 }
 
 impl Directory {
@@ -38,6 +42,50 @@ impl Directory {
     pub fn errors_path(&self) -> PathBuf {
         self.path.join("node-errors")
     }
+
+    /// Another handle of the file for the node's standard error, with the same lock.
+    pub fn errors(&self) -> io::Result<File> {
+        self.errors.try_clone()
+    }
+
+    fn has_identities(&self) -> bool {
+        self.path.join(identities::NAME).exists()
+    }
+
+    /// Before the node starts. A folder gets its identities once its log is on the disk; so one with identities and without a
+    /// log has lost it.
+    pub fn check_log(&self) -> Result<(), String> {
+        let log = self.log();
+        let length = match fs::metadata(&log) {
+            Ok(found) => found.len(),
+            Err(error) if error.kind() == io::ErrorKind::NotFound => 0,
+            Err(error) => return Err(format!("{}: {error}", log.display())),
+        };
+        if self.has_identities() && length < SHORTEST_LOG {
+            return Err(format!("{} was lost. {NEVER}", log.display()));
+        }
+        Ok(())
+    }
+
+    /// Before the folder gets its identities, where it has none. `entries` are the log's, `told` is the last one that a client
+    /// was told of.
+    pub fn check_entries(&self, entries: u32, told: u32) -> Result<(), String> {
+        let log = self.log();
+        if entries < told {
+            return Err(format!(
+                "{} has forgotten: it has {entries} entries, and a client was told of entry {told}. {NEVER}",
+                log.display()
+            ));
+        }
+        if entries > 0 && !self.has_identities() {
+            let path = self.path.display();
+            return Err(format!(
+                "the folder {path} isn't whole: its log has entries, and {} is lost",
+                identities::NAME
+            ));
+        }
+        Ok(())
+    }
 }
 
 fn lock(file: &File, path: &Path) -> Result<(), String> {
@@ -53,5 +101,32 @@ fn lock(file: &File, path: &Path) -> Result<(), String> {
                 return Err(format!("the folder {} can't be locked: {error}", path.display()));
             }
         }
+    }
+}
+
+#[cfg(test)]
+mod tests {
+    use super::*;
+
+    #[test]
+    fn what_is_lost_is_noticed() {
+        let path = std::env::temp_dir().join(format!("store-directory-{}", std::process::id()));
+        let directory = Directory::open(&path).unwrap();
+        // A first start, before and after its log was made.
+        directory.check_log().unwrap();
+        fs::write(directory.log(), [0; 7]).unwrap();
+        directory.check_log().unwrap();
+        directory.check_entries(0, 0).unwrap();
+        // Entries, and no identities.
+        assert!(directory.check_entries(1, 0).unwrap_err().contains("isn't whole"));
+        fs::write(path.join(identities::NAME), "").unwrap();
+        directory.check_log().unwrap();
+        directory.check_entries(5, 5).unwrap();
+        assert!(directory.check_entries(4, 5).unwrap_err().contains("4 entries, and a client was told of entry 5"));
+        fs::write(directory.log(), [0; 6]).unwrap();
+        assert!(directory.check_log().unwrap_err().contains("was lost"));
+        fs::remove_file(directory.log()).unwrap();
+        assert!(directory.check_log().unwrap_err().contains("was lost"));
+        fs::remove_dir_all(&path).unwrap();
     }
 }

@@ -23,6 +23,8 @@ pub enum Event {
     Frame(Vec<u8>),
     /// A connection to a peer was opened.
     PeerReached,
+    /// The node answers nothing any more.
+    NodeEnded,
     /// A client asks.
     Ask(Ask),
 }
@@ -147,12 +149,12 @@ impl Driver {
         let Some(first) = self.wait()? else {
             return Ok(batch);
         };
-        self.take(first, &mut batch);
+        self.take(first, &mut batch)?;
         for _ in 1..MOST_EVENTS {
             let Ok(event) = self.events.try_recv() else {
                 break;
             };
-            self.take(event, &mut batch);
+            self.take(event, &mut batch)?;
         }
         Ok(batch)
     }
@@ -168,13 +170,14 @@ impl Driver {
         }
     }
 
-    fn take(&mut self, event: Event, batch: &mut Batch) {
+    fn take(&mut self, event: Event, batch: &mut Batch) -> Result<(), Stop> {
         match event {
             Event::Frame(frame) => {
                 self.commits.note(self.place.replica, &frame);
                 batch.push(Request::Frame(frame), Purpose::Frame);
             }
             Event::PeerReached => self.timers.hurry(Instant::now()),
+            Event::NodeEnded => return Err(Stop::Node(self.node.ended())),
             Event::Ask(Ask { what: What::Propose { client, request, seen, command }, reply }) => {
                 let is_put = matches!(command, Command::Put { .. });
                 let purpose = Purpose::Proposal { client, request, is_put, reply };
@@ -185,6 +188,7 @@ impl Driver {
                 let _ = reply.send(Told::Info(self.info()));
             }
         }
+        Ok(())
     }
 
     fn ask(&mut self, requests: &[Request]) -> Result<Vec<Answer>, Stop> {
@@ -296,19 +300,20 @@ impl Driver {
 
     fn accept(&mut self, purpose: Purpose, answer: Answer, outcome: &mut Outcome) -> Result<(), Stop> {
         match (purpose, answer) {
-            (purpose, Answer::Taken(entries)) => {
-                if let (Purpose::Proposal { client, request, is_put, reply }, [entry]) = (purpose, &entries[..]) {
-                    self.used = self.used.max(entry.took.map_or(0, |instance| instance.number));
-                    if is_put && self.plant == Some(Plant::Early) {
-                        let _ = reply.send(Told::Done { stamp: entry.stamp, reply: Reply::Absent });
-                    } else {
-                        self.waiting.insert((client, request), reply);
-                    }
+            (Purpose::Proposal { client, request, is_put, reply }, Answer::Taken(entries)) => {
+                let [Entry { took: Some(instance), stamp, .. }] = entries[..] else {
+                    return self.bad_answer(&Answer::Taken(entries));
+                };
+                self.used = self.used.max(instance.number);
+                if is_put && self.plant == Some(Plant::Early) {
+                    let _ = reply.send(Told::Done { stamp, reply: Reply::Absent });
+                } else {
+                    self.waiting.insert((client, request), reply);
                 }
-                if !entries.is_empty() {
-                    self.timers.change();
-                }
-                entries.into_iter().for_each(|entry| outcome.add(entry));
+                self.take_in(entries, outcome);
+            }
+            (Purpose::Frame | Purpose::Late(_) | Purpose::Execution(_) | Purpose::Host, Answer::Taken(entries)) => {
+                self.take_in(entries, outcome);
             }
             (Purpose::Proposal { reply, .. }, Answer::Refused(fault, _)) => {
                 if fault == Fault::SPACE_FULL {
@@ -332,6 +337,19 @@ impl Driver {
         Ok(())
     }
 
+    /// What the node has taken is to be handed out.
+    fn take_in(&mut self, entries: Vec<Entry>, outcome: &mut Outcome) {
+        if !entries.is_empty() {
+            self.timers.change();
+        }
+        for mut entry in entries {
+            if self.plant == Some(Plant::Changed) && entry.number % 16 == 0 {
+                entry.receipts.iter_mut().for_each(change);
+            }
+            outcome.add(entry);
+        }
+    }
+
     fn info(&self) -> String {
         let mut text = String::new();
         let mut line = |name: &str, value: &dyn std::fmt::Display| {
@@ -352,4 +370,12 @@ impl Driver {
         }
         text
     }
+}
+
+/// The plant of a receipt whose reply is another one.
+fn change(receipt: &mut Receipt) {
+    receipt.reply = match receipt.reply {
+        Reply::Present(_) => Reply::Absent,
+        _ => Reply::Present(vec![0; 4]),
+    };
 }

@@ -9,6 +9,9 @@ use std::sync::Mutex;
 
 pub type Identity = [u8; 16];
 
+/// The file's name.
+pub const NAME: &str = "identities";
+
 /// The identities that are known, this replica's among them.
 pub struct Identities {
     folder: PathBuf,
@@ -19,7 +22,7 @@ pub struct Identities {
 impl Identities {
     /// Reads what the folder tells. At the first start this replica's identity is made.
     pub fn open(folder: &Path, replicas: usize, replica: u8) -> Result<Identities, String> {
-        let path = folder.join("identities");
+        let path = folder.join(NAME);
         let told = |error: io::Error| format!("{}: {error}", path.display());
         let text = match fs::read_to_string(&path) {
             Err(error) if error.kind() == io::ErrorKind::NotFound => String::new(),
@@ -84,7 +87,7 @@ fn write_lines(folder: &Path, known: &[Option<Identity>]) -> io::Result<()> {
             text += &format!("{replica} {:032x}\n", u128::from_be_bytes(*identity));
         }
     }
-    replace(folder, "identities", &text)
+    replace(folder, NAME, &text)
 }
 
 /// Puts a file with this text on the disk: the old one or the new one is there, whenever the machine stops.

@@ -3,14 +3,14 @@ use std::collections::HashMap;
 use std::net::TcpListener;
 use std::process::ExitCode;
 use std::sync::atomic::AtomicUsize;
-use std::sync::mpsc::sync_channel;
+use std::sync::mpsc::{SyncSender, sync_channel};
 use std::sync::{Arc, Mutex};
 use std::thread;
 use std::time::Instant;
 use store::clients::{self, Shared};
 use store::commits::Commits;
 use store::directory::Directory;
-use store::driver::{Driver, Stop};
+use store::driver::{Driver, Event, Stop};
 use store::identities::Identities;
 use store::node::{Node, Start};
 use store::numbers::Numbers;
@@ -54,24 +54,26 @@ fn start(options: Options) -> Result<Driver, String> {
     let directory = Directory::open(&options.directory)?;
     let receipts_path = directory.receipts();
     let receipts = Receipts::open(&receipts_path)
-        .map_err(|error| format!("the receipts {} can't be opened: {error}", receipts_path.display()))?;
-    let identities = Arc::new(Identities::open(&options.directory, place.replicas, place.replica)?);
-    let numbers = Mutex::new(Numbers::new(&options.directory, place.replica));
-    let log = directory.log();
-    let (node, entries) = start_node(&options, place, directory)?;
-    if entries < receipts.named.entry && options.plant != Some(Plant::Forgetful) {
-        let (log, named) = (log.display(), receipts.named.entry);
-        return Err(format!(
-            "{log} has forgotten: it has {entries} entries, and a client was told of entry {named}. \
-             This replica must not come back"
-        ));
+        .map_err(|error| format!("the receipts {} can't be used: {error}", receipts_path.display()))?;
+    let numbers = Numbers::new(&options.directory, place.replica);
+    numbers.check(receipts.named.client)?;
+    let is_forgetful = options.plant == Some(Plant::Forgetful);
+    if !is_forgetful {
+        directory.check_log()?;
     }
     let (sender, events) = sync_channel(WAITING_EVENTS);
+    let (node, entries) = start_node(&options, place, &directory, &sender)?;
+    if !is_forgetful {
+        directory.check_entries(entries, receipts.named.entry)?;
+    }
+    // The log is on the disk: from now on a folder without one has lost it.
+    let identities = Arc::new(Identities::open(&options.directory, place.replicas, place.replica)?);
     let told = |error: std::io::Error| format!("a thread can't be started: {error}");
     let peers = Peers::start(place, &options.peers, &identities, &sender).map_err(told)?;
     let receiving = Arc::new(Receiving::new(place, identities, sender.clone()));
     spawn("peers", move || peers::listen(for_peers, &receiving)).map_err(told)?;
     let connections = AtomicUsize::new(0);
+    let numbers = Mutex::new(numbers);
     let shared = Arc::new(Shared { events: sender, numbers, patience: options.patience, connections });
     spawn("clients", move || clients::listen(for_clients, shared)).map_err(told)?;
     let (replica, replicas) = (place.replica, place.replicas);
@@ -101,15 +103,21 @@ fn spawn(name: &str, work: impl FnOnce() + Send + 'static) -> std::io::Result<()
 }
 
 /// Starts the node, and waits until it has read its log: how many entries that has.
-fn start_node(options: &Options, place: Place, directory: Directory) -> Result<(Node, u32), String> {
-    let (log, errors_path) = (directory.log(), directory.errors_path());
+fn start_node(
+    options: &Options,
+    place: Place,
+    directory: &Directory,
+    events: &SyncSender<Event>,
+) -> Result<(Node, u32), String> {
+    let events = events.clone();
     let start = Start {
         program: &options.node,
         replicas: place.replicas,
         replica: place.replica,
-        log: &log,
-        errors: directory.errors,
-        errors_path,
+        log: &directory.log(),
+        errors: directory.errors().map_err(|error| error.to_string())?,
+        errors_path: directory.errors_path(),
+        on_end: Box::new(move || _ = events.send(Event::NodeEnded)),
     };
     let mut node = Node::start(start).map_err(|fault| fault.to_string())?;
     match node.ask(&[Request::Sync]).map_err(|fault| Stop::Node(fault).to_string())?[..] {

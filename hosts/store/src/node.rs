@@ -18,6 +18,8 @@ pub struct Start<'a> {
     pub errors: File,
     /// Where `errors` can be read.
     pub errors_path: PathBuf,
+    /// Called once, from another thread, when no more answers will come.
+    pub on_end: Box<dyn FnOnce() + Send>,
 }
 
 /// Why there is no answer.
@@ -77,7 +79,13 @@ impl Node {
         };
         let (sender, answers) = channel();
         // A thread of its own reads the answers, so that neither side waits for the other with both pipes full.
-        thread::Builder::new().name("answers".into()).spawn(move || read_answers(output, &sender)).map_err(failed)?;
+        let on_end = start.on_end;
+        let read = move || {
+            read_answers(output, &sender);
+            drop(sender);
+            on_end();
+        };
+        thread::Builder::new().name("answers".into()).spawn(read).map_err(failed)?;
         Ok(Node { child, input, answers, errors_path: start.errors_path, _errors: errors })
     }
 
@@ -106,7 +114,8 @@ impl Node {
         Ok(answers)
     }
 
-    fn ended(&mut self) -> NodeFault {
+    /// Waits for the end of a node whose answers are over: with what it ended.
+    pub fn ended(&mut self) -> NodeFault {
         let status = self.child.wait().ok();
         let errors = std::fs::read(&self.errors_path).unwrap_or_default();
         NodeFault::Ended(status, String::from_utf8_lossy(&errors).trim().replace('\n', "; "))

@@ -28,10 +28,20 @@ impl Numbers {
         Numbers { folder: folder.to_path_buf(), replica, block: 0, given: BLOCK }
     }
 
+    /// Whether the greatest number that a client was told under was set aside, 0 being none.
+    pub fn check(&self, greatest: u32) -> Result<(), String> {
+        let given = u64::from(set_aside(&self.folder)?) * u64::from(BLOCK);
+        if greatest > 0 && u64::from((greatest - 1) / SHARES) >= given {
+            let path = self.folder.join(NAME);
+            return Err(format!("{} has forgotten client {greatest}, which was answered", path.display()));
+        }
+        Ok(())
+    }
+
     /// The next number, from 1.
     pub fn give(&mut self) -> Result<u32, String> {
         if self.given == BLOCK {
-            self.block = set_aside(&self.folder)?;
+            self.block = set_next_aside(&self.folder)?;
             self.given = 0;
         }
         let place = self.block * BLOCK + self.given;
@@ -40,15 +50,20 @@ impl Numbers {
     }
 }
 
-/// Sets the next block aside.
+/// How many blocks were set aside.
 fn set_aside(folder: &Path) -> Result<u32, String> {
     let path = folder.join(NAME);
-    let told = |error: io::Error| format!("{}: {error}", path.display());
-    let blocks = match fs::read_to_string(&path) {
-        Ok(text) => text.trim().parse().map_err(|_| format!("{} holds no number", path.display()))?,
-        Err(error) if error.kind() == io::ErrorKind::NotFound => 0,
-        Err(error) => return Err(told(error)),
-    };
+    match fs::read_to_string(&path) {
+        Ok(text) => text.trim().parse().map_err(|_| format!("{} holds no number", path.display())),
+        Err(error) if error.kind() == io::ErrorKind::NotFound => Ok(0),
+        Err(error) => Err(format!("{}: {error}", path.display())),
+    }
+}
+
+/// Sets the next block aside.
+fn set_next_aside(folder: &Path) -> Result<u32, String> {
+    let told = |error: io::Error| format!("{}: {error}", folder.join(NAME).display());
+    let blocks = set_aside(folder)?;
     if blocks >= MOST_BLOCKS {
         return Err("no client numbers are left".into());
     }
@@ -76,6 +91,9 @@ mod tests {
                 }
             }
             assert_eq!(fs::read_to_string(folder.join(NAME)).unwrap(), "5\n");
+            let numbers = Numbers::new(&folder, replica);
+            assert!(numbers.check(0).is_ok() && numbers.check(5 * BLOCK * SHARES).is_ok());
+            assert!(numbers.check(5 * BLOCK * SHARES + 1).unwrap_err().contains("has forgotten client 10241"));
             for (blocks, is_left) in [(MOST_BLOCKS - 1, true), (MOST_BLOCKS, false)] {
                 fs::write(folder.join(NAME), blocks.to_string()).unwrap();
                 let number = Numbers::new(&folder, replica).give();

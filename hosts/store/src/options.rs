@@ -23,6 +23,8 @@ pub enum Plant {
     Early,
     /// A log that has forgotten what clients were told is taken.
     Forgetful,
+    /// Some receipts have another reply than the node's.
+    Changed,
 }
 
 /// What the store was told.
@@ -88,6 +90,7 @@ fn read_plant(word: &str) -> Result<Plant, String> {
     match word {
         "early" => Ok(Plant::Early),
         "forgetful" => Ok(Plant::Forgetful),
+        "changed" => Ok(Plant::Changed),
         _ => Err(format!("--plant {word}: not known")),
     }
 }

@@ -1,7 +1,8 @@
 //! The connections to the other replicas: one for each direction, so that each end opens again what it needs.
 //!
-//! A connection begins by a greeting and its answer, by which both ends know each other. Then come frames, each as its length in 4 bytes and its bytes. A frame that can't
-//! be sent is lost: the protocol allows for it.
+//! A connection begins by a greeting and its answer, by which both ends know each other. Then come frames, each as its
+//! length in 4 bytes and its bytes; the other way goes a byte a second, so that a peer whose machine or network is gone is
+//! noticed. A frame that can't be sent is lost: the protocol allows for it.
 use crate::driver::Event;
 use crate::identities::{Identities, Identity};
 use crate::say::say;
@@ -24,6 +25,10 @@ const MAGIC: [u8; 5] = *b"EPST\x01";
 const GREETING: usize = 8 + 16;
 const CONNECT_PATIENCE: Duration = Duration::from_secs(2);
 const WRITE_PATIENCE: Duration = Duration::from_secs(5);
+/// Between two bytes by which the receiving end tells that it is there.
+const BEAT: Duration = Duration::from_secs(1);
+/// A peer that tells nothing for so long is lost.
+const SILENCE: Duration = Duration::from_secs(5);
 const LEAST_PAUSE: Duration = Duration::from_millis(20);
 const GREATEST_PAUSE: Duration = Duration::from_millis(500);
 
@@ -83,8 +88,8 @@ impl Peers {
 struct Queue {
     frames: VecDeque<Vec<u8>>,
     bytes: usize,
-    /// The other end has closed the connection.
-    is_closed: bool,
+    /// Why the connection is over, if the other end has told or is silent.
+    over: Option<&'static str>,
 }
 
 struct Link {
@@ -175,7 +180,7 @@ impl Link {
         stream.read_exact(&mut answer)?;
         let mut identity = [0; 16];
         stream.read_exact(&mut identity)?;
-        stream.set_read_timeout(None)?;
+        stream.set_read_timeout(Some(SILENCE))?;
         if answer == [REFUSED] {
             return Err(Refused::For("knows another replica under this one's number: this one must not come back"));
         }
@@ -187,16 +192,14 @@ impl Link {
 
     /// Sends what comes; ends with the cause.
     fn send_all(&self, stream: TcpStream) -> String {
-        self.queue().is_closed = false;
+        self.queue().over = None;
         let Ok(reading) = stream.try_clone() else {
             return "no more handles".into();
         };
         thread::scope(|scope| {
-            // The other end sends nothing more; so where a read ends, the connection has.
             scope.spawn(|| {
-                let mut reading = reading;
-                let _ = io::copy(&mut reading, &mut io::sink());
-                self.queue().is_closed = true;
+                let over = heard_out(reading);
+                self.queue().over = Some(over);
                 self.changed.notify_one();
             });
             let cause = self.send_while_open(&stream);
@@ -209,11 +212,11 @@ impl Link {
         let mut writer = BufWriter::with_capacity(1 << 16, stream);
         loop {
             let mut queue = self.queue();
-            while queue.frames.is_empty() && !queue.is_closed {
+            while queue.frames.is_empty() && queue.over.is_none() {
                 queue = self.changed.wait(queue).unwrap_or_else(|poisoned| poisoned.into_inner());
             }
-            if queue.is_closed {
-                return "it has closed the connection".into();
+            if let Some(over) = queue.over {
+                return over.into();
             }
             let frames = std::mem::take(&mut queue.frames);
             queue.bytes = 0;
@@ -240,6 +243,29 @@ enum Refused {
 impl From<io::Error> for Refused {
     fn from(_: io::Error) -> Refused {
         Refused::Failed
+    }
+}
+
+/// Hears the other end tell that it is there, until it doesn't: why.
+fn heard_out(mut stream: impl Read) -> &'static str {
+    let mut beats = [0; 64];
+    loop {
+        match stream.read(&mut beats) {
+            Ok(0) => return "it has closed the connection",
+            Ok(_) => {}
+            Err(error) if error.kind() == io::ErrorKind::Interrupted => {}
+            Err(error) if matches!(error.kind(), io::ErrorKind::WouldBlock | io::ErrorKind::TimedOut) => {
+                return "it is silent";
+            }
+            Err(_) => return "the connection is broken",
+        }
+    }
+}
+
+/// Tells the other end that this one is there, until the connection is over.
+fn beat(mut stream: TcpStream) {
+    while stream.write_all(&[0]).is_ok() {
+        thread::sleep(BEAT);
     }
 }
 
@@ -331,6 +357,15 @@ impl Receiving {
         }
         stream.set_read_timeout(None)?;
         self.replace(from, stream.try_clone()?);
+        let beating = stream.try_clone()?;
+        thread::Builder::new().name("beats".into()).stack_size(64 << 10).spawn(move || beat(beating))?;
+        let ended = self.take_frames(&stream);
+        // There are other handles of the connection, so it doesn't end with this one.
+        let _ = stream.shutdown(Shutdown::Both);
+        ended
+    }
+
+    fn take_frames(&self, stream: &TcpStream) -> io::Result<()> {
         let mut reader = BufReader::with_capacity(1 << 16, stream);
         loop {
             let frame = read_frame(&mut reader)?;
@@ -393,6 +428,19 @@ mod tests {
             assert_eq!(greeter(place, &greeting(end)), None);
         }
         assert_eq!(greeter(place, b"GET / HTTP/1.1\r\nHost: a\r"), None);
+    }
+
+    #[test]
+    fn a_silent_peer_is_lost() {
+        let listener = TcpListener::bind("127.0.0.1:0").unwrap();
+        let near = TcpStream::connect(listener.local_addr().unwrap()).unwrap();
+        let (mut far, _) = listener.accept().unwrap();
+        near.set_read_timeout(Some(Duration::from_millis(50))).unwrap();
+        far.write_all(&[0, 0]).unwrap();
+        assert_eq!(heard_out(&near), "it is silent");
+        far.write_all(&[0]).unwrap();
+        drop(far);
+        assert_eq!(heard_out(&near), "it has closed the connection");
     }
 
     #[test]
