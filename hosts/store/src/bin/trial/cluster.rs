@@ -11,6 +11,12 @@ use std::sync::{Arc, Mutex};
 use std::thread;
 use std::time::{Duration, Instant};
 
+/// A log's header, and what stands around the bytes of an entry: two lengths and a checksum.
+const LOG_HEADER: usize = 7;
+const RECORD_FRAME: usize = 16;
+/// So many are cut off, where records are.
+const LAST_RECORDS: usize = 4;
+
 /// What is killed.
 #[derive(Clone, Copy, Debug)]
 pub enum Target {
@@ -109,8 +115,9 @@ impl Cluster {
         command.arg("--dir").arg(self.folder(replica)).arg("--node").arg(&self.options.node);
         match self.options.plant {
             Some(Plant::Early) => _ = command.args(["--plant", "early"]),
-            // A store that isn't told to wouldn't start over an emptied log.
-            Some(Plant::Emptied) => _ = command.args(["--plant", "forgetful"]),
+            Some(Plant::Changed) => _ = command.args(["--plant", "changed"]),
+            // A store that isn't told to wouldn't start over a log that lacks what clients were told.
+            Some(Plant::Emptied | Plant::Unsynced) => _ = command.args(["--plant", "forgetful"]),
             None => {}
         }
         let child = command.stdin(Stdio::null()).stderr(told).process_group(0).spawn()?;
@@ -137,6 +144,22 @@ impl Cluster {
         match status.code() {
             None | Some(1) => Ok(()),
             Some(code) => Err(format!("the store of replica {replica} has ended with status {code}")),
+        }
+    }
+
+    /// Cuts the last records off the log of a replica that was killed.
+    pub fn forget_last(&self, replica: usize) -> io::Result<()> {
+        let log = self.log(replica);
+        let bytes = std::fs::read(&log)?;
+        let mut starts = Vec::new();
+        let mut rest = bytes.get(LOG_HEADER..).unwrap_or_default();
+        while let Some(length) = rest.first_chunk::<4>() {
+            starts.push(bytes.len() - rest.len());
+            rest = rest.get(RECORD_FRAME + u32::from_be_bytes(*length) as usize..).unwrap_or_default();
+        }
+        match starts.iter().rev().nth(LAST_RECORDS - 1) {
+            Some(start) => OpenOptions::new().write(true).open(&log)?.set_len(*start as u64),
+            None => Ok(()),
         }
     }
 

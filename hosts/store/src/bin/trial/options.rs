@@ -6,17 +6,20 @@ pub const HELP: &str = "\
 trial: a cluster of stores on this machine, clients, kills and cuts; then what the clients were told is checked
 
     trial --node PATH [--short | --long | --smoke] [--replicas N] [--seconds S] [--kills K] [--rounds R] [--audit]
-          [--plant early|emptied] [--store PATH] [--dir DIR] [--seed S]
+          [--plant early|emptied|unsynced|changed] [--store PATH] [--dir DIR] [--seed S]
 
     --node PATH      the program `epaxos`
     --short          20 seconds, 3 kills: the default
     --long           20 rounds of 30 seconds with 5 kills each, every round with fresh folders
-    --smoke          no kills: `redis-cli` and `redis-benchmark`, where they are, are told what they should be
+    --smoke          no kills: `redis-cli` and `redis-benchmark`, where they are, are told what they should be; then one
+                     replica's instances are used up
     --replicas N     3, the default, or 5 or 7
     --seconds S, --kills K, --rounds R    other numbers
     --audit          also has `epaxos collect` and `epaxos audit` judge the logs and receipts of each round
     --plant early    the stores answer a SET before its receipt has come
     --plant emptied  a replica is started with an emptied log
+    --plant unsynced a replica that was killed has lost its last entries, as by a node that answers before its sync
+    --plant changed  some receipts, and what clients are told by them, have another reply than the node's
                      (plants want stores built with the feature `plants`; the trial succeeds where one is caught)
     --store PATH     the program `store`; default: beside this one
     --dir DIR        a folder for logs; default: a new one under the system's folder for temporary files
@@ -29,6 +32,8 @@ Status 0: all is well, or the plant was caught. 1: it isn't. 2: the command line
 pub enum Plant {
     Early,
     Emptied,
+    Unsynced,
+    Changed,
 }
 
 #[derive(Clone, Debug)]
@@ -106,6 +111,8 @@ fn read_plant(word: &str) -> Result<Plant, String> {
     match word {
         "early" => Ok(Plant::Early),
         "emptied" => Ok(Plant::Emptied),
-        _ => Err(format!("--plant {word}: early or emptied")),
+        "unsynced" => Ok(Plant::Unsynced),
+        "changed" => Ok(Plant::Changed),
+        _ => Err(format!("--plant {word}: early, emptied, unsynced or changed")),
     }
 }

@@ -15,11 +15,12 @@ pub struct Count {
 
 /// Lets things go wrong until the time of a round is over; then all are running, and nothing is cut.
 pub fn run(options: &Options, cluster: &Cluster, seed: u64) -> Result<Count, String> {
-    let mut kills = Troubles { cluster, random: Random::from_seed(seed), start: Instant::now(), time: options.time };
+    let random = Random::from_seed(seed);
+    let mut kills = Troubles { cluster, random, start: Instant::now(), time: options.time, plant: options.plant };
     let mut weather = Troubles { random: Random::from_seed(seed.rotate_left(32)), ..kills };
     thread::scope(|scope| {
         let weather = scope.spawn(move || weather.weather());
-        let killed = kills.kills(options.kills, options.plant == Some(Plant::Emptied));
+        let killed = kills.kills(options.kills);
         let (cuts, pauses) = weather.join().map_err(|_| "the weather failed")?;
         killed.map(|kills| Count { kills, cuts, pauses })
     })
@@ -30,6 +31,7 @@ struct Troubles<'a> {
     random: Random,
     start: Instant,
     time: Duration,
+    plant: Option<Plant>,
 }
 
 impl Troubles<'_> {
@@ -47,9 +49,9 @@ impl Troubles<'_> {
         (0..count).map(|place| (first + place) % self.cluster.replicas).collect()
     }
 
-    /// Kills at random moments, each in its share of the time. `empties`: one finds its log emptied when it starts again.
-    fn kills(&mut self, count: usize, empties: bool) -> Result<usize, String> {
-        let to_empty = empties.then_some(count / 3);
+    /// Kills at random moments, each in its share of the time. By that plant one finds its log emptied when it starts again.
+    fn kills(&mut self, count: usize) -> Result<usize, String> {
+        let to_empty = (self.plant == Some(Plant::Emptied)).then_some(count / 3);
         for kill in 0..count {
             let share = (kill as f64 + self.random.below(800) as f64 / 1_000.0) / count as f64;
             thread::sleep(self.time.mul_f64(share).saturating_sub(self.start.elapsed()));
@@ -73,6 +75,9 @@ impl Troubles<'_> {
         let told = |error: std::io::Error| format!("a replica can't be started: {error}");
         if empties {
             std::fs::write(self.cluster.log(killed[0]), b"").map_err(told)?;
+        }
+        if self.plant == Some(Plant::Unsynced) {
+            killed.iter().try_for_each(|replica| self.cluster.forget_last(*replica)).map_err(told)?;
         }
         killed.into_iter().try_for_each(|replica| self.cluster.launch(replica)).map_err(told)
     }
