@@ -1,5 +1,6 @@
 //! A replicated store over TCP: the host around `epaxos node`, a proved program that speaks over its standard streams.
 pub mod bytes;
+pub mod client;
 pub mod clients;
 pub mod commands;
 pub mod commits;

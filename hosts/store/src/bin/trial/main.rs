@@ -1,6 +1,5 @@
 //! The trial: clients of a cluster of stores note what they were told while replicas are killed, stopped and cut off;
 //! then it is checked.
-mod client;
 mod cluster;
 mod linearizable;
 mod links;

@@ -1,10 +1,10 @@
 //! A short trial by the programs `redis-cli` and `redis-benchmark`, where they are there.
-use crate::client::{Client, Reply};
 use crate::cluster::Cluster;
 use std::io::Write;
 use std::process::{Command, Stdio};
 use std::thread;
 use std::time::Duration;
+use store::client::{Client, Reply};
 use store::protocol::INSTANCES;
 
 /// So many clients use up a replica's instances.

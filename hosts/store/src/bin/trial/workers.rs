@@ -1,10 +1,10 @@
 //! The clients of a round, and the notes that they take.
-use crate::client::{Client, Reply};
 use crate::cluster::Cluster;
 use crate::linearizable::{Action, Operation};
 use std::sync::atomic::{AtomicBool, AtomicU32, Ordering};
 use std::thread;
 use std::time::{Duration, Instant};
+use store::client::{Client, Reply};
 use store::random::Random;
 
 /// Longer than a store's patience.

@@ -1,4 +1,4 @@
-//! A small client of the Redis protocol.
+//! A small client of the Redis protocol, for the trial and the bench.
 use std::io::{self, BufRead, BufReader, Read, Write};
 use std::net::{SocketAddr, TcpStream};
 use std::time::Duration;
