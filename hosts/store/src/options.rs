@@ -14,6 +14,11 @@ store: one replica of a replicated store, for clients of the Redis protocol
     --node PATH            the program `epaxos`; default: the one on the PATH
     --patience S           after so many seconds a client is told TRYAGAIN; default 10. Its command may still be done
     --help                 this text
+
+Example, one of three on this machine (start the others with 1 and 2 in the places of 0):
+    store --replica 0 --peers 127.0.0.1:7100,127.0.0.1:7101,127.0.0.1:7102 --listen 7000 --dir /tmp/store/0 --node ./epaxos
+
+It runs until it is killed; SIGTERM is the way. Status 1: it can't start, or its node has ended. 2: the command line.
 ";
 
 /// A misbehaviour that the trial has to catch.
@@ -70,9 +75,10 @@ pub fn read(words: impl IntoIterator<Item = String>) -> Result<Words, String> {
             _ => return Err(format!("unknown word {word}; --help tells the words")),
         }
     }
-    let peers = read_peers(&peers.ok_or("--peers is missing")?)?;
-    let replica = read_replica(&replica.ok_or("--replica is missing")?, peers.len())?;
-    let directory = directory.ok_or("--dir is missing")?;
+    let missing = |name: &str| format!("{name} is missing; --help tells the words");
+    let peers = read_peers(&peers.ok_or_else(|| missing("--peers"))?)?;
+    let replica = read_replica(&replica.ok_or_else(|| missing("--replica"))?, peers.len())?;
+    let directory = directory.ok_or_else(|| missing("--dir"))?;
     Ok(Words::Run(Options { replica, peers, directory, listen, node, patience, plant }))
 }
 
