@@ -23,7 +23,7 @@ impl Directory {
     /// Opens or creates the folder.
     pub fn open(path: &Path) -> Result<Directory, String> {
         let told = |error: io::Error| format!("the folder {} can't be used: {error}", path.display());
-        fs::create_dir_all(path).map_err(told)?;
+        create(path).map_err(told)?;
         let errors_path = path.join("node-errors");
         let errors = OpenOptions::new().append(true).create(true).open(&errors_path).map_err(told)?;
         lock(&errors, path)?;
@@ -52,17 +52,25 @@ impl Directory {
         self.path.join(identities::NAME).exists()
     }
 
-    /// Before the node starts. A folder gets its identities once its log is on the disk; so one with identities and without a
-    /// log has lost it.
-    pub fn check_log(&self) -> Result<(), String> {
+    /// Before any file is opened. A folder gets its identities once its other files are there; so one with identities and
+    /// without a log or receipts has lost them.
+    pub fn check_files(&self) -> Result<(), String> {
+        if !self.has_identities() {
+            return Ok(());
+        }
         let log = self.log();
         let length = match fs::metadata(&log) {
             Ok(found) => found.len(),
             Err(error) if error.kind() == io::ErrorKind::NotFound => 0,
             Err(error) => return Err(format!("{}: {error}", log.display())),
         };
-        if self.has_identities() && length < SHORTEST_LOG {
+        if length < SHORTEST_LOG {
             return Err(format!("{} was lost. {NEVER}", log.display()));
+        }
+        let receipts = self.receipts();
+        if !receipts.exists() {
+            let path = receipts.display();
+            return Err(format!("{path} was lost: what clients were told can't be audited, nor compared with the log"));
         }
         Ok(())
     }
@@ -88,6 +96,17 @@ impl Directory {
     }
 }
 
+/// Creates the folder, and those above it; each is on the disk before anything lies in it.
+fn create(path: &Path) -> io::Result<()> {
+    if path.is_dir() {
+        return Ok(());
+    }
+    let above = path.parent().filter(|above| !above.as_os_str().is_empty()).unwrap_or(Path::new("."));
+    create(above)?;
+    fs::create_dir(path)?;
+    File::open(above)?.sync_all()
+}
+
 fn lock(file: &File, path: &Path) -> Result<(), String> {
     let start = Instant::now();
     loop {
@@ -111,22 +130,25 @@ mod tests {
     #[test]
     fn what_is_lost_is_noticed() {
         let path = std::env::temp_dir().join(format!("store-directory-{}", std::process::id()));
+        let path = path.join("in/another");
         let directory = Directory::open(&path).unwrap();
         // A first start, before and after its log was made.
-        directory.check_log().unwrap();
+        directory.check_files().unwrap();
         fs::write(directory.log(), [0; 7]).unwrap();
-        directory.check_log().unwrap();
+        directory.check_files().unwrap();
         directory.check_entries(0, 0).unwrap();
         // Entries, and no identities.
         assert!(directory.check_entries(1, 0).unwrap_err().contains("isn't whole"));
         fs::write(path.join(identities::NAME), "").unwrap();
-        directory.check_log().unwrap();
+        assert!(directory.check_files().unwrap_err().contains("receipts was lost"));
+        fs::write(directory.receipts(), "").unwrap();
+        directory.check_files().unwrap();
         directory.check_entries(5, 5).unwrap();
         assert!(directory.check_entries(4, 5).unwrap_err().contains("4 entries, and a client was told of entry 5"));
         fs::write(directory.log(), [0; 6]).unwrap();
-        assert!(directory.check_log().unwrap_err().contains("was lost"));
+        assert!(directory.check_files().unwrap_err().contains("log was lost"));
         fs::remove_file(directory.log()).unwrap();
-        assert!(directory.check_log().unwrap_err().contains("was lost"));
-        fs::remove_dir_all(&path).unwrap();
+        assert!(directory.check_files().unwrap_err().contains("log was lost"));
+        fs::remove_dir_all(path.ancestors().nth(2).unwrap()).unwrap();
     }
 }

@@ -52,15 +52,15 @@ fn start(options: Options) -> Result<Driver, String> {
     let for_peers = bind(own)?;
     let for_clients = bind(&options.listen)?;
     let directory = Directory::open(&options.directory)?;
+    let is_forgetful = options.plant == Some(Plant::Forgetful);
+    if !is_forgetful {
+        directory.check_files()?;
+    }
     let receipts_path = directory.receipts();
     let receipts = Receipts::open(&receipts_path)
         .map_err(|error| format!("the receipts {} can't be used: {error}", receipts_path.display()))?;
     let numbers = Numbers::new(&options.directory, place.replica);
     numbers.check(receipts.named.client)?;
-    let is_forgetful = options.plant == Some(Plant::Forgetful);
-    if !is_forgetful {
-        directory.check_log()?;
-    }
     let (sender, events) = sync_channel(WAITING_EVENTS);
     let (node, entries) = start_node(&options, place, &directory, &sender)?;
     if !is_forgetful {

@@ -170,7 +170,12 @@ impl Work<'_> {
             };
             match told {
                 Told::Answer(_) => {}
-                Told::Refused => return notes,
+                Told::Refused => {
+                    notes.faults.push(format!(
+                        "replica {replica} is full, so its last reads can't be made; make rounds shorter"
+                    ));
+                    return notes;
+                }
                 Told::Nothing => {
                     connection = None;
                     left.push(key);
