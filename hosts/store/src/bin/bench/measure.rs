@@ -92,7 +92,8 @@ fn ask(
     count: usize,
     barrier: &Barrier,
 ) -> Result<(Instant, Instant, Vec<Duration>), String> {
-    let connected = cluster.connect(client % MEMBERS);
+    // (each work begins at another member, so that few clients don't use up the instances of one)
+    let connected = cluster.connect((client + work as usize) % MEMBERS);
     // (whoever has no connection mustn't keep the others waiting)
     barrier.wait();
     let mut connection = connected?;
