@@ -1,0 +1,263 @@
+//! Three members of etcd, and a client of its own protocol: gRPC, which is HTTP/2 with a message in each request's body.
+use crate::options::Options;
+use crate::stores::{end, free_ports, spawn};
+use crate::{Cluster, Connection, MEMBERS};
+use std::io::{self, BufReader, Read, Write};
+use std::net::TcpStream;
+use std::path::Path;
+use std::process::{Child, Command};
+use std::time::Duration;
+
+const PATIENCE: Duration = Duration::from_secs(15);
+
+/// A running cluster. It ends when this is dropped.
+pub struct Etcd {
+    ports: Vec<u16>,
+    children: Vec<Child>,
+}
+
+impl Etcd {
+    pub fn start(options: &Options, directory: &Path) -> Result<Etcd, String> {
+        let ports = free_ports(2 * MEMBERS)?;
+        let (ports, peers) = ports.split_at(MEMBERS);
+        let url = |port: u16| format!("http://127.0.0.1:{port}");
+        let names = peers.iter().enumerate().map(|(member, port)| format!("member-{member}={}", url(*port)));
+        let cluster = names.collect::<Vec<_>>().join(",");
+        let mut etcd = Etcd { ports: ports.to_vec(), children: Vec::new() };
+        for member in 0..MEMBERS {
+            let folder = directory.join(member.to_string());
+            let (client, peer) = (url(ports[member]), url(peers[member]));
+            let mut command = Command::new(&options.etcd);
+            command.args(["--name", &format!("member-{member}"), "--initial-cluster", &cluster]);
+            command.args(["--listen-client-urls", &client, "--advertise-client-urls", &client]);
+            command.args(["--listen-peer-urls", &peer, "--initial-advertise-peer-urls", &peer]);
+            command.args(["--log-level", "error", "--data-dir"]).arg(folder.join("dir"));
+            etcd.children.push(spawn(&mut command, &folder)?);
+        }
+        Ok(etcd)
+    }
+}
+
+impl Drop for Etcd {
+    fn drop(&mut self) {
+        end(&mut self.children);
+    }
+}
+
+impl Cluster for Etcd {
+    fn connect(&self, member: usize) -> Result<Box<dyn Connection>, String> {
+        match Caller::connect(self.ports[member]) {
+            Ok(caller) => Ok(Box::new(caller)),
+            Err(error) => Err(format!("etcd {member} can't be reached: {error}")),
+        }
+    }
+}
+
+// Kinds of frames, and flags.
+const DATA: u8 = 0;
+const HEADERS: u8 = 1;
+const RESET: u8 = 3;
+const SETTINGS: u8 = 4;
+const PING: u8 = 6;
+const GO_AWAY: u8 = 7;
+const WINDOW: u8 = 8;
+const ACKNOWLEDGED: u8 = 1;
+const END_OF_STREAM: u8 = 1;
+const END_OF_HEADERS: u8 = 4;
+
+/// A connection that carries one call at a time.
+struct Caller {
+    reader: BufReader<TcpStream>,
+    stream: u32,
+}
+
+struct Frame {
+    kind: u8,
+    flags: u8,
+    stream: u32,
+    payload: Vec<u8>,
+}
+
+fn put_frame(out: &mut Vec<u8>, kind: u8, flags: u8, stream: u32, payload: &[u8]) {
+    out.extend(&(payload.len() as u32).to_be_bytes()[1..]);
+    out.extend([kind, flags]);
+    out.extend(stream.to_be_bytes());
+    out.extend(payload);
+}
+
+/// Headers that are in no table, and aren't put into one. Names and values have fewer than 127 bytes.
+fn headers(path: &str) -> Vec<u8> {
+    let mut block = Vec::new();
+    for (name, value) in [
+        (":method", "POST"),
+        (":scheme", "http"),
+        (":path", path),
+        (":authority", "127.0.0.1"),
+        ("content-type", "application/grpc"),
+        ("te", "trailers"),
+    ] {
+        block.push(0);
+        for text in [name, value] {
+            block.push(text.len() as u8);
+            block.extend(text.bytes());
+        }
+    }
+    block
+}
+
+/// A field of bytes, fewer than 128.
+fn put_field(out: &mut Vec<u8>, number: u8, bytes: &[u8]) {
+    out.extend([number << 3 | 2, bytes.len() as u8]);
+    out.extend(bytes);
+}
+
+impl Caller {
+    fn connect(port: u16) -> io::Result<Caller> {
+        let mut stream = TcpStream::connect(("127.0.0.1", port))?;
+        stream.set_nodelay(true)?;
+        stream.set_read_timeout(Some(PATIENCE))?;
+        let mut greeting = b"PRI * HTTP/2.0\r\n\r\nSM\r\n\r\n".to_vec();
+        put_frame(&mut greeting, SETTINGS, 0, 0, &[]);
+        // Room for all that will ever be answered.
+        put_frame(&mut greeting, WINDOW, 0, 0, &0x7000_0000_u32.to_be_bytes());
+        stream.write_all(&greeting)?;
+        Ok(Caller { reader: BufReader::new(stream), stream: 1 })
+    }
+
+    fn read_frame(&mut self) -> io::Result<Frame> {
+        let mut head = [0; 9];
+        self.reader.read_exact(&mut head)?;
+        let [a, b, c, kind, flags, stream @ ..] = head;
+        let mut payload = vec![0; u32::from_be_bytes([0, a, b, c]) as usize];
+        self.reader.read_exact(&mut payload)?;
+        Ok(Frame { kind, flags, stream: u32::from_be_bytes(stream) & 0x7fff_ffff, payload })
+    }
+
+    fn send(&mut self, bytes: &[u8]) -> io::Result<()> {
+        self.reader.get_mut().write_all(bytes)
+    }
+
+    /// Calls, and waits for the answer's message.
+    fn call(&mut self, path: &str, message: &[u8]) -> io::Result<Vec<u8>> {
+        let stream = self.stream;
+        self.stream += 2;
+        let mut body = vec![0];
+        body.extend((message.len() as u32).to_be_bytes());
+        body.extend(message);
+        let mut bytes = Vec::new();
+        put_frame(&mut bytes, HEADERS, END_OF_HEADERS, stream, &headers(path));
+        put_frame(&mut bytes, DATA, END_OF_STREAM, stream, &body);
+        self.send(&bytes)?;
+        let mut answer = Vec::new();
+        loop {
+            let frame = self.read_frame()?;
+            self.acknowledge(&frame)?;
+            if matches!(frame.kind, RESET | GO_AWAY) {
+                return Err(io::Error::other("the call was refused"));
+            }
+            if frame.stream == stream && frame.kind == DATA {
+                answer.extend(frame.payload);
+            }
+            if frame.stream == stream && matches!(frame.kind, DATA | HEADERS) && frame.flags & END_OF_STREAM != 0 {
+                // An error is headers alone.
+                let message = answer.split_off_checked(5);
+                return message.ok_or(io::Error::other("the call failed"));
+            }
+        }
+    }
+
+    fn acknowledge(&mut self, frame: &Frame) -> io::Result<()> {
+        let is_asked = matches!(frame.kind, SETTINGS | PING) && frame.flags & ACKNOWLEDGED == 0;
+        if !is_asked {
+            return Ok(());
+        }
+        let payload = if frame.kind == PING { frame.payload.as_slice() } else { &[] };
+        let mut bytes = Vec::new();
+        put_frame(&mut bytes, frame.kind, ACKNOWLEDGED, 0, payload);
+        self.send(&bytes)
+    }
+}
+
+/// What stands from a place on, where there are so many bytes.
+trait SplitOff {
+    fn split_off_checked(&mut self, place: usize) -> Option<Vec<u8>>;
+}
+
+impl SplitOff for Vec<u8> {
+    fn split_off_checked(&mut self, place: usize) -> Option<Vec<u8>> {
+        (self.len() >= place).then(|| self.split_off(place))
+    }
+}
+
+impl Connection for Caller {
+    fn set(&mut self, key: &[u8], value: &[u8]) -> Result<(), String> {
+        let mut message = Vec::new();
+        put_field(&mut message, 1, key);
+        put_field(&mut message, 2, value);
+        let told = |error| format!("etcd answers a put by {error}");
+        self.call("/etcdserverpb.KV/Put", &message).map(|_| ()).map_err(told)
+    }
+
+    fn get(&mut self, key: &[u8]) -> Result<Vec<u8>, String> {
+        let mut message = Vec::new();
+        put_field(&mut message, 1, key);
+        let told = |error| format!("etcd answers a range by {error}");
+        let answer = self.call("/etcdserverpb.KV/Range", &message).map_err(told)?;
+        value_in(&answer).ok_or("etcd answers a range without a value".into())
+    }
+}
+
+/// A field's number and kind, its number or its bytes, and the rest.
+fn next_field(bytes: &[u8]) -> Option<(u64, &[u8], &[u8])> {
+    let (tag, rest) = varint(bytes)?;
+    let (number, rest) = varint(rest)?;
+    if tag & 7 == 2 {
+        let (run, rest) = rest.split_at_checked(number as usize)?;
+        return Some((tag >> 3, run, rest));
+    }
+    (tag & 7 == 0).then_some((tag >> 3, &[], rest))
+}
+
+fn varint(bytes: &[u8]) -> Option<(u64, &[u8])> {
+    let end = bytes.iter().position(|byte| byte & 0x80 == 0)? + 1;
+    let number = bytes[..end].iter().rev().fold(0, |number, byte| number << 7 | u64::from(byte & 0x7f));
+    Some((number, &bytes[end..]))
+}
+
+/// The bytes of the last field of that number.
+fn field(mut bytes: &[u8], wanted: u64) -> Option<&[u8]> {
+    let mut found = None;
+    while !bytes.is_empty() {
+        let (number, run, rest) = next_field(bytes)?;
+        if number == wanted {
+            found = Some(run);
+        }
+        bytes = rest;
+    }
+    found
+}
+
+/// The value in the answer to a range: field 5 of its field 2.
+fn value_in(answer: &[u8]) -> Option<Vec<u8>> {
+    Some(field(field(answer, 2)?, 5)?.to_vec())
+}
+
+#[cfg(test)]
+mod tests {
+    use super::*;
+
+    #[test]
+    fn a_value_is_found() {
+        // header: {revision 300}, kvs: {key "k", version 2, value "ab"}, count 1
+        let answer = [0x0a, 3, 0x18, 0xac, 2, 0x12, 9, 0x0a, 1, b'k', 0x20, 2, 0x2a, 2, b'a', b'b', 0x20, 1];
+        assert_eq!(value_in(&answer), Some(b"ab".to_vec()));
+        assert_eq!(value_in(&answer[..5]), None);
+    }
+
+    #[test]
+    fn a_frame_is_framed() {
+        let mut out = Vec::new();
+        put_frame(&mut out, DATA, END_OF_STREAM, 3, &[7, 8]);
+        assert_eq!(out, [0, 0, 2, 0, 1, 0, 0, 0, 3, 7, 8]);
+    }
+}

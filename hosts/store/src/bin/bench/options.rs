@@ -1,0 +1,71 @@
+//! The command line of the bench.
+use std::path::PathBuf;
+
+pub const HELP: &str = "\
+bench: three stores beside three members of etcd, on this machine, asked in turns by the same number of clients
+
+    bench --node PATH [--store PATH] [--etcd PATH] [--clients A,B,..] [--commands N] [--rounds R] [--dir DIR]
+
+    --node PATH      the program `epaxos`
+    --store PATH     the program `store`; default: beside this one
+    --etcd PATH      the program `etcd`; default: the one on the PATH
+    --clients A,B    how many clients ask at the same time, one line of the table for each; default 1,8,32
+    --commands N     of each kind and round; default 1200. A store has room for 6,000 commands, and 3 N are asked of it
+    --rounds R       default 5; each round has fresh clusters, and the table has the rounds' medians
+    --dir DIR        a folder for logs, on the disk that is measured; default: one under the system's for temporary files
+
+Both write what they answer to the disk first. Status 0: the table is printed. 2: the command line, or a program can't be run.
+";
+
+#[derive(Clone, Debug)]
+pub struct Options {
+    pub node: PathBuf,
+    pub store: PathBuf,
+    pub etcd: PathBuf,
+    pub clients: Vec<usize>,
+    pub commands: usize,
+    pub rounds: usize,
+    pub directory: PathBuf,
+}
+
+/// Reads the words after the program's name. None: help is asked for.
+pub fn read(words: impl IntoIterator<Item = String>) -> Result<Option<Options>, String> {
+    let program = std::env::current_exe().map_err(|error| format!("where this program is can't be told: {error}"))?;
+    let mut options = Options {
+        node: PathBuf::new(),
+        store: program.with_file_name("store"),
+        etcd: PathBuf::from("etcd"),
+        clients: vec![1, 8, 32],
+        commands: 1_200,
+        rounds: 5,
+        directory: std::env::temp_dir().join(format!("bench-{}", std::process::id())),
+    };
+    let mut words = words.into_iter();
+    while let Some(word) = words.next() {
+        let mut value = || words.next().ok_or(format!("{word} wants a value"));
+        match word.as_str() {
+            "--help" | "-h" => return Ok(None),
+            "--node" => options.node = PathBuf::from(value()?),
+            "--store" => options.store = PathBuf::from(value()?),
+            "--etcd" => options.etcd = PathBuf::from(value()?),
+            "--clients" => options.clients = value()?.split(',').map(number).collect::<Result<_, _>>()?,
+            "--commands" => options.commands = number(&value()?)?,
+            "--rounds" => options.rounds = number(&value()?)?,
+            "--dir" => options.directory = PathBuf::from(value()?),
+            _ => return Err(format!("unknown word {word}; --help tells the words")),
+        }
+    }
+    if options.node.as_os_str().is_empty() {
+        return Err("--node is missing".into());
+    }
+    if options.clients.iter().any(|clients| *clients > options.commands) {
+        return Err("--commands: at least as many as clients".into());
+    }
+    Ok(Some(options))
+}
+
+/// A number from 1 to 1,800.
+fn number(word: &str) -> Result<usize, String> {
+    let number = word.parse().ok().filter(|number| (1..=1_800).contains(number));
+    number.ok_or(format!("{word} isn't a number from 1 to 1800"))
+}

@@ -1,0 +1,254 @@
+//! The stores of a round: starting, killing, stopping them.
+use crate::links::Link;
+use crate::options::{Options, Plant};
+use std::fs::{File, OpenOptions, TryLockError};
+use std::io;
+use std::net::TcpListener;
+use std::os::unix::process::CommandExt;
+use std::path::PathBuf;
+use std::process::{Child, Command, ExitStatus, Stdio};
+use std::sync::{Arc, Mutex};
+use std::thread;
+use std::time::{Duration, Instant};
+
+/// A log's header, and what stands around the bytes of an entry: two lengths and a checksum.
+const LOG_HEADER: usize = 7;
+const RECORD_FRAME: usize = 16;
+/// So many are cut off, where records are.
+const LAST_RECORDS: usize = 4;
+
+/// What is killed.
+#[derive(Clone, Copy, Debug)]
+pub enum Target {
+    Both,
+    Store,
+    Node,
+}
+
+/// The replicas of one round, and the links between them.
+pub struct Cluster {
+    options: Options,
+    directory: PathBuf,
+    pub replicas: usize,
+    pub client_ports: Vec<u16>,
+    peer_ports: Vec<u16>,
+    /// From each replica to each other one.
+    pub links: Vec<Vec<Option<Arc<Link>>>>,
+    running: Vec<Mutex<Option<Child>>>,
+}
+
+/// Ports below those that the system gives to connections by itself.
+fn free_listeners(count: usize) -> io::Result<Vec<TcpListener>> {
+    let mut listeners = Vec::new();
+    let start = 15_000 + (std::process::id() % 100) as u16 * 100;
+    for port in (start..32_000).chain(10_000..start) {
+        if let Ok(listener) = TcpListener::bind(("127.0.0.1", port)) {
+            listeners.push(listener);
+            if listeners.len() == count {
+                return Ok(listeners);
+            }
+        }
+    }
+    Err(io::Error::other("no free ports"))
+}
+
+fn port_of(listener: &TcpListener) -> io::Result<u16> {
+    Ok(listener.local_addr()?.port())
+}
+
+impl Cluster {
+    /// Starts a cluster with empty logs in a folder of the round.
+    pub fn start(options: &Options, round: usize) -> io::Result<Cluster> {
+        let replicas = options.replicas;
+        let mut listeners = free_listeners(replicas * (replicas + 1))?;
+        let for_links = listeners.split_off(2 * replicas);
+        let ports: Vec<u16> = listeners.iter().map(port_of).collect::<io::Result<_>>()?;
+        drop(listeners);
+        let (client_ports, peer_ports) = ports.split_at(replicas);
+        let links = make_links(peer_ports, for_links)?;
+        let directory = options.directory.join(format!("round-{round}"));
+        std::fs::create_dir_all(&directory)?;
+        let cluster = Cluster {
+            options: options.clone(),
+            directory,
+            replicas,
+            client_ports: client_ports.to_vec(),
+            peer_ports: peer_ports.to_vec(),
+            links,
+            running: (0..replicas).map(|_| Mutex::new(None)).collect(),
+        };
+        (0..replicas).try_for_each(|replica| cluster.launch(replica))?;
+        Ok(cluster)
+    }
+
+    fn folder(&self, replica: usize) -> PathBuf {
+        self.directory.join(replica.to_string())
+    }
+
+    pub fn log(&self, replica: usize) -> PathBuf {
+        self.folder(replica).join("log")
+    }
+
+    pub fn receipts(&self, replica: usize) -> PathBuf {
+        self.folder(replica).join("receipts")
+    }
+
+    fn told(&self, replica: usize) -> PathBuf {
+        self.directory.join(format!("told-{replica}"))
+    }
+
+    /// As this replica knows its peers: itself at its own port, the others through the links.
+    fn peers(&self, replica: usize) -> String {
+        let port = |to: usize| match &self.links[replica][to] {
+            Some(link) => link.port(),
+            None => self.peer_ports[to],
+        };
+        (0..self.replicas).map(|to| format!("127.0.0.1:{}", port(to))).collect::<Vec<_>>().join(",")
+    }
+
+    /// Starts a replica, in a group of processes of its own.
+    pub fn launch(&self, replica: usize) -> io::Result<()> {
+        let told = OpenOptions::new().append(true).create(true).open(self.told(replica))?;
+        let mut command = Command::new(&self.options.store);
+        command.args(["--replica", &replica.to_string(), "--peers", &self.peers(replica)]);
+        command.args(["--listen", &self.client_ports[replica].to_string(), "--patience", "3"]);
+        command.arg("--dir").arg(self.folder(replica)).arg("--node").arg(&self.options.node);
+        match self.options.plant {
+            Some(Plant::Early) => _ = command.args(["--plant", "early"]),
+            Some(Plant::Changed) => _ = command.args(["--plant", "changed"]),
+            // A store that isn't told to wouldn't start over a log that lacks what clients were told.
+            Some(Plant::Emptied | Plant::Unsynced) => _ = command.args(["--plant", "forgetful"]),
+            None => {}
+        }
+        let child = command.stdin(Stdio::null()).stderr(told).process_group(0).spawn()?;
+        *self.running[replica].lock().unwrap() = Some(child);
+        Ok(())
+    }
+
+    /// Kills what is said of a replica, as a crash would. A store whose node was killed has to end by itself, with
+    /// status 1; a node whose store was killed ends too, which the next start waits for.
+    pub fn kill(&self, replica: usize, target: Target) -> Result<(), String> {
+        let Some(mut child) = self.running[replica].lock().unwrap().take() else { return Ok(()) };
+        let group = format!("-{}", child.id());
+        let node = self.node_process(replica);
+        match (target, node) {
+            (Target::Store, _) => signal("KILL", &child.id().to_string()),
+            (Target::Node, Some(node)) => signal("KILL", &node),
+            _ => signal("KILL", &group),
+        }
+        signal("CONT", &group);
+        let Some(status) = end_within(&mut child, Duration::from_secs(10)) else {
+            signal("KILL", &group);
+            return Err(format!("the store of replica {replica} hasn't ended though its node was killed"));
+        };
+        match status.code() {
+            None | Some(1) => Ok(()),
+            Some(code) => Err(format!("the store of replica {replica} has ended with status {code}")),
+        }
+    }
+
+    /// Cuts the last records off the log of a replica that was killed.
+    pub fn forget_last(&self, replica: usize) -> io::Result<()> {
+        let log = self.log(replica);
+        let bytes = std::fs::read(&log)?;
+        let mut starts = Vec::new();
+        let mut rest = bytes.get(LOG_HEADER..).unwrap_or_default();
+        while let Some(length) = rest.first_chunk::<4>() {
+            starts.push(bytes.len() - rest.len());
+            rest = rest.get(RECORD_FRAME + u32::from_be_bytes(*length) as usize..).unwrap_or_default();
+        }
+        match starts.iter().rev().nth(LAST_RECORDS - 1) {
+            Some(start) => OpenOptions::new().write(true).open(&log)?.set_len(*start as u64),
+            None => Ok(()),
+        }
+    }
+
+    /// The node's process, by the last line of the store that names it.
+    fn node_process(&self, replica: usize) -> Option<String> {
+        let told = std::fs::read_to_string(self.told(replica)).ok()?;
+        Some(told.rsplit_once("node process ")?.1.lines().next()?.to_string())
+    }
+
+    /// Stops or continues both processes of a replica.
+    pub fn pause(&self, replica: usize, is_paused: bool) {
+        if let Some(child) = &*self.running[replica].lock().unwrap() {
+            signal(if is_paused { "STOP" } else { "CONT" }, &format!("-{}", child.id()));
+        }
+    }
+
+    pub fn is_running(&self, replica: usize) -> bool {
+        match &mut *self.running[replica].lock().unwrap() {
+            Some(child) => matches!(child.try_wait(), Ok(None)),
+            None => false,
+        }
+    }
+
+    /// Cuts or mends both directions between a replica and another one.
+    pub fn set_cut(&self, one: usize, other: usize, is_cut: bool) {
+        for link in [&self.links[one][other], &self.links[other][one]].into_iter().flatten() {
+            if is_cut { link.cut() } else { link.mend() }
+        }
+    }
+
+    /// Ends all by SIGTERM, and waits until the nodes have let go of their logs.
+    pub fn stop(&self) -> Result<(), String> {
+        for replica in 0..self.replicas {
+            let Some(mut child) = self.running[replica].lock().unwrap().take() else { continue };
+            signal("TERM", &child.id().to_string());
+            end_within(&mut child, Duration::from_secs(10)).ok_or(format!("replica {replica} doesn't end"))?;
+        }
+        (0..self.replicas).try_for_each(|replica| {
+            let path = self.folder(replica).join("node-errors");
+            let start = Instant::now();
+            loop {
+                let file = File::open(&path).map_err(|error| error.to_string())?;
+                match file.try_lock() {
+                    Ok(()) => return Ok(()),
+                    Err(TryLockError::WouldBlock) if start.elapsed() < Duration::from_secs(10) => {
+                        thread::sleep(Duration::from_millis(10));
+                    }
+                    Err(_) => return Err(format!("the node of replica {replica} doesn't end")),
+                }
+            }
+        })
+    }
+}
+
+impl Drop for Cluster {
+    fn drop(&mut self) {
+        for replica in 0..self.replicas {
+            self.pause(replica, false);
+            let _ = self.kill(replica, Target::Both);
+        }
+    }
+}
+
+fn make_links(peer_ports: &[u16], listeners: Vec<TcpListener>) -> io::Result<Vec<Vec<Option<Arc<Link>>>>> {
+    let mut listeners = listeners.into_iter();
+    let mut links = Vec::new();
+    for from in 0..peer_ports.len() {
+        let mut row = Vec::new();
+        for (to, port) in peer_ports.iter().enumerate() {
+            let listener = if from == to { None } else { listeners.next() };
+            row.push(listener.map(|listener| Link::start(listener, *port)).transpose()?);
+        }
+        links.push(row);
+    }
+    Ok(links)
+}
+
+/// Sends a signal to a process, or to a group of processes (with a minus sign).
+fn signal(name: &str, target: &str) {
+    let _ = Command::new("sh").args(["-c", &format!("kill -s {name} -- {target}")]).stderr(Stdio::null()).status();
+}
+
+fn end_within(child: &mut Child, patience: Duration) -> Option<ExitStatus> {
+    let start = Instant::now();
+    while start.elapsed() < patience {
+        if let Ok(Some(status)) = child.try_wait() {
+            return Some(status);
+        }
+        thread::sleep(Duration::from_millis(5));
+    }
+    None
+}

@@ -1,0 +1,138 @@
+//! The trial: clients of a cluster of stores note what they were told while replicas are killed, stopped and cut off;
+//! then it is checked.
+mod cluster;
+mod linearizable;
+mod links;
+mod options;
+mod smoke;
+mod troubles;
+mod verdict;
+mod workers;
+
+use cluster::Cluster;
+use options::{HELP, Options, read};
+use std::process::ExitCode;
+use std::sync::atomic::{AtomicBool, AtomicU32, Ordering};
+use std::thread;
+use std::time::Instant;
+use troubles::Count;
+use workers::{Note, Notes, Work};
+
+fn main() -> ExitCode {
+    let options = match read(std::env::args().skip(1)) {
+        Ok(Some(options)) => options,
+        Ok(None) => {
+            print!("{HELP}");
+            return ExitCode::SUCCESS;
+        }
+        Err(what) => {
+            eprintln!("trial: {what}");
+            return ExitCode::from(2);
+        }
+    };
+    println!("{} replicas, seed {}, logs in {}", options.replicas, options.seed, options.directory.display());
+    let mut faults = 0;
+    for round in 1..=options.rounds {
+        match play(&options, round) {
+            Ok(found) => faults += found,
+            Err(what) => {
+                eprintln!("trial: {what}");
+                return ExitCode::from(2);
+            }
+        }
+        if faults > 0 {
+            break;
+        }
+    }
+    match options.plant {
+        None if faults == 0 => println!("all is well"),
+        None => println!("{faults} faults; the logs are kept"),
+        Some(_) if faults == 0 => println!("the plant wasn't caught"),
+        Some(_) => println!("the plant was caught"),
+    }
+    ExitCode::from(u8::from((faults == 0) == options.plant.is_some()))
+}
+
+/// Plays a round and judges it: how many faults were found.
+fn play(options: &Options, round: usize) -> Result<usize, String> {
+    let cluster = Cluster::start(options, round).map_err(|error| format!("the cluster can't be started: {error}"))?;
+    if options.smoke {
+        return smoke(options, &cluster);
+    }
+    let (Notes { all: notes, mut faults }, count) = work(options, round, &cluster)?;
+    cluster.stop()?;
+    let told = notes.iter().filter(|note| note.operation.end.is_some()).count();
+    println!(
+        "round {round}: {told} commands told, {} not, {} proposed again; {} kills, {} cuts, {} pauses; {}",
+        notes.len() - told,
+        verdict::count_lost(&cluster),
+        count.kills,
+        count.cuts,
+        count.pauses,
+        waits(&notes)
+    );
+    faults.extend(verdict::judge(options, &cluster, &notes));
+    Ok(report(&faults))
+}
+
+fn smoke(options: &Options, cluster: &Cluster) -> Result<usize, String> {
+    let mut faults = smoke::run(cluster);
+    cluster.stop()?;
+    faults.extend(verdict::judge(options, cluster, &[]));
+    Ok(report(&faults))
+}
+
+/// Prints the faults: how many they are.
+fn report(faults: &[String]) -> usize {
+    for fault in faults {
+        println!("fault: {fault}");
+    }
+    faults.len()
+}
+
+/// Clients and troubles, then the last reads: the notes, and how much went wrong.
+fn work(options: &Options, round: usize, cluster: &Cluster) -> Result<(Notes, Count), String> {
+    let seed = options.seed.wrapping_mul(1_000).wrapping_add(round as u64);
+    let start = Instant::now();
+    let work = Work { cluster, start, is_over: AtomicBool::new(false), values: AtomicU32::new(0) };
+    let mut notes = Notes::default();
+    let count = thread::scope(|scope| {
+        let clients: Vec<_> = (0..2 * options.replicas)
+            .map(|client| {
+                let (work, seed) = (&work, seed.wrapping_mul(97).wrapping_add(client as u64));
+                scope.spawn(move || work.run(client % options.replicas, seed.wrapping_mul(0x9e37_79b9_7f4a_7c15)))
+            })
+            .collect();
+        let count = troubles::run(options, cluster, seed.wrapping_mul(0x2545_f491_4f6c_dd1d));
+        work.is_over.store(true, Ordering::Relaxed);
+        for client in clients {
+            match client.join() {
+                Ok(more) => notes.extend(more),
+                Err(_) => notes.faults.push("a client of the trial has failed".into()),
+            }
+        }
+        count
+    });
+    let count = count?;
+    for replica in (0..options.replicas).filter(|replica| !cluster.is_running(*replica)) {
+        notes.faults.push(format!("the store of replica {replica} has ended by itself"));
+    }
+    (0..options.replicas).for_each(|replica| notes.extend(work.read_all(replica)));
+    Ok((notes, count))
+}
+
+/// How long clients waited for what they were told.
+fn waits(notes: &[Note]) -> String {
+    let operations = notes.iter().map(|note| note.operation);
+    let mut waits: Vec<u64> = operations.filter_map(|operation| Some(operation.end? - operation.start)).collect();
+    waits.sort_unstable();
+    let Some(last) = waits.last() else { return "nothing was told".into() };
+    let milliseconds = |nanoseconds: u64| nanoseconds as f64 / 1e6;
+    let part = |share: usize| milliseconds(waits[(waits.len() - 1) * share / 100]);
+    format!(
+        "waits of {:.1} ms (median), {:.0} ms (99 of 100), {:.0} ms (longest)",
+        part(50),
+        part(99),
+        milliseconds(*last)
+    )
+}

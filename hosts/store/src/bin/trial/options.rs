@@ -1,0 +1,118 @@
+//! The command line of the trial.
+use std::path::PathBuf;
+use std::time::Duration;
+
+pub const HELP: &str = "\
+trial: a cluster of stores on this machine, clients, kills and cuts; then what the clients were told is checked
+
+    trial --node PATH [--short | --long | --smoke] [--replicas N] [--seconds S] [--kills K] [--rounds R] [--audit]
+          [--plant early|emptied|unsynced|changed] [--store PATH] [--dir DIR] [--seed S]
+
+    --node PATH      the program `epaxos`
+    --short          20 seconds, 3 kills: the default
+    --long           20 rounds of 30 seconds with 5 kills each, every round with fresh folders
+    --smoke          no kills: `redis-cli` and `redis-benchmark`, where they are, are told what they should be; then one
+                     replica's instances are used up
+    --replicas N     3, the default, or 5 or 7
+    --seconds S, --kills K, --rounds R    other numbers
+    --audit          also has `epaxos collect` and `epaxos audit` judge the logs and receipts of each round
+    --plant early    the stores answer a SET before its receipt has come
+    --plant emptied  a replica is started with an emptied log
+    --plant unsynced a replica that was killed has lost its last entries, as by a node that answers before its sync
+    --plant changed  some receipts, and what clients are told by them, have another reply than the node's
+                     (plants want stores built with the feature `plants`; the trial succeeds where one is caught)
+    --store PATH     the program `store`; default: beside this one
+    --dir DIR        a folder for logs; default: a new one under the system's folder for temporary files
+    --seed S         for the choices that are random
+
+Status 0: all is well, or the plant was caught. 1: it isn't. 2: the command line, or a program can't be run.
+";
+
+#[derive(Clone, Copy, PartialEq, Eq, Debug)]
+pub enum Plant {
+    Early,
+    Emptied,
+    Unsynced,
+    Changed,
+}
+
+#[derive(Clone, Debug)]
+pub struct Options {
+    pub node: PathBuf,
+    pub store: PathBuf,
+    pub directory: PathBuf,
+    pub replicas: usize,
+    pub time: Duration,
+    pub kills: usize,
+    pub rounds: usize,
+    pub smoke: bool,
+    pub audit: bool,
+    pub plant: Option<Plant>,
+    pub seed: u64,
+}
+
+/// Reads the words after the program's name. None: help is asked for.
+pub fn read(words: impl IntoIterator<Item = String>) -> Result<Option<Options>, String> {
+    let mut options = defaults()?;
+    let mut words = words.into_iter();
+    while let Some(word) = words.next() {
+        let mut value = || words.next().ok_or(format!("{word} wants a value"));
+        match word.as_str() {
+            "--help" | "-h" => return Ok(None),
+            "--short" => (options.time, options.kills, options.rounds) = (Duration::from_secs(20), 3, 1),
+            "--long" => (options.time, options.kills, options.rounds) = (Duration::from_secs(30), 5, 20),
+            "--node" => options.node = PathBuf::from(value()?),
+            "--store" => options.store = PathBuf::from(value()?),
+            "--dir" => options.directory = PathBuf::from(value()?),
+            "--replicas" => options.replicas = number(&value()?)?,
+            "--seconds" => options.time = Duration::from_secs(number(&value()?)? as u64),
+            "--kills" => options.kills = number(&value()?)?,
+            "--rounds" => options.rounds = number(&value()?)?,
+            "--seed" => options.seed = number(&value()?)? as u64,
+            "--smoke" => options.smoke = true,
+            "--audit" => options.audit = true,
+            "--plant" => options.plant = Some(read_plant(&value()?)?),
+            _ => return Err(format!("unknown word {word}; --help tells the words")),
+        }
+    }
+    if options.node.as_os_str().is_empty() {
+        return Err("--node is missing".into());
+    }
+    if ![3, 5, 7].contains(&options.replicas) {
+        return Err("--replicas: 3, 5 or 7".into());
+    }
+    Ok(Some(options))
+}
+
+fn defaults() -> Result<Options, String> {
+    let program = std::env::current_exe().map_err(|error| format!("where this program is can't be told: {error}"))?;
+    let directory = std::env::temp_dir().join(format!("trial-{}", std::process::id()));
+    let seed = store::random::Random::new().below(1 << 32);
+    Ok(Options {
+        node: PathBuf::new(),
+        store: program.with_file_name("store"),
+        directory,
+        replicas: 3,
+        time: Duration::from_secs(20),
+        kills: 3,
+        rounds: 1,
+        smoke: false,
+        audit: false,
+        plant: None,
+        seed,
+    })
+}
+
+fn number(word: &str) -> Result<usize, String> {
+    word.parse().map_err(|_| format!("{word} is no number"))
+}
+
+fn read_plant(word: &str) -> Result<Plant, String> {
+    match word {
+        "early" => Ok(Plant::Early),
+        "emptied" => Ok(Plant::Emptied),
+        "unsynced" => Ok(Plant::Unsynced),
+        "changed" => Ok(Plant::Changed),
+        _ => Err(format!("--plant {word}: early, emptied, unsynced or changed")),
+    }
+}

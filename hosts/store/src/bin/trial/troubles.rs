@@ -1,0 +1,123 @@
+//! What goes wrong in a round: kills, and at the same time cuts and pauses.
+use crate::cluster::{Cluster, Target};
+use crate::options::{Options, Plant};
+use std::thread;
+use std::time::{Duration, Instant};
+use store::random::Random;
+
+/// How much went wrong.
+#[derive(Default, Clone, Copy, Debug)]
+pub struct Count {
+    pub kills: usize,
+    pub cuts: usize,
+    pub pauses: usize,
+}
+
+/// Lets things go wrong until the time of a round is over; then all are running, and nothing is cut.
+pub fn run(options: &Options, cluster: &Cluster, seed: u64) -> Result<Count, String> {
+    let random = Random::from_seed(seed);
+    let mut kills = Troubles { cluster, random, start: Instant::now(), time: options.time, plant: options.plant };
+    let mut weather = Troubles { random: Random::from_seed(seed.rotate_left(32)), ..kills };
+    thread::scope(|scope| {
+        let weather = scope.spawn(move || weather.weather());
+        let killed = kills.kills(options.kills);
+        let (cuts, pauses) = weather.join().map_err(|_| "the weather failed")?;
+        killed.map(|kills| Count { kills, cuts, pauses })
+    })
+}
+
+struct Troubles<'a> {
+    cluster: &'a Cluster,
+    random: Random,
+    start: Instant,
+    time: Duration,
+    plant: Option<Plant>,
+}
+
+impl Troubles<'_> {
+    fn wait(&mut self, least: u64, most: u64) {
+        thread::sleep(Duration::from_millis(least + self.random.below(most - least)));
+    }
+
+    fn any_replica(&mut self) -> usize {
+        self.random.below(self.cluster.replicas as u64) as usize
+    }
+
+    /// So many replicas that follow one another.
+    fn some_replicas(&mut self, count: usize) -> Vec<usize> {
+        let first = self.any_replica();
+        (0..count).map(|place| (first + place) % self.cluster.replicas).collect()
+    }
+
+    /// Kills at random moments, each in its share of the time. By that plant one finds its log emptied when it starts again.
+    fn kills(&mut self, count: usize) -> Result<usize, String> {
+        let to_empty = (self.plant == Some(Plant::Emptied)).then_some(count / 3);
+        for kill in 0..count {
+            let share = (kill as f64 + self.random.below(800) as f64 / 1_000.0) / count as f64;
+            thread::sleep(self.time.mul_f64(share).saturating_sub(self.start.elapsed()));
+            self.kill(to_empty == Some(kill))?;
+        }
+        thread::sleep(self.time.saturating_sub(self.start.elapsed()));
+        Ok(count)
+    }
+
+    fn kill(&mut self, empties: bool) -> Result<(), String> {
+        let target = match self.random.below(5) {
+            0 if !empties => Target::Store,
+            1 if !empties => Target::Node,
+            _ => Target::Both,
+        };
+        // Now and then all of them, as when the current fails.
+        let count = if self.random.below(8) == 0 { self.cluster.replicas } else { 1 };
+        let killed = self.some_replicas(count);
+        killed.iter().try_for_each(|replica| self.cluster.kill(*replica, target))?;
+        self.wait(20, 1_500);
+        let told = |error: std::io::Error| format!("a replica can't be started: {error}");
+        if empties {
+            std::fs::write(self.cluster.log(killed[0]), b"").map_err(told)?;
+        }
+        if self.plant == Some(Plant::Unsynced) {
+            killed.iter().try_for_each(|replica| self.cluster.forget_last(*replica)).map_err(told)?;
+        }
+        killed.into_iter().try_for_each(|replica| self.cluster.launch(replica)).map_err(told)
+    }
+
+    /// Cuts and pauses: how many of each.
+    fn weather(&mut self) -> (usize, usize) {
+        let (mut cuts, mut pauses) = (0, 0);
+        while self.start.elapsed() < self.time {
+            self.wait(20, 800);
+            if self.random.below(3) == 0 {
+                pauses += 1;
+                self.pause();
+            } else {
+                cuts += 1;
+                self.cut();
+            }
+        }
+        (cuts, pauses)
+    }
+
+    /// Stops a minority for a while.
+    fn pause(&mut self) {
+        let count = 1 + self.random.below(self.cluster.replicas as u64 / 2) as usize;
+        let paused = self.some_replicas(count);
+        paused.iter().for_each(|replica| self.cluster.pause(*replica, true));
+        self.wait(100, 1_500);
+        paused.iter().for_each(|replica| self.cluster.pause(*replica, false));
+    }
+
+    /// Cuts a replica off from another one, or from all others; for a moment, or for longer.
+    fn cut(&mut self) {
+        let (one, replicas) = (self.any_replica(), self.cluster.replicas);
+        let other = (one + 1 + self.random.below(replicas as u64 - 1) as usize) % replicas;
+        let is_alone = self.random.below(3) == 0;
+        let others = (0..replicas).filter(|replica| *replica != one && (is_alone || *replica == other));
+        let others: Vec<usize> = others.collect();
+        others.iter().for_each(|other| self.cluster.set_cut(one, *other, true));
+        if self.random.below(2) == 0 {
+            self.wait(100, 1_500);
+        }
+        others.iter().for_each(|other| self.cluster.set_cut(one, *other, false));
+    }
+}

@@ -1,0 +1,211 @@
+//! The clients of a round, and the notes that they take.
+use crate::cluster::Cluster;
+use crate::linearizable::{Action, Operation};
+use std::sync::atomic::{AtomicBool, AtomicU32, Ordering};
+use std::thread;
+use std::time::{Duration, Instant};
+use store::client::{Client, Reply};
+use store::random::Random;
+
+/// Longer than a store's patience.
+const PATIENCE: Duration = Duration::from_secs(5);
+/// A connection is used for at most so many commands.
+const MOST_COMMANDS: u32 = 200;
+const HOT_KEYS: u64 = 3;
+const COLD_KEYS: u64 = 40;
+/// The mean pause of a client between two commands.
+const PAUSE: Duration = Duration::from_millis(45);
+
+/// What a client asked of a key and was told.
+#[derive(Clone, Debug)]
+pub struct Note {
+    pub key: u64,
+    pub replica: usize,
+    pub operation: Operation,
+}
+
+/// What clients noted, and replies that no store may give.
+#[derive(Default)]
+pub struct Notes {
+    pub all: Vec<Note>,
+    pub faults: Vec<String>,
+}
+
+impl Notes {
+    pub fn extend(&mut self, more: Notes) {
+        self.all.extend(more.all);
+        self.faults.extend(more.faults);
+    }
+}
+
+/// What the clients of a round have in common.
+pub struct Work<'a> {
+    pub cluster: &'a Cluster,
+    pub start: Instant,
+    pub is_over: AtomicBool,
+    /// The last value that was made.
+    pub values: AtomicU32,
+}
+
+/// All keys. Some are long, and none is text alone.
+pub fn keys() -> impl Iterator<Item = u64> {
+    0..HOT_KEYS + COLD_KEYS
+}
+
+fn key_bytes(key: u64) -> Vec<u8> {
+    let mut bytes = format!("key\r\n{key}\0").into_bytes();
+    if key % 10 == 9 {
+        bytes.resize(255, b'k');
+    }
+    bytes
+}
+
+fn value_bytes(value: u32) -> Vec<u8> {
+    let mut bytes = value.to_be_bytes().to_vec();
+    if value.is_multiple_of(8) {
+        bytes.resize(1_024, value as u8);
+    }
+    bytes
+}
+
+fn value_of(bytes: &[u8]) -> Option<u32> {
+    let value = u32::from_be_bytes(*bytes.first_chunk()?);
+    (value_bytes(value) == bytes).then_some(value)
+}
+
+/// What came of a question.
+enum Told {
+    Answer(Action),
+    /// It surely wasn't done.
+    Refused,
+    /// It may be done.
+    Nothing,
+}
+
+impl Work<'_> {
+    fn now(&self) -> u64 {
+        self.start.elapsed().as_nanos() as u64
+    }
+
+    /// A client's work until the round is over: what it noted.
+    pub fn run(&self, home: usize, seed: u64) -> Notes {
+        let mut random = Random::from_seed(seed);
+        let mut notes = Notes::default();
+        let mut replica = home;
+        let mut connection = None;
+        let mut count = 0;
+        while !self.is_over.load(Ordering::Relaxed) {
+            thread::sleep(random.from_once_to_twice(PAUSE * 2 / 3));
+            let Some(client) = self.connection(&mut connection, replica) else {
+                replica = random.below(self.cluster.replicas as u64) as usize;
+                continue;
+            };
+            let key = self.choose_key(&mut random);
+            let action = self.choose_action(&mut random);
+            let told = self.note(client, replica, key, action, &mut notes);
+            count += 1;
+            match told {
+                Told::Answer(_) => {}
+                Told::Refused => replica = random.below(self.cluster.replicas as u64) as usize,
+                // Home, or wherever else somebody listens.
+                Told::Nothing if random.below(2) == 0 => replica = home,
+                Told::Nothing => replica = random.below(self.cluster.replicas as u64) as usize,
+            }
+            if !matches!(told, Told::Answer(_)) || count % MOST_COMMANDS == 0 {
+                connection = None;
+            }
+        }
+        notes
+    }
+
+    fn connection<'c>(&self, connection: &'c mut Option<Client>, replica: usize) -> Option<&'c mut Client> {
+        if connection.is_none() {
+            *connection = Client::connect(self.cluster.client_ports[replica], PATIENCE).ok();
+        }
+        connection.as_mut()
+    }
+
+    fn choose_key(&self, random: &mut Random) -> u64 {
+        if random.below(10) < 7 { random.below(HOT_KEYS) } else { HOT_KEYS + random.below(COLD_KEYS) }
+    }
+
+    fn choose_action(&self, random: &mut Random) -> Action {
+        match random.below(20) {
+            0..9 => Action::Get(None),
+            9..17 => Action::Set(self.values.fetch_add(1, Ordering::Relaxed) + 1),
+            _ => Action::Del(None),
+        }
+    }
+
+    /// Asks, and notes what was told and when; but not what surely wasn't done.
+    fn note(&self, client: &mut Client, replica: usize, key: u64, action: Action, notes: &mut Notes) -> Told {
+        let start = self.now();
+        let told = ask(client, key, action).unwrap_or_else(|fault| {
+            notes.faults.push(fault);
+            Told::Nothing
+        });
+        let (action, end) = match told {
+            Told::Answer(action) => (action, Some(self.now())),
+            Told::Nothing => (action, None),
+            Told::Refused => return told,
+        };
+        notes.all.push(Note { key, replica, operation: Operation { action, start, end } });
+        told
+    }
+
+    /// Reads all keys at a replica, in the end, with patience.
+    pub fn read_all(&self, replica: usize) -> Notes {
+        let mut notes = Notes::default();
+        let start = Instant::now();
+        let mut connection = None;
+        let mut left: Vec<u64> = keys().collect();
+        while let Some(key) = left.pop() {
+            if start.elapsed() > Duration::from_secs(60) {
+                notes.faults.push(format!("replica {replica} doesn't answer in the end"));
+                return notes;
+            }
+            let told = match self.connection(&mut connection, replica) {
+                Some(client) => self.note(client, replica, key, Action::Get(None), &mut notes),
+                None => Told::Nothing,
+            };
+            match told {
+                Told::Answer(_) => {}
+                Told::Refused => {
+                    notes.faults.push(format!(
+                        "replica {replica} is full, so its last reads can't be made; make rounds shorter"
+                    ));
+                    return notes;
+                }
+                Told::Nothing => {
+                    connection = None;
+                    left.push(key);
+                    thread::sleep(Duration::from_millis(100));
+                }
+            }
+        }
+        notes
+    }
+}
+
+/// An error is a reply that no store may give.
+fn ask(client: &mut Client, key: u64, action: Action) -> Result<Told, String> {
+    let key = key_bytes(key);
+    let reply = match action {
+        Action::Get(_) => client.ask(&[b"GET", &key]),
+        Action::Set(value) => client.ask(&[b"SET", &key, &value_bytes(value)]),
+        Action::Del(_) => client.ask(&[b"DEL", &key]),
+    };
+    let Ok(reply) = reply else { return Ok(Told::Nothing) };
+    match (action, reply) {
+        (Action::Get(_), Reply::Bulk(None)) => Ok(Told::Answer(Action::Get(None))),
+        (Action::Get(_), Reply::Bulk(Some(bytes))) => {
+            let value = value_of(&bytes).ok_or("a value was told that nobody has set")?;
+            Ok(Told::Answer(Action::Get(Some(value))))
+        }
+        (Action::Set(_), Reply::Simple(text)) if text == "OK" => Ok(Told::Answer(action)),
+        (Action::Del(_), Reply::Integer(count @ 0..2)) => Ok(Told::Answer(Action::Del(Some(count == 1)))),
+        (_, Reply::Error(text)) if text.starts_with("FULL") => Ok(Told::Refused),
+        (_, Reply::Error(text)) if text.starts_with("TRYAGAIN") || text.starts_with("OOM") => Ok(Told::Nothing),
+        (_, reply) => Err(format!("an answer that doesn't fit: {reply:?}")),
+    }
+}

@@ -1,0 +1,266 @@
+//! Connections of clients, each with a thread that takes one command at a time.
+use crate::commands::{Asked, understand};
+use crate::driver::{Ask, Event, Told, What};
+use crate::numbers::Numbers;
+use crate::protocol::{self, Command, Fault};
+use crate::resp::{Input, Reply, read_command};
+use crate::say::say;
+use std::io::{self, BufReader, BufWriter, Write};
+use std::net::{TcpListener, TcpStream};
+use std::sync::atomic::{AtomicUsize, Ordering};
+use std::sync::mpsc::{RecvTimeoutError, SyncSender, channel};
+use std::sync::{Arc, Mutex};
+use std::thread;
+use std::time::{Duration, Instant};
+
+const MOST_CONNECTIONS: usize = 1_000;
+/// For a client that doesn't take its replies.
+const WRITE_PATIENCE: Duration = Duration::from_secs(30);
+const STACK: usize = 256 << 10;
+/// A command that a no-op was put in the place of is proposed at most so often.
+const MOST_TRIES: usize = 5;
+
+/// What all connections share.
+pub struct Shared {
+    pub events: SyncSender<Event>,
+    pub numbers: Mutex<Numbers>,
+    pub patience: Duration,
+    pub connections: AtomicUsize,
+}
+
+/// Takes connections, each in a thread.
+pub fn listen(listener: TcpListener, shared: Arc<Shared>) {
+    for stream in listener.incoming() {
+        let Ok(stream) = stream else {
+            thread::sleep(Duration::from_millis(20));
+            continue;
+        };
+        if shared.connections.fetch_add(1, Ordering::Relaxed) >= MOST_CONNECTIONS {
+            let _ = (&stream).write_all(b"-ERR max number of clients reached\r\n");
+            shared.connections.fetch_sub(1, Ordering::Relaxed);
+            continue;
+        }
+        let served = shared.clone();
+        let started = thread::Builder::new().name("client".into()).stack_size(STACK).spawn(move || {
+            let _ = Connection::new(served.clone()).serve(stream);
+            served.connections.fetch_sub(1, Ordering::Relaxed);
+        });
+        if let Err(error) = started {
+            shared.connections.fetch_sub(1, Ordering::Relaxed);
+            say(&format!("no thread for a client: {error}"));
+        }
+    }
+}
+
+/// A connection: a client of the protocol, once it asks for a command.
+struct Connection {
+    shared: Arc<Shared>,
+    client: Option<u32>,
+    /// How many requests it has made.
+    requests: u32,
+    /// The greatest stamp of its receipts.
+    seen: u64,
+    is_read_only: bool,
+}
+
+impl Connection {
+    fn new(shared: Arc<Shared>) -> Connection {
+        Connection { shared, client: None, requests: 0, seen: 0, is_read_only: false }
+    }
+
+    fn serve(&mut self, stream: TcpStream) -> io::Result<()> {
+        stream.set_nodelay(true)?;
+        stream.set_write_timeout(Some(WRITE_PATIENCE))?;
+        let mut writer = BufWriter::new(stream.try_clone()?);
+        let mut reader = BufReader::new(stream);
+        loop {
+            let words = match read_command(&mut reader)? {
+                Input::Command(words) => words,
+                Input::End => return Ok(()),
+                Input::Fault(what) => {
+                    Reply::Error(format!("ERR Protocol error: {what}")).write(&mut writer)?;
+                    return writer.flush();
+                }
+            };
+            let asked = understand(words);
+            if asked == Asked::Quit {
+                Reply::Simple("OK").write(&mut writer)?;
+                return writer.flush();
+            }
+            let reply = self.answer(asked).unwrap_or_else(Reply::Error);
+            reply.write(&mut writer)?;
+            // What comes next may wait for other replicas, or for more bytes: no reply waits with it.
+            writer.flush()?;
+        }
+    }
+
+    fn answer(&mut self, asked: Asked) -> Result<Reply, String> {
+        if let (Asked::Get(key), true) = (&asked, self.is_read_only) {
+            return self.read(key.clone());
+        }
+        let mut replies = Vec::new();
+        for command in asked.commands() {
+            match self.execute(command) {
+                Ok(reply) => replies.push(reply),
+                Err(error) if replies.is_empty() => return Err(error),
+                Err(error) => {
+                    return Err(format!("{error} (this is of key {}; those before it are deleted)", replies.len() + 1));
+                }
+            }
+        }
+        match asked {
+            Asked::Get(_) => Ok(value_of(replies.pop())),
+            Asked::Set(..) | Asked::Quit => Ok(Reply::Simple("OK")),
+            Asked::Del(_) => {
+                let present = replies.iter().filter(|reply| matches!(reply, protocol::Reply::Present(_)));
+                Ok(Reply::Integer(present.count() as i64))
+            }
+            Asked::Info => self.info(),
+            Asked::ReadOnly(is_read_only) => {
+                self.is_read_only = is_read_only;
+                Ok(Reply::Simple("OK"))
+            }
+            Asked::Answered(reply) => Ok(reply),
+        }
+    }
+
+    /// Has a command executed; one that is lost is proposed again.
+    fn execute(&mut self, command: Command) -> Result<protocol::Reply, String> {
+        let start = Instant::now();
+        for _ in 0..MOST_TRIES {
+            let what = self.proposal(command.clone())?;
+            match self.ask(what, start)? {
+                Told::Done { stamp, reply } => {
+                    self.seen = self.seen.max(stamp);
+                    if reply != protocol::Reply::Lost {
+                        return Ok(reply);
+                    }
+                }
+                Told::Refused(fault) => return Err(refusal(fault)),
+                Told::Value(_) | Told::Info(_) => {
+                    return Err("ERR another answer was expected".into());
+                }
+            }
+        }
+        Err("TRYAGAIN the command wasn't done: others have taken its places".into())
+    }
+
+    /// A new request of this client.
+    fn proposal(&mut self, command: Command) -> Result<What, String> {
+        let client = match self.client {
+            Some(client) => client,
+            None => {
+                let mut numbers = self.shared.numbers.lock().map_err(|_| "ERR the numbers are lost".to_string())?;
+                numbers.give().map_err(|what| format!("ERR {what}"))?
+            }
+        };
+        self.client = Some(client);
+        self.requests += 1;
+        Ok(What::Propose { client, request: self.requests, seen: self.seen, command })
+    }
+
+    /// Asks the driver, and waits as long as patience goes.
+    fn ask(&self, what: What, start: Instant) -> Result<Told, String> {
+        let (reply, told) = channel();
+        let ends = || "TRYAGAIN the store ends; the command may still be done".to_string();
+        self.shared.events.send(Event::Ask(Ask { what, reply })).map_err(|_| ends())?;
+        let left = self.shared.patience.saturating_sub(start.elapsed());
+        told.recv_timeout(left).map_err(|error| match error {
+            RecvTimeoutError::Timeout => {
+                "TRYAGAIN no majority has answered in time; the command may still be done".into()
+            }
+            RecvTimeoutError::Disconnected => ends(),
+        })
+    }
+
+    /// The local read.
+    fn read(&self, key: Vec<u8>) -> Result<Reply, String> {
+        match self.ask(What::Read(key), Instant::now())? {
+            Told::Value(value) => Ok(value.map_or(Reply::Nil, Reply::Bulk)),
+            Told::Refused(fault) => Err(refusal(fault)),
+            _ => Err("ERR another answer was expected".into()),
+        }
+    }
+
+    fn info(&self) -> Result<Reply, String> {
+        match self.ask(What::Info, Instant::now())? {
+            Told::Info(text) => Ok(Reply::Bulk(text.into_bytes())),
+            _ => Err("ERR another answer was expected".into()),
+        }
+    }
+}
+
+fn value_of(reply: Option<protocol::Reply>) -> Reply {
+    match reply {
+        Some(protocol::Reply::Present(value)) => Reply::Bulk(value),
+        _ => Reply::Nil,
+    }
+}
+
+fn refusal(fault: Fault) -> String {
+    match fault {
+        Fault::SPACE_FULL => "FULL this replica has used all of its 2,000 instances; ask another one".into(),
+        Fault::SEQ_EXHAUSTED | Fault::STAMP_FULL => format!("FULL the node refused: {fault}"),
+        Fault::MEMORY => format!("OOM the node refused, ask again: {fault}"),
+        _ => format!("ERR the node refused: {fault}"),
+    }
+}
+
+#[cfg(test)]
+mod tests {
+    use super::*;
+    use std::sync::mpsc::sync_channel;
+
+    /// What a connection makes of these answers to its proposals, one after the other, and what it proposed: the
+    /// requests and the stamps that it had seen. After the last answer nothing is told.
+    fn execute(answers: Vec<Told>) -> (Result<protocol::Reply, String>, Vec<(u32, u64)>) {
+        let (events, asked) = sync_channel(8);
+        static PLACE: AtomicUsize = AtomicUsize::new(0);
+        let place = PLACE.fetch_add(1, Ordering::Relaxed);
+        let folder = std::env::temp_dir().join(format!("store-clients-{}-{place}", std::process::id()));
+        std::fs::create_dir_all(&folder).unwrap();
+        let numbers = Mutex::new(Numbers::new(&folder, 0));
+        let patience = Duration::from_millis(200);
+        let shared = Shared { events, numbers, patience, connections: AtomicUsize::new(0) };
+        let driver = thread::spawn(move || {
+            let mut answers = answers.into_iter();
+            let (mut proposed, mut unanswered) = (Vec::new(), Vec::new());
+            while let Ok(Event::Ask(Ask { what: What::Propose { client: 1, request, seen, .. }, reply })) = asked.recv()
+            {
+                proposed.push((request, seen));
+                match answers.next() {
+                    Some(answer) => reply.send(answer).unwrap(),
+                    None => unanswered.push(reply),
+                }
+            }
+            proposed
+        });
+        let reply = Connection::new(Arc::new(shared)).execute(Command::Get { key: b"x".to_vec() });
+        std::fs::remove_dir_all(&folder).unwrap();
+        (reply, driver.join().unwrap())
+    }
+
+    fn done(stamp: u64, reply: protocol::Reply) -> Told {
+        Told::Done { stamp, reply }
+    }
+
+    #[test]
+    fn what_is_lost_is_proposed_again() {
+        let answers = vec![done(7, protocol::Reply::Lost), done(9, protocol::Reply::Absent)];
+        assert_eq!(execute(answers), (Ok(protocol::Reply::Absent), vec![(1, 0), (2, 7)]));
+        let (reply, proposed) = execute((1..9).map(|stamp| done(stamp, protocol::Reply::Lost)).collect());
+        assert!(reply.unwrap_err().starts_with("TRYAGAIN the command wasn't done"));
+        assert_eq!(proposed.len(), MOST_TRIES);
+    }
+
+    #[test]
+    fn patience_ends_and_refusals_are_told() {
+        let (reply, proposed) = execute(Vec::new());
+        assert!(reply.unwrap_err().contains("may still be done"));
+        assert_eq!(proposed, [(1, 0)]);
+        let (reply, proposed) = execute(vec![Told::Refused(Fault::SPACE_FULL)]);
+        assert!(reply.unwrap_err().starts_with("FULL "));
+        assert_eq!(proposed.len(), 1);
+        assert!(execute(vec![Told::Refused(Fault::MEMORY)]).0.unwrap_err().starts_with("OOM "));
+    }
+}

@@ -1,0 +1,119 @@
+//! What a client's words ask for.
+use crate::protocol::{Command, LONGEST_KEY, LONGEST_VALUE};
+use crate::resp::Reply;
+
+/// What is asked.
+#[derive(PartialEq, Eq, Debug)]
+pub enum Asked {
+    Get(Vec<u8>),
+    Set(Vec<u8>, Vec<u8>),
+    Del(Vec<Vec<u8>>),
+    Info,
+    Quit,
+    ReadOnly(bool),
+    /// Answered without the node.
+    Answered(Reply),
+}
+
+/// Understands a command's words; what can't be understood is answered by an error.
+pub fn understand(words: Vec<Vec<u8>>) -> Asked {
+    let mut words = words.into_iter();
+    let name = words.next().unwrap_or_default().to_ascii_uppercase();
+    let rest: Vec<Vec<u8>> = words.collect();
+    let asked = match (name.as_slice(), rest.len()) {
+        (b"GET", 1) | (b"DEL", 1..) | (b"SET", 2) => keyed(&name, rest),
+        (b"SET", 3..) => Err("ERR options of SET aren't supported".to_string()),
+        (b"PING", 0) => Ok(Asked::Answered(Reply::Simple("PONG"))),
+        (b"PING", 1) => Ok(Asked::Answered(rest.into_iter().next().map_or(Reply::Nil, Reply::Bulk))),
+        (b"INFO", _) => Ok(Asked::Info),
+        (b"COMMAND", _) => Ok(Asked::Answered(Reply::EmptyArray)),
+        (b"QUIT", _) => Ok(Asked::Quit),
+        (b"READONLY", 0) => Ok(Asked::ReadOnly(true)),
+        (b"READWRITE", 0) => Ok(Asked::ReadOnly(false)),
+        (b"GET" | b"SET" | b"DEL" | b"PING" | b"READONLY" | b"READWRITE", _) => {
+            Err(format!("ERR wrong number of arguments for '{}'", printable(&name.to_ascii_lowercase())))
+        }
+        _ => Err(format!("ERR unknown command '{}'", printable(&name))),
+    };
+    asked.unwrap_or_else(|error| Asked::Answered(Reply::Error(error)))
+}
+
+/// A GET, a DEL or a SET, whose keys and value are in range.
+fn keyed(name: &[u8], mut words: Vec<Vec<u8>>) -> Result<Asked, String> {
+    let value = if name == b"SET" { words.pop() } else { None };
+    if words.iter().any(|key| key.is_empty() || key.len() > LONGEST_KEY) {
+        return Err(format!("ERR a key has 1 to {LONGEST_KEY} bytes"));
+    }
+    if value.as_ref().is_some_and(|value| value.len() > LONGEST_VALUE) {
+        return Err(format!("ERR a value has at most {LONGEST_VALUE} bytes"));
+    }
+    if name == b"DEL" {
+        return Ok(Asked::Del(words));
+    }
+    let key = words.pop().unwrap_or_default();
+    Ok(match value {
+        Some(value) => Asked::Set(key, value),
+        None => Asked::Get(key),
+    })
+}
+
+/// At most 64 bytes of a word, fit for a line.
+fn printable(word: &[u8]) -> String {
+    word.iter().take(64).flat_map(|byte| byte.escape_ascii()).map(char::from).collect()
+}
+
+impl Asked {
+    /// The commands of the protocol that it takes, in order.
+    pub fn commands(&self) -> Vec<Command> {
+        match self {
+            Asked::Get(key) => vec![Command::Get { key: key.clone() }],
+            Asked::Set(key, value) => vec![Command::Put { key: key.clone(), value: value.clone() }],
+            Asked::Del(keys) => keys.iter().map(|key| Command::Del { key: key.clone() }).collect(),
+            _ => Vec::new(),
+        }
+    }
+}
+
+#[cfg(test)]
+mod tests {
+    use super::*;
+
+    fn ask(words: &[&[u8]]) -> Asked {
+        understand(words.iter().map(|word| word.to_vec()).collect())
+    }
+
+    fn error_of(asked: Asked) -> String {
+        match asked {
+            Asked::Answered(Reply::Error(text)) => text,
+            other => panic!("{other:?}"),
+        }
+    }
+
+    #[test]
+    fn commands_in_either_case() {
+        assert_eq!(ask(&[b"get", b"x"]), Asked::Get(b"x".to_vec()));
+        assert_eq!(ask(&[b"SET", b"\0", b""]), Asked::Set(vec![0], Vec::new()));
+        assert_eq!(ask(&[b"Del", b"a", b"b"]), Asked::Del(vec![b"a".to_vec(), b"b".to_vec()]));
+        assert_eq!(ask(&[b"PING"]), Asked::Answered(Reply::Simple("PONG")));
+        assert_eq!(ask(&[b"PING", b"x"]), Asked::Answered(Reply::Bulk(b"x".to_vec())));
+        assert_eq!(ask(&[b"command", b"docs"]), Asked::Answered(Reply::EmptyArray));
+        assert_eq!(ask(&[b"info", b"server"]), Asked::Info);
+        assert_eq!(ask(&[b"quit"]), Asked::Quit);
+        assert_eq!(ask(&[b"readonly"]), Asked::ReadOnly(true));
+        assert_eq!(ask(&[b"readwrite"]), Asked::ReadOnly(false));
+    }
+
+    #[test]
+    fn what_is_refused() {
+        assert!(error_of(ask(&[b"SET", b"x", b"1", b"NX"])).contains("options"));
+        assert!(error_of(ask(&[b"SET", b"x"])).contains("wrong number"));
+        assert!(error_of(ask(&[b"GET"])).contains("wrong number"));
+        assert!(error_of(ask(&[b"DEL"])).contains("wrong number"));
+        assert!(error_of(ask(&[b"a\r\n"])).contains("unknown command 'A\\r\\n'"));
+        assert!(error_of(ask(&[b"GET", b""])).contains("1 to 255"));
+        assert!(error_of(ask(&[b"GET", &[b'k'; 256]])).contains("1 to 255"));
+        assert!(error_of(ask(&[b"DEL", b"x", b""])).contains("1 to 255"));
+        assert!(error_of(ask(&[b"SET", b"x", &[0; 1_025]])).contains("1,024") || LONGEST_VALUE == 1_024);
+        assert_eq!(ask(&[b"SET", &[b'k'; 255], &[0; 1_024]]), Asked::Set(vec![b'k'; 255], vec![0; 1_024]));
+    }
+}

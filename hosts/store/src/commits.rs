@@ -1,0 +1,83 @@
+//! Which instances of others are known to be committed here and may not be executed yet.
+//!
+//! The node executes its own clients' commands, and what they depend on. For local reads the host has it execute the
+//! others too; it learns of them by the Commit frames that come and go.
+use crate::protocol::Instance;
+use std::collections::{BTreeMap, BTreeSet};
+
+const KIND_AT: usize = 3;
+const COMMIT: u8 = 5;
+const INSTANCE_AT: usize = 20;
+
+/// The instance that a frame commits, if it does.
+fn committed_by(frame: &[u8]) -> Option<Instance> {
+    if frame.get(KIND_AT) != Some(&COMMIT) {
+        return None;
+    }
+    let [replica, high, low] = *frame.get(INSTANCE_AT..)?.first_chunk()?;
+    Some(Instance { replica, number: u16::from_be_bytes([high, low]) })
+}
+
+/// Committed instances of others, until they are executed.
+#[derive(Default)]
+pub struct Commits {
+    ready: BTreeSet<Instance>,
+    /// Those that wait for an instance that isn't committed.
+    waiting: BTreeMap<Instance, Vec<Instance>>,
+}
+
+impl Commits {
+    /// A frame has come or goes, at this replica.
+    pub fn note(&mut self, replica: u8, frame: &[u8]) {
+        if let Some(instance) = committed_by(frame) {
+            if instance.replica != replica {
+                self.ready.insert(instance);
+            }
+            self.ready.extend(self.waiting.remove(&instance).unwrap_or_default());
+        }
+    }
+
+    /// Those that can be tried: they are taken out.
+    pub fn take(&mut self) -> BTreeSet<Instance> {
+        std::mem::take(&mut self.ready)
+    }
+
+    /// The instance can't be executed before another one is committed. Without one it is to be tried again.
+    pub fn put_back(&mut self, instance: Instance, missing: Option<Instance>) {
+        match missing {
+            Some(missing) => self.waiting.entry(missing).or_default().push(instance),
+            None => _ = self.ready.insert(instance),
+        }
+    }
+}
+
+#[cfg(test)]
+mod tests {
+    use super::*;
+
+    fn commit(instance: Instance) -> Vec<u8> {
+        let mut frame = vec![0; 40];
+        frame[KIND_AT] = COMMIT;
+        frame[INSTANCE_AT] = instance.replica;
+        frame[INSTANCE_AT + 1..INSTANCE_AT + 3].copy_from_slice(&instance.number.to_be_bytes());
+        frame
+    }
+
+    #[test]
+    fn others_are_kept_until_they_can_be_executed() {
+        let [own, first, second] = [(0, 1), (1, 300), (2, 2)].map(|(replica, number)| Instance { replica, number });
+        let mut commits = Commits::default();
+        for instance in [own, first] {
+            commits.note(0, &commit(instance));
+        }
+        commits.note(0, &[COMMIT; 10]);
+        commits.note(0, &[0; 40]);
+        assert_eq!(commits.take(), BTreeSet::from([first]));
+        commits.put_back(first, Some(second));
+        assert!(commits.take().is_empty());
+        commits.note(0, &commit(second));
+        assert_eq!(commits.take(), BTreeSet::from([first, second]));
+        commits.put_back(first, None);
+        assert_eq!(commits.take(), BTreeSet::from([first]));
+    }
+}

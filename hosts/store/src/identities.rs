@@ -1,0 +1,136 @@
+//! Who the replicas are: each folder has an identity of its own, made by chance when it is made.
+//!
+//! A replica keeps the identity that it first met under each number, and speaks to no other. So a replica that comes back
+//! with a new folder, or one of another cluster at the same address, is refused: it might have promised something else.
+use std::fs::{self, File};
+use std::io::{self, Read, Write};
+use std::path::{Path, PathBuf};
+use std::sync::Mutex;
+
+pub type Identity = [u8; 16];
+
+/// The file's name.
+pub const NAME: &str = "identities";
+
+/// The identities that are known, this replica's among them.
+pub struct Identities {
+    folder: PathBuf,
+    own: Identity,
+    known: Mutex<Vec<Option<Identity>>>,
+}
+
+impl Identities {
+    /// Reads what the folder tells. At the first start this replica's identity is made.
+    pub fn open(folder: &Path, replicas: usize, replica: u8) -> Result<Identities, String> {
+        let path = folder.join(NAME);
+        let told = |error: io::Error| format!("{}: {error}", path.display());
+        let text = match fs::read_to_string(&path) {
+            Err(error) if error.kind() == io::ErrorKind::NotFound => String::new(),
+            text => text.map_err(told)?,
+        };
+        let bad = || format!("{} isn't a list of identities of {replicas} replicas", path.display());
+        let mut known = read_lines(&text, replicas).ok_or_else(bad)?;
+        let own = match known[usize::from(replica)] {
+            Some(own) => own,
+            None if text.is_empty() => {
+                let own = by_chance().map_err(told)?;
+                known[usize::from(replica)] = Some(own);
+                write_lines(folder, &known).map_err(told)?;
+                own
+            }
+            None => return Err(format!("{} is of another replica", path.display())),
+        };
+        Ok(Identities { folder: folder.to_path_buf(), own, known: Mutex::new(known) })
+    }
+
+    pub fn own(&self) -> Identity {
+        self.own
+    }
+
+    /// Whether this is who was met under the number before. Whoever is met first is kept, on the disk.
+    pub fn meet(&self, replica: u8, identity: Identity) -> io::Result<bool> {
+        let mut known = self.known.lock().map_err(|_| io::Error::other("the identities are lost"))?;
+        let Some(place) = known.get_mut(usize::from(replica)) else { return Ok(false) };
+        if place.is_none() {
+            *place = Some(identity);
+            write_lines(&self.folder, &known)?;
+            return Ok(true);
+        }
+        Ok(*place == Some(identity))
+    }
+}
+
+fn by_chance() -> io::Result<Identity> {
+    let mut identity = [0; 16];
+    File::open("/dev/urandom")?.read_exact(&mut identity)?;
+    Ok(identity)
+}
+
+/// Lines of a replica's number and its identity in hexadecimal.
+fn read_lines(text: &str, replicas: usize) -> Option<Vec<Option<Identity>>> {
+    let mut known = vec![None; replicas];
+    for line in text.lines() {
+        let (replica, digits) = line.split_once(' ')?;
+        let number = u128::from_str_radix(digits, 16).ok().filter(|_| digits.len() == 32)?;
+        let place = known.get_mut(replica.parse::<usize>().ok()?)?;
+        if place.replace(number.to_be_bytes()).is_some() {
+            return None;
+        }
+    }
+    Some(known)
+}
+
+fn write_lines(folder: &Path, known: &[Option<Identity>]) -> io::Result<()> {
+    let mut text = String::new();
+    for (replica, identity) in known.iter().enumerate() {
+        if let Some(identity) = identity {
+            text += &format!("{replica} {:032x}\n", u128::from_be_bytes(*identity));
+        }
+    }
+    replace(folder, NAME, &text)
+}
+
+/// Puts a file with this text on the disk: the old one or the new one is there, whenever the machine stops.
+pub fn replace(folder: &Path, name: &str, text: &str) -> io::Result<()> {
+    let new = folder.join(format!("{name}.new"));
+    let mut file = File::create(&new)?;
+    file.write_all(text.as_bytes())?;
+    file.sync_all()?;
+    fs::rename(&new, folder.join(name))?;
+    File::open(folder)?.sync_all()
+}
+
+#[cfg(test)]
+mod tests {
+    use super::*;
+
+    #[test]
+    fn who_is_met_first_is_kept() {
+        let folder = std::env::temp_dir().join(format!("store-identities-{}", std::process::id()));
+        fs::create_dir_all(&folder).unwrap();
+        let first = Identities::open(&folder, 3, 1).unwrap();
+        assert!(first.meet(0, [7; 16]).unwrap());
+        assert!(!first.meet(0, [8; 16]).unwrap());
+        assert!(!first.meet(3, [8; 16]).unwrap());
+        let again = Identities::open(&folder, 3, 1).unwrap();
+        assert_eq!(again.own(), first.own());
+        assert!(!again.meet(0, [8; 16]).unwrap());
+        assert!(again.meet(0, [7; 16]).unwrap());
+        assert!(again.meet(2, [8; 16]).unwrap());
+        let fresh = folder.join("fresh");
+        fs::create_dir_all(&fresh).unwrap();
+        assert_ne!(Identities::open(&fresh, 3, 1).unwrap().own(), first.own());
+        fs::remove_dir_all(&folder).unwrap();
+    }
+
+    #[test]
+    fn lines_are_read() {
+        let digits = "000102030405060708090a0b0c0d0e0f";
+        let identity = [0, 1, 2, 3, 4, 5, 6, 7, 8, 9, 10, 11, 12, 13, 14, 15];
+        assert_eq!(read_lines(&format!("2 {digits}\n"), 3), Some(vec![None, None, Some(identity)]));
+        assert_eq!(read_lines("", 3), Some(vec![None; 3]));
+        for text in [format!("3 {digits}"), digits.to_string(), "0 12".into(), format!("0 {digits}\n0 {digits}")] {
+            assert_eq!(read_lines(&text, 3), None);
+        }
+    }
+}

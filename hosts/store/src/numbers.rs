@@ -1,0 +1,105 @@
+//! Client numbers, none of which is ever given twice, by any replica and over all its starts.
+use crate::identities::replace;
+use std::fs;
+use std::io;
+use std::path::{Path, PathBuf};
+
+/// So many numbers are set aside at once, on the disk.
+const BLOCK: u32 = 256;
+/// Numbers are shared out among so many replicas.
+const SHARES: u32 = 8;
+/// No further block has numbers below 2^32.
+const MOST_BLOCKS: u32 = u32::MAX / BLOCK / SHARES;
+const NAME: &str = "client-blocks";
+
+/// The numbers of one replica. A block is set aside when its first number is asked for; what is left of it when the store
+/// ends is never given.
+pub struct Numbers {
+    folder: PathBuf,
+    replica: u8,
+    block: u32,
+    /// How many of the block were given.
+    given: u32,
+}
+
+impl Numbers {
+    /// Those of a replica, whose folder tells how many blocks were set aside.
+    pub fn new(folder: &Path, replica: u8) -> Numbers {
+        Numbers { folder: folder.to_path_buf(), replica, block: 0, given: BLOCK }
+    }
+
+    /// Whether the greatest number that a client was told under was set aside, 0 being none.
+    pub fn check(&self, greatest: u32) -> Result<(), String> {
+        let given = u64::from(set_aside(&self.folder)?) * u64::from(BLOCK);
+        if greatest > 0 && u64::from((greatest - 1) / SHARES) >= given {
+            let path = self.folder.join(NAME);
+            return Err(format!("{} has forgotten client {greatest}, which was answered", path.display()));
+        }
+        Ok(())
+    }
+
+    /// The next number, from 1.
+    pub fn give(&mut self) -> Result<u32, String> {
+        if self.given == BLOCK {
+            self.block = set_next_aside(&self.folder)?;
+            self.given = 0;
+        }
+        let place = self.block * BLOCK + self.given;
+        self.given += 1;
+        Ok(place * SHARES + u32::from(self.replica) + 1)
+    }
+}
+
+/// How many blocks were set aside.
+fn set_aside(folder: &Path) -> Result<u32, String> {
+    let path = folder.join(NAME);
+    match fs::read_to_string(&path) {
+        Ok(text) => text.trim().parse().map_err(|_| format!("{} holds no number", path.display())),
+        Err(error) if error.kind() == io::ErrorKind::NotFound => Ok(0),
+        Err(error) => Err(format!("{}: {error}", path.display())),
+    }
+}
+
+/// Sets the next block aside.
+fn set_next_aside(folder: &Path) -> Result<u32, String> {
+    let told = |error: io::Error| format!("{}: {error}", folder.join(NAME).display());
+    let blocks = set_aside(folder)?;
+    if blocks >= MOST_BLOCKS {
+        return Err("no client numbers are left".into());
+    }
+    replace(folder, NAME, &format!("{}\n", blocks + 1)).map_err(told)?;
+    Ok(blocks)
+}
+
+#[cfg(test)]
+mod tests {
+    use super::*;
+    use std::collections::HashSet;
+
+    #[test]
+    fn numbers_are_given_once() {
+        let folder = std::env::temp_dir().join(format!("store-numbers-{}", std::process::id()));
+        let mut all = HashSet::new();
+        for replica in 0..7 {
+            let folder = folder.join(replica.to_string());
+            fs::create_dir_all(&folder).unwrap();
+            for count in [1, 0, BLOCK, BLOCK + 1, 3] {
+                let mut numbers = Numbers::new(&folder, replica);
+                for _ in 0..count {
+                    let number = numbers.give().unwrap();
+                    assert!(number > 0 && all.insert(number));
+                }
+            }
+            assert_eq!(fs::read_to_string(folder.join(NAME)).unwrap(), "5\n");
+            let numbers = Numbers::new(&folder, replica);
+            assert!(numbers.check(0).is_ok() && numbers.check(5 * BLOCK * SHARES).is_ok());
+            assert!(numbers.check(5 * BLOCK * SHARES + 1).unwrap_err().contains("has forgotten client 10241"));
+            for (blocks, is_left) in [(MOST_BLOCKS - 1, true), (MOST_BLOCKS, false)] {
+                fs::write(folder.join(NAME), blocks.to_string()).unwrap();
+                let number = Numbers::new(&folder, replica).give();
+                assert_eq!(number.is_ok_and(|number| all.insert(number)), is_left);
+            }
+        }
+        fs::remove_dir_all(&folder).unwrap();
+    }
+}

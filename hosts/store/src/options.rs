@@ -1,0 +1,166 @@
+//! The command line.
+use std::path::PathBuf;
+use std::time::Duration;
+
+pub const HELP: &str = "\
+store: one replica of a replicated store, for clients of the Redis protocol
+
+    store --replica R --peers HOST:PORT,HOST:PORT,HOST:PORT --dir DIR [--listen HOST:PORT] [--node PATH] [--patience S]
+
+    --replica R            which replica this is, from 0
+    --peers A,B,C          where each replica listens for the others, in order, this one too: 3, 5 or 7 of them
+    --dir DIR              the folder of this replica: its log, its receipts; created where it isn't there
+    --listen HOST:PORT     where clients are listened for; default 127.0.0.1:7000; a port alone is one of 127.0.0.1
+    --node PATH            the program `epaxos`; default: the one on the PATH
+    --patience S           after so many seconds a client is told TRYAGAIN; default 10. Its command may still be done
+    --help                 this text
+
+Example, one of three on this machine (start the others with 1 and 2 in the places of 0):
+    store --replica 0 --peers 127.0.0.1:7100,127.0.0.1:7101,127.0.0.1:7102 --listen 7000 --dir /tmp/store/0 --node ./epaxos
+
+It runs until it is killed; SIGTERM is the way. Status 1: it can't start, or its node has ended. 2: the command line.
+";
+
+/// A misbehaviour that the trial has to catch.
+#[derive(Clone, Copy, PartialEq, Eq, Debug)]
+pub enum Plant {
+    /// A SET is answered before its receipt has come.
+    Early,
+    /// A log that has forgotten what clients were told is taken.
+    Forgetful,
+    /// Some receipts have another reply than the node's.
+    Changed,
+}
+
+/// What the store was told.
+#[derive(Clone, PartialEq, Eq, Debug)]
+pub struct Options {
+    pub replica: u8,
+    pub peers: Vec<String>,
+    pub directory: PathBuf,
+    pub listen: String,
+    pub node: PathBuf,
+    pub patience: Duration,
+    pub plant: Option<Plant>,
+}
+
+/// What the words ask for.
+#[derive(Debug, PartialEq, Eq)]
+pub enum Words {
+    Help,
+    Run(Options),
+}
+
+/// Reads the words after the program's name.
+pub fn read(words: impl IntoIterator<Item = String>) -> Result<Words, String> {
+    let mut words = words.into_iter();
+    let (mut replica, mut peers, mut directory) = (None, None, None);
+    let mut listen = "127.0.0.1:7000".to_string();
+    let mut node = PathBuf::from("epaxos");
+    let mut patience = Duration::from_secs(10);
+    let mut plant = None;
+    while let Some(word) = words.next() {
+        if word == "--help" || word == "-h" {
+            return Ok(Words::Help);
+        }
+        let mut value = || words.next().ok_or(format!("{word} wants a value"));
+        match word.as_str() {
+            "--replica" => replica = Some(value()?),
+            "--peers" => peers = Some(value()?),
+            "--dir" => directory = Some(PathBuf::from(value()?)),
+            "--listen" => listen = with_host(value()?),
+            "--node" => node = PathBuf::from(value()?),
+            "--patience" => patience = seconds(&value()?)?,
+            "--plant" if cfg!(feature = "plants") => plant = Some(read_plant(&value()?)?),
+            _ => return Err(format!("unknown word {word}; --help tells the words")),
+        }
+    }
+    let missing = |name: &str| format!("{name} is missing; --help tells the words");
+    let peers = read_peers(&peers.ok_or_else(|| missing("--peers"))?)?;
+    let replica = read_replica(&replica.ok_or_else(|| missing("--replica"))?, peers.len())?;
+    let directory = directory.ok_or_else(|| missing("--dir"))?;
+    Ok(Words::Run(Options { replica, peers, directory, listen, node, patience, plant }))
+}
+
+fn with_host(address: String) -> String {
+    if address.contains(':') { address } else { format!("127.0.0.1:{address}") }
+}
+
+fn seconds(word: &str) -> Result<Duration, String> {
+    let told = || format!("--patience {word}: a number of seconds from 0.1 to 3600 is wanted");
+    let seconds: f64 = word.parse().map_err(|_| told())?;
+    if (0.1..=3600.0).contains(&seconds) { Ok(Duration::from_secs_f64(seconds)) } else { Err(told()) }
+}
+
+fn read_plant(word: &str) -> Result<Plant, String> {
+    match word {
+        "early" => Ok(Plant::Early),
+        "forgetful" => Ok(Plant::Forgetful),
+        "changed" => Ok(Plant::Changed),
+        _ => Err(format!("--plant {word}: not known")),
+    }
+}
+
+fn read_peers(word: &str) -> Result<Vec<String>, String> {
+    let peers: Vec<String> = word.split(',').map(str::to_string).collect();
+    if ![3, 5, 7].contains(&peers.len()) {
+        return Err(format!("--peers names {} replicas; 3, 5 or 7 are possible", peers.len()));
+    }
+    for (place, peer) in peers.iter().enumerate() {
+        let has_port =
+            peer.rsplit_once(':').is_some_and(|(host, port)| !host.is_empty() && port.parse::<u16>().is_ok());
+        if !has_port {
+            return Err(format!("--peers: {peer} isn't HOST:PORT"));
+        }
+        if peers[..place].contains(peer) {
+            return Err(format!("--peers names {peer} twice"));
+        }
+    }
+    Ok(peers)
+}
+
+fn read_replica(word: &str, replicas: usize) -> Result<u8, String> {
+    let replica = word.parse::<u8>().ok().filter(|replica| usize::from(*replica) < replicas);
+    replica.ok_or(format!("--replica {word}: a number from 0 to {} is wanted", replicas - 1))
+}
+
+#[cfg(test)]
+mod tests {
+    use super::*;
+
+    fn words(line: &str) -> Result<Words, String> {
+        read(line.split_whitespace().map(str::to_string))
+    }
+
+    #[test]
+    fn a_whole_line() {
+        let line = "--replica 1 --peers a:1,b:2,c:3 --dir d --listen 7001 --node ./epaxos --patience 0.5";
+        let Ok(Words::Run(options)) = words(line) else { panic!() };
+        assert_eq!(options.replica, 1);
+        assert_eq!(options.peers, ["a:1", "b:2", "c:3"]);
+        assert_eq!(options.listen, "127.0.0.1:7001");
+        assert_eq!(options.patience, Duration::from_millis(500));
+        let Ok(Words::Run(options)) = words("--replica 0 --peers a:1,b:2,c:3 --dir d") else { panic!() };
+        assert_eq!(options.listen, "127.0.0.1:7000");
+        assert_eq!(words("--replica 9 --help"), Ok(Words::Help));
+    }
+
+    #[test]
+    fn what_is_refused() {
+        for line in [
+            "",
+            "--replica 0 --dir d",
+            "--peers a:1,b:2,c:3 --dir d",
+            "--replica 0 --peers a:1,b:2,c:3",
+            "--replica 3 --peers a:1,b:2,c:3 --dir d",
+            "--replica 0 --peers a:1,b:2 --dir d",
+            "--replica 0 --peers a:1,b:2,c --dir d",
+            "--replica 0 --peers a:1,b:2,b:2 --dir d",
+            "--replica 0 --peers a:1,b:2,c:3 --dir d --patience 0",
+            "--replica 0 --peers a:1,b:2,c:3 --dir d --other x",
+            "--replica 0 --peers a:1,b:2,c:3 --dir",
+        ] {
+            assert!(words(line).is_err(), "{line}");
+        }
+    }
+}
