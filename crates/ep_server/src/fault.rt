@@ -38,9 +38,7 @@ impl Fault {
                 Status::OutOfMemory
             }
             Fault::Open(OpenFault::Failed)
-            | Fault::Serve(
-                ServeFault::ReadFailed | ServeFault::WriteFailed | ServeFault::LogFailed,
-            )
+            | Fault::Serve(ServeFault::ReadFailed | ServeFault::WriteFailed | ServeFault::LogFailed)
             | Fault::Write => Status::Failed,
         }
     }
