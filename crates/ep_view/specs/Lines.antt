@@ -1,8 +1,8 @@
--- What entries are told as, where `handled` is the test for frames that some entry handles.
-use Rattle.std.specs.Prelude.{ℕ, Bool, cond, List, [], ◌∷◌, ◌++◌, codes, decimal}
+-- What entries are told as, where `receiver` says how the receiver of a frame is told.
+use Rattle.std.specs.Prelude.{ℕ, cond, List, [], ◌∷◌, ◌++◌, codes, decimal}
 use Rattle.ep_base.specs.Attributes.{same_list}
 use Rattle.ep_base.specs.declared.reply.Answer.{Answer}
-use Rattle.ep_frame.specs.Meaning.{instance_at, origin_at, message_at}
+use Rattle.ep_frame.specs.Meaning.{instance_at, message_at}
 use Rattle.ep_journal.specs.declared.entry.Entry.{Entry}
 use Rattle.ep_journal.specs.declared.event.Event.{Event}
 use Rattle.ep_journal.specs.declared.event.Event.TheVariants.{Propose, Handle, GiveUp, Recover, Execute}
@@ -39,27 +39,23 @@ taken_text (GiveUp i) frames = event_text (GiveUp i)
 taken_text (Recover i) frames = event_text (Recover i)
 taken_text (Execute i) frames = event_text (Execute i)
 
-module _ (handled : List ℕ → Bool) where
-  -- the receiver of a frame, and whether nobody handles it
-  abbrev pub receiver_text : List ℕ → List ℕ
-  receiver_text b = decimal (origin_at b).to ++ cond (handled b) [] (codes " NEVER HANDLED")
-
+module _ (receiver : List ℕ → List ℕ) where
   -- the rest of what is sent, after a frame of these words: frames of the same words are told with it, by their receivers
   abbrev pub more_sent : List ℕ → List (List ℕ) → List ℕ
   more_sent words [] = codes ": " ++ words
   more_sent words (b ∷ bs) =
-      cond (same_list words (words_at b)) (codes ", " ++ receiver_text b ++ more_sent words bs)
-      (codes ": " ++ words ++ codes "; sends to " ++ receiver_text b ++ more_sent (words_at b) bs)
+      cond (same_list words (words_at b)) (codes ", " ++ receiver b ++ more_sent words bs)
+      (codes ": " ++ words ++ codes "; sends " ++ receiver b ++ more_sent (words_at b) bs)
 
   -- what is sent, if anything is
   abbrev pub sent_text : List (List ℕ) → List ℕ
   sent_text [] = []
-  sent_text (b ∷ bs) = codes "; sends to " ++ receiver_text b ++ more_sent (words_at b) bs
+  sent_text (b ∷ bs) = codes "; sends " ++ receiver b ++ more_sent (words_at b) bs
 
   -- what happened in an entry: its event, what it sends, and what it executes
   abbrev pub happened_text : Entry → List ℕ
   happened_text e = taken_text e.event e.frames ++ sent_text e.frames ++ done_text e.done
 
   -- an entry of replica r
-  abbrev pub entry_line : ℕ → Entry → List ℕ
-  entry_line r e = codes "stamp " ++ decimal e.stamp ++ codes "  replica " ++ decimal r ++ codes " entry " ++ decimal e.number ++ codes "  " ++ happened_text e
+  abbrev pub entry_text : ℕ → Entry → List ℕ
+  entry_text r e = codes "stamp " ++ decimal e.stamp ++ codes "  replica " ++ decimal r ++ codes " entry " ++ decimal e.number ++ codes "  " ++ happened_text e

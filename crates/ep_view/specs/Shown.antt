@@ -1,5 +1,5 @@
 -- What is shown of journals.
-use Rattle.std.specs.Prelude.{◌≡◌, ℕ, Bool, cond, List, [], ◌∷◌, ◌++◌, Option, Some, None}
+use Rattle.std.specs.Prelude.{◌≡◌, ℕ, cond, List, [], ◌∷◌, ◌++◌, Option, Some, None}
 use Rattle.ep_journal.specs.Entries.{Collected, entries_at, journals_of}
 use Rattle.ep_journal.specs.declared.entry.Entry.{Entry}
 use Rattle.ep_report.specs.Reports.{text_of}
@@ -8,14 +8,15 @@ use Rattle.ep_verdict.specs.Verdicts.{places_of}
 use Rattle.ep_words.specs.Kept.{keeps}
 use Rattle.ep_words.specs.declared.part.Part.{Part}
 use Rattle.ep_view.specs.Handled.{is_handled}
-use Rattle.ep_view.specs.Lines.{entry_line}
+use Rattle.ep_view.specs.Lines.{entry_text}
 use Rattle.ep_view.specs.Lookups.{entry_at}
+use Rattle.ep_view.specs.Telling.{handled_text}
 
-module _ (handled : List ℕ → Bool) (part : Part) where
+module _ (receiver : List ℕ → List ℕ) (part : Part) where
   -- the line of an entry, if it is asked for
   abbrev pub line_of : ℕ → Option Entry → List (List ℕ)
   line_of r None = []
-  line_of r (Some e) = cond (keeps part r e) (entry_line handled r e ∷ []) []
+  line_of r (Some e) = cond (keeps part r e) (entry_text receiver r e ∷ []) []
 
   -- the lines of the entries at these places, each as its replica and number
   abbrev pub lines_at : Collected → List (ℕ × ℕ) → List (List ℕ)
@@ -33,4 +34,4 @@ pub record IsInOrder (c : Collected) (all : List (ℕ × ℕ)) : Type 0 where
 pub record IsShown (c : Collected) (part : Part) (text : List ℕ) : Type 0 where
   pub order : List Scheduled
   pub scheduled : IsSchedule (journals_of c) order
-  pub lines : text ≡ text_of (lines_at (is_handled c) part c (places_of order))
+  pub lines : text ≡ text_of (lines_at (handled_text (is_handled c)) part c (places_of order))

@@ -15,13 +15,13 @@ use std::alloc::{AllocError, Global};
 
 /// The frames that journals handle.
 #[derive(Drop)]
-pub(crate) struct Handled {
+pub struct Handled {
     frames: IndexSet<Vec<u8>>,
 }
 
 impl Handled {
     /// The frames that some entry of some journal handles.
-    pub(crate) fn of(alloc: Global, journals: &Journals) -> Result<Handled, AllocError>
+    pub fn of(alloc: Global, journals: &Journals) -> Result<Handled, AllocError>
         ensures { IfOk result (λ h. AreHandled journals.now h) }
     {
         journals.are_journals();

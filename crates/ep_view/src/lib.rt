@@ -11,6 +11,13 @@
 mod handled;
 mod lines;
 mod lookups;
+mod numbers;
 mod show;
+mod telling;
 
+pub use handled::Handled;
+pub use lines::{push_entry, push_happened};
+pub use lookups::entry_at;
+pub use numbers::Numbers;
 pub use show::show;
+pub use telling::Telling;

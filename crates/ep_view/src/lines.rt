@@ -1,10 +1,10 @@
 //! Entries in words.
 
 ghost use Rattle.std.specs.Prelude.{◌≡◌, ◌++◌, [], ◌∷◌, IfOk, OnOk, codes};
-ghost use Rattle.ep_view.specs.Handled.{is_in};
-ghost use Rattle.ep_view.specs.Lines.{words_at, answered_text, more_done, done_text, took_text, taken_text, receiver_text, more_sent, sent_text, happened_text, entry_line};
+ghost use Rattle.ep_view.specs.Lines.{words_at, answered_text, more_done, done_text, took_text, taken_text, more_sent, sent_text, happened_text, entry_text};
+ghost use Rattle.ep_view.specs.Telling.{receiver_text};
 
-use crate::handled::Handled;
+use crate::telling::Telling;
 use ep_base::{Answer, InstanceId, ReplicaId};
 use ep_frame::Frame;
 use ep_journal::{Entry, Event};
@@ -75,49 +75,38 @@ fn words_of(alloc: Global, frame: &Frame) -> Result<Vec<u8>, AllocError>
     Ok(words)
 }
 
-// Appends the receiver of a frame, and whether nobody handles it.
-fn push_receiver(text: &mut Vec<u8>, handled: &Handled, frame: &Frame) -> Result<(), AllocError>
-    ensures { OnOk result (text.new.items ≡ text.old.items ++ receiver_text (is_in handled.now) frame.now) }
-{
-    push_number(text, u64::from(frame.origin().to.index()))?;
-    if handled.has(frame) {
-        return Ok(());
-    }
-    text.extend_from_slice(b" NEVER HANDLED")
-}
-
 // Appends these words, and begins with the frame's receiver.
 fn push_next(
     text: &mut Vec<u8>,
-    handled: &Handled,
+    telling: &Telling,
     words: &[u8],
     frame: &Frame,
 ) -> Result<(), AllocError>
-    ensures { OnOk result (text.new.items ≡ text.old.items ++ codes ": " ++ words.now ++ codes "; sends to " ++ receiver_text (is_in handled.now) frame.now) }
+    ensures { OnOk result (text.new.items ≡ text.old.items ++ codes ": " ++ words.now ++ codes "; sends " ++ receiver_text telling.now frame.now) }
 {
     text.extend_from_slice(b": ")?;
     text.extend_from_slice(words)?;
-    text.extend_from_slice(b"; sends to ")?;
-    push_receiver(text, handled, frame)
+    text.extend_from_slice(b"; sends ")?;
+    telling.push_receiver(text, frame)
 }
 
 // Appends what is sent after a frame of these words.
 fn push_more_sent(
     text: &mut Vec<u8>,
-    handled: &Handled,
+    telling: &Telling,
     first: Vec<u8>,
     frames: &[Frame],
 ) -> Result<(), AllocError>
-    ensures { OnOk result (text.new.items ≡ text.old.items ++ more_sent (is_in handled.now) first.items frames.now) }
+    ensures { OnOk result (text.new.items ≡ text.old.items ++ more_sent (receiver_text telling.now) first.items frames.now) }
 {
     let mut words = first;
     for frame in frames {
         let next = words_of(*text.allocator(), frame)?;
         if words.as_slice() == next.as_slice() {
             text.extend_from_slice(b", ")?;
-            push_receiver(text, handled, frame)?;
+            telling.push_receiver(text, frame)?;
         } else {
-            push_next(text, handled, &words, frame)?;
+            push_next(text, telling, &words, frame)?;
             words = next;
         }
     }
@@ -126,40 +115,36 @@ fn push_more_sent(
 }
 
 // Appends what is sent, if anything is.
-fn push_sent(text: &mut Vec<u8>, handled: &Handled, frames: &[Frame]) -> Result<(), AllocError>
-    ensures { OnOk result (text.new.items ≡ text.old.items ++ sent_text (is_in handled.now) frames.now) }
+fn push_sent(text: &mut Vec<u8>, telling: &Telling, frames: &[Frame]) -> Result<(), AllocError>
+    ensures { OnOk result (text.new.items ≡ text.old.items ++ sent_text (receiver_text telling.now) frames.now) }
 {
     let [first, rest @ ..] = frames else {
         return Ok(());
     };
-    text.extend_from_slice(b"; sends to ")?;
-    push_receiver(text, handled, first)?;
+    text.extend_from_slice(b"; sends ")?;
+    telling.push_receiver(text, first)?;
     let words = words_of(*text.allocator(), first)?;
-    push_more_sent(text, handled, words, rest)
+    push_more_sent(text, telling, words, rest)
 }
 
 /// Appends what happened in an entry: its event, what it sends, and what it executes.
-pub(crate) fn push_happened(
-    text: &mut Vec<u8>,
-    handled: &Handled,
-    entry: &Entry,
-) -> Result<(), AllocError>
-    ensures { OnOk result (text.new.items ≡ text.old.items ++ happened_text (is_in handled.now) entry.now) }
+pub fn push_happened(text: &mut Vec<u8>, telling: &Telling, entry: &Entry) -> Result<(), AllocError>
+    ensures { OnOk result (text.new.items ≡ text.old.items ++ happened_text (receiver_text telling.now) entry.now) }
 {
     let frames = entry.frames.as_slice();
     push_taken(text, &entry.event, frames)?;
-    push_sent(text, handled, frames)?;
+    push_sent(text, telling, frames)?;
     push_done(text, entry.done.as_slice())
 }
 
-/// Appends the line of an entry of this replica.
-pub(crate) fn push_entry(
+/// Appends an entry of this replica: its stamp and number, and what happened in it.
+pub fn push_entry(
     text: &mut Vec<u8>,
-    handled: &Handled,
+    telling: &Telling,
     replica: ReplicaId,
     entry: &Entry,
 ) -> Result<(), AllocError>
-    ensures { OnOk result (text.new.items ≡ text.old.items ++ entry_line (is_in handled.now) replica entry.now ++ codes "\n") }
+    ensures { OnOk result (text.new.items ≡ text.old.items ++ entry_text (receiver_text telling.now) replica entry.now) }
 {
     text.extend_from_slice(b"stamp ")?;
     push_number(text, entry.stamp.ticks())?;
@@ -168,7 +153,5 @@ pub(crate) fn push_entry(
     text.extend_from_slice(b" entry ")?;
     push_number(text, u64::from(entry.number))?;
     text.extend_from_slice(b"  ")?;
-    push_happened(text, handled, entry)?;
-    text.push(b'\n')?;
-    Ok(())
+    push_happened(text, telling, entry)
 }

@@ -19,7 +19,7 @@ pub(crate) fn entries_of(journals: &Journals, replica: ReplicaId) -> &[Entry]
 }
 
 /// The entry of this number, from 1.
-pub(crate) fn entry_in(entries: &[Entry], number: u32) -> Option<&Entry>
+fn entry_in(entries: &[Entry], number: u32) -> Option<&Entry>
     ensures { option_copied result ≡ entry_at entries.now number }
 {
     if number == 0 {
@@ -29,7 +29,7 @@ pub(crate) fn entry_in(entries: &[Entry], number: u32) -> Option<&Entry>
 }
 
 /// The replica's entry of this number, from 1.
-pub(crate) fn entry_at(journals: &Journals, replica: ReplicaId, number: u32) -> Option<&Entry>
+pub fn entry_at(journals: &Journals, replica: ReplicaId, number: u32) -> Option<&Entry>
     requires { AreJournals journals.now }
     ensures { option_copied result ≡ entry_at (entries_at journals.now replica) number }
 {

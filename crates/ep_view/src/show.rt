@@ -3,12 +3,13 @@
 ghost use Rattle.std.specs.Prelude.{◌≡◌, ◌++◌, Some, IfOk, OnOk};
 ghost use Rattle.ep_journal.specs.Entries.{AreJournals};
 ghost use Rattle.ep_report.specs.Reports.{text_of};
-ghost use Rattle.ep_view.specs.Handled.{is_in};
+ghost use Rattle.ep_view.specs.Telling.{receiver_text};
 ghost use Rattle.ep_view.specs.Shown.{line_of, lines_at, IsInOrder, IsShown};
 
 use crate::handled::Handled;
 use crate::lines::push_entry;
 use crate::lookups::entry_at;
+use crate::telling::Telling;
 use ep_base::ReplicaId;
 use ep_journal::{Entry, Journals};
 use ep_verdict::Verdict;
@@ -34,33 +35,35 @@ pub(crate) fn schedule(
 // Appends the line of an entry, if it is asked for.
 fn push_kept(
     text: &mut Vec<u8>,
-    handled: &Handled,
+    telling: &Telling,
     part: &Part,
     replica: ReplicaId,
     entry: &Entry,
 ) -> Result<(), AllocError>
-    ensures { OnOk result (text.new.items ≡ text.old.items ++ text_of (line_of (is_in handled.now) part.now replica (Some entry.now))) }
+    ensures { OnOk result (text.new.items ≡ text.old.items ++ text_of (line_of (receiver_text telling.now) part.now replica (Some entry.now))) }
 {
     if !part.keeps(replica, entry) {
         return Ok(());
     }
-    push_entry(text, handled, replica, entry)
+    push_entry(text, telling, replica, entry)?;
+    text.push(b'\n')?;
+    Ok(())
 }
 
 // Appends the lines of the entries at these places.
 fn push_lines(
     text: &mut Vec<u8>,
     journals: &Journals,
-    handled: &Handled,
+    telling: &Telling,
     part: &Part,
     places: &[(ReplicaId, u32)],
 ) -> Result<(), AllocError>
     requires { AreJournals journals.now }
-    ensures { OnOk result (text.new.items ≡ text.old.items ++ text_of (lines_at (is_in handled.now) part.now journals.now places.now)) }
+    ensures { OnOk result (text.new.items ≡ text.old.items ++ text_of (lines_at (receiver_text telling.now) part.now journals.now places.now)) }
 {
     for (replica, number) in places {
         if let Some(entry) = entry_at(journals, *replica, *number) {
-            push_kept(text, handled, part, *replica, entry)?;
+            push_kept(text, telling, part, *replica, entry)?;
         }
     }
     Ok(())
@@ -73,9 +76,9 @@ pub fn show(alloc: Global, journals: &Journals, part: &Part) -> Result<Vec<u8>, 
     ensures { IfOk result (λ text. IsShown journals.now part.now text.items) }
 {
     journals.are_journals();
-    let handled = Handled::of(alloc, journals)?;
+    let telling = Telling::Handled(Handled::of(alloc, journals)?);
     let places = schedule(alloc, journals)?;
     let mut text = Vec::new(alloc);
-    push_lines(&mut text, journals, &handled, part, &places)?;
+    push_lines(&mut text, journals, &telling, part, &places)?;
     Ok(text)
 }

@@ -44,6 +44,6 @@ const ONE_PUT: &[u8] = b"replicas 3\npropose 0 1 put x 1\nflush\nflush\nexecute 
 #[test]
 fn one_put(rt: HostRuntime) {
     let wanted =
-        b"stamp 1  replica 0 entry 1  propose put x 1 (client 1 request 1 seen 0); took 0.1; sends to 1: PreAccept 0.1 ballot (0, 0) put x 1 seq 1 deps -\nstamp 2  replica 1 entry 1  handle 0:1:0 PreAccept 0.1 ballot (0, 0) put x 1 seq 1 deps -; sends to 0: PreAcceptOK 0.1 ballot (0, 0) seq 1 deps -\nstamp 3  replica 0 entry 2  handle 1:1:0 PreAcceptOK 0.1 ballot (0, 0) seq 1 deps -; sends to 1 NEVER HANDLED, 2 NEVER HANDLED: Commit 0.1 put x 1 seq 1 deps -\nstamp 4  replica 0 entry 3  execute 0.1; executed 0.1 -> absent\n";
+        b"stamp 1  replica 0 entry 1  propose put x 1 (client 1 request 1 seen 0); took 0.1; sends to 1: PreAccept 0.1 ballot (0, 0) put x 1 seq 1 deps -\nstamp 2  replica 1 entry 1  handle 0:1:0 PreAccept 0.1 ballot (0, 0) put x 1 seq 1 deps -; sends to 0: PreAcceptOK 0.1 ballot (0, 0) seq 1 deps -\nstamp 3  replica 0 entry 2  handle 1:1:0 PreAcceptOK 0.1 ballot (0, 0) seq 1 deps -; sends to 1 NEVER HANDLED, to 2 NEVER HANDLED: Commit 0.1 put x 1 seq 1 deps -\nstamp 4  replica 0 entry 3  execute 0.1; executed 0.1 -> absent\n";
     assert!(rt; is_shown(&rt, rt.alloc(), ONE_PUT, &Part::all(), wanted));
 }
