@@ -18,6 +18,11 @@ number_text (Some n) = decimal n
 abbrev pub numbered_text : (List ℕ → Option ℕ) → List ℕ → List ℕ
 numbered_text number b = codes "#" ++ number_text (number b) ++ codes " to " ++ decimal (origin_at b).to
 
+-- the number of a message, where messages are told by number
+abbrev pub number_told : Telling → List ℕ → Option ℕ
+number_told (Handled h) b = None
+number_told (Numbered n) b = number_in n b
+
 abbrev pub receiver_text : Telling → List ℕ → List ℕ
 receiver_text (Handled h) = handled_text (is_in h)
 receiver_text (Numbered n) = numbered_text (number_in n)

@@ -39,7 +39,7 @@ impl Handled {
     }
 
     /// Whether the frame is one of them.
-    pub(crate) fn has(&self, frame: &Frame) -> bool
+    pub fn has(&self, frame: &Frame) -> bool
         ensures { result ≡ is_in self.now frame.now }
     {
         self.frames.contains(frame.as_slice())

@@ -20,4 +20,4 @@ pub use lines::{push_entry, push_happened};
 pub use lookups::entry_at;
 pub use numbers::Numbers;
 pub use show::show;
-pub use telling::Telling;
+pub use telling::{Telling, push_number_or};

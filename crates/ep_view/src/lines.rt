@@ -66,7 +66,7 @@ fn push_taken(text: &mut Vec<u8>, event: &Event, frames: &[Frame]) -> Result<(),
     }
 }
 
-// The words of the frame's message.
+// The words of the frame's message, alone.
 fn words_of(alloc: Global, frame: &Frame) -> Result<Vec<u8>, AllocError>
     ensures { IfOk result (λ words. words.items ≡ words_at frame.now) }
 {

@@ -2,7 +2,6 @@
 
 ghost use Rattle.std.specs.Prelude.{◌≡◌, ◌++◌, Some, IfOk, OnOk};
 ghost use Rattle.ep_journal.specs.Entries.{AreJournals};
-ghost use Rattle.ep_report.specs.Reports.{text_of};
 ghost use Rattle.ep_view.specs.Telling.{receiver_text};
 ghost use Rattle.ep_view.specs.Shown.{line_of, lines_at, IsInOrder, IsShown};
 
@@ -40,7 +39,7 @@ fn push_kept(
     replica: ReplicaId,
     entry: &Entry,
 ) -> Result<(), AllocError>
-    ensures { OnOk result (text.new.items ≡ text.old.items ++ text_of (line_of (receiver_text telling.now) part.now replica (Some entry.now))) }
+    ensures { OnOk result (text.new.items ≡ text.old.items ++ line_of (receiver_text telling.now) part.now replica (Some entry.now)) }
 {
     if !part.keeps(replica, entry) {
         return Ok(());
@@ -59,7 +58,7 @@ fn push_lines(
     places: &[(ReplicaId, u32)],
 ) -> Result<(), AllocError>
     requires { AreJournals journals.now }
-    ensures { OnOk result (text.new.items ≡ text.old.items ++ text_of (lines_at (receiver_text telling.now) part.now journals.now places.now)) }
+    ensures { OnOk result (text.new.items ≡ text.old.items ++ lines_at (receiver_text telling.now) part.now journals.now places.now) }
 {
     for (replica, number) in places {
         if let Some(entry) = entry_at(journals, *replica, *number) {

@@ -1,9 +1,9 @@
 //! How the receiver of a frame is told.
 
-ghost use Rattle.std.specs.Prelude.{◌≡◌, ◌++◌, Some, OnOk};
+ghost use Rattle.std.specs.Prelude.{◌≡◌, ◌++◌, OnOk};
 ghost use Rattle.ep_view.specs.Handled.{is_in};
 ghost use Rattle.ep_view.specs.Numbers.{number_in};
-ghost use Rattle.ep_view.specs.Telling.{handled_text, number_text, numbered_text, receiver_text};
+ghost use Rattle.ep_view.specs.Telling.{handled_text, number_text, numbered_text, number_told, receiver_text};
 
 use crate::handled::Handled;
 use crate::numbers::Numbers;
@@ -32,8 +32,8 @@ fn push_handled(text: &mut Vec<u8>, handled: &Handled, frame: &Frame) -> Result<
     text.extend_from_slice(b" NEVER HANDLED")
 }
 
-// Appends the number of a message, or a question mark where it has none.
-fn push_number_or(text: &mut Vec<u8>, number: Option<u64>) -> Result<(), AllocError>
+/// Appends the number of a message, or a question mark where it has none.
+pub fn push_number_or(text: &mut Vec<u8>, number: Option<u64>) -> Result<(), AllocError>
     ensures { OnOk result (text.new.items ≡ text.old.items ++ number_text number) }
 {
     match number {
@@ -53,6 +53,16 @@ fn push_numbered(text: &mut Vec<u8>, numbers: &Numbers, frame: &Frame) -> Result
 }
 
 impl Telling {
+    /// The number of the message that the frame is; none where it isn't one of them, or messages aren't told by number.
+    pub fn number(&self, frame: &Frame) -> Option<u64>
+        ensures { result ≡ number_told self.now frame.now }
+    {
+        match self {
+            Telling::Handled(_) => None,
+            Telling::Numbered(numbers) => numbers.get(frame),
+        }
+    }
+
     /// Appends the receiver of a frame.
     pub(crate) fn push_receiver(&self, text: &mut Vec<u8>, frame: &Frame) -> Result<(), AllocError>
         ensures { OnOk result (text.new.items ≡ text.old.items ++ receiver_text self.now frame.now) }
