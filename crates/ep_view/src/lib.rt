@@ -8,6 +8,7 @@
 //! `ep_verdict` makes it. What events and messages are told as is in `ep_words`.
 #![tactic(auto)]
 
+mod columns;
 mod handled;
 mod lines;
 mod lookups;
@@ -15,6 +16,7 @@ mod numbers;
 mod show;
 mod telling;
 
+pub use columns::columns;
 pub use handled::Handled;
 pub use lines::{push_entry, push_happened};
 pub use lookups::entry_at;
