@@ -3,11 +3,11 @@
 //! `ep_viewer` prints it for `epaxos replay --emit trace`: a line for each event that was tried, with the numbers of the
 //! messages that it sends, then the messages that nobody handled, then what is known and not committed.
 //!
-//! Start with `trace.rt` and specs/Traced.antt. What an entry is told as is in `ep_view`.
+//! Start with `tracing.rt` and specs/Traced.antt. What an entry is told as is in `ep_view`.
 #![tactic(auto)]
 
-mod trace;
+mod tracing;
 mod unhandled;
 mod waiting;
 
-pub use trace::trace;
+pub use tracing::trace;

@@ -3,7 +3,7 @@
 use crate::handled::Handled;
 use crate::lines::push_happened;
 use crate::lookups::entry_at;
-use crate::show::schedule;
+use crate::showing::schedule;
 use crate::telling::Telling;
 use ep_base::ReplicaId;
 use ep_journal::{Entry, Journals};
