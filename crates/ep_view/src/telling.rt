@@ -1,6 +1,6 @@
 //! How the receiver of a frame is told.
 
-ghost use Rattle.std.specs.Prelude.{◌≡◌, ◌++◌, OnOk};
+ghost use Rattle.std.specs.Prelude.{◌≡◌, ◌++◌, [], cond, OnOk, codes};
 ghost use Rattle.ep_view.specs.Handled.{is_in};
 ghost use Rattle.ep_view.specs.Numbers.{number_in};
 ghost use Rattle.ep_view.specs.Telling.{handled_text, number_text, numbered_text, number_told, receiver_text};
@@ -26,7 +26,14 @@ fn push_handled(text: &mut Vec<u8>, handled: &Handled, frame: &Frame) -> Result<
 {
     text.extend_from_slice(b"to ")?;
     push_number(text, u64::from(frame.origin().to.index()))?;
-    if handled.has(frame) {
+    push_unless(text, handled.has(frame))
+}
+
+// Appends that nobody handles a frame, unless somebody does.
+fn push_unless(text: &mut Vec<u8>, is_handled: bool) -> Result<(), AllocError>
+    ensures { OnOk result (text.new.items ≡ text.old.items ++ cond is_handled [] (codes " NEVER HANDLED")) }
+{
+    if is_handled {
         return Ok(());
     }
     text.extend_from_slice(b" NEVER HANDLED")
