@@ -8,6 +8,8 @@ use std::alloc::AllocError;
 pub(crate) enum Allowed {
     /// Any bytes, or any number.
     Any,
+    /// The bytes `EPJB`.
+    Magic,
     /// This number alone.
     One(u64),
     /// A number from one to another.
@@ -23,6 +25,7 @@ impl Allowed {
     pub(crate) fn push(self, text: &mut Vec<u8>) -> Result<(), AllocError> {
         match self {
             Allowed::Any => text.extend_from_slice(b"any"),
+            Allowed::Magic => text.extend_from_slice(b"EPJB"),
             Allowed::One(number) => push_number(text, number),
             Allowed::Range(low, high) => {
                 push_number(text, low)?;

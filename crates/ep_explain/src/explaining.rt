@@ -3,10 +3,11 @@
 ghost use Rattle.std.specs.Prelude.{◌≡◌, ◌≢◌, IfOk};
 ghost use Rattle.ep_bundle.specs.Texts.{fault_text as refusal_text};
 ghost use Rattle.ep_bundle.specs.declared.bundle_fault.BundleFault.TheVariants.{Memory, ReadFailed as Failed};
-ghost use Rattle.ep_explain.specs.Explained.{AreTold, IsExplained, IsRefusalTold, IsVerdictTold};
+ghost use Rattle.ep_explain.specs.Explained.{IsExplained, IsRefusalTold, IsVerdictTold};
+ghost use Rattle.ep_explain.specs.Sections.{AreTold};
 ghost use Rattle.ep_explain.specs.Faults.{all_faults};
 
-use crate::faults::faults;
+use crate::finding::faults;
 use crate::grammar::field_reasons;
 use crate::handled::reasons_of;
 use crate::reasons::{Reasons, push_section};

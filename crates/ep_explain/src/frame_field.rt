@@ -1,7 +1,8 @@
 //! The fields of frames.
 
-use ep_report::{push_instance, push_number};
+use crate::walk::number_of;
 use ep_base::{InstanceId, ReplicaId};
+use ep_report::{push_instance, push_number};
 use ep_script::push_word;
 use std::alloc::AllocError;
 
@@ -69,17 +70,17 @@ fn header_field(place: usize) -> FrameField<'static> {
 }
 
 /// The byte at this place, 0 where there is none.
-fn byte_at(bytes: &[u8], place: usize) -> usize {
+fn byte_at(bytes: &[u8], place: usize) -> u8 {
     match bytes.get(place) {
-        Some(byte) => *byte as usize,
+        Some(byte) => *byte,
         None => 0,
     }
 }
 
 /// The field behind the header that has the byte at this place, in a frame with the lengths that these bytes tell.
 fn body_field<'a>(bytes: &[u8], place: usize) -> FrameField<'a> {
-    let value = 40 + byte_at(bytes, 35);
-    let deps = value + 256 * byte_at(bytes, 36) + byte_at(bytes, 37);
+    let value = 40 + byte_at(bytes, 35) as usize;
+    let deps = value + 256 * byte_at(bytes, 36) as usize + byte_at(bytes, 37) as usize;
     if place < value {
         return FrameField {
             name: b"key",
@@ -118,15 +119,6 @@ fn bytes_of<'a>(bytes: &'a [u8], field: &FrameField<'_>) -> &'a [u8] {
     let start = field.start.min(bytes.len());
     let end = field.start.saturating_add(field.len).min(bytes.len());
     &bytes[start..end]
-}
-
-/// The number that these bytes spell, the highest first.
-fn number_of(bytes: &[u8]) -> u64 {
-    let mut number: u64 = 0;
-    for byte in bytes {
-        number = number.wrapping_mul(256).wrapping_add(u64::from(*byte));
-    }
-    number
 }
 
 /// Appends the name of the kind of this code.

@@ -4,8 +4,9 @@ use crate::allowed::Allowed;
 use crate::field::Field;
 use crate::reasons::Reasons;
 use crate::spot::{Section, Spot};
-use crate::walk::{Stop, Walk, number_in_front};
+use crate::walk::{Stop, Walk, number_of};
 use ep_report::push_number;
+use ep_script::push_word;
 use std::alloc::{AllocError, Global};
 
 /// The version of a bundle, and how many replicas it has.
@@ -31,7 +32,7 @@ pub(crate) fn field_reasons(
 }
 
 fn pass_bundle(walk: &mut Walk<'_>) -> Result<(), Stop> {
-    walk.number(Field::Magic, 4, Allowed::One(0x4550_4a42))?;
+    walk.number(Field::Magic, 4, Allowed::Magic)?;
     let version = walk.number(Field::Version, 1, Allowed::Range(1, 2))?;
     let replicas = walk.number(Field::Replicas, 1, Allowed::ClusterSize)?;
     let receipts = walk.number(Field::ReceiptCount, 4, Allowed::Any)?;
@@ -198,9 +199,10 @@ fn add_found(
     reasons: &mut Reasons,
 ) -> Result<(), AllocError> {
     let mut line = Vec::from_slice(alloc, b"found: ")?;
-    match number_in_front(rest, spot.len) {
-        Some(number) if spot.allowed != Allowed::OtherKey => push_number(&mut line, number)?,
-        _ => line.extend_from_slice(b"the same key")?,
+    let (front, _) = rest.split_at(spot.len.min(rest.len()));
+    match spot.allowed {
+        Allowed::Magic | Allowed::OtherKey => push_word(&mut line, front)?,
+        _ => push_number(&mut line, number_of(front))?,
     }
     reasons.add(line)?;
     reasons.say(b"likely: the bundle was changed here, or a length or a count before this place was")

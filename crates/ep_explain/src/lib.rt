@@ -13,8 +13,8 @@
 mod allowed;
 mod claims;
 mod explaining;
-mod faults;
 mod field;
+mod finding;
 mod frame_field;
 mod frames;
 mod grammar;
@@ -26,4 +26,4 @@ mod stepping;
 mod walk;
 
 pub use explaining::explain;
-pub use faults::faults;
+pub use finding::faults;

@@ -1,7 +1,7 @@
 //! Reasons: lines of words.
 
 ghost use Rattle.std.specs.Prelude.{◌≡◌, ◌++◌, [], IfOk, OnOk, codes, filter, map};
-ghost use Rattle.ep_explain.specs.Explained.{is_plain, reason_line, section};
+ghost use Rattle.ep_explain.specs.Sections.{is_plain, reason_line, section};
 ghost use Rattle.ep_report.specs.Reports.{text_of};
 
 use std::alloc::{AllocError, Global};

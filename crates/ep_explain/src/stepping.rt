@@ -368,9 +368,9 @@ fn add_counts(
     push_number(&mut line, counts.expected as u64)?;
     line.extend_from_slice(b", found ")?;
     push_number(&mut line, counts.found as u64)?;
-    line.extend_from_slice(b"; the first that differs is number ")?;
+    line.extend_from_slice(b"; the first that differs is at place ")?;
     push_number(&mut line, counts.place as u64)?;
-    line.extend_from_slice(b", from 0")?;
+    line.extend_from_slice(b", counted from 0")?;
     reasons.add(line)
 }
 

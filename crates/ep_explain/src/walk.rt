@@ -23,7 +23,7 @@ pub(crate) struct Walk<'a> {
 }
 
 /// The number that these bytes spell, the highest first.
-fn number_of(bytes: &[u8]) -> u64 {
+pub(crate) fn number_of(bytes: &[u8]) -> u64 {
     let mut number: u64 = 0;
     for byte in bytes {
         number = number.wrapping_mul(256).wrapping_add(u64::from(*byte));
@@ -75,13 +75,4 @@ impl<'a> Walk<'a> {
     pub(crate) fn number(&mut self, field: Field, len: usize, allowed: Allowed) -> Result<u64, Stop> {
         Ok(number_of(self.run(field, len, allowed)?))
     }
-}
-
-/// The number that the field of so many bytes has in front of these, if they are so many.
-pub(crate) fn number_in_front(bytes: &[u8], len: usize) -> Option<u64> {
-    if bytes.len() < len {
-        return None;
-    }
-    let (front, _) = bytes.split_at(len);
-    Some(number_of(front))
 }

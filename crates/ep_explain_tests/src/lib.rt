@@ -4,4 +4,12 @@
 #![tactic(auto)]
 
 #[cfg(test)]
-mod bundles;
+mod audits;
+#[cfg(test)]
+mod fields;
+#[cfg(test)]
+mod rows;
+#[cfg(test)]
+mod steps;
+#[cfg(test)]
+mod turned;

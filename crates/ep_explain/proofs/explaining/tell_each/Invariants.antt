@@ -1,5 +1,5 @@
 use Rattle.std.proofs.Common.{take}
-use Rattle.ep_explain.specs.Explained.{AreTold}
+use Rattle.ep_explain.specs.Sections.{AreTold}
 use Rattle.ep_explain.proofs.explaining.tell_each.Given as goal
 
 abbrev pub invariant-loop-fault : goal.invariant-loop-fault

@@ -1,5 +1,5 @@
 use Rattle.std.proofs.Common.{◌≡◌, ◌++◌, drop, filter}
-use Rattle.ep_explain.specs.Explained.{is_plain}
+use Rattle.ep_explain.specs.Sections.{is_plain}
 use Rattle.ep_explain.proofs.reasons.push_plain.Given as goal
 
 abbrev pub invariant-loop-byte : goal.invariant-loop-byte

@@ -1,6 +1,6 @@
 use Rattle.std.proofs.Common.{◌≡◌, ◌++◌, drop, map}
 use Rattle.ep_report.specs.Reports.{text_of}
-use Rattle.ep_explain.specs.Explained.{reason_line}
+use Rattle.ep_explain.specs.Sections.{reason_line}
 use Rattle.ep_explain.proofs.reasons.push_reasons.Given as goal
 
 abbrev pub invariant-loop-reason : goal.invariant-loop-reason
