@@ -1,0 +1,2 @@
+-- Which entries are drawn.
+use Rattle.std.specs.Prelude.{ℕ}
