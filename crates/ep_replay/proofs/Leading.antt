@@ -1,5 +1,5 @@
 -- From one player to the next.
-use Rattle.std.proofs.Common.{◌≡◌, ◌≢◌, inl, inr, ℕ, suc, ◌+◌, ◌<◌, ◌≤◌, Bool, true, false, cond, List, [], ◌∷◌, ◌++◌, length, get_or, drop, refl, sym, ap, subst, ◌∙◌, arith}
+use Rattle.std.proofs.Common.{◌≡◌, ◌≢◌, inl, inr, ℕ, suc, ◌+◌, ◌<◌, ◌≤◌, Bool, true, false, cond, List, [], ◌∷◌, ◌++◌, Some, None, length, get_or, drop, refl, sym, ap, subst, ◌∙◌, arith}
 use Rattle.std.proofs.Math.Seq.{drop-cons}
 use Rattle.std.proofs.lemmas.List.{drop_all}
 use Rattle.ep_base.specs.declared.command.Command.{Command}
@@ -34,13 +34,14 @@ use Rattle.ep_replay.proofs.Receiving.{own_still}
 pub took : (s s' : Player) (line : ℕ) (event : WorldEvent) (h : Happens s.world event s'.world)
     → s'.receipts.items ≡ s.receipts.items ++ receipts_of h.replica (journals_in s'.world h.replica) (entry_of h.entry)
     → s'.refused.items ≡ s.refused.items → s'.given ≡ s.given
+    → s'.tried.items ≡ s.tried.items ++ (record { line = line; step = Some (h.replica, h.entry.number) }) ∷ []
     → ((ps : List ℕ) → AreCounted s.clients ps s.receipts.items → AreCounted s'.clients ps s'.receipts.items)
     → (AreOwn s'.world s.receipts.items → AreOwn s'.world s'.receipts.items)
     → Leads (λ p q. Tries p line event q) s s'
-took s s' line event h receipts refused given counted own ps gs t = record {
+took s s' line event h receipts refused given tried counted own ps gs t = record {
   proposers = ps;
   given = gs;
-  related = inl (record { next = s'.world; happens = h; becomes = (λ i. record { world = s'.world; proposers = ps; given = gs; receipts = receipts i; refused = refused i }) });
+  related = inl (record { next = s'.world; happens = h; becomes = (λ i. record { world = s'.world; proposers = ps; given = gs; receipts = receipts i; refused = refused i; tried = tried i }) });
   tells = record {
     clients = counted ps t.clients;
     flags = subst (λ (g : Given). AreFlagged g gs) (sym given) t.flags;
@@ -51,12 +52,13 @@ took s s' line event h receipts refused given counted own ps gs t = record {
 -- the event was listed
 pub listed : (s s' : Player) (line : ℕ) (event : WorldEvent) (cause : Refusal) → IsNotEnabled s.world event cause → cause ≢ Step Memory
     → s'.refused.items ≡ s.refused.items ++ (line, cause_of cause) ∷ []
+    → s'.tried.items ≡ s.tried.items ++ (record { line = line; step = None }) ∷ []
     → s'.world ≡ s.world → s'.clients ≡ s.clients → s'.receipts.items ≡ s.receipts.items → s'.given ≡ s.given
     → Leads (λ p q. Tries p line event q) s s'
-listed s s' line event cause why is refused world clients receipts given ps gs t = record {
+listed s s' line event cause why is refused tried world clients receipts given ps gs t = record {
   proposers = ps;
   given = gs;
-  related = inr (record { cause = cause; refused = why; told = is; becomes = (λ i. record { world = world i; proposers = ps; given = gs; receipts = receipts i; refused = refused i }) });
+  related = inr (record { cause = cause; refused = why; told = is; becomes = (λ i. record { world = world i; proposers = ps; given = gs; receipts = receipts i; refused = refused i; tried = tried i }) });
   tells = record {
     clients = subst (λ (ts : List Receipt). AreCounted s'.clients ps ts) (sym receipts) (subst (λ (cs : Clients). AreCounted cs ps s.receipts.items) (sym clients) t.clients);
     flags = subst (λ (g : Given). AreFlagged g gs) (sym given) t.flags;
@@ -92,7 +94,7 @@ pub sent_noted : (s : Player) (g : Given) (m : ℕ) → was_sent s.world m ≡ t
 sent_noted s g m sent flags ps gs t = record {
   proposers = ps;
   given = gs ++ m ∷ [];
-  related = ap (λ (b : Bool). record { world = s.world; proposers = ps; given = cond b (gs ++ m ∷ []) gs; receipts = s.receipts.items; refused = s.refused.items }) (sym sent);
+  related = ap (λ (b : Bool). record { world = s.world; proposers = ps; given = cond b (gs ++ m ∷ []) gs; receipts = s.receipts.items; refused = s.refused.items; tried = s.tried.items }) (sym sent);
   tells = record { clients = t.clients; flags = flags gs t.flags; own = t.own };
 }
 
@@ -101,7 +103,7 @@ pub unsent_noted : (s : Player) (m : ℕ) → was_sent s.world m ≡ false → L
 unsent_noted s m unsent ps gs t = record {
   proposers = ps;
   given = gs;
-  related = ap (λ (b : Bool). record { world = s.world; proposers = ps; given = cond b (gs ++ m ∷ []) gs; receipts = s.receipts.items; refused = s.refused.items }) (sym unsent);
+  related = ap (λ (b : Bool). record { world = s.world; proposers = ps; given = cond b (gs ++ m ∷ []) gs; receipts = s.receipts.items; refused = s.refused.items; tried = s.tried.items }) (sym unsent);
   tells = t;
 }
 
@@ -181,10 +183,10 @@ played_all ls i s s' over done = ends PlayAll (λ p. refl) ls i s s' over done
 -- All lines.
 
 pub replayed : (plan : Plan) (s s' : Player) (d : Replayed) → IsOpening plan.faults (told s [] []) → Tells s [] [] → Leads (λ p q. PlayAll p plan.lines q) s s'
-    → d.journals ≡ collected s'.world → d.receipts.items ≡ s'.receipts.items → d.refused.items ≡ s'.refused.items → IsReplay plan d
-replayed plan s s' d opening t leads journals receipts refused =
+    → d.journals ≡ collected s'.world → d.receipts.items ≡ s'.receipts.items → d.refused.items ≡ s'.refused.items → d.tried.items ≡ s'.tried.items → IsReplay plan d
+replayed plan s s' d opening t leads journals receipts refused tried =
     let r = leads [] [] t in
-    record { first = told s [] []; last = told s' r.proposers r.given; opening = opening; played = r.related; journals = journals; receipts = receipts; refused = refused }
+    record { first = told s [] []; last = told s' r.proposers r.given; opening = opening; played = r.related; journals = journals; receipts = receipts; refused = refused; tried = tried }
 
 pub own_at_end : (ls : List (ℕ × Line)) (s s' : Player) → Tells s [] [] → Leads (λ p q. PlayAll p ls q) s s' → AreOwn s'.world s'.receipts.items
 own_at_end ls s s' t leads = (leads [] [] t).tells.own

@@ -27,8 +27,8 @@ SoleAt p = Sole p.world.faults (journals_in p.world) p.receipts
 
 -- One event.
 
-takes_sole : (p q : Replay) (event : WorldEvent) → Takes p event q → SoleAt p → SoleAt q
-takes_sole p q event t s =
+takes_sole : (p q : Replay) (line : ℕ) (event : WorldEvent) → Takes p line event q → SoleAt p → SoleAt q
+takes_sole p q line event t s =
     let h : Happens p.world event t.next = t.happens in
     let w : Played = p.world in
     let v : Played = t.next in
@@ -41,7 +41,7 @@ takes_sole p q event t s =
     (more_sole w.faults (journals_in w) (journals_in v) p.receipts h.replica (entry_of h.entry) here other h.applied.step s))
 
 tries_sole : (p q : Replay) (line : ℕ) (event : WorldEvent) → Tries p line event q → SoleAt p → SoleAt q
-tries_sole p q line event (inl t) s = takes_sole p q event t s
+tries_sole p q line event (inl t) s = takes_sole p q line event t s
 tries_sole p q line event (inr t) s = subst SoleAt (sym t.becomes) s
 
 -- Lines.

@@ -14,3 +14,4 @@ pub record IsReplay (script : Plan) (d : Replayed) : Type 0 where
   pub journals : d.journals ≡ collected last.world
   pub receipts : d.receipts.items ≡ last.receipts
   pub refused : d.refused.items ≡ last.refused
+  pub tried : d.tried.items ≡ last.tried

@@ -1,5 +1,5 @@
 -- A replay of a script: what its lines do in a world, one after another.
-use Rattle.std.specs.Prelude.{◌≡◌, ◌≢◌, ◌⊎◌, ◌↔◌, ℕ, ◌+◌, ◌≤◌, ◌&&◌, nat_le, Bool, cond, List, [], ◌∷◌, ◌++◌, length}
+use Rattle.std.specs.Prelude.{◌≡◌, ◌≢◌, ◌⊎◌, ◌↔◌, ℕ, ◌+◌, ◌≤◌, ◌&&◌, nat_le, Bool, cond, List, [], ◌∷◌, ◌++◌, Some, None, length}
 use Rattle.ep_base.specs.Deps.{IsRising}
 use Rattle.ep_base.specs.declared.command.Command.{Command}
 use Rattle.ep_rules.specs.Worlds.{In}
@@ -18,6 +18,7 @@ use Rattle.ep_world.specs.declared.world_event.WorldEvent.{WorldEvent}
 use Rattle.ep_world.specs.declared.world_event.WorldEvent.TheVariants as event
 use Rattle.ep_replay.specs.Causes.{cause_of}
 use Rattle.ep_replay.specs.Clients.{times, greatest}
+use Rattle.ep_replay.specs.declared.tried.Tried.{Tried}
 
 -- how far a script has been replayed
 pub record Replay : Type 0 where
@@ -29,6 +30,8 @@ pub record Replay : Type 0 where
   pub receipts : List Receipt
   -- the refused events, each with the number of its line
   pub refused : List (ℕ × Cause)
+  -- each event that was tried, with the number of its line, and its replica and entry unless it was refused
+  pub tried : List Tried
 
 -- nothing was replayed yet
 pub record IsOpening (faults : ℕ) (p : Replay) : Type 0 where
@@ -40,24 +43,25 @@ pub record IsOpening (faults : ℕ) (p : Replay) : Type 0 where
   pub given : p.given ≡ []
   pub receipts : p.receipts ≡ []
   pub refused : p.refused ≡ []
+  pub tried : p.tried ≡ []
 
 -- One event.
 
--- the event happens; a receipt is given for each execution by its entry of what its replica proposed
-pub record Takes (p : Replay) (event : WorldEvent) (p' : Replay) : Type 0 where
+-- the event happens, at this line; a receipt is given for each execution by its entry of what its replica proposed
+pub record Takes (p : Replay) (line : ℕ) (event : WorldEvent) (p' : Replay) : Type 0 where
   pub next : Played
   pub happens : Happens p.world event next
-  pub becomes : p' ≡ record p { world = next; receipts = p.receipts ++ receipts_of happens.replica (journals_in next happens.replica) (entry_of happens.entry) }
+  pub becomes : p' ≡ record p { world = next; receipts = p.receipts ++ receipts_of happens.replica (journals_in next happens.replica) (entry_of happens.entry); tried = p.tried ++ (record { line = line; step = Some (happens.replica, happens.entry.number) }) ∷ [] }
 
 -- the event isn't enabled, and is listed by its line and the cause; want of memory is no cause
 pub record IsListed (p : Replay) (line : ℕ) (event : WorldEvent) (p' : Replay) : Type 0 where
   pub cause : Refusal
   pub refused : IsNotEnabled p.world event cause
   pub told : cause ≢ Step Memory
-  pub becomes : p' ≡ record p { refused = p.refused ++ (line, cause_of cause) ∷ [] }
+  pub becomes : p' ≡ record p { refused = p.refused ++ (line, cause_of cause) ∷ []; tried = p.tried ++ (record { line = line; step = None }) ∷ [] }
 
 abbrev pub Tries : Replay → ℕ → WorldEvent → Replay → Type 0
-Tries p line event p' = Takes p event p' ⊎ IsListed p line event p'
+Tries p line event p' = Takes p line event p' ⊎ IsListed p line event p'
 
 -- Proposals.
 

@@ -43,7 +43,7 @@ AreOwn w receipts = (t : Receipt) → In t receipts → (r : ℕ) × IsOwn w.fau
 
 -- how far the player has replayed, where these have proposed and these messages were given
 abbrev pub told : Player → List ℕ → List ℕ → Replay
-told s proposers given = record { world = s.world; proposers = proposers; given = given; receipts = s.receipts.items; refused = s.refused.items }
+told s proposers given = record { world = s.world; proposers = proposers; given = given; receipts = s.receipts.items; refused = s.refused.items; tried = s.tried.items }
 
 pub record Tells (s : Player) (proposers given : List ℕ) : Type 0 where
   pub clients : AreCounted s.clients proposers s.receipts.items

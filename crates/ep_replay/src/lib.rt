@@ -14,8 +14,10 @@ mod clients;
 mod given;
 mod player;
 mod replayed;
+mod tried;
 
 pub use causes::step_cause;
 pub use clients::{Client, Clients};
 pub use player::replay;
 pub use replayed::Replayed;
+pub use tried::Tried;

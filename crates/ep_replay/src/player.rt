@@ -1,6 +1,6 @@
 //! Replays of scripts.
 
-ghost use Rattle.std.specs.Prelude.{◌≡◌, ℕ, ◌≤◌, ◌++◌, List, length, OnOk, IfOk};
+ghost use Rattle.std.specs.Prelude.{◌≡◌, ℕ, ◌≤◌, ◌++◌, ◌∷◌, [], List, Some, length, OnOk, IfOk};
 ghost use Rattle.ep_rules.specs.Audits.{IsAccepted};
 ghost use Rattle.ep_rules.specs.Counts.{AreOnce};
 ghost use Rattle.ep_rules.specs.declared.receipt.Receipt.{Receipt as Told};
@@ -18,6 +18,7 @@ use crate::causes::list;
 use crate::clients::Clients;
 use crate::given::Given;
 use crate::replayed::Replayed;
+use crate::tried::Tried;
 use ep_base::{Command, ReplicaId, Size};
 use ep_report::Cause;
 use ep_rules::Receipt;
@@ -38,6 +39,21 @@ fn last_receipts(alloc: Global, world: &World) -> Result<Vec<Receipt>, AllocErro
     };
     let receipts = replica.receipts_after(alloc, entry.saturating_sub(1))?;
     Ok(receipts)
+}
+
+/// The replica of the world's last step, with the number of its entry.
+fn last_step(world: &World) -> Option<(ReplicaId, u32)>
+    ensures { (w : Played) (event : Event) (h : Happens w event world.now) → result ≡ Some (h.replica, h.entry.number) }
+{
+    world.steps().last().copied()
+}
+
+/// Notes how an event of this line went.
+fn note(tried: &mut Vec<Tried>, line: u32, step: Option<(ReplicaId, u32)>) -> Result<(), AllocError>
+    ensures { OnOk result (tried.new.items ≡ tried.old.items ++ (record { line = line; step = step }) ∷ []) }
+{
+    tried.push(Tried { line, step })?;
+    Ok(())
 }
 
 /// Adds the receipts of what the world's last step executed.
@@ -72,6 +88,7 @@ pub(crate) struct Player {
     given: Given,
     receipts: Vec<Receipt>,
     refused: Vec<(u32, Cause)>,
+    tried: Vec<Tried>,
     alloc: Global,
 }
 
@@ -97,6 +114,7 @@ impl Player {
             given: Given::new(alloc),
             receipts: Vec::new(alloc),
             refused: Vec::new(alloc),
+            tried: Vec::new(alloc),
             alloc,
         })
     }
@@ -113,10 +131,12 @@ impl Player {
                     &mut self.clients,
                     &mut self.receipts,
                 )?;
+                note(&mut self.tried, line, last_step(&self.world))?;
                 Ok(())
             }
             Err(refusal) => {
                 list(&mut self.refused, line, refusal)?;
+                note(&mut self.tried, line, None)?;
                 Ok(())
             }
         }
@@ -246,6 +266,7 @@ impl Player {
         ensures journals { IfOk result (λ d. d.journals ≡ collected self.world) }
         ensures receipts { IfOk result (λ d. d.receipts.items ≡ self.receipts.items) }
         ensures refused { IfOk result (λ d. d.refused.items ≡ self.refused.items) }
+        ensures tried { IfOk result (λ d. d.tried.items ≡ self.tried.items) }
         ensures accepted { IfOk result (λ d. AreOwn self.world self.receipts.items → IsAccepted d.journals.faults (journals_of d.journals) d.receipts.items) }
     {
         self.world.journals_are_accepted();
@@ -255,6 +276,7 @@ impl Player {
             given: _,
             receipts,
             refused,
+            tried,
             alloc: _,
         } = self;
         let journals = world.into_journals(alloc)?;
@@ -262,6 +284,7 @@ impl Player {
             journals,
             receipts,
             refused,
+            tried,
         })
     }
 }

@@ -1,5 +1,5 @@
 -- Which entries of journals are asked for.
-use Rattle.std.specs.Prelude.{ℕ, Bool, true, false, ◌||◌, ◌&&◌, eqb, nat_le, List, [], ◌∷◌, Option, Some, None}
+use Rattle.std.specs.Prelude.{ℕ, Bool, true, false, ◌||◌, ◌&&◌, cond, eqb, nat_le, List, [], ◌∷◌, Option, Some, None}
 use Rattle.ep_base.specs.declared.reply.Answer.{Answer}
 use Rattle.ep_frame.specs.Meaning.{instance_at}
 use Rattle.ep_journal.specs.declared.entry.Entry.{Entry}
@@ -18,12 +18,12 @@ names i (Execute j) = eqb j i
 -- some frame is about the instance
 abbrev pub sends_of : ℕ → List (List ℕ) → Bool
 sends_of i [] = false
-sends_of i (b ∷ bs) = eqb (instance_at b) i || sends_of i bs
+sends_of i (b ∷ bs) = cond (eqb (instance_at b) i) true (sends_of i bs)
 
 -- the instance is executed
 abbrev pub executes : ℕ → List (ℕ × Answer) → Bool
 executes i [] = false
-executes i (d ∷ ds) = eqb d.0 i || executes i ds
+executes i (d ∷ ds) = cond (eqb d.0 i) true (executes i ds)
 
 -- the entry's event names the instance, or it sends a frame about it, or executes it
 abbrev pub is_about : ℕ → Entry → Bool
