@@ -1,7 +1,7 @@
 //! The frames of a diagram: an arrow from the entry that sent a frame to each entry that handled it, a cross where none did.
 
 use crate::kind::Kind;
-use crate::layout::{Layout, Point};
+use crate::layout::Point;
 use crate::rows::{handles, is_handled};
 use crate::scene::Scene;
 use crate::svg::Svg;
@@ -112,7 +112,7 @@ fn push_letters(
     words.push(b' ')?;
     push_instance(&mut words, frame.instance())?;
     let half = (words.len() as u64).saturating_mul(10) / 3;
-    let middle = way.to.back_to(way.from, half.saturating_add(25));
+    let middle = way.to.back_to(way.from, half.saturating_add(28));
     svg.attribute(b"<rect class='back' x='", middle.x.saturating_sub(half).saturating_sub(2))?;
     svg.attribute(b"' y='", middle.y.saturating_sub(6))?;
     svg.attribute(b"' width='", half.saturating_mul(2).saturating_add(4))?;
@@ -159,7 +159,7 @@ fn push_arrow(
     };
     let way = Way {
         from,
-        to: scene.layout.dot(place.0, row),
+        to: scene.layout().dot(place.0, row),
         fate: Fate::Handled,
         is_fault: scene.is_fault(place),
     };
@@ -183,7 +183,7 @@ fn push_unmet(
         Fate::Lost
     };
     let receiver = Point {
-        x: scene.layout.column(frame.origin().to),
+        x: scene.layout().column(frame.origin().to),
         y: from.y.saturating_add(BELOW),
     };
     let way = Way {
@@ -235,9 +235,9 @@ fn push_met(
     let Some(place) = scene.rows.get(row).copied() else {
         return Ok(());
     };
-    let to = scene.layout.dot(place.0, row);
+    let to = scene.layout().dot(place.0, row);
     let line = Point {
-        x: scene.layout.column(frame.from()),
+        x: scene.layout().column(frame.from()),
         y: to.y,
     };
     let (from, fate) = match scene.sender(frame) {

@@ -1,9 +1,13 @@
 //! Space-time diagrams.
 
+ghost use Rattle.std.specs.Prelude.{◌≡◌, ◌≤◌, ◌++◌, ℕ, List, Err, IfOk, OnOk, length, codes};
+ghost use Rattle.ep_draw.specs.Drawn.{dots_from, IsDrawn, IsTooMany};
+ghost use Rattle.ep_draw.specs.declared.draw_fault.DrawFault.TheVariants.{TooMany};
+
 use crate::arrows::push_arrows;
 use crate::dots::{push_dots, push_labels, widest};
 use crate::draw_fault::DrawFault;
-use crate::layout::Layout;
+use crate::layout::row_y;
 use crate::legend::{self, push_legend};
 use crate::rows::kept;
 use crate::scene::Scene;
@@ -34,7 +38,7 @@ fn place_of(fault: Option<AuditFault>) -> Option<(ReplicaId, u32)> {
 fn push_lives(svg: &mut Svg, scene: &Scene<'_>, bottom: u64) -> Result<(), AllocError> {
     for index in 0..scene.journals.size().count() {
         let replica = ReplicaId::new(index).unwrap();
-        let x = scene.layout.column(replica);
+        let x = scene.layout().column(replica);
         svg.attribute(b"<path class='life' d='M", x)?;
         svg.attribute(b" 212V", bottom)?;
         svg.attribute(b"'/><text class='head' x='", x)?;
@@ -47,8 +51,8 @@ fn push_lives(svg: &mut Svg, scene: &Scene<'_>, bottom: u64) -> Result<(), Alloc
 // Draws a faint line from each row's stamp to its words.
 fn push_guides(svg: &mut Svg, scene: &Scene<'_>) -> Result<(), AllocError> {
     for row in 0..scene.rows.len() {
-        svg.attribute(b"<path class='guide' d='M70 ", Layout::row(row))?;
-        svg.attribute(b"H", scene.layout.words().saturating_sub(10))?;
+        svg.attribute(b"<path class='guide' d='M70 ", row_y(row))?;
+        svg.attribute(b"H", scene.layout().words().saturating_sub(10))?;
         svg.markup(b"'/>\n")?;
     }
     Ok(())
@@ -88,19 +92,22 @@ fn push_diagram(
     svg: &mut Svg,
     scene: &Scene<'_>,
     fault: Option<AuditFault>,
-) -> Result<(), AllocError> {
-    let bottom = Layout::row(scene.rows.len());
+) -> Result<(), AllocError>
+    requires { length scene.now.rows.now ≤ 2000 }
+    ensures { OnOk result ((before : List ℕ) × (svg.new ≡ before ++ dots_from scene.now.journals.now 0 scene.now.rows.now ++ codes "</svg>\n")) }
+{
+    let bottom = row_y(scene.rows.len());
     let words = widest(alloc, scene)? as u64;
     let width = words.saturating_mul(29) / 4;
-    let width = scene.layout.words().saturating_add(width).saturating_add(24);
+    let width = scene.layout().words().saturating_add(width).saturating_add(24);
     push_opening(svg, width.max(legend::WIDTH), bottom.saturating_add(24))?;
     push_heading(alloc, svg, scene, fault)?;
     push_legend(svg)?;
     push_lives(svg, scene, bottom)?;
     push_guides(svg, scene)?;
     push_arrows(alloc, svg, scene)?;
-    push_dots(alloc, svg, scene)?;
     push_labels(alloc, svg, scene)?;
+    push_dots(alloc, svg, scene)?;
     svg.markup(b"</svg>\n")
 }
 
@@ -109,7 +116,11 @@ fn push_diagram(
 /// executions with their answers, and in red the audit's first fault.
 ///
 /// `TooMany` exactly where the part keeps more than 2,000 entries.
-pub fn draw(alloc: Global, journals: &Journals, part: &Part) -> Result<Vec<u8>, DrawFault> {
+pub fn draw(alloc: Global, journals: &Journals, part: &Part) -> Result<Vec<u8>, DrawFault>
+    ensures drawn { IfOk result (λ svg. IsDrawn journals.now part.now svg.items) }
+    ensures too_many { (n : ℕ) → result ≡ Err (TooMany n) → IsTooMany journals.now part.now n }
+{
+    journals.are_journals();
     let verdict = Verdict::of(alloc, journals)?;
     let rows = kept(alloc, journals, part, &verdict.schedule)?;
     if rows.len() > MOST {
@@ -119,7 +130,6 @@ pub fn draw(alloc: Global, journals: &Journals, part: &Part) -> Result<Vec<u8>, 
     let scene = Scene {
         journals,
         rows: &rows,
-        layout: Layout::of(journals.size()),
         fault: place_of(fault),
     };
     let mut svg = Svg::new(alloc);

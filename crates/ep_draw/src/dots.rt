@@ -1,6 +1,9 @@
 //! The events of a diagram: a dot each, and at the right what happened, in words.
 
-use crate::layout::{Layout, Point};
+ghost use Rattle.std.specs.Prelude.{◌≡◌, ◌≤◌, ◌++◌, IfOk, OnOk, length, codes, decimal};
+ghost use Rattle.ep_draw.specs.Drawn.{class_of, told_text, circle_text, dots_from};
+
+use crate::layout::{Point, row_y};
 use crate::scene::Scene;
 use crate::svg::Svg;
 use ep_base::{Answer, InstanceId, ReplicaId};
@@ -13,7 +16,9 @@ use std::alloc::{AllocError, Global};
 const SHOWN: usize = 120;
 
 /// The kind of event, as a class of the file.
-fn class(event: &Event) -> &'static [u8] {
+fn class(event: &Event) -> &'static [u8]
+    ensures { result.now ≡ class_of event.now }
+{
     match event {
         Event::Propose { .. } => b"propose",
         Event::Handle(_) => b"handle",
@@ -24,11 +29,13 @@ fn class(event: &Event) -> &'static [u8] {
 }
 
 /// Appends a replica and the number of its entry.
-pub(crate) fn push_place(
+fn push_place(
     text: &mut Vec<u8>,
     replica: ReplicaId,
     number: u32,
-) -> Result<(), AllocError> {
+) -> Result<(), AllocError>
+    ensures { OnOk result (text.new.items ≡ text.old.items ++ decimal replica ++ codes ":" ++ decimal number) }
+{
     push_number(text, u64::from(replica.index()))?;
     text.push(b':')?;
     push_number(text, u64::from(number))
@@ -48,11 +55,13 @@ fn push_done(text: &mut Vec<u8>, done: &[(InstanceId, Answer)]) -> Result<(), Al
 }
 
 /// What the entry is: its replica and number, and the event.
-pub(crate) fn told(
+fn told(
     alloc: Global,
     place: (ReplicaId, u32),
     entry: &Entry,
-) -> Result<Vec<u8>, AllocError> {
+) -> Result<Vec<u8>, AllocError>
+    ensures { IfOk result (λ words. words.items ≡ told_text place entry.now) }
+{
     let mut words = Vec::new(alloc);
     push_place(&mut words, place.0, place.1)?;
     words.push(b' ')?;
@@ -61,14 +70,17 @@ pub(crate) fn told(
 }
 
 /// What it executed.
-pub(crate) fn told_done(alloc: Global, entry: &Entry) -> Result<Vec<u8>, AllocError> {
+fn told_done(alloc: Global, entry: &Entry) -> Result<Vec<u8>, AllocError> {
     let mut words = Vec::new(alloc);
     push_done(&mut words, entry.done.as_slice())?;
     Ok(words)
 }
 
 /// How many bytes of words the row shows.
-pub(crate) fn shown(words: &[u8]) -> usize {
+fn shown(words: &[u8]) -> usize
+    ensures all { result ≤ length words.now }
+    ensures some { result ≤ 120 }
+{
     if words.len() > SHOWN {
         SHOWN
     } else {
@@ -85,14 +97,23 @@ fn push_shown(svg: &mut Svg, words: &[u8]) -> Result<(), AllocError> {
     Ok(())
 }
 
-/// Draws a dot, with the event in words.
-fn push_dot(svg: &mut Svg, at: Point, event: &Event, words: &[u8]) -> Result<(), AllocError> {
+/// Draws the dot of an entry here, with the event in words.
+fn push_dot(
+    alloc: Global,
+    svg: &mut Svg,
+    at: Point,
+    place: (ReplicaId, u32),
+    entry: &Entry,
+) -> Result<(), AllocError>
+    ensures { OnOk result (svg.new ≡ svg.old ++ circle_text at.x at.y place entry.now) }
+{
+    let words = told(alloc, place, entry)?;
     svg.markup(b"<circle class='dot ")?;
-    svg.markup(class(event))?;
+    svg.markup(class(&entry.event))?;
     svg.attribute(b"' cx='", at.x)?;
     svg.attribute(b"' cy='", at.y)?;
     svg.markup(b"' r='6'><title>")?;
-    svg.text(words)?;
+    svg.text(&words)?;
     svg.markup(b"</title></circle>\n")
 }
 
@@ -105,7 +126,7 @@ fn push_ring(svg: &mut Svg, at: Point) -> Result<(), AllocError> {
 
 /// Draws the stamp of a row.
 fn push_stamp(svg: &mut Svg, row: usize, entry: &Entry) -> Result<(), AllocError> {
-    let base = Layout::row(row).saturating_add(4);
+    let base = row_y(row).saturating_add(4);
     svg.attribute(b"<text class='stamp' x='62' y='", base)?;
     svg.markup(b"'>")?;
     svg.number(entry.stamp.ticks())?;
@@ -140,8 +161,8 @@ fn push_label(
     let words = told(alloc, place, entry)?;
     let done = told_done(alloc, entry)?;
     let at = Point {
-        x: scene.layout.words(),
-        y: Layout::row(row).saturating_add(4),
+        x: scene.layout().words(),
+        y: row_y(row).saturating_add(4),
     };
     push_stamp(svg, row, entry)?;
     push_words(svg, at, &words, &done)
@@ -152,11 +173,14 @@ pub(crate) fn push_dots(
     alloc: Global,
     svg: &mut Svg,
     scene: &Scene<'_>,
-) -> Result<(), AllocError> {
+) -> Result<(), AllocError>
+    requires { length scene.now.rows.now ≤ 2000 }
+    ensures { OnOk result (svg.new ≡ svg.old ++ dots_from scene.now.journals.now 0 scene.now.rows.now) }
+{
     for (row, place) in scene.rows.iter().enumerate() {
         if let Some(entry) = scene.entry(*place) {
-            let words = told(alloc, *place, entry)?;
-            push_dot(svg, scene.layout.dot(place.0, row), &entry.event, &words)?;
+            let at = scene.layout().dot(place.0, row);
+            push_dot(alloc, svg, at, *place, entry)?;
         }
     }
     Ok(())
@@ -172,7 +196,7 @@ pub(crate) fn push_labels(
         if let Some(entry) = scene.entry(*place) {
             push_label(alloc, svg, scene, row, entry)?;
             if scene.is_fault(*place) {
-                push_ring(svg, scene.layout.dot(place.0, row))?;
+                push_ring(svg, scene.layout().dot(place.0, row))?;
             }
         }
     }

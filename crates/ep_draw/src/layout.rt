@@ -1,5 +1,8 @@
 //! Where things stand in a diagram, in pixels from its upper left corner.
 
+ghost use Rattle.std.specs.Prelude.{◌≡◌, ◌≤◌, ◌<◌, ◌^◌};
+ghost use Rattle.ep_draw.specs.Rows.{step, column, row};
+
 use ep_base::{ReplicaId, Size};
 
 /// A place.
@@ -9,55 +12,53 @@ pub(crate) struct Point {
     pub y: u64,
 }
 
-/// Where the lines of so many replicas stand: columns from left to right, rows downwards.
+/// Where the lines of a cluster's replicas stand: columns from left to right, rows downwards.
 #[derive(Clone, Copy, Debug, PartialEq, Eq)]
 pub(crate) struct Layout {
-    replicas: u8,
-    // from one replica's line to the next one's
-    step: u64,
+    pub size: Size,
+}
+
+/// From one replica's line to the next one's.
+fn step(size: Size) -> u64
+    ensures value { result ≡ step size }
+    ensures small { result ≤ 170 }
+{
+    match size.faults() {
+        1 => 170,
+        2 => 140,
+        _ => 120,
+    }
+}
+
+/// The y of a row, from 0.
+pub(crate) fn row_y(place: usize) -> u64
+    ensures { place < 2 ^ 32 → result ≡ row place }
+{
+    (place as u64).saturating_mul(32).saturating_add(246)
 }
 
 impl Layout {
-    /// The y of the first row.
-    pub const TOP: u64 = 246;
-    /// From one row to the next.
-    pub const ROW: u64 = 32;
-
-    /// The layout of a cluster.
-    pub fn of(size: Size) -> Layout {
-        let replicas = size.count();
-        let step = match replicas {
-            3 => 170,
-            5 => 140,
-            _ => 120,
-        };
-        Layout { replicas, step }
-    }
-
     /// The x of a replica's line.
-    pub fn column(self, replica: ReplicaId) -> u64 {
-        self.column_at(replica.index())
-    }
-
-    fn column_at(self, replica: u8) -> u64 {
-        self.step.saturating_mul(u64::from(replica)).saturating_add(116)
-    }
-
-    /// The y of a row, from 0.
-    pub fn row(row: usize) -> u64 {
-        Layout::ROW.saturating_mul(row as u64).saturating_add(Layout::TOP)
+    pub fn column(self, replica: ReplicaId) -> u64
+        ensures { result ≡ column self.size replica }
+    {
+        step(self.size) * u64::from(replica.index()) + 116
     }
 
     /// The x at which the words of a row begin.
     pub fn words(self) -> u64 {
-        self.column_at(self.replicas).saturating_sub(self.step).saturating_add(56)
+        let lines = u64::from(self.size.count()) - 1;
+        step(self.size) * lines + 172
     }
 
     /// Where an entry of the replica is drawn in this row.
-    pub fn dot(self, replica: ReplicaId, row: usize) -> Point {
+    pub fn dot(self, replica: ReplicaId, place: usize) -> Point
+        ensures x { result.x ≡ column self.size replica }
+        ensures y { place < 2 ^ 32 → result.y ≡ row place }
+    {
         Point {
             x: self.column(replica),
-            y: Layout::row(row),
+            y: row_y(place),
         }
     }
 }

@@ -5,11 +5,11 @@ use crate::svg::Svg;
 use std::alloc::AllocError;
 
 /// How wide the legend is.
-pub(crate) const WIDTH: u64 = 836;
+pub(crate) const WIDTH: u64 = 900;
 
 // Where a sample begins: cells in rows of four.
 fn cell(place: u64) -> (u64, u64) {
-    let x = (place % 4).saturating_mul(205).saturating_add(24);
+    let x = (place % 4).saturating_mul(212).saturating_add(24);
     let y = (place / 4).saturating_mul(26).saturating_add(80);
     (x, y)
 }
@@ -31,7 +31,7 @@ fn push_sample(svg: &mut Svg, place: u64, kind: Kind) -> Result<(), AllocError> 
     svg.markup(kind.class())?;
     svg.attribute(b"'><path d='M", x)?;
     svg.attribute(b" ", y)?;
-    svg.markup(b"h74' marker-end='url(#")?;
+    svg.markup(b"h74' marker-end='url(#out-")?;
     svg.markup(kind.class())?;
     svg.attribute(b")'/><rect class='back' x='", x.saturating_add(13))?;
     svg.attribute(b"' y='", y.saturating_sub(6))?;
@@ -61,7 +61,7 @@ fn push_drawn(
 
 const LOST: &[u8] = b"<g class='frame any'><path d='M-36 0h60'/><path class='cross' d='M19 -5l10 10m0 -10l-10 10'/></g>";
 const ELSEWHERE: &[u8] = b"<g class='frame any'><path d='M-36 0h62' marker-end='url(#out-nack)'/></g>";
-const FAULT: &[u8] = b"<g class='frame fault'><path d='M-36 0h62' marker-end='url(#fault)'/></g><circle class='ring' cx='32' r='9'/><circle class='dot handle' cx='32' r='5'/>";
+const FAULT: &[u8] = b"<g class='frame fault'><path d='M-36 0h58' marker-end='url(#out-fault)'/></g><circle class='ring' cx='32' r='9'/><circle class='dot handle' cx='32' r='5'/>";
 
 /// Draws the legend.
 pub(crate) fn push_legend(svg: &mut Svg) -> Result<(), AllocError> {
@@ -70,7 +70,7 @@ pub(crate) fn push_legend(svg: &mut Svg) -> Result<(), AllocError> {
         push_sample(svg, place as u64, *kind)?;
     }
     push_drawn(svg, 8, LOST, b"never handled")?;
-    push_drawn(svg, 9, ELSEWHERE, b"outside this part")?;
+    push_drawn(svg, 9, ELSEWHERE, b"not in this part")?;
     push_drawn(svg, 10, FAULT, b"the audit's fault")?;
     push_drawn(svg, 12, b"<circle class='dot propose' r='6'/>", b"propose")?;
     push_drawn(svg, 13, b"<circle class='dot handle' r='6'/>", b"handle")?;
