@@ -14,6 +14,8 @@ mod moments;
 #[cfg(test)]
 mod numbers;
 #[cfg(test)]
+mod on_a_file;
+#[cfg(test)]
 mod opening;
 #[cfg(test)]
 mod random;

@@ -183,12 +183,12 @@ fn fail(rt: &impl Abort, alloc: Global, place: usize, call: u64, choice: usize) 
     is_new
 }
 
-/// The number of a content that is tried: each of the first 24, and then every twelfth.
+/// The number of a content that is tried: each of the first 12, and then every 24th.
 fn choice_at(turn: usize) -> usize {
-    if turn < 24 {
+    if turn < 12 {
         turn
     } else {
-        turn.saturating_sub(22).saturating_mul(12)
+        turn.saturating_sub(11).saturating_mul(24)
     }
 }
 
