@@ -8,7 +8,10 @@ A row is a folder .ci/rows/NAME with files, each of which may lack:
   stdin      the input; stdin.gz: packed; stdin.hex: in hexadecimal, a line from '#' on is a comment
   change     lines 'PLACE BYTE', in decimal and hexadecimal: bytes that are others where the second run reads them
   redirect   the shell's redirections of the last run
+  files      a folder: files that lie where the runs are; NAME.hex is NAME, in hexadecimal
   stdout stderr status     what is wanted: nothing, nothing and 0 where there is no such file; stdout.gz: packed
+PROGRAM is ep_main as it was built; what begins with `node` or `collect` is run by ep_server, which was built as it was. Runs of
+`epaxos node` on one log, and its bundle, are made here.
 More rows are made of the scripts and reports in docs/FORMATS.md, examples/ and .ci/scripts/ (NAME.script is played, NAME.run is run
 by both hosts), and by .ci/made.py.
 """
@@ -18,11 +21,17 @@ import os
 import re
 import subprocess
 import sys
+import tempfile
 from dataclasses import dataclass, field
 
 sys.dont_write_bytecode = True
 TOP = os.path.dirname(os.path.dirname(os.path.abspath(__file__)))
 SECONDS = 120
+
+
+def program_of(program, words):
+    """The program that is run with these words: ep_server for its own, as ep_main was built."""
+    return program.replace("ep_main", "ep_server") if words[:1] in (["node"], ["collect"]) else program
 
 
 @dataclass
@@ -35,20 +44,31 @@ class Row:
     status: int = 0
     redirect: str = ""
     change: list = field(default_factory=list)
+    files: dict = field(default_factory=dict)
     # outputs that are as good as the one that is wanted
     others: list = field(default_factory=list)
 
     def run(self, program):
         """Returns what is wrong with a run of the program, or nothing."""
+        if not self.files:
+            return self.run_in(None, program)
+        with tempfile.TemporaryDirectory() as folder:
+            for name, held in self.files.items():
+                with open(f"{folder}/{name}", "wb") as it:
+                    it.write(held)
+            return self.run_in(folder, program)
+
+    def run_in(self, folder, program):
+        """The same in this folder; in the caller's where there is none."""
         given, runs = self.given, [it.split("\n") for it in "\n".join(self.words).split("\n|\n")]
         for words in runs[:-1]:
-            first = self.one(program, words, given, "")
+            first = self.one(program, words, given, "", folder)
             if first[0] or first[2]:
                 return f"the first run ended with status {first[0]}: {first[2][:200]!r}"
             given = bytearray(first[1])
         for place, byte in self.change:
             given[place] = byte
-        status, wrote, told = self.one(program, runs[-1], bytes(given), self.redirect)
+        status, wrote, told = self.one(program, runs[-1], bytes(given), self.redirect, folder)
         if status != self.status:
             return f"status {status} and not {self.status}; on standard error {told[:200]!r}"
         if told != self.told:
@@ -58,12 +78,12 @@ class Row:
             return f"standard output has {len(wrote)} bytes and not {len(self.wanted)}, or differs first in line {wrote[:at].count(10) + 1}: {wrote[at : at + 80]!r} and not {self.wanted[at : at + 80]!r}"
         return ""
 
-    def one(self, program, words, given, redirect):
+    def one(self, program, words, given, redirect, folder=None):
         """Runs the program as epaxos, and gives its status, its output and its fault output."""
         script = 'program=$1; shift; exec -a epaxos "$program" "$@" ' + redirect
-        words = ["bash", "-c", script, "", program, *[it for it in words if it]]
+        words = ["bash", "-c", script, "", os.path.abspath(program_of(program, words)), *[it for it in words if it]]
         try:
-            ran = subprocess.run(words, input=given, stdout=subprocess.PIPE, stderr=subprocess.PIPE, timeout=SECONDS)
+            ran = subprocess.run(words, input=given, stdout=subprocess.PIPE, stderr=subprocess.PIPE, timeout=SECONDS, cwd=folder)
         except subprocess.TimeoutExpired:
             return None, b"", b"it had not ended after %d seconds" % SECONDS
         return ran.returncode, ran.stdout, ran.stderr
@@ -84,6 +104,14 @@ def text(folder, name):
         return it.read()
 
 
+def laid(folder):
+    """The files that lie where a row's runs are."""
+    if not os.path.isdir(folder):
+        return {}
+    names = sorted({it.removesuffix(".hex") for it in os.listdir(folder)})
+    return {name: text(folder, name) for name in names}
+
+
 def stored():
     """The rows of .ci/rows."""
     for name in sorted(os.listdir(f"{TOP}/.ci/rows")):
@@ -99,6 +127,7 @@ def stored():
             int(text(folder, "status") or 0),
             text(folder, "redirect").decode().strip(),
             [(int(place), int(byte, 16)) for place, byte in change],
+            laid(f"{folder}/files"),
         )
 
 
@@ -147,6 +176,37 @@ def every():
             yield Row(name, [subcommand], script, told=b"script refused at line %d\n" % line, status=2)
 
 
+# A node's requests: client 1 proposes `put x 1` as its request 1; a sync; the leads of 0.1; and bytes that are none.
+PROPOSE = bytes.fromhex("00000017 01 00000001 00000001 0000000000000000 03 01 0001 78 31")
+SYNC, LEADS, NONE = bytes.fromhex("00000001 0a"), bytes.fromhex("00000004 09 000001"), bytes.fromhex("00000001 0b")
+# Entry 1 of stamp 1, which took 0.1, with one frame, to 1, and no receipts; that one entry is on the disk; and phase 1, with no answer so far.
+FRAME = "45500201 0001 000000000001 0000000000000001 000001 0000000000000000000001 03 01 0001 0000 7831"
+TAKEN = bytes.fromhex(f"00000047 01 00000001 00000001 0000000000000001 000001 0001 01 0000002a {FRAME} 0000")
+SYNCED, LEADING = bytes.fromhex("00000005 06 00000001"), bytes.fromhex("00000004 05 01 01 00")
+# The logs of replicas 1 and 2 without entries, and the bundle of the three logs.
+ONE, TWO = bytes.fromhex("45504c47 02 03 01"), bytes.fromhex("45504c47 02 03 02")
+ENTRY = f"01 0000000000000001 00000001 00000001 0000000000000000 03 01 0001 78 31 0001 0000002a {FRAME} 0000"
+BUNDLE = bytes.fromhex(f"45504a42 02 03 00000000 00 00000001 {ENTRY} 01 00000000 02 00000000")
+
+
+def noded(program):
+    """Runs `epaxos node` three times on one log and makes its bundle, and gives the name of each run and what is wrong with it, or nothing."""
+    with tempfile.TemporaryDirectory() as folder:
+        logs = [f"{folder}/{it}" for it in ("zero", "one", "two")]
+        for log, held in ((logs[1], ONE), (logs[2], TWO)):
+            with open(log, "wb") as it:
+                it.write(held)
+        words = ["node", "--replicas", "3", "--replica", "0", "--log", logs[0]]
+        for row in (
+            Row("node, a proposal", words, PROPOSE + SYNC, TAKEN + SYNCED),
+            Row("node, come back", words, SYNC + LEADS, SYNCED + LEADING),
+            Row("node, no request", words, SYNC + NONE, SYNCED, b"request refused at byte 5\n", 2),
+            Row("node, the log of another", words[:4] + ["1"] + words[5:], SYNC, b"", b"log refused: a log of another cluster or replica\n", 2),
+            Row("node, its log collected", ["collect", *logs], b"", BUNDLE),
+        ):
+            yield row.name, row.run(program)
+
+
 def tried(program, word="", by=""):
     """Runs the program on the rows, prints a line for each that fails, and returns how many passed and how many failed."""
     passed = failed = 0
@@ -156,6 +216,11 @@ def tried(program, word="", by=""):
             passed, failed = passed + (not wrong), failed + bool(wrong)
             if wrong:
                 print(f"row {row.name}{by}: {wrong}", flush=True)
+    for name, wrong in noded(program):
+        if word in name:
+            passed, failed = passed + (not wrong), failed + bool(wrong)
+            if wrong:
+                print(f"row {name}{by}: {wrong}", flush=True)
     print(f"rows{by}: {passed} passed, {failed} failed", flush=True)
     return passed, failed
 

@@ -1,0 +1,87 @@
+-- How the program ends at a fault, and the line that it then tells.
+use Rattle.std.specs.Prelude.{ℕ, List, ◌++◌, codes, decimal}
+use Rattle.ep_log.specs.declared.log_fault.LogFault.{LogFault}
+use Rattle.ep_log.specs.declared.log_fault.LogFault.TheVariants as log
+use Rattle.ep_node.specs.declared.open_fault.OpenFault.{OpenFault}
+use Rattle.ep_node.specs.declared.open_fault.OpenFault.TheVariants as open_
+use Rattle.ep_serve.specs.declared.serve_fault.ServeFault.{ServeFault}
+use Rattle.ep_serve.specs.declared.serve_fault.ServeFault.TheVariants as serve
+use Rattle.ep_server.specs.declared.fault.Fault.{Fault}
+use Rattle.ep_server.specs.declared.fault.Fault.TheVariants.{Open, Serve, Memory, Write}
+use Rattle.ep_server.specs.declared.status.Status.{Status}
+use Rattle.ep_server.specs.declared.status.Status.TheVariants.{Done, Refused, OutOfMemory, Failed}
+
+-- the exit status
+abbrev pub code_of : Status → ℕ
+code_of Done = 0
+code_of Refused = 2
+code_of OutOfMemory = 3
+code_of Failed = 4
+
+-- the first line; what is wrong with the words follows
+abbrev pub command_line_refused : List ℕ
+command_line_refused = codes "command line refused\n"
+
+abbrev pub out_of_memory : List ℕ
+out_of_memory = codes "out of memory\n"
+
+abbrev pub writing_failed : List ℕ
+writing_failed = codes "writing failed\n"
+
+abbrev pub log_failed : List ℕ
+log_failed = codes "log failed\n"
+
+-- what is wrong, and the first byte of the record
+abbrev pub record_line : List ℕ → ℕ → List ℕ
+record_line what at = what ++ (codes " in the record at byte " ++ decimal at ++ codes "\n")
+
+abbrev pub line_of_log : LogFault → List ℕ
+line_of_log log.Memory = out_of_memory
+line_of_log log.NoHeader = codes "log refused: no header of a log\n"
+line_of_log log.OtherVersion = codes "log refused: a log of another version\n"
+line_of_log (log.BadLength at) = record_line (codes "log refused: bad length") at
+line_of_log (log.BadChecksum at) = record_line (codes "log refused: bad checksum") at
+line_of_log (log.BadEntry at) = record_line (codes "log refused: no entry") at
+line_of_log (log.NotNext at) = record_line (codes "log refused: not the next entry") at
+
+abbrev pub line_of_open : OpenFault → List ℕ
+line_of_open open_.OutOfRange = codes "log refused: E3 out of range\n"
+line_of_open open_.Memory = out_of_memory
+line_of_open open_.Failed = log_failed
+line_of_open open_.OtherLog = codes "log refused: a log of another cluster or replica\n"
+line_of_open (open_.Log fault) = line_of_log fault
+line_of_open (open_.NotClocked number) = codes "log refused: entry " ++ decimal number ++ codes " is not clocked\n"
+
+abbrev pub line_of_serve : ServeFault → List ℕ
+line_of_serve serve.Memory = out_of_memory
+line_of_serve serve.ReadFailed = codes "reading failed\n"
+line_of_serve (serve.BadRequest at) = codes "request refused at byte " ++ decimal at ++ codes "\n"
+line_of_serve serve.WriteFailed = writing_failed
+line_of_serve serve.LogFailed = log_failed
+
+abbrev pub line_of : Fault → List ℕ
+line_of (Open why) = line_of_open why
+line_of (Serve why) = line_of_serve why
+line_of Memory = out_of_memory
+line_of Write = writing_failed
+
+abbrev pub status_of_open : OpenFault → Status
+status_of_open open_.OutOfRange = Refused
+status_of_open open_.Memory = OutOfMemory
+status_of_open open_.Failed = Failed
+status_of_open open_.OtherLog = Refused
+status_of_open (open_.Log fault) = Refused
+status_of_open (open_.NotClocked number) = Refused
+
+abbrev pub status_of_serve : ServeFault → Status
+status_of_serve serve.Memory = OutOfMemory
+status_of_serve serve.ReadFailed = Failed
+status_of_serve (serve.BadRequest at) = Refused
+status_of_serve serve.WriteFailed = Failed
+status_of_serve serve.LogFailed = Failed
+
+abbrev pub status_of : Fault → Status
+status_of (Open why) = status_of_open why
+status_of (Serve why) = status_of_serve why
+status_of Memory = OutOfMemory
+status_of Write = Failed

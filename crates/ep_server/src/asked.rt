@@ -1,0 +1,17 @@
+//! What the program is asked for.
+
+use crate::names::Names;
+use crate::options::Options;
+
+/// What the words of the command line ask for.
+#[derive(Drop)]
+pub enum Asked {
+    /// To serve as a node.
+    Node(Options),
+    /// To make the bundle of logs and receipts.
+    Collect(Names),
+    /// The program's name and its version.
+    Version,
+    /// Help: this text.
+    Help(String),
+}

@@ -1,0 +1,235 @@
+//! The words of the command line.
+
+use crate::asked::Asked;
+use crate::declined::Declined;
+use crate::names::Names;
+use crate::options::Options;
+use clap::error::ErrorKind;
+use clap::{Arg, ArgAction, ArgMatches, Command, Error};
+use ep_base::{ReplicaId, Size};
+use ep_script::number_in;
+use ep_serve::Mode;
+use std::alloc::{AllocError, Global};
+use std::convert::AsStr;
+
+/// What the help of `node` says at its end.
+const AFTER_NODE: &str = "\
+Standard input is requests, standard output their answers, one for each, in order; docs/FORMATS.md, section 10, has their bytes.
+A log that is there is gone on with, and one that isn't is made. An answer is written once all that it tells is on the disk.
+
+Example (client 1 proposes its request 1, to put x = 1, and a sync, by which the answers come):
+  printf '\\0\\0\\0\\27\\1\\0\\0\\0\\1\\0\\0\\0\\1\\0\\0\\0\\0\\0\\0\\0\\0\\3\\1\\0\\1x1\\0\\0\\0\\1\\12' |
+    epaxos node --replicas 3 --replica 0 --log zero.log | od -An -tx1
+
+Exit status:
+  0  the input is over, all that was taken is on the disk, and each request is answered
+  2  the command line, the log or a request is refused; standard error says why, or at which byte
+  3  memory was refused
+  4  reading, writing or the log failed";
+
+/// What the help of `collect` says at its end.
+const AFTER_COLLECT: &str = "\
+Each LOG is the log of one replica of a cluster, as `epaxos node` keeps it; they may stand in any order. Each file of receipts has
+some of what clients were told, one after the other, as a bundle has them (docs/FORMATS.md, section 2). Standard output is the
+bundle of version 2 of the logs' journals and of these receipts. A file whose end is torn is taken up to it, which standard error
+says. Nothing is audited, and nothing is printed before all files are read. Standard input is not read.
+
+Example:
+  epaxos collect --receipts told.receipts zero.log one.log two.log | epaxos audit
+
+Exit status:
+  0  the bundle is written
+  2  the command line, a log or a file of receipts is refused, or the logs aren't one for each replica of one cluster;
+     standard error says why
+  3  memory was refused
+  4  a file could not be opened or read, or writing failed";
+
+/// What the words ask for, of which the first is the program's own name. `Words` where they are none that the program knows.
+pub(crate) fn read_words<T: AsStr>(alloc: Global, words: &[T]) -> Result<Asked, Declined> {
+    let command = program(alloc)?;
+    match command.try_get_matches_from(words) {
+        Ok(matches) => asked_by(alloc, &matches),
+        Err(error) => asked_instead(alloc, &error),
+    }
+}
+
+/// What is asked for where `clap` finds no matches: the version or help at most.
+fn asked_instead(alloc: Global, error: &Error) -> Result<Asked, Declined> {
+    match error.kind() {
+        ErrorKind::DisplayVersion => Ok(Asked::Version),
+        ErrorKind::DisplayHelp => Ok(Asked::Help(error.to_string(alloc)?)),
+        ErrorKind::OutOfMemory => Err(Declined::from(AllocError)),
+        _ => Err(Declined::Words(error.to_string(alloc)?)),
+    }
+}
+
+fn asked_by(alloc: Global, matches: &ArgMatches<'_>) -> Result<Asked, Declined> {
+    match matches.subcommand_matches("node") {
+        Some(options) => Ok(Asked::Node(options_of(alloc, options)?)),
+        None => collect_by(alloc, matches),
+    }
+}
+
+fn collect_by(alloc: Global, matches: &ArgMatches<'_>) -> Result<Asked, Declined> {
+    match matches.subcommand_matches("collect") {
+        Some(options) => Ok(Asked::Collect(names_of(alloc, options)?)),
+        None => Err(Declined::Words(String::new(alloc))),
+    }
+}
+
+/// The files that are to be collected.
+fn names_of(alloc: Global, options: &ArgMatches<'_>) -> Result<Names, Declined> {
+    let logs = texts_of(alloc, options, "LOG")?;
+    let receipts = texts_of(alloc, options, "receipts")?;
+    Ok(Names { logs, receipts })
+}
+
+/// The words after this option, or in this place.
+fn texts_of(
+    alloc: Global,
+    options: &ArgMatches<'_>,
+    name: &str,
+) -> Result<Vec<String>, AllocError> {
+    match options.get_raw(name) {
+        Some(words) => copied(alloc, words),
+        None => Ok(Vec::new(alloc)),
+    }
+}
+
+/// These words again.
+fn copied(alloc: Global, words: &[&str]) -> Result<Vec<String>, AllocError> {
+    let mut copy = Vec::new(alloc);
+    for word in words {
+        let text = String::from_str(alloc, word)?;
+        copy.push(text)?;
+    }
+    Ok(copy)
+}
+
+/// What a node is asked to be, by its options.
+fn options_of(alloc: Global, options: &ArgMatches<'_>) -> Result<Options, Declined> {
+    let size = size_of(alloc, options)?;
+    let me = replica_of(alloc, options, size)?;
+    let mode = mode_of(alloc, options)?;
+    let log = String::from_str(alloc, options.get_str("log").unwrap_or(""))?;
+    Ok(Options {
+        size,
+        me,
+        log,
+        mode,
+    })
+}
+
+/// The cluster's size.
+fn size_of(alloc: Global, options: &ArgMatches<'_>) -> Result<Size, Declined> {
+    let word = options.get_str("replicas").unwrap_or("");
+    match size_named(word) {
+        Some(size) => Ok(size),
+        None => Err(Declined::Words(format!(in alloc;
+            "error: invalid value {word:?} for '--replicas <N>'\n  [possible values: 3, 5, 7]\n\nFor more information, try '--help'.\n"
+        )?)),
+    }
+}
+
+fn size_named(word: &str) -> Option<Size> {
+    let count = number_in(word.as_bytes(), 3, 7)?;
+    Size::new(count as u8).ok()
+}
+
+/// The replica's number, which is below the cluster's size.
+fn replica_of(alloc: Global, options: &ArgMatches<'_>, size: Size) -> Result<ReplicaId, Declined> {
+    let word = options.get_str("replica").unwrap_or("");
+    let most = size.count() - 1;
+    match replica_named(word, most) {
+        Some(replica) => Ok(replica),
+        None => Err(Declined::Words(format!(in alloc;
+            "error: invalid value {word:?} for '--replica <R>': it takes a number from 0 to {most}\n\nFor more information, try '--help'.\n"
+        )?)),
+    }
+}
+
+fn replica_named(word: &str, most: u8) -> Option<ReplicaId> {
+    let index = number_in(word.as_bytes(), 0, u64::from(most))?;
+    ReplicaId::new(index as u8).ok()
+}
+
+/// When answers are written.
+fn mode_of(alloc: Global, options: &ArgMatches<'_>) -> Result<Mode, Declined> {
+    match options.get_str("sync") {
+        Some(word) => mode_named(alloc, word),
+        None => Ok(Mode::Asked),
+    }
+}
+
+fn mode_named(alloc: Global, word: &str) -> Result<Mode, Declined> {
+    if word == "asked" {
+        Ok(Mode::Asked)
+    } else if word == "each" {
+        Ok(Mode::Each)
+    } else {
+        Err(Declined::Words(format!(in alloc;
+            "error: invalid value {word:?} for '--sync <WHEN>'\n  [possible values: each, asked]\n\nFor more information, try '--help'.\n"
+        )?))
+    }
+}
+
+fn program<'a>(alloc: Global) -> Result<Command<'a>, AllocError> {
+    let node = node_command(alloc)?;
+    let collect = collect_command(alloc)?;
+    let command = Command::new(alloc, "epaxos")
+        .about("A replicated key-value core without a leader")
+        .version("0.1.0")
+        .subcommand_required(true);
+    command.subcommand(node)?.subcommand(collect)
+}
+
+fn collect_command<'a>(alloc: Global) -> Result<Command<'a>, AllocError> {
+    let receipts = Arg::new(alloc, "receipts")
+        .long("receipts")
+        .value_name("FILE")
+        .help("A file of receipts; this option may be given more than once")
+        .action(ArgAction::Append);
+    let logs = Arg::new(alloc, "LOG")
+        .required(true)
+        .help("The log of a replica")
+        .action(ArgAction::Append);
+    let command = Command::new(alloc, "collect")
+        .about("Makes the bundle of the logs of a cluster's replicas, and of receipts")
+        .after_help(AFTER_COLLECT);
+    command.arg(receipts)?.arg(logs)
+}
+
+fn node_command<'a>(alloc: Global) -> Result<Command<'a>, AllocError> {
+    let command = Command::new(alloc, "node")
+        .about(
+            "Serves as one replica, with its log in a file: requests on standard input, answers on standard output",
+        )
+        .after_help(AFTER_NODE);
+    let command = command.arg(required(
+        alloc,
+        "replicas",
+        "N",
+        "How many replicas the cluster has: 3, 5 or 7",
+    ))?;
+    let command = command.arg(required(alloc, "replica", "R", "Which of them this is, from 0 on"))?;
+    let command = command.arg(required(alloc, "log", "FILE", "Its log"))?;
+    command.arg(
+        Arg::new(alloc, "sync")
+            .long("sync")
+            .value_name("WHEN")
+            .help(
+                "When answers are written: each (after each request) or asked (the default: at a sync request)",
+            )
+            .action(ArgAction::Set),
+    )
+}
+
+/// An option that can't be left out.
+fn required<'a>(alloc: Global, name: &'a str, value: &'a str, help: &'a str) -> Arg<'a> {
+    Arg::new(alloc, name)
+        .long(name)
+        .value_name(value)
+        .help(help)
+        .required(true)
+        .action(ArgAction::Set)
+}

@@ -1,0 +1,63 @@
+//! Why the program ends before its work is done.
+
+ghost use Rattle.std.specs.Prelude.{◌≡◌};
+ghost use Rattle.ep_server.specs.Faults.{status_of};
+ghost use Rattle.ep_server.specs.declared.fault.Fault.TheVariants.{Open, Serve};
+
+use crate::status::Status;
+use ep_node::OpenFault;
+use ep_serve::ServeFault;
+
+/// Why the program ends before its work is done.
+#[derive(Clone, Copy, Debug, PartialEq, Eq)]
+pub enum Fault {
+    /// No node was opened on the log.
+    Open(OpenFault),
+    /// The node no longer serves.
+    Serve(ServeFault),
+    /// Memory was refused.
+    Memory,
+    /// Writing failed.
+    Write,
+}
+
+impl Fault {
+    /// How the program then ends.
+    pub fn status(&self) -> Status
+        ensures { result ≡ status_of self.now }
+    {
+        match self {
+            Fault::Open(
+                OpenFault::OutOfRange
+                | OpenFault::OtherLog
+                | OpenFault::Log(_)
+                | OpenFault::NotClocked(_),
+            )
+            | Fault::Serve(ServeFault::BadRequest(_)) => Status::Refused,
+            Fault::Open(OpenFault::Memory) | Fault::Serve(ServeFault::Memory) | Fault::Memory => {
+                Status::OutOfMemory
+            }
+            Fault::Open(OpenFault::Failed)
+            | Fault::Serve(
+                ServeFault::ReadFailed | ServeFault::WriteFailed | ServeFault::LogFailed,
+            )
+            | Fault::Write => Status::Failed,
+        }
+    }
+}
+
+impl From<OpenFault> for Fault {
+    ghost from_gives = { λ fault e. e ≡ Open fault };
+
+    fn from(fault: OpenFault) -> Fault {
+        Fault::Open(fault)
+    }
+}
+
+impl From<ServeFault> for Fault {
+    ghost from_gives = { λ fault e. e ≡ Serve fault };
+
+    fn from(fault: ServeFault) -> Fault {
+        Fault::Serve(fault)
+    }
+}

@@ -1,0 +1,127 @@
+//! `epaxos node`: a replica with its log in a file, which serves requests on standard input. `epaxos collect`: the bundle of
+//! logs and receipts.
+//!
+//! `main` hands the words to `read_words`, in `command_line.rt`. For a node it opens the log, and hands it and the standard
+//! streams to `serve_log`, in `program.rt`, which is all of the node: over any device, source and sinks, so that its contract can
+//! say what the bytes and the status mean. It does no more than call `Node::open` and `ep_serve`'s `serve`. `write_collected`, in
+//! `collecting.rt`, calls `ep_assemble`'s `collect_files`.
+//!
+//! Start with `program.rt` and specs/Served.antt, `collecting.rt` and specs/Collected.antt. A fault has one line on the fault
+//! output and one status (`fault.rt`, `telling.rt`, `status.rt`), as docs/FORMATS.md, sections 6.1 and 10, list them.
+#![tactic(auto)]
+
+mod ahead;
+mod asked;
+mod collecting;
+mod command_line;
+mod declined;
+mod fault;
+mod names;
+mod options;
+mod program;
+mod status;
+mod telling;
+
+use crate::ahead::read_ahead;
+use crate::asked::Asked;
+use crate::collecting::write_collected;
+use crate::command_line::read_words;
+use crate::declined::Declined;
+use crate::fault::Fault;
+use crate::options::Options;
+use crate::program::{decline, serve_log};
+use crate::status::Status;
+use ep_base::{Noted, Sink};
+use ep_device::FileDevice;
+use ep_node::OpenFault;
+use std::alloc::AllocError;
+use std::fs::{File, Files};
+use std::io::{ErrorKind, Read};
+use std::process::ExitCode;
+use std::rt::Env;
+
+fn main(rt: HostRuntime) -> ExitCode {
+    let mut writer = Noted::new(rt.stdout());
+    let mut fault_writer = Noted::new(rt.stderr());
+    let status = match run(&rt, rt.stdin(), &mut writer, &mut fault_writer) {
+        Ok(status) => status,
+        Err(why) => decline(why, &mut fault_writer),
+    };
+    ExitCode::from(status.code())
+}
+
+/// Does what the words of the command line ask for.
+fn run<R: Env + AllocGlobal + Files<File = File>, I: Read + Drop, W: Sink, F: Sink>(
+    rt: &R,
+    input: I,
+    writer: &mut W,
+    fault_writer: &mut F,
+) -> Result<Status, Declined> {
+    let words = words(rt)?;
+    match read_words(rt.alloc(), words.as_slice())? {
+        Asked::Node(options) => run_node(rt, &options, input, writer, fault_writer),
+        Asked::Collect(names) => Ok(write_collected(rt, &names, writer, fault_writer)),
+        Asked::Version => show("epaxos 0.1.0\n", writer),
+        Asked::Help(text) => show(text.as_str(), writer),
+    }
+}
+
+/// Opens the log and serves.
+fn run_node<R: AllocGlobal + Files<File = File>, I: Read + Drop, W: Sink, F: Sink>(
+    rt: &R,
+    options: &Options,
+    input: I,
+    writer: &mut W,
+    fault_writer: &mut F,
+) -> Result<Status, Declined> {
+    let alloc = rt.alloc();
+    let mut reader = read_ahead(alloc, input)?;
+    let held = hold_streams(rt)?;
+    let device = open_log(rt, options.log.as_str())?;
+    let status = serve_log(alloc, options, device, &mut reader, writer, fault_writer);
+    drop(held);
+    Ok(status)
+}
+
+/// Files in the places of standard streams that are closed, so that the log's file takes none of them: answers would be written
+/// into it. Of a folder neither a read nor a write succeeds.
+fn hold_streams<R: Files<File = File>>(rt: &R) -> Result<(File, File, File), Fault> {
+    let held = (
+        File::open(rt, "/"),
+        File::open(rt, "/"),
+        File::open(rt, "/"),
+    );
+    match held {
+        (Ok(first), Ok(second), Ok(third)) => Ok((first, second, third)),
+        _ => Err(Fault::Open(OpenFault::Failed)),
+    }
+}
+
+/// The log's file, which is made where there is none.
+fn open_log<R: Files<File = File>>(rt: &R, path: &str) -> Result<FileDevice, Fault> {
+    match FileDevice::open(rt, path) {
+        Ok(device) => Ok(device),
+        Err(error) if error.kind() == ErrorKind::OutOfMemory => Err(Fault::Open(OpenFault::Memory)),
+        Err(_) => Err(Fault::Open(OpenFault::Failed)),
+    }
+}
+
+/// Prints a text.
+fn show<W: Sink>(text: &str, writer: &mut W) -> Result<Status, Declined> {
+    match writer.put(text.as_bytes()) {
+        Ok(()) => Ok(Status::Done),
+        Err(_) => Err(Declined::Fault(Fault::Write)),
+    }
+}
+
+/// The words of the command line, of which the first is the program's own name.
+fn words<R: Env + AllocGlobal>(rt: &R) -> Result<Vec<String>, Declined> {
+    match std::env::args(rt) {
+        Ok(words) => Ok(words.collect(rt.alloc())?),
+        Err(error) if error.kind() == ErrorKind::OutOfMemory => Err(Declined::from(AllocError)),
+        Err(_) => Err(Declined::Words(String::from_str(
+            rt.alloc(),
+            "error: a word is not text in UTF-8\n\nFor more information, try '--help'.\n",
+        )?)),
+    }
+}

@@ -1,0 +1,17 @@
+//! What a node is asked to be.
+
+use ep_base::{ReplicaId, Size};
+use ep_serve::Mode;
+
+/// What a node is asked to be.
+#[derive(Drop)]
+pub struct Options {
+    /// The cluster's size.
+    pub size: Size,
+    /// The replica's number.
+    pub me: ReplicaId,
+    /// The path of its log.
+    pub log: String,
+    /// When answers are written.
+    pub mode: Mode,
+}
