@@ -34,6 +34,11 @@ def program_of(program, words):
     return program.replace("ep_main", "ep_server") if words[:1] == ["node"] else program
 
 
+def is_passed_over(program, words):
+    """Whether the words are a node's, and Rattle's own compiler, which made ep_main, made no ep_server (`rt ci` says so then)."""
+    return program.endswith(".by-rattle") and not os.path.isfile(program_of(program, words))
+
+
 @dataclass
 class Row:
     name: str
@@ -201,12 +206,12 @@ def tried(program, word="", by=""):
     """Runs the program on the rows, prints a line for each that fails, and returns how many passed and how many failed."""
     passed = failed = 0
     for row in every():
-        if word in row.name:
+        if word in row.name and not is_passed_over(program, row.words):
             wrong = row.run(program)
             passed, failed = passed + (not wrong), failed + bool(wrong)
             if wrong:
                 print(f"row {row.name}{by}: {wrong}", flush=True)
-    for name, wrong in noded(program):
+    for name, wrong in () if is_passed_over(program, ["node"]) else noded(program):
         if word in name:
             passed, failed = passed + (not wrong), failed + bool(wrong)
             if wrong:
