@@ -1,7 +1,7 @@
 //! Runs in words, for people who look at them: the entries of journals in the order of their stamps, or side by side in a
 //! column a replica.
 //!
-//! `ep_viewer` prints what `show` and `columns` give. Each entry that is asked for is told once, with what it
+//! `show` and `columns` give the text. Each entry that is asked for is told once, with what it
 //! sends and executes, and a frame that no entry handles is told as that.
 //!
 //! Start with `showing.rt` and specs/Lines.antt, which says a line; the order of entries is `IsSchedule` of `ep_rules`, as
