@@ -1,7 +1,7 @@
 //! A replica's events and its messages in words, for people who look at a run.
 //!
-//! `ep_view` tells entries by them. Keys and values are words of bytes, as in scripts and reports
-//! (docs/FORMATS.md, section 3), so a text has no line feed in it, and no byte outside 20 to 7e.
+//! `ep_view` tells entries by them. Keys and values are printed as words of bytes, as in scripts and reports
+//! (docs/FORMATS.md, section 3).
 //!
 //! Start with specs/Words.antt, which says each text. `Part` is which entries of journals are asked for.
 #![tactic(auto)]
