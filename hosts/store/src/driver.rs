@@ -70,7 +70,12 @@ impl std::fmt::Display for Stop {
 
 /// For whom a request is.
 enum Purpose {
-    Proposal { client: u32, request: u32, is_put: bool, reply: Sender<Told> },
+    Proposal {
+        client: u32,
+        request: u32,
+        is_put: bool,
+        reply: Sender<Told>,
+    },
     /// Of a frame that says that this instance is committed, if it does.
     Frame(Option<Instance>),
     Late(Instance),
