@@ -88,8 +88,13 @@ impl Connection {
                 }
             };
             let asked = understand(words);
-            if asked == Asked::Quit {
-                Reply::Simple("OK").write(&mut writer)?;
+            let last = match asked {
+                Asked::Quit => Some(Reply::Simple("OK")),
+                Asked::Http => Some(Reply::Error("ERR this is no web server".into())),
+                _ => None,
+            };
+            if let Some(last) = last {
+                last.write(&mut writer)?;
                 return writer.flush();
             }
             let reply = self.answer(asked).unwrap_or_else(Reply::Error);
@@ -115,7 +120,7 @@ impl Connection {
         }
         match asked {
             Asked::Get(_) => Ok(value_of(replies.pop())),
-            Asked::Set(..) | Asked::Quit => Ok(Reply::Simple("OK")),
+            Asked::Set(..) | Asked::Quit | Asked::Http => Ok(Reply::Simple("OK")),
             Asked::Del(_) => {
                 let present = replies.iter().filter(|reply| matches!(reply, protocol::Reply::Present(_)));
                 Ok(Reply::Integer(present.count() as i64))
