@@ -397,3 +397,55 @@ fn change(receipt: &mut Receipt) {
         _ => Reply::Present(vec![0; 4]),
     };
 }
+
+#[cfg(test)]
+mod tests {
+    use super::*;
+    use crate::identities::Identities;
+    use crate::node::Start;
+    use crate::random::Random;
+    use std::path::Path;
+    use std::sync::Arc;
+    use std::sync::mpsc::sync_channel;
+
+    /// A driver of replica 0, without peers, of a node that ends at once.
+    fn driver(folder: &Path) -> Driver {
+        std::fs::create_dir_all(folder).unwrap();
+        let place = Place { replicas: 1, replica: 0 };
+        let (sender, events) = sync_channel(8);
+        let identities = Arc::new(Identities::open(folder, 3, 0).unwrap());
+        let errors_path = folder.join("node-errors");
+        let errors = std::fs::File::create(&errors_path).unwrap();
+        let (program, log) = (Path::new("true"), folder.join("log"));
+        let on_end = Box::new(|| ());
+        let start = Start { program, replicas: 3, replica: 0, log: &log, errors, errors_path, on_end };
+        Driver {
+            place,
+            node: Node::start(start).unwrap(),
+            peers: Peers::start(place, &["127.0.0.1:1".into()], &identities, &sender).unwrap(),
+            receipts: Receipts::open(&folder.join("receipts")).unwrap(),
+            timers: Timers::new(0, Instant::now(), Random::from_seed(1)),
+            events,
+            commits: Commits::default(),
+            plant: None,
+            waiting: HashMap::new(),
+            used: 0,
+            refused_frames: 0,
+        }
+    }
+
+    #[test]
+    fn a_refused_frame_tells_nothing_of_commits() {
+        let folder = std::env::temp_dir().join(format!("store-driver-{}", std::process::id()));
+        let mut driver = driver(&folder);
+        let mut outcome = Outcome::default();
+        // There is no replica 200; a node that is asked of it refuses the request, and ends.
+        let [odd, known] = [(200, 1), (1, 1)].map(|(replica, number)| Instance { replica, number });
+        driver.accept(Purpose::Frame(Some(odd)), Answer::Refused(Fault(14), None), &mut outcome).unwrap();
+        assert_eq!(driver.refused_frames, 1);
+        assert!(driver.commits.take().is_empty());
+        driver.accept(Purpose::Frame(Some(known)), Answer::Taken(Vec::new()), &mut outcome).unwrap();
+        assert_eq!(driver.commits.take().into_iter().collect::<Vec<_>>(), [known]);
+        std::fs::remove_dir_all(&folder).unwrap();
+    }
+}
