@@ -1,4 +1,4 @@
-use Rattle.std.proofs.Common.{rules, ◌≡◌, ◌<◌, ℕ, List, false, length, refl}
+use Rattle.std.proofs.Common.{rules, ◌≡◌, ℕ, List, false, refl}
 use Rattle.std.proofs.lemmas.Result.{err_from_is_err_and}
 use Rattle.ep_base.specs.Quorums.{size}
 use Rattle.ep_assemble.specs.Receipts.{is_cut}
