@@ -21,7 +21,7 @@ use store::peers::{self, Peers, Place, Receiving};
 use store::protocol::{Answer, Request};
 use store::random::Random;
 use store::receipts::Receipts;
-use store::say::say;
+use store::say::{name, say};
 use store::timers::Timers;
 
 /// How many events may wait for the driver.
@@ -40,6 +40,7 @@ fn main() -> ExitCode {
             return ExitCode::from(2);
         }
     };
+    name(options.replica);
     // There is no handler of signals: whatever ends this process closes the node's input, and so the node ends too,
     // with all that it has taken on the disk.
     match start(options) {
