@@ -1,5 +1,5 @@
 """The host in hosts/store, where cargo is there: builds it and runs its tests, and then plays a trial of 20 seconds with 3 kills over the programs that
-`rt ci` built. The audit judges the trial too, where the program has `collect`. Runs alone too: python3 .ci/store.py [NODE PROGRAM], of other builds.
+`rt ci` built, which the audit judges too. Runs alone too: python3 .ci/store.py [NODE PROGRAM], of other builds.
 
 It is built without optimisation and without what debuggers need, which takes half of the processor time that a release build takes, with its tests.
 """
@@ -28,24 +28,13 @@ def is_well(words, **how):
     return not subprocess.run(words, stdin=subprocess.DEVNULL, **how).returncode
 
 
-def has_collect(node):
-    """Whether the program of `node` has `collect` too."""
-    quiet = {"stdin": subprocess.DEVNULL, "stdout": subprocess.DEVNULL, "stderr": subprocess.DEVNULL}
-    return not subprocess.run([node, "collect", "--help"], **quiet).returncode
-
-
 def trial(scratch, node, program):
     """Whether the trial of three replicas found no fault."""
     epaxos = f"{scratch}/epaxos"
     with open(epaxos, "w", encoding="utf-8") as file:
         file.write(EPAXOS.format(node, program))
     os.chmod(epaxos, 0o755)
-    words = [f"{scratch}/target/debug/trial", "--short", "--node", epaxos, "--dir", f"{scratch}/trial"]
-    if has_collect(node):
-        words.append("--audit")
-    else:
-        print("the trial is not audited: there is no `epaxos collect`", flush=True)
-    return is_well(words)
+    return is_well([f"{scratch}/target/debug/trial", "--short", "--audit", "--node", epaxos, "--dir", f"{scratch}/trial"])
 
 
 def tried(node=BUILT[0], program=BUILT[1]):
