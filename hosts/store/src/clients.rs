@@ -13,13 +13,14 @@ use std::sync::{Arc, Mutex};
 use std::thread;
 use std::time::{Duration, Instant};
 
-const MOST_CONNECTIONS: usize = 1_000;
+/// With what peers and files take that is below 1,024, which is how many handles a process mostly may have.
+const MOST_CONNECTIONS: usize = 900;
 /// For a client that doesn't take its replies.
 const WRITE_PATIENCE: Duration = Duration::from_secs(30);
 /// A client that asks nothing for so long is gone, or connects again.
 const SILENCE: Duration = Duration::from_secs(3_600);
 /// Between two tries to ask a driver that has too much to do.
-const PAUSE: Duration = Duration::from_millis(1);
+const PAUSE: Duration = Duration::from_millis(5);
 const STACK: usize = 256 << 10;
 /// A command that a no-op was put in the place of is proposed at most so often.
 const MOST_TRIES: usize = 5;
@@ -46,7 +47,8 @@ pub fn listen(listener: TcpListener, shared: Arc<Shared>) {
         }
         let served = shared.clone();
         let started = thread::Builder::new().name("client".into()).stack_size(STACK).spawn(move || {
-            let _ = Connection::new(served.clone()).serve(stream);
+            let _ = Connection::new(served.clone()).serve(&stream);
+            drop(stream);
             served.connections.fetch_sub(1, Ordering::Relaxed);
         });
         if let Err(error) = started {
@@ -72,11 +74,11 @@ impl Connection {
         Connection { shared, client: None, requests: 0, seen: 0, is_read_only: false }
     }
 
-    fn serve(&mut self, stream: TcpStream) -> io::Result<()> {
+    fn serve(&mut self, stream: &TcpStream) -> io::Result<()> {
         stream.set_nodelay(true)?;
         stream.set_write_timeout(Some(WRITE_PATIENCE))?;
         stream.set_read_timeout(Some(SILENCE))?;
-        let mut writer = BufWriter::new(stream.try_clone()?);
+        let mut writer = BufWriter::new(stream);
         let mut reader = BufReader::new(stream);
         loop {
             let words = match read_command(&mut reader)? {
