@@ -1,7 +1,7 @@
 """The host in hosts/store, where cargo is there: builds it and runs its tests, and then plays a trial of 20 seconds with 3 kills over the programs that
 `rt ci` built, which the audit judges too. Runs alone too: python3 .ci/store.py [NODE PROGRAM], of other builds.
 
-It is built without optimisation and without what debuggers need, which takes half of the processor time that a release build takes, with its tests.
+It is built without optimisation and without what debuggers need: with its tests that takes half of the processor time of a release build alone.
 """
 
 import os
