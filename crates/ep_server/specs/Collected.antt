@@ -1,7 +1,7 @@
 -- What becomes of logs and receipts that are collected, by the status that is answered: of the files' names, of the bytes that they gave, of the output and
 -- of the fault output.
-use Rattle.std.specs.Prelude.{◌≡◌, ℕ, List, true}
-use Rattle.ep_assemble.specs.Files.{IsCollected, IsNotCollected}
+use Rattle.std.specs.Prelude.{◌≡◌, ◌⊎◌, ℕ, List, true, length}
+use Rattle.ep_assemble.specs.Files.{IsCollected, IsNotCollected, IsUnread}
 use Rattle.ep_assemble.specs.declared.files.FilesFault.{FilesFault}
 use Rattle.ep_assemble.specs.declared.files.FilesFault.TheVariants as files
 use Rattle.ep_server.specs.Faults.{out_of_memory, writing_failed}
@@ -46,3 +46,22 @@ abbrev pub TurnsAway : FilesFault → Status → Output → Type 0
 TurnsAway files.Memory status fault = (status ≡ OutOfMemory) × Told fault out_of_memory
 TurnsAway (files.ReadFailed line) status fault = (status ≡ Failed) × Told fault line.items
 TurnsAway (files.Refused line) status fault = (status ≡ Refused) × Told fault line.items
+
+-- each file gave bytes, of which this became
+pub record AreCollected (logs receipts : List (List ℕ)) (status : Status) (out fault : Output) : Type 0 where
+  pub log_bytes : List (List ℕ)
+  pub log_count : length log_bytes ≡ length logs
+  pub receipt_bytes : List (List ℕ)
+  pub receipt_count : length receipt_bytes ≡ length receipts
+  pub collects : Collects logs receipts log_bytes receipt_bytes status out fault
+
+-- a file isn't read, or memory was refused, which is told, and nothing was written on the output
+pub record AreUnread (logs receipts : List (List ℕ)) (status : Status) (out fault : Output) : Type 0 where
+  pub why : FilesFault
+  pub of : IsUnread logs why ⊎ IsUnread receipts why
+  pub silent : WroteNothing out
+  pub told : TurnsAway why status fault
+
+-- Of files with these names. No contract can say which bytes a file gives.
+abbrev pub CollectsFiles : List (List ℕ) → List (List ℕ) → Status → Output → Output → Type 0
+CollectsFiles logs receipts status out fault = AreCollected logs receipts status out fault ⊎ AreUnread logs receipts status out fault

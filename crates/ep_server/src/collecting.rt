@@ -3,7 +3,7 @@
 ghost use Rattle.std.specs.Prelude.{◌≡◌, ◌⊎◌, length, map, string_bytes, IfOk, IfErr};
 ghost use Rattle.ep_assemble.specs.Files.{IsUnread};
 ghost use Rattle.ep_assemble.specs.Logs.{contents};
-ghost use Rattle.ep_server.specs.Collected.{Collects, TurnsAway};
+ghost use Rattle.ep_server.specs.Collected.{Collects, CollectsFiles, TurnsAway};
 ghost use Rattle.ep_server.specs.Faults.{line_of, status_of};
 ghost use Rattle.ep_server.specs.Outputs.{Told, output};
 
@@ -16,6 +16,24 @@ use ep_assemble::{FilesFault, collect_files, read_files};
 use ep_base::Sink;
 use std::alloc::Global;
 use std::rt::Files;
+
+/// Reads the files and writes the bundle of what they hold.
+#[tactic(auto, using(crate::proofs::FilesCollected::are_collected, crate::proofs::FilesCollected::are_unread))]
+pub fn collect_named<R: Files + AllocGlobal, W: Sink, F: Sink>(
+    rt: &R,
+    names: &Names,
+    writer: &mut W,
+    fault_writer: &mut F,
+) -> Status
+    ensures { CollectsFiles (map string_bytes names.now.logs.items) (map string_bytes names.now.receipts.items) result
+        (output (W.held writer.old) (W.held writer.new) (W.has_failed writer.old) (W.has_failed writer.new))
+        (output (F.held fault_writer.old) (F.held fault_writer.new) (F.has_failed fault_writer.old) (F.has_failed fault_writer.new)) }
+{
+    match gather(rt, names) {
+        Ok(gathered) => write_collected(rt.alloc(), names, &gathered, writer, fault_writer),
+        Err(fault) => turned_away(fault, fault_writer),
+    }
+}
 
 /// Writes the bundle of what the files gave, in one go. Each torn end has a line on the fault output, or what stops it has one;
 /// where telling fails, the status stays.
@@ -48,7 +66,7 @@ pub fn write_collected<W: Sink, F: Sink>(
 }
 
 /// Tells why nothing is collected.
-pub(crate) fn turned_away<F: Sink>(fault: FilesFault, fault_writer: &mut F) -> Status
+fn turned_away<F: Sink>(fault: FilesFault, fault_writer: &mut F) -> Status
     ensures { TurnsAway fault result (output (F.held fault_writer.old) (F.held fault_writer.new) (F.has_failed fault_writer.old) (F.has_failed fault_writer.new)) }
 {
     match fault {
@@ -59,7 +77,7 @@ pub(crate) fn turned_away<F: Sink>(fault: FilesFault, fault_writer: &mut F) -> S
 }
 
 /// The bytes of the files with these names.
-pub(crate) fn gather<R: Files + AllocGlobal>(rt: &R, names: &Names) -> Result<Gathered, FilesFault>
+fn gather<R: Files + AllocGlobal>(rt: &R, names: &Names) -> Result<Gathered, FilesFault>
     ensures logs { IfOk result (λ g. length g.logs.items ≡ length names.now.logs.items) }
     ensures receipts { IfOk result (λ g. length g.receipts.items ≡ length names.now.receipts.items) }
     ensures err { IfErr result (λ e. IsUnread (map string_bytes names.now.logs.items) e ⊎ IsUnread (map string_bytes names.now.receipts.items) e) }

@@ -3,7 +3,7 @@
 //!
 //! `main` hands the words to `read_words`, in `command_line.rt`. For a node it opens the log, and hands it and the standard
 //! streams to `serve_log`, in `program.rt`, which is all of the node: over any device, source and sinks, so that its contract can
-//! say what the bytes and the status mean. It does no more than call `Node::open` and `ep_serve`'s `serve`. `write_collected`, in
+//! say what the bytes and the status mean. It does no more than call `Node::open` and `ep_serve`'s `serve`. `collect_named`, in
 //! `collecting.rt`, is the same for `epaxos collect`, of the bytes that the files gave: it calls `ep_assemble`'s `collect_files`.
 //!
 //! Start with `program.rt` and specs/Served.antt, `collecting.rt` and specs/Collected.antt. A fault has one line on the fault
@@ -25,11 +25,10 @@ mod telling;
 
 use crate::ahead::read_ahead;
 use crate::asked::Asked;
-use crate::collecting::{gather, turned_away, write_collected};
+use crate::collecting::collect_named;
 use crate::command_line::read_words;
 use crate::declined::Declined;
 use crate::fault::Fault;
-use crate::names::Names;
 use crate::options::Options;
 use crate::program::{decline, serve_log};
 use crate::status::Status;
@@ -62,7 +61,7 @@ fn run<R: Env + AllocGlobal + Files<File = File>, I: Read + Drop, W: Sink, F: Si
     let words = words(rt)?;
     match read_words(rt.alloc(), words.as_slice())? {
         Asked::Node(options) => run_node(rt, &options, input, writer, fault_writer),
-        Asked::Collect(names) => Ok(run_collect(rt, &names, writer, fault_writer)),
+        Asked::Collect(names) => Ok(collect_named(rt, &names, writer, fault_writer)),
         Asked::Version => show("epaxos 0.1.0\n", writer),
         Asked::Help(text) => show(text.as_str(), writer),
     }
@@ -83,19 +82,6 @@ fn run_node<R: AllocGlobal + Files<File = File>, I: Read + Drop, W: Sink, F: Sin
     let status = serve_log(alloc, options, device, &mut reader, writer, fault_writer);
     drop(held);
     Ok(status)
-}
-
-/// Reads the files and writes their bundle.
-fn run_collect<R: AllocGlobal + Files<File = File>, W: Sink, F: Sink>(
-    rt: &R,
-    names: &Names,
-    writer: &mut W,
-    fault_writer: &mut F,
-) -> Status {
-    match gather(rt, names) {
-        Ok(gathered) => write_collected(rt.alloc(), names, &gathered, writer, fault_writer),
-        Err(fault) => turned_away(fault, fault_writer),
-    }
 }
 
 /// Files in the places of standard streams that are closed, so that the log's file takes none of them: answers would be written
