@@ -3,7 +3,7 @@
   .ci/run             first looks whether the copies that tools write are up to date, and whether the edits of wrong/ still fit. Then
                       runs the test command of README.md, `rt ci`, and then what it built: the rows of .ci/rows.py by both compilers,
                       some of them with each allocation refused in turn (tools/refused-memory), and runs of the program with each read
-                      and each write failed in turn (tools/failing-devices)
+                      and each write failed in turn (tools/failing-devices); and last the host in hosts/store, where cargo is (.ci/store.py)
   .ci/run --built     runs only what an earlier `rt ci` built
 
 At its end it says what processor time it took, and its last line is 'N passed, M failed'. The status is 0 where M is 0.
@@ -21,6 +21,7 @@ sys.path.insert(0, f"{TOP}/.ci")
 
 import clock
 import rows
+import store
 
 # the program by LLVM, and by Rattle's own compiler
 PROGRAM = f"{TOP}/crates/ep_main/out/ep_main"
@@ -151,7 +152,8 @@ def built():
     if os.path.isfile(PROGRAM):
         well = [*refused_memory(), *failing_devices()]
         passed, failed = passed + well.count(True), failed + well.count(False)
-    return passed, failed
+    counts = store.tried()
+    return passed + counts[0], failed + counts[1]
 
 
 def main(words):

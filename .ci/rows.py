@@ -10,8 +10,8 @@ A row is a folder .ci/rows/NAME with files, each of which may lack:
   redirect   the shell's redirections of the last run
   files      a folder: files that lie where the runs are; NAME.hex is NAME, in hexadecimal
   stdout stderr status     what is wanted: nothing, nothing and 0 where there is no such file; stdout.gz: packed
-PROGRAM is ep_main as it was built; what begins with `node` is run by ep_server, which was built as it was. Runs of
-`epaxos node` on one log are made here.
+PROGRAM is ep_main as it was built; what begins with `node` or `collect` is run by ep_server, which was built as it was.
+Runs of `epaxos node` on one log, and its bundle, are made here.
 More rows are made of the scripts and reports in docs/FORMATS.md, examples/ and .ci/scripts/ (NAME.script is played, NAME.run is run
 by both hosts), and by .ci/made.py.
 """
@@ -31,11 +31,11 @@ SECONDS = 120
 
 def program_of(program, words):
     """The program that is run with these words: ep_server for its own, as ep_main was built."""
-    return program.replace("ep_main", "ep_server") if words[:1] == ["node"] else program
+    return program.replace("ep_main", "ep_server") if words[:1] in (["node"], ["collect"]) else program
 
 
 def is_passed_over(program, words):
-    """Whether the words are a node's, and Rattle's own compiler, which made ep_main, made no ep_server (`rt ci` says so then)."""
+    """Whether the words are a node's or collect's, and Rattle's own compiler, which made ep_main, made no ep_server (`rt ci` says so then)."""
     return program.endswith(".by-rattle") and not os.path.isfile(program_of(program, words))
 
 
@@ -188,16 +188,25 @@ SYNC, LEADS, NONE = bytes.fromhex("00000001 0a"), bytes.fromhex("00000004 09 000
 FRAME = "45500201 0001 000000000001 0000000000000001 000001 0000000000000000000001 03 01 0001 0000 7831"
 TAKEN = bytes.fromhex(f"00000047 01 00000001 00000001 0000000000000001 000001 0001 01 0000002a {FRAME} 0000")
 SYNCED, LEADING = bytes.fromhex("00000005 06 00000001"), bytes.fromhex("00000004 05 01 01 00")
+# The logs of replicas 1 and 2 without entries, and the bundle of the three logs.
+ONE, TWO = bytes.fromhex("45504c47 02 03 01"), bytes.fromhex("45504c47 02 03 02")
+ENTRY = f"01 0000000000000001 00000001 00000001 0000000000000000 03 01 0001 78 31 0001 0000002a {FRAME} 0000"
+BUNDLE = bytes.fromhex(f"45504a42 02 03 00000000 00 00000001 {ENTRY} 01 00000000 02 00000000")
 
 def noded(program):
-    """Runs `epaxos node` four times on one log, and gives the name of each run and what is wrong with it, or nothing."""
+    """Runs `epaxos node` four times on one log and makes its bundle, and gives the name of each run and what is wrong with it, or nothing."""
     with tempfile.TemporaryDirectory() as folder:
-        words = ["node", "--replicas", "3", "--replica", "0", "--log", f"{folder}/log"]
+        logs = [f"{folder}/{it}" for it in ("zero", "one", "two")]
+        for log, held in ((logs[1], ONE), (logs[2], TWO)):
+            with open(log, "wb") as it:
+                it.write(held)
+        words = ["node", "--replicas", "3", "--replica", "0", "--log", logs[0]]
         for row in (
             Row("node, a proposal", words, PROPOSE + SYNC, TAKEN + SYNCED),
             Row("node, come back", words, SYNC + LEADS, SYNCED + LEADING),
             Row("node, no request", words, SYNC + NONE, SYNCED, b"request refused at byte 5\n", 2),
             Row("node, the log of another", words[:4] + ["1"] + words[5:], SYNC, b"", b"log refused: a log of another cluster or replica\n", 2),
+            Row("node, its log collected", ["collect", *logs], b"", BUNDLE),
         ):
             yield row.name, row.run(program)
 

@@ -7,7 +7,7 @@ use Rattle.ep_journal.specs.Entries.{Log as Journal}
 use Rattle.ep_log.specs.Reading.{IsRead}
 use Rattle.ep_assemble.specs.Logs.{AreRead, IsNotRead, IsLogRefused, IsRefused, contents}
 use Rattle.ep_assemble.specs.declared.assemble_fault.AssembleFault.{AssembleFault}
-use Rattle.ep_assemble.specs.declared.assemble_fault.AssembleFault.TheVariants.{Memory, Log, Collect}
+use Rattle.ep_assemble.specs.declared.assemble_fault.AssembleFault.TheVariants.{Memory, Log, Collect, Receipts, TooManyReceipts}
 use Rattle.ep_assemble.specs.declared.assembled.End.{End}
 
 pub one_more : (logs : List (List ℕ)) (js : List Journal) (ends : List End) (bytes : List ℕ) (j : Journal) (end : End) → AreRead logs js ends →
@@ -22,11 +22,11 @@ one_more (b ∷ logs) (x ∷ js) [] bytes j end all is = absurd all
 one_more (b ∷ logs) (x ∷ js) (e ∷ ends) bytes j end all is = (all.0, one_more logs js ends bytes j end all.1 is)
 
 -- the bytes at a place, behind those before it
-record IsThere (place : ℕ) (vs : List (Vec ℕ)) (bytes : List ℕ) : Type 0 where
+pub record IsThere (place : ℕ) (vs : List (Vec ℕ)) (bytes : List ℕ) : Type 0 where
   pub stands : slice_get (contents vs) place ≡ Some bytes
   pub before : take place (contents vs) ≡ contents (take place vs)
 
-there : (place : ℕ) (vs : List (Vec ℕ)) (v d : Vec ℕ) → place < length vs → v ≡ get_or vs place d → IsThere place vs v.items
+pub there : (place : ℕ) (vs : List (Vec ℕ)) (v d : Vec ℕ) → place < length vs → v ≡ get_or vs place d → IsThere place vs v.items
 there place vs v d less is = record { stands = stands place vs v (slice_get-get_or vs place d less ∙ ap Some (sym is)); before = take-map (λ (x : Vec ℕ). x.items) place vs }
   where
     stands : (k : ℕ) (xs : List (Vec ℕ)) (x : Vec ℕ) → slice_get xs k ≡ Some x → slice_get (contents xs) k ≡ Some x.items
@@ -49,6 +49,8 @@ not_read (Log at fault) place vs v d js ends less is all h =
       refused = h.2;
     }
 not_read (Collect fault) place vs v d js ends less is all h = absurd h
+not_read (Receipts p at) place vs v d js ends less is all h = absurd h
+not_read TooManyReceipts place vs v d js ends less is all h = absurd h
 
 pub one_read : (i : ℕ) (vs : List (Vec ℕ)) (v d : Vec ℕ) (js : List Journal) (ends : List End) (j : Journal) (end : End) → i < length vs → v ≡ get_or vs i d →
     AreRead (contents (take i vs)) js ends → IsRead v.items j end.whole end.is_torn → AreRead (contents (take (i + 1) vs)) (js ++ j ∷ []) (ends ++ end ∷ [])
@@ -57,7 +59,9 @@ one_read i vs v d js ends j end less is all read =
     ap contents (take_more vs i d less) ∙ map-append (λ (x : Vec ℕ). x.items) (take i vs) (get_or vs i d ∷ []) ∙ ap (λ (x : Vec ℕ). contents (take i vs) ++ x.items ∷ []) (sym is) in
     subst (λ (bs : List (List ℕ)). AreRead bs (js ++ j ∷ []) (ends ++ end ∷ [])) (sym more) (one_more (contents (take i vs)) js ends v.items j end all read)
 
-pub not_log : (e : AssembleFault) (bss : List (List ℕ)) → IsLogRefused e bss → IsRefused e bss
-not_log Memory bss h = tt
-not_log (Log place fault) bss h = h
-not_log (Collect fault) bss h = absurd h
+pub not_log : (e : AssembleFault) (bss files : List (List ℕ)) → IsLogRefused e bss → IsRefused e bss files
+not_log Memory bss files h = tt
+not_log (Log place fault) bss files h = h
+not_log (Collect fault) bss files h = absurd h
+not_log (Receipts place at) bss files h = absurd h
+not_log TooManyReceipts bss files h = absurd h

@@ -1,2 +1,4 @@
 mod Appending
+mod Held
 mod InTurn
+mod Unread

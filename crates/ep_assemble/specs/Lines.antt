@@ -1,11 +1,12 @@
--- The lines that are told of logs, by the names of their files.
+-- The lines that are told of logs and receipts, by the names of their files.
 use Rattle.std.specs.Prelude.{ℕ, suc, cond, List, [], ◌∷◌, ◌++◌, codes, decimal, slice_index_or as get_or}
+use Rattle.ep_collect.specs.declared.collect_fault.CollectFault.{CollectFault}
 use Rattle.ep_collect.specs.declared.collect_fault.CollectFault.TheVariants.{NoJournal, OtherCluster, Twice, Missing}
 use Rattle.ep_log.specs.declared.log_fault.LogFault.{LogFault}
 use Rattle.ep_log.specs.declared.log_fault.LogFault.TheVariants as log
 use Rattle.ep_assemble.specs.declared.assembled.End.{End}
 use Rattle.ep_assemble.specs.declared.assemble_fault.AssembleFault.{AssembleFault}
-use Rattle.ep_assemble.specs.declared.assemble_fault.AssembleFault.TheVariants.{Memory, Log, Collect}
+use Rattle.ep_assemble.specs.declared.assemble_fault.AssembleFault.TheVariants.{Memory, Log, Collect, Receipts, TooManyReceipts}
 
 abbrev pub log_text : LogFault → List ℕ
 log_text log.Memory = codes "out of memory"
@@ -23,13 +24,26 @@ log_line name fault = codes "log refused " ++ name ++ codes ": " ++ log_text fau
 abbrev pub name_at : List (List ℕ) → ℕ → List ℕ
 name_at names place = get_or names place []
 
-abbrev pub refusal_line : List (List ℕ) → AssembleFault → List ℕ
-refusal_line names Memory = codes "out of memory\n"
-refusal_line names (Log place fault) = log_line (name_at names place) fault
-refusal_line names (Collect NoJournal) = codes "no log\n"
-refusal_line names (Collect (OtherCluster place)) = name_at names place ++ codes " is of another cluster\n"
-refusal_line names (Collect (Twice r)) = codes "replica " ++ decimal r ++ codes " has two logs\n"
-refusal_line names (Collect (Missing r)) = codes "replica " ++ decimal r ++ codes " has no log\n"
+-- of logs with these names
+abbrev pub collect_line : List (List ℕ) → CollectFault → List ℕ
+collect_line names NoJournal = codes "no log\n"
+collect_line names (OtherCluster place) = name_at names place ++ codes " is of another cluster\n"
+collect_line names (Twice r) = codes "replica " ++ decimal r ++ codes " has two logs\n"
+collect_line names (Missing r) = codes "replica " ++ decimal r ++ codes " has no log\n"
+
+abbrev pub receipts_line : List ℕ → ℕ → List ℕ
+receipts_line name at = codes "receipts refused " ++ name ++ (codes ": bad field at byte " ++ decimal at) ++ codes "\n"
+
+-- of logs and of files of receipts with these names
+abbrev pub refusal_line : List (List ℕ) → List (List ℕ) → AssembleFault → List ℕ
+refusal_line logs files Memory = codes "out of memory\n"
+refusal_line logs files (Log place fault) = log_line (name_at logs place) fault
+refusal_line logs files (Collect fault) = collect_line logs fault
+refusal_line logs files (Receipts place at) = receipts_line (name_at files place) at
+refusal_line logs files TooManyReceipts = codes "receipts refused: more than 4294967295\n"
+
+abbrev pub unread_line : List ℕ → List ℕ
+unread_line name = codes "reading " ++ name ++ codes " failed\n"
 
 abbrev pub torn_line : List ℕ → ℕ → List ℕ
 torn_line name whole = codes "torn end in " ++ name ++ (codes " after byte " ++ decimal whole) ++ codes "\n"
@@ -37,7 +51,7 @@ torn_line name whole = codes "torn end in " ++ name ++ (codes " after byte " ++ 
 abbrev pub end_line : List ℕ → End → List ℕ
 end_line name end = cond end.is_torn (torn_line name end.whole) []
 
--- of the logs from this place on
+-- of the files from this place on
 abbrev pub torn_lines : ℕ → List (List ℕ) → List End → List ℕ
 torn_lines place names [] = []
 torn_lines place names (end ∷ ends) = end_line (name_at names place) end ++ torn_lines (suc place) names ends

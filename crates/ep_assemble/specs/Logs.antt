@@ -1,6 +1,7 @@
 -- The bundle that logs make, and the first fault of those that make none.
 use Rattle.std.specs.Prelude.{◌≡◌, ℕ, List, [], ◌∷◌, Some, map, take, slice_get}
 use Rattle.std.specs.Global.{Vec}
+use Rattle.ep_base.specs.Quorums.{size}
 use Rattle.ep_bundle.specs.Bytes.{bundle_bytes}
 use Rattle.ep_collect.specs.Clusters.{Collects}
 use Rattle.ep_collect.specs.Clusters.{IsRefused as IsUncollected}
@@ -10,9 +11,11 @@ use Rattle.ep_log.specs.Reading.{IsRead}
 use Rattle.ep_log.specs.Refusing.{IsRefused as IsNoLog}
 use Rattle.ep_log.specs.declared.log_fault.LogFault.{LogFault}
 use Rattle.ep_log.specs.declared.log_fault.LogFault.TheVariants as log
+use Rattle.ep_rules.specs.declared.receipt.Receipt.{Receipt}
+use Rattle.ep_assemble.specs.Receipts.{AreHeld, AreTooMany, IsFirstSpoiled}
 use Rattle.ep_assemble.specs.declared.assembled.End.{End}
 use Rattle.ep_assemble.specs.declared.assemble_fault.AssembleFault.{AssembleFault}
-use Rattle.ep_assemble.specs.declared.assemble_fault.AssembleFault.TheVariants.{Memory, Log, Collect}
+use Rattle.ep_assemble.specs.declared.assemble_fault.AssembleFault.TheVariants.{Memory, Log, Collect, Receipts, TooManyReceipts}
 
 -- the bytes of each
 abbrev pub contents : List (Vec ℕ) → List (List ℕ)
@@ -24,13 +27,19 @@ AreRead [] [] [] = Unit {0}
 AreRead (bytes ∷ logs) (journal ∷ journals) (end ∷ ends) = IsRead bytes journal end.whole end.is_torn × AreRead logs journals ends
 AreRead _ _ _ = ⊥
 
--- the text is the bundle of the journals that the logs hold, with no receipts
-pub record IsAssembled (logs : List (List ℕ)) (text : List ℕ) (ends : List End) : Type 0 where
+-- the text is the bundle of these journals and of the receipts that the files hold
+pub record IsBundled (c : Collected) (files : List (List ℕ)) (text : List ℕ) (ends : List End) : Type 0 where
+  pub receipts : List Receipt
+  pub held : AreHeld (size c.faults) files receipts ends
+  pub is : text ≡ bundle_bytes c receipts
+
+-- the text is the bundle of the journals that the logs hold, and of the receipts that the files hold
+pub record IsAssembled (logs files : List (List ℕ)) (text : List ℕ) (ends receipt_ends : List End) : Type 0 where
   pub journals : List Journal
   pub read : AreRead logs journals ends
   pub collected : Collected
   pub collects : Collects journals collected
-  pub is : text ≡ bundle_bytes collected []
+  pub bundled : IsBundled collected files text receipt_ends
 
 -- a log's fault, other than want of memory
 abbrev pub IsOfLog : LogFault → Type 0
@@ -59,23 +68,38 @@ pub record IsNoCluster (fault : CollectFault) (logs : List (List ℕ)) : Type 0 
   pub read : AreRead logs journals ends
   pub refused : IsUncollected fault journals
 
--- the first fault
-abbrev pub IsRefused : AssembleFault → List (List ℕ) → Type 0
-IsRefused Memory logs = Unit {0}
-IsRefused (Log place fault) logs = IsFirstRefused place fault logs
-IsRefused (Collect fault) logs = IsNoCluster fault logs
+-- all are logs, their journals are those of one cluster, and this is said of its size
+pub record AreOfOneSize (logs : List (List ℕ)) (P : ℕ → Type 0) : Type 0 where
+  pub journals : List Journal
+  pub ends : List End
+  pub read : AreRead logs journals ends
+  pub collected : Collected
+  pub collects : Collects journals collected
+  pub holds : P (size collected.faults)
+
+-- the first fault, of the logs and then of the files of receipts
+abbrev pub IsRefused : AssembleFault → List (List ℕ) → List (List ℕ) → Type 0
+IsRefused Memory logs files = Unit {0}
+IsRefused (Log place fault) logs files = IsFirstRefused place fault logs
+IsRefused (Collect fault) logs files = IsNoCluster fault logs
+IsRefused (Receipts place at) logs files = AreOfOneSize logs (λ n. IsFirstSpoiled n place at files)
+IsRefused TooManyReceipts logs files = AreOfOneSize logs (λ n. AreTooMany n files)
 
 -- the first fault of a log
 abbrev pub IsLogRefused : AssembleFault → List (List ℕ) → Type 0
 IsLogRefused Memory logs = Unit {0}
 IsLogRefused (Log place fault) logs = IsFirstRefused place fault logs
 IsLogRefused (Collect fault) logs = ⊥
+IsLogRefused (Receipts place at) logs = ⊥
+IsLogRefused TooManyReceipts logs = ⊥
 
 -- why these bytes, at this place, are no log
 abbrev pub IsNotRead : AssembleFault → ℕ → List ℕ → Type 0
 IsNotRead Memory place bytes = Unit {0}
 IsNotRead (Log at fault) place bytes = (at ≡ place) × IsOfLog fault × IsNoLog fault bytes
 IsNotRead (Collect fault) place bytes = ⊥
+IsNotRead (Receipts p at) place bytes = ⊥
+IsNotRead TooManyReceipts place bytes = ⊥
 
 abbrev pub of_log : ℕ → LogFault → AssembleFault
 of_log place log.Memory = Memory

@@ -1,11 +1,12 @@
-//! Files of logs, collected.
+//! Files of logs and receipts, collected.
 
 ghost use Rattle.std.specs.Prelude.{◌≡◌, length, map, string_bytes, IfOk, IfErr, IsErr};
-ghost use Rattle.ep_assemble.specs.Files.{IsCollected, IsLineOf, IsTurnedDown, IsUnread};
+ghost use Rattle.ep_assemble.specs.Files.{IsCollected, IsLineOf, IsOfFile, IsTurnedDown, IsUnread};
+ghost use Rattle.ep_assemble.specs.Logs.{contents};
 
 use crate::assemble_fault::AssembleFault;
 use crate::assembling::assemble;
-use crate::lines::{push_refusal, push_torn};
+use crate::lines::{push_refusal, push_torn, push_unread};
 use std::alloc::{AllocError, Global};
 use std::fs;
 use std::io::ErrorKind;
@@ -25,8 +26,8 @@ pub struct Collection {
 pub enum FilesFault {
     /// Memory was refused.
     Memory,
-    /// A file could not be opened or read.
-    ReadFailed,
+    /// A file could not be opened or read; this is the line that says which.
+    ReadFailed(Vec<u8>),
     /// The files make no bundle; this is the line that says why.
     Refused(Vec<u8>),
 }
@@ -42,75 +43,86 @@ impl From<AllocError> for FilesFault {
     }
 }
 
-/// Reads the files of these names, each of which is a replica's log, and makes the bundle of what they hold.
-pub fn collect_files<R: Files + AllocGlobal>(
+/// The bytes of the files with these names.
+pub fn read_files<R: Files + AllocGlobal>(
     rt: &R,
     names: &[String],
-) -> Result<Collection, FilesFault>
-    ensures ok { IfOk result (λ c. IsCollected (map string_bytes names.now) c.bundle.items c.lines.items) }
-    ensures err { IfErr result (IsTurnedDown (map string_bytes names.now)) }
+) -> Result<Vec<Vec<u8>>, FilesFault>
+    ensures count { IfOk result (λ files. length files.items ≡ length names.now) }
+    ensures err { IfErr result (IsUnread (map string_bytes names.now)) }
 {
-    let alloc = rt.alloc();
-    let logs = read_files(rt, names)?;
-    assemble_files(alloc, names, &logs)
-}
-
-/// The bytes of the files.
-fn read_files<R: Files + AllocGlobal>(rt: &R, names: &[String]) -> Result<Vec<Vec<u8>>, FilesFault>
-    ensures count { IfOk result (λ logs. length logs.items ≡ length names.now) }
-    ensures err { IfErr result (λ e. IsUnread e) }
-{
-    let mut logs = Vec::new(rt.alloc());
+    let mut files = Vec::new(rt.alloc());
     for name in names {
         let bytes = read_file(rt, name)?;
-        if logs.push(bytes).is_err() {
+        if files.push(bytes).is_err() {
             return Err(FilesFault::Memory);
         }
     }
-    Ok(logs)
+    Ok(files)
 }
 
 /// The bytes of a file.
 fn read_file<R: Files + AllocGlobal>(rt: &R, name: &str) -> Result<Vec<u8>, FilesFault>
-    ensures { IfErr result (λ e. IsUnread e) }
+    ensures { IfErr result (IsOfFile name.now) }
 {
     match fs::read(rt, name) {
         Ok(bytes) => Ok(bytes),
         Err(error) if error.kind() == ErrorKind::OutOfMemory => Err(FilesFault::Memory),
-        Err(_) => Err(FilesFault::ReadFailed),
+        Err(_) => Err(unread(rt.alloc(), name)),
     }
 }
 
-/// The bundle of what these bytes hold, which the files of these names gave.
-fn assemble_files(
-    alloc: Global,
-    names: &[String],
-    logs: &[Vec<u8>],
-) -> Result<Collection, FilesFault>
-    requires { length logs.now ≡ length names.now }
-    ensures ok { IfOk result (λ c. IsCollected (map string_bytes names.now) c.bundle.items c.lines.items) }
-    ensures err { IfErr result (IsTurnedDown (map string_bytes names.now)) }
+/// The fault of a file that can't be read, with its line.
+fn unread(alloc: Global, name: &str) -> FilesFault
+    ensures { IsOfFile name.now result }
 {
-    match assemble(alloc, logs) {
+    let mut line = Vec::new(alloc);
+    match push_unread(name, &mut line) {
+        Ok(()) => FilesFault::ReadFailed(line),
+        Err(_) => FilesFault::Memory,
+    }
+}
+
+/// The bundle of what these bytes hold, which the files of these names gave: logs, each of which is a replica's, and files of
+/// receipts.
+pub fn collect_files(
+    alloc: Global,
+    logs: &[String],
+    receipts: &[String],
+    log_bytes: &[Vec<u8>],
+    receipt_bytes: &[Vec<u8>],
+) -> Result<Collection, FilesFault>
+    requires logs { length log_bytes.now ≡ length logs.now }
+    requires receipts { length receipt_bytes.now ≡ length receipts.now }
+    ensures ok { IfOk result (λ c. IsCollected (map string_bytes logs.now) (map string_bytes receipts.now) (contents log_bytes.now) (contents receipt_bytes.now) c.bundle.items c.lines.items) }
+    ensures err { IfErr result (IsTurnedDown (map string_bytes logs.now) (map string_bytes receipts.now) (contents log_bytes.now) (contents receipt_bytes.now)) }
+{
+    match assemble(alloc, log_bytes, receipt_bytes) {
         Ok(assembled) => {
             let mut lines = Vec::new(alloc);
-            push_torn(names, &assembled.ends, &mut lines)?;
+            push_torn(logs, &assembled.ends, &mut lines)?;
+            push_torn(receipts, &assembled.receipt_ends, &mut lines)?;
             Ok(Collection {
                 bundle: assembled.bundle,
                 lines,
             })
         }
         Err(AssembleFault::Memory) => Err(FilesFault::Memory),
-        Err(fault) => refused(alloc, names, fault),
+        Err(fault) => refused(alloc, logs, receipts, fault),
     }
 }
 
 /// The fault, with its line.
-fn refused(alloc: Global, names: &[String], fault: AssembleFault) -> Result<Collection, FilesFault>
-    ensures line { IfErr result (λ e. IsLineOf (map string_bytes names.now) fault e) }
+fn refused(
+    alloc: Global,
+    logs: &[String],
+    receipts: &[String],
+    fault: AssembleFault,
+) -> Result<Collection, FilesFault>
+    ensures line { IfErr result (IsLineOf (map string_bytes logs.now) (map string_bytes receipts.now) fault) }
     ensures never { IsErr result }
 {
     let mut line = Vec::new(alloc);
-    push_refusal(names, fault, &mut line)?;
+    push_refusal(logs, receipts, fault, &mut line)?;
     Err(FilesFault::Refused(line))
 }

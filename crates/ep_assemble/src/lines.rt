@@ -1,8 +1,7 @@
-//! The lines that are told of logs, by the names of their files.
+//! The lines that are told of logs and receipts, by the names of their files.
 
 ghost use Rattle.std.specs.Prelude.{◌≡◌, ◌++◌, codes, decimal, map, string_bytes, OnOk};
-ghost use Rattle.ep_assemble.specs.declared.assemble_fault.AssembleFault.TheVariants.{Collect};
-ghost use Rattle.ep_assemble.specs.Lines.{log_text, log_line, name_at, end_line, refusal_line, torn_line, torn_lines};
+ghost use Rattle.ep_assemble.specs.Lines.{collect_line, end_line, log_line, log_text, name_at, receipts_line, refusal_line, torn_line, torn_lines, unread_line};
 
 use crate::assemble_fault::AssembleFault;
 use crate::assembled::End;
@@ -65,24 +64,39 @@ fn name_of(names: &[String], place: usize) -> &str
     }
 }
 
-/// Appends the line of a fault.
+/// Appends the line of a fault of logs and of files of receipts with these names.
 pub(crate) fn push_refusal(
-    names: &[String],
+    logs: &[String],
+    receipts: &[String],
     fault: AssembleFault,
     out: &mut Vec<u8>,
 ) -> Result<(), AllocError>
-    ensures { OnOk result (out.new.items ≡ out.old.items ++ refusal_line (map string_bytes names.now) fault) }
+    ensures { OnOk result (out.new.items ≡ out.old.items ++ refusal_line (map string_bytes logs.now) (map string_bytes receipts.now) fault) }
 {
     match fault {
         AssembleFault::Memory => out.extend_from_slice(b"out of memory\n"),
-        AssembleFault::Log(place, fault) => push_log_line(name_of(names, place), fault, out),
-        AssembleFault::Collect(fault) => push_collect(names, &fault, out),
+        AssembleFault::Log(place, fault) => push_log_line(name_of(logs, place), fault, out),
+        AssembleFault::Collect(fault) => push_collect(logs, &fault, out),
+        AssembleFault::Receipts(place, at) => push_receipts_line(name_of(receipts, place), at, out),
+        AssembleFault::TooManyReceipts => {
+            out.extend_from_slice(b"receipts refused: more than 4294967295\n")
+        }
     }
+}
+
+/// Appends the line of a file of receipts that is refused.
+fn push_receipts_line(name: &str, at: u64, out: &mut Vec<u8>) -> Result<(), AllocError>
+    ensures { OnOk result (out.new.items ≡ out.old.items ++ receipts_line name.now at) }
+{
+    out.extend_from_slice(b"receipts refused ")?;
+    out.extend_from_slice(name.as_bytes())?;
+    push_number(b": bad field at byte ", at, out)?;
+    out.extend_from_slice(b"\n")
 }
 
 /// Appends the line of journals that aren't a cluster's.
 fn push_collect(names: &[String], fault: &CollectFault, out: &mut Vec<u8>) -> Result<(), AllocError>
-    ensures { OnOk result (out.new.items ≡ out.old.items ++ refusal_line (map string_bytes names.now) (Collect fault.now)) }
+    ensures { OnOk result (out.new.items ≡ out.old.items ++ collect_line (map string_bytes names.now) fault.now) }
 {
     match fault {
         CollectFault::NoJournal => out.extend_from_slice(b"no log\n"),
@@ -98,6 +112,15 @@ fn push_other(name: &str, out: &mut Vec<u8>) -> Result<(), AllocError>
 {
     out.extend_from_slice(name.as_bytes())?;
     out.extend_from_slice(b" is of another cluster\n")
+}
+
+/// Appends the line of a file that can't be read.
+pub(crate) fn push_unread(name: &str, out: &mut Vec<u8>) -> Result<(), AllocError>
+    ensures { OnOk result (out.new.items ≡ out.old.items ++ unread_line name.now) }
+{
+    out.extend_from_slice(b"reading ")?;
+    out.extend_from_slice(name.as_bytes())?;
+    out.extend_from_slice(b" failed\n")
 }
 
 /// Appends the line of a torn end.

@@ -4,6 +4,7 @@ pub mod CrashLasts
 pub mod CrashTraces
 pub mod CrashPlayed
 pub mod CrashOrders
+pub mod CallMoves
 mod Growing
 mod Mending
 mod Moments

@@ -1,3 +1,4 @@
+pub mod Calls
 pub mod Crashes
 pub mod Nodes
 pub mod OpenFaults

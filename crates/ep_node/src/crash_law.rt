@@ -1,5 +1,6 @@
 //! Laws of nodes that crash and come back with what they had handed out: their runs are runs without a crash.
 
+ghost use Rattle.ep_node.specs.Calls.{CallsAreMoves};
 ghost use Rattle.ep_node.specs.Crashes.{CrashesKeepAgreement, CrashesKeepReceipts, CrashesLeaveNoTrace, CrashingRunsAreLinearizable, CrashingRunsAreRuns, HandedOutStays, PlayedRunsAreMoves};
 
 /// Whatever crashed, the nodes' entries are the journals of one run without a crash, and no audit of them finds a fault.
@@ -35,4 +36,10 @@ pub fn crashes_keep_agreement()
 /// Receipts that were handed out are right at every later point: no audit finds a fault in them, and their answers are one map's replies to its history, in each caller's order.
 pub fn crashes_keep_receipts()
     ensures { CrashesKeepReceipts }
+{}
+
+/// What a node's calls do are the moves of these laws: an event that was taken is a `Take`, the replica that is lent a `HandOut`
+/// of all entries, a crash and the next `open` a `ComeBack`; a sync is none.
+pub fn calls_are_moves()
+    ensures { CallsAreMoves }
 {}

@@ -13,7 +13,7 @@ mod opening;
 mod records;
 
 pub use crash_law::{
-    crashes_keep_agreement, crashes_keep_receipts, crashes_leave_no_trace,
+    calls_are_moves, crashes_keep_agreement, crashes_keep_receipts, crashes_leave_no_trace,
     crashing_runs_are_linearizable, crashing_runs_are_runs, handed_out_stays,
     played_runs_are_moves,
 };

@@ -9,3 +9,5 @@ mod crashing;
 mod opening;
 #[cfg(test)]
 mod samples;
+#[cfg(test)]
+mod worked;

@@ -15,6 +15,9 @@ use ep_replica::Replica;
 use ep_wire::{put_entry, write_refused, write_synced, write_taken};
 use std::alloc::Global;
 
+/// Answers are begun with room for so many bytes, as most have fewer, so that they needn't grow.
+const ROOM: usize = 1_024;
+
 /// The entry at this place, with its receipts.
 fn put_told_entry<K: Sink>(
     alloc: Global,
@@ -72,7 +75,7 @@ fn put_taken<K: Sink>(
 ) -> Result<(), NoRoom>
     ensures { OnOk result (Tells replica.now (Taken from count) (K.held sink.old) (K.held sink.new)) }
 {
-    let mut body = Noted::new(Vec::new(alloc));
+    let mut body = Noted::new(Vec::with_capacity(alloc, ROOM)?);
     let Ok(number) = u32::try_from(count) else {
         return Err(NoRoom);
     };
@@ -133,7 +136,7 @@ fn put_dues<K: Sink>(
 pub(crate) fn answers_of(alloc: Global, replica: &Replica, dues: &[Due]) -> Result<Vec<u8>, NoRoom>
     ensures { IfOk result (λ out. AllTold replica.now dues.now out.items) }
 {
-    let mut sink = Noted::new(Vec::new(alloc));
+    let mut sink = Noted::new(Vec::with_capacity(alloc, ROOM)?);
     put_dues(alloc, &mut sink, replica, dues)?;
     Ok(sink.into_inner())
 }

@@ -1,2 +1,3 @@
+mod FilesCollected
 mod Puts
 mod Serving

@@ -1,5 +1,6 @@
 //! What the program is asked for.
 
+use crate::names::Names;
 use crate::options::Options;
 
 /// What the words of the command line ask for.
@@ -7,6 +8,8 @@ use crate::options::Options;
 pub enum Asked {
     /// To serve as a node.
     Node(Options),
+    /// To make the bundle of logs and receipts.
+    Collect(Names),
     /// The program's name and its version.
     Version,
     /// Help: this text.

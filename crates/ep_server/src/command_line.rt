@@ -2,6 +2,7 @@
 
 use crate::asked::Asked;
 use crate::declined::Declined;
+use crate::names::Names;
 use crate::options::Options;
 use clap::error::ErrorKind;
 use clap::{Arg, ArgAction, ArgMatches, Command, Error};
@@ -26,6 +27,23 @@ Exit status:
   3  memory was refused
   4  reading, writing or the log failed";
 
+/// What the help of `collect` says at its end.
+const AFTER_COLLECT: &str = "\
+Each LOG is the log of one replica of a cluster, as `epaxos node` keeps it; they may stand in any order. Each file of receipts has
+some of what clients were told, one after the other, as a bundle has them (docs/FORMATS.md, section 2). Standard output is the
+bundle of version 2 of the logs' journals and of these receipts. A file whose end is torn is taken up to it, which standard error
+says. Nothing is audited, and nothing is printed before all files are read. Standard input is not read.
+
+Example:
+  epaxos collect --receipts told.receipts zero.log one.log two.log | epaxos audit
+
+Exit status:
+  0  the bundle is written
+  2  the command line, a log or a file of receipts is refused, or the logs aren't one for each replica of one cluster;
+     standard error says why
+  3  memory was refused
+  4  a file could not be opened or read, or writing failed";
+
 /// What the words ask for, of which the first is the program's own name. `Words` where they are none that the program knows.
 pub(crate) fn read_words<T: AsStr>(alloc: Global, words: &[T]) -> Result<Asked, Declined> {
     let command = program(alloc)?;
@@ -48,8 +66,44 @@ fn asked_instead(alloc: Global, error: &Error) -> Result<Asked, Declined> {
 fn asked_by(alloc: Global, matches: &ArgMatches<'_>) -> Result<Asked, Declined> {
     match matches.subcommand_matches("node") {
         Some(options) => Ok(Asked::Node(options_of(alloc, options)?)),
+        None => collect_by(alloc, matches),
+    }
+}
+
+fn collect_by(alloc: Global, matches: &ArgMatches<'_>) -> Result<Asked, Declined> {
+    match matches.subcommand_matches("collect") {
+        Some(options) => Ok(Asked::Collect(names_of(alloc, options)?)),
         None => Err(Declined::Words(String::new(alloc))),
     }
+}
+
+/// The files that are to be collected.
+fn names_of(alloc: Global, options: &ArgMatches<'_>) -> Result<Names, Declined> {
+    let logs = texts_of(alloc, options, "LOG")?;
+    let receipts = texts_of(alloc, options, "receipts")?;
+    Ok(Names { logs, receipts })
+}
+
+/// The words after this option, or in this place.
+fn texts_of(
+    alloc: Global,
+    options: &ArgMatches<'_>,
+    name: &str,
+) -> Result<Vec<String>, AllocError> {
+    match options.get_raw(name) {
+        Some(words) => copied(alloc, words),
+        None => Ok(Vec::new(alloc)),
+    }
+}
+
+/// These words again.
+fn copied(alloc: Global, words: &[&str]) -> Result<Vec<String>, AllocError> {
+    let mut copy = Vec::new(alloc);
+    for word in words {
+        let text = String::from_str(alloc, word)?;
+        copy.push(text)?;
+    }
+    Ok(copy)
 }
 
 /// What a node is asked to be, by its options.
@@ -121,11 +175,28 @@ fn mode_named(alloc: Global, word: &str) -> Result<Mode, Declined> {
 
 fn program<'a>(alloc: Global) -> Result<Command<'a>, AllocError> {
     let node = node_command(alloc)?;
+    let collect = collect_command(alloc)?;
     let command = Command::new(alloc, "epaxos")
         .about("A replicated key-value core without a leader")
         .version("0.1.0")
         .subcommand_required(true);
-    command.subcommand(node)
+    command.subcommand(node)?.subcommand(collect)
+}
+
+fn collect_command<'a>(alloc: Global) -> Result<Command<'a>, AllocError> {
+    let receipts = Arg::new(alloc, "receipts")
+        .long("receipts")
+        .value_name("FILE")
+        .help("A file of receipts; this option may be given more than once")
+        .action(ArgAction::Append);
+    let logs = Arg::new(alloc, "LOG")
+        .required(true)
+        .help("The log of a replica")
+        .action(ArgAction::Append);
+    let command = Command::new(alloc, "collect")
+        .about("Makes the bundle of the logs of a cluster's replicas, and of receipts")
+        .after_help(AFTER_COLLECT);
+    command.arg(receipts)?.arg(logs)
 }
 
 fn node_command<'a>(alloc: Global) -> Result<Command<'a>, AllocError> {

@@ -1,18 +1,23 @@
-//! `epaxos node`: a replica with its log in a file, which serves requests on standard input.
+//! `epaxos node`: a replica with its log in a file, which serves requests on standard input. `epaxos collect`: the bundle of
+//! logs and receipts.
 //!
-//! `main` hands the words to `read_words`, in `command_line.rt`, opens the log, and hands it and the standard streams to
-//! `serve_log`, in `program.rt`, which is all of the node: over any device, source and sinks, so that its contract can say what
-//! the bytes and the status mean.
+//! `main` hands the words to `read_words`, in `command_line.rt`. For a node it opens the log, and hands it and the standard
+//! streams to `serve_log`, in `program.rt`, which is all of the node: over any device, source and sinks, so that its contract can
+//! say what the bytes and the status mean. It does no more than call `Node::open` and `ep_serve`'s `serve`. `collect_named`, in
+//! `collecting.rt`, is the same for `epaxos collect`, of the bytes that the files gave: it calls `ep_assemble`'s `collect_files`.
 //!
-//! Start with `program.rt` and specs/Served.antt. It does no more than call `Node::open` and `ep_serve`'s `serve`. A fault has
-//! one line on the fault output and one status (`fault.rt`, `telling.rt`, `status.rt`), as docs/FORMATS.md, section 10, lists them.
+//! Start with `program.rt` and specs/Served.antt, `collecting.rt` and specs/Collected.antt. A fault has one line on the fault
+//! output and one status (`fault.rt`, `telling.rt`, `status.rt`), as docs/FORMATS.md, sections 6.1 and 10, list them.
 #![tactic(auto)]
 
 mod ahead;
 mod asked;
+mod collecting;
 mod command_line;
 mod declined;
 mod fault;
+mod gathered;
+mod names;
 mod options;
 mod program;
 mod status;
@@ -20,6 +25,7 @@ mod telling;
 
 use crate::ahead::read_ahead;
 use crate::asked::Asked;
+use crate::collecting::collect_named;
 use crate::command_line::read_words;
 use crate::declined::Declined;
 use crate::fault::Fault;
@@ -55,6 +61,7 @@ fn run<R: Env + AllocGlobal + Files<File = File>, I: Read + Drop, W: Sink, F: Si
     let words = words(rt)?;
     match read_words(rt.alloc(), words.as_slice())? {
         Asked::Node(options) => run_node(rt, &options, input, writer, fault_writer),
+        Asked::Collect(names) => Ok(collect_named(rt, &names, writer, fault_writer)),
         Asked::Version => show("epaxos 0.1.0\n", writer),
         Asked::Help(text) => show(text.as_str(), writer),
     }

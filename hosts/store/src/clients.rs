@@ -8,14 +8,19 @@ use crate::say::say;
 use std::io::{self, BufReader, BufWriter, Write};
 use std::net::{TcpListener, TcpStream};
 use std::sync::atomic::{AtomicUsize, Ordering};
-use std::sync::mpsc::{RecvTimeoutError, SyncSender, channel};
+use std::sync::mpsc::{RecvTimeoutError, SyncSender, TrySendError, channel};
 use std::sync::{Arc, Mutex};
 use std::thread;
 use std::time::{Duration, Instant};
 
-const MOST_CONNECTIONS: usize = 1_000;
+/// With what peers and files take that is below 1,024, which is how many handles a process mostly may have.
+const MOST_CONNECTIONS: usize = 900;
 /// For a client that doesn't take its replies.
 const WRITE_PATIENCE: Duration = Duration::from_secs(30);
+/// A client that asks nothing for so long is gone, or connects again.
+const SILENCE: Duration = Duration::from_secs(3_600);
+/// Between two tries to ask a driver that has too much to do.
+const PAUSE: Duration = Duration::from_millis(5);
 const STACK: usize = 256 << 10;
 /// A command that a no-op was put in the place of is proposed at most so often.
 const MOST_TRIES: usize = 5;
@@ -42,7 +47,8 @@ pub fn listen(listener: TcpListener, shared: Arc<Shared>) {
         }
         let served = shared.clone();
         let started = thread::Builder::new().name("client".into()).stack_size(STACK).spawn(move || {
-            let _ = Connection::new(served.clone()).serve(stream);
+            let _ = Connection::new(served.clone()).serve(&stream);
+            drop(stream);
             served.connections.fetch_sub(1, Ordering::Relaxed);
         });
         if let Err(error) = started {
@@ -68,10 +74,11 @@ impl Connection {
         Connection { shared, client: None, requests: 0, seen: 0, is_read_only: false }
     }
 
-    fn serve(&mut self, stream: TcpStream) -> io::Result<()> {
+    fn serve(&mut self, stream: &TcpStream) -> io::Result<()> {
         stream.set_nodelay(true)?;
         stream.set_write_timeout(Some(WRITE_PATIENCE))?;
-        let mut writer = BufWriter::new(stream.try_clone()?);
+        stream.set_read_timeout(Some(SILENCE))?;
+        let mut writer = BufWriter::new(stream);
         let mut reader = BufReader::new(stream);
         loop {
             let words = match read_command(&mut reader)? {
@@ -83,8 +90,13 @@ impl Connection {
                 }
             };
             let asked = understand(words);
-            if asked == Asked::Quit {
-                Reply::Simple("OK").write(&mut writer)?;
+            let last = match asked {
+                Asked::Quit => Some(Reply::Simple("OK")),
+                Asked::Http => Some(Reply::Error("ERR this is no web server".into())),
+                _ => None,
+            };
+            if let Some(last) = last {
+                last.write(&mut writer)?;
                 return writer.flush();
             }
             let reply = self.answer(asked).unwrap_or_else(Reply::Error);
@@ -110,7 +122,7 @@ impl Connection {
         }
         match asked {
             Asked::Get(_) => Ok(value_of(replies.pop())),
-            Asked::Set(..) | Asked::Quit => Ok(Reply::Simple("OK")),
+            Asked::Set(..) | Asked::Quit | Asked::Http => Ok(Reply::Simple("OK")),
             Asked::Del(_) => {
                 let present = replies.iter().filter(|reply| matches!(reply, protocol::Reply::Present(_)));
                 Ok(Reply::Integer(present.count() as i64))
@@ -145,8 +157,11 @@ impl Connection {
         Err("TRYAGAIN the command wasn't done: others have taken its places".into())
     }
 
-    /// A new request of this client.
+    /// A new request of this client. One whose requests are all made becomes another client.
     fn proposal(&mut self, command: Command) -> Result<What, String> {
+        if self.requests == u32::MAX {
+            (self.client, self.requests) = (None, 0);
+        }
         let client = match self.client {
             Some(client) => client,
             None => {
@@ -163,7 +178,15 @@ impl Connection {
     fn ask(&self, what: What, start: Instant) -> Result<Told, String> {
         let (reply, told) = channel();
         let ends = || "TRYAGAIN the store ends; the command may still be done".to_string();
-        self.shared.events.send(Event::Ask(Ask { what, reply })).map_err(|_| ends())?;
+        let mut event = Event::Ask(Ask { what, reply });
+        while let Err(error) = self.shared.events.try_send(event) {
+            event = match error {
+                TrySendError::Full(event) if start.elapsed() < self.shared.patience => event,
+                TrySendError::Full(_) => return Err("TRYAGAIN the command wasn't done: too many others wait".into()),
+                TrySendError::Disconnected(_) => return Err(ends()),
+            };
+            thread::sleep(PAUSE);
+        }
         let left = self.shared.patience.saturating_sub(start.elapsed());
         told.recv_timeout(left).map_err(|error| match error {
             RecvTimeoutError::Timeout => {
@@ -251,6 +274,27 @@ mod tests {
         let (reply, proposed) = execute((1..9).map(|stamp| done(stamp, protocol::Reply::Lost)).collect());
         assert!(reply.unwrap_err().starts_with("TRYAGAIN the command wasn't done"));
         assert_eq!(proposed.len(), MOST_TRIES);
+    }
+
+    #[test]
+    fn a_driver_that_has_too_much_to_do_is_not_waited_for_without_end() {
+        let (events, asked) = sync_channel(1);
+        let folder = std::env::temp_dir().join(format!("store-clients-{}-full", std::process::id()));
+        std::fs::create_dir_all(&folder).unwrap();
+        let numbers = Mutex::new(Numbers::new(&folder, 0));
+        let patience = Duration::from_millis(50);
+        events.send(Event::PeerReached).unwrap();
+        let shared = Arc::new(Shared { events, numbers, patience, connections: AtomicUsize::new(0) });
+        let mut connection = Connection::new(shared);
+        connection.requests = u32::MAX;
+        let told = connection.execute(Command::Get { key: b"x".to_vec() }).unwrap_err();
+        assert_eq!(told, "TRYAGAIN the command wasn't done: too many others wait");
+        // Its requests begin again, as another client's.
+        assert_eq!((connection.client, connection.requests), (Some(1), 1));
+        drop(asked);
+        let told = connection.execute(Command::Get { key: b"x".to_vec() }).unwrap_err();
+        assert_eq!(told, "TRYAGAIN the store ends; the command may still be done");
+        std::fs::remove_dir_all(&folder).unwrap();
     }
 
     #[test]

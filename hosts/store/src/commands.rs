@@ -11,6 +11,8 @@ pub enum Asked {
     Info,
     Quit,
     ReadOnly(bool),
+    /// A web page's request, in whose body commands may stand that nobody here has asked for.
+    Http,
     /// Answered without the node.
     Answered(Reply),
 }
@@ -28,6 +30,7 @@ pub fn understand(words: Vec<Vec<u8>>) -> Asked {
         (b"INFO", _) => Ok(Asked::Info),
         (b"COMMAND", _) => Ok(Asked::Answered(Reply::EmptyArray)),
         (b"QUIT", _) => Ok(Asked::Quit),
+        (b"POST" | b"HOST:", _) => Ok(Asked::Http),
         (b"READONLY", 0) => Ok(Asked::ReadOnly(true)),
         (b"READWRITE", 0) => Ok(Asked::ReadOnly(false)),
         (b"GET" | b"SET" | b"DEL" | b"PING" | b"READONLY" | b"READWRITE", _) => {
@@ -101,6 +104,8 @@ mod tests {
         assert_eq!(ask(&[b"quit"]), Asked::Quit);
         assert_eq!(ask(&[b"readonly"]), Asked::ReadOnly(true));
         assert_eq!(ask(&[b"readwrite"]), Asked::ReadOnly(false));
+        assert_eq!(ask(&[b"POST", b"/", b"HTTP/1.1"]), Asked::Http);
+        assert_eq!(ask(&[b"Host:", b"a"]), Asked::Http);
     }
 
     #[test]

@@ -9,8 +9,8 @@ const KIND_AT: usize = 3;
 const COMMIT: u8 = 5;
 const INSTANCE_AT: usize = 20;
 
-/// The instance that a frame commits, if it does.
-fn committed_by(frame: &[u8]) -> Option<Instance> {
+/// The instance that a frame commits, if it does, and if it is a frame at all.
+pub fn committed_by(frame: &[u8]) -> Option<Instance> {
     if frame.get(KIND_AT) != Some(&COMMIT) {
         return None;
     }
@@ -27,14 +27,12 @@ pub struct Commits {
 }
 
 impl Commits {
-    /// A frame has come or goes, at this replica.
-    pub fn note(&mut self, replica: u8, frame: &[u8]) {
-        if let Some(instance) = committed_by(frame) {
-            if instance.replica != replica {
-                self.ready.insert(instance);
-            }
-            self.ready.extend(self.waiting.remove(&instance).unwrap_or_default());
+    /// The instance is committed, this replica knows.
+    pub fn note(&mut self, replica: u8, instance: Instance) {
+        if instance.replica != replica {
+            self.ready.insert(instance);
         }
+        self.ready.extend(self.waiting.remove(&instance).unwrap_or_default());
     }
 
     /// Those that can be tried: they are taken out.
@@ -64,18 +62,24 @@ mod tests {
     }
 
     #[test]
+    fn frames_that_commit() {
+        let instance = Instance { replica: 1, number: 300 };
+        assert_eq!(committed_by(&commit(instance)), Some(instance));
+        assert_eq!(committed_by(&[COMMIT; 10]), None);
+        assert_eq!(committed_by(&[0; 40]), None);
+    }
+
+    #[test]
     fn others_are_kept_until_they_can_be_executed() {
         let [own, first, second] = [(0, 1), (1, 300), (2, 2)].map(|(replica, number)| Instance { replica, number });
         let mut commits = Commits::default();
         for instance in [own, first] {
-            commits.note(0, &commit(instance));
+            commits.note(0, instance);
         }
-        commits.note(0, &[COMMIT; 10]);
-        commits.note(0, &[0; 40]);
         assert_eq!(commits.take(), BTreeSet::from([first]));
         commits.put_back(first, Some(second));
         assert!(commits.take().is_empty());
-        commits.note(0, &commit(second));
+        commits.note(0, second);
         assert_eq!(commits.take(), BTreeSet::from([first, second]));
         commits.put_back(first, None);
         assert_eq!(commits.take(), BTreeSet::from([first]));

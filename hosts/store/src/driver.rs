@@ -1,5 +1,5 @@
 //! The one thread that drives the node: it gathers what is waiting, asks the node all of it, and hands out the answers.
-use crate::commits::Commits;
+use crate::commits::{Commits, committed_by};
 use crate::node::{Node, NodeFault};
 use crate::options::Plant;
 use crate::peers::{Peers, Place};
@@ -70,8 +70,14 @@ impl std::fmt::Display for Stop {
 
 /// For whom a request is.
 enum Purpose {
-    Proposal { client: u32, request: u32, is_put: bool, reply: Sender<Told> },
-    Frame,
+    Proposal {
+        client: u32,
+        request: u32,
+        is_put: bool,
+        reply: Sender<Told>,
+    },
+    /// Of a frame that says that this instance is committed, if it does.
+    Frame(Option<Instance>),
     Late(Instance),
     Execution(Instance),
     Read(Sender<Told>),
@@ -173,8 +179,8 @@ impl Driver {
     fn take(&mut self, event: Event, batch: &mut Batch) -> Result<(), Stop> {
         match event {
             Event::Frame(frame) => {
-                self.commits.note(self.place.replica, &frame);
-                batch.push(Request::Frame(frame), Purpose::Frame);
+                let commits = committed_by(&frame);
+                batch.push(Request::Frame(frame), Purpose::Frame(commits));
             }
             Event::PeerReached => self.timers.hurry(Instant::now()),
             Event::NodeEnded => return Err(Stop::Node(self.node.ended())),
@@ -286,7 +292,7 @@ impl Driver {
         }
         self.receipts.append(&outcome.receipts).map_err(Stop::Receipts)?;
         for Outgoing { to, frame } in outcome.frames {
-            self.commits.note(self.place.replica, &frame);
+            self.note_commit(committed_by(&frame));
             self.peers.send(to, frame);
         }
         for receipt in outcome.receipts {
@@ -312,7 +318,11 @@ impl Driver {
                 }
                 self.take_in(entries, outcome);
             }
-            (Purpose::Frame | Purpose::Late(_) | Purpose::Execution(_) | Purpose::Host, Answer::Taken(entries)) => {
+            (Purpose::Frame(commits), Answer::Taken(entries)) => {
+                self.note_commit(commits);
+                self.take_in(entries, outcome);
+            }
+            (Purpose::Late(_) | Purpose::Execution(_) | Purpose::Host, Answer::Taken(entries)) => {
                 self.take_in(entries, outcome);
             }
             (Purpose::Proposal { reply, .. }, Answer::Refused(fault, _)) => {
@@ -321,7 +331,8 @@ impl Driver {
                 }
                 let _ = reply.send(Told::Refused(fault));
             }
-            (Purpose::Frame, Answer::Refused(..)) => self.refused_frames += 1,
+            // Nothing of such a frame is believed: it may name an instance that there isn't.
+            (Purpose::Frame(_), Answer::Refused(..)) => self.refused_frames += 1,
             (Purpose::Late(instance), Answer::Refused(fault, _)) => {
                 if fault == Fault::ALREADY_COMMITTED {
                     self.timers.forget(instance);
@@ -335,6 +346,13 @@ impl Driver {
             (_, answer) => return self.bad_answer(&answer),
         }
         Ok(())
+    }
+
+    /// A frame that the node took or sends says that the instance is committed.
+    fn note_commit(&mut self, instance: Option<Instance>) {
+        if let Some(instance) = instance {
+            self.commits.note(self.place.replica, instance);
+        }
     }
 
     /// What the node has taken is to be handed out.
@@ -378,4 +396,56 @@ fn change(receipt: &mut Receipt) {
         Reply::Present(_) => Reply::Absent,
         _ => Reply::Present(vec![0; 4]),
     };
+}
+
+#[cfg(test)]
+mod tests {
+    use super::*;
+    use crate::identities::Identities;
+    use crate::node::Start;
+    use crate::random::Random;
+    use std::path::Path;
+    use std::sync::Arc;
+    use std::sync::mpsc::sync_channel;
+
+    /// A driver of replica 0, without peers, of a node that ends at once.
+    fn driver(folder: &Path) -> Driver {
+        std::fs::create_dir_all(folder).unwrap();
+        let place = Place { replicas: 1, replica: 0 };
+        let (sender, events) = sync_channel(8);
+        let identities = Arc::new(Identities::open(folder, 3, 0).unwrap());
+        let errors_path = folder.join("node-errors");
+        let errors = std::fs::File::create(&errors_path).unwrap();
+        let (program, log) = (Path::new("true"), folder.join("log"));
+        let on_end = Box::new(|| ());
+        let start = Start { program, replicas: 3, replica: 0, log: &log, errors, errors_path, on_end };
+        Driver {
+            place,
+            node: Node::start(start).unwrap(),
+            peers: Peers::start(place, &["127.0.0.1:1".into()], &identities, &sender).unwrap(),
+            receipts: Receipts::open(&folder.join("receipts")).unwrap(),
+            timers: Timers::new(0, Instant::now(), Random::from_seed(1)),
+            events,
+            commits: Commits::default(),
+            plant: None,
+            waiting: HashMap::new(),
+            used: 0,
+            refused_frames: 0,
+        }
+    }
+
+    #[test]
+    fn a_refused_frame_tells_nothing_of_commits() {
+        let folder = std::env::temp_dir().join(format!("store-driver-{}", std::process::id()));
+        let mut driver = driver(&folder);
+        let mut outcome = Outcome::default();
+        // There is no replica 200; a node that is asked of it refuses the request, and ends.
+        let [odd, known] = [(200, 1), (1, 1)].map(|(replica, number)| Instance { replica, number });
+        driver.accept(Purpose::Frame(Some(odd)), Answer::Refused(Fault(14), None), &mut outcome).unwrap();
+        assert_eq!(driver.refused_frames, 1);
+        assert!(driver.commits.take().is_empty());
+        driver.accept(Purpose::Frame(Some(known)), Answer::Taken(Vec::new()), &mut outcome).unwrap();
+        assert_eq!(driver.commits.take().into_iter().collect::<Vec<_>>(), [known]);
+        std::fs::remove_dir_all(&folder).unwrap();
+    }
 }

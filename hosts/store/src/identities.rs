@@ -53,8 +53,11 @@ impl Identities {
         let Some(place) = known.get_mut(usize::from(replica)) else { return Ok(false) };
         if place.is_none() {
             *place = Some(identity);
-            write_lines(&self.folder, &known)?;
-            return Ok(true);
+            let written = write_lines(&self.folder, &known);
+            if written.is_err() {
+                known[usize::from(replica)] = None;
+            }
+            return written.map(|()| true);
         }
         Ok(*place == Some(identity))
     }
@@ -116,6 +119,10 @@ mod tests {
         assert_eq!(again.own(), first.own());
         assert!(!again.meet(0, [8; 16]).unwrap());
         assert!(again.meet(0, [7; 16]).unwrap());
+        // Where it can't be written nobody is kept.
+        fs::create_dir(folder.join(format!("{NAME}.new"))).unwrap();
+        assert!(again.meet(2, [7; 16]).is_err());
+        fs::remove_dir(folder.join(format!("{NAME}.new"))).unwrap();
         assert!(again.meet(2, [8; 16]).unwrap());
         let fresh = folder.join("fresh");
         fs::create_dir_all(&fresh).unwrap();

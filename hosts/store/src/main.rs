@@ -1,5 +1,7 @@
 //! One replica of the store.
 use std::collections::HashMap;
+use std::ffi::OsString;
+use std::io::Write;
 use std::net::TcpListener;
 use std::process::ExitCode;
 use std::sync::atomic::AtomicUsize;
@@ -19,16 +21,17 @@ use store::peers::{self, Peers, Place, Receiving};
 use store::protocol::{Answer, Request};
 use store::random::Random;
 use store::receipts::Receipts;
-use store::say::say;
+use store::say::{name, say};
 use store::timers::Timers;
 
 /// How many events may wait for the driver.
 const WAITING_EVENTS: usize = 4_096;
 
 fn main() -> ExitCode {
-    let options = match read(std::env::args().skip(1)) {
+    let options = match words().and_then(read) {
         Ok(Words::Help) => {
-            print!("{HELP}");
+            // Where standard output is closed nobody is there to be told.
+            let _ = std::io::stdout().write_all(HELP.as_bytes());
             return ExitCode::SUCCESS;
         }
         Ok(Words::Run(options)) => options,
@@ -37,6 +40,7 @@ fn main() -> ExitCode {
             return ExitCode::from(2);
         }
     };
+    name(options.replica);
     // There is no handler of signals: whatever ends this process closes the node's input, and so the node ends too,
     // with all that it has taken on the disk.
     match start(options) {
@@ -44,6 +48,12 @@ fn main() -> ExitCode {
         Err(what) => say(&what),
     }
     ExitCode::from(1)
+}
+
+/// The words after the program's name.
+fn words() -> Result<Vec<String>, String> {
+    let told = |word: OsString| format!("the word {} isn't UTF-8", word.display());
+    std::env::args_os().skip(1).map(|word| word.into_string().map_err(told)).collect()
 }
 
 fn start(options: Options) -> Result<Driver, String> {

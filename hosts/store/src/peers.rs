@@ -9,7 +9,7 @@ use crate::say::say;
 use std::collections::VecDeque;
 use std::io::{self, BufReader, BufWriter, Read, Write};
 use std::net::{Shutdown, TcpListener, TcpStream, ToSocketAddrs};
-use std::sync::atomic::{AtomicBool, AtomicU64, Ordering};
+use std::sync::atomic::{AtomicBool, AtomicU64, AtomicUsize, Ordering};
 use std::sync::mpsc::SyncSender;
 use std::sync::{Arc, Condvar, Mutex, MutexGuard};
 use std::thread;
@@ -25,10 +25,14 @@ const MAGIC: [u8; 5] = *b"EPST\x01";
 const GREETING: usize = 8 + 16;
 const CONNECT_PATIENCE: Duration = Duration::from_secs(2);
 const WRITE_PATIENCE: Duration = Duration::from_secs(5);
+/// For a greeting, which comes as soon as the connection is there.
+const GREETING_PATIENCE: Duration = Duration::from_secs(5);
 /// Between two bytes by which the receiving end tells that it is there.
 const BEAT: Duration = Duration::from_secs(1);
 /// A peer that tells nothing for so long is lost.
 const SILENCE: Duration = Duration::from_secs(5);
+/// At most so many connections to the peers' port that nobody has greeted on.
+const MOST_STRANGERS: usize = 64;
 const LEAST_PAUSE: Duration = Duration::from_millis(20);
 const GREATEST_PAUSE: Duration = Duration::from_millis(500);
 
@@ -305,6 +309,8 @@ pub struct Receiving {
     events: SyncSender<Event>,
     /// The connection of each replica.
     current: Vec<Mutex<Option<TcpStream>>>,
+    /// How many connections are there that nobody has greeted on yet.
+    strangers: AtomicUsize,
     /// Whether a stranger was told of.
     has_complained: AtomicBool,
 }
@@ -312,21 +318,36 @@ pub struct Receiving {
 impl Receiving {
     pub fn new(place: Place, identities: Arc<Identities>, events: SyncSender<Event>) -> Receiving {
         let current = (0..place.replicas).map(|_| Mutex::default()).collect();
-        Receiving { place, identities, events, current, has_complained: AtomicBool::new(false) }
+        let (strangers, has_complained) = (AtomicUsize::new(0), AtomicBool::new(false));
+        Receiving { place, identities, events, current, strangers, has_complained }
     }
 }
 
-/// Takes connections of other replicas, each in a thread. A new one of a replica closes the one before.
+/// Takes connections of other replicas, each in a thread. A new one of a replica closes the one before. Where too many have
+/// come without a greeting, which they have to give within seconds, further ones are closed.
 pub fn listen(listener: TcpListener, receiving: &Arc<Receiving>) {
     for stream in listener.incoming() {
         let Ok(stream) = stream else {
             thread::sleep(LEAST_PAUSE);
             continue;
         };
-        let receiving = receiving.clone();
-        let _ = thread::Builder::new().name("from a peer".into()).spawn(move || {
-            let _ = receiving.receive(stream);
+        if receiving.strangers.fetch_add(1, Ordering::Relaxed) >= MOST_STRANGERS {
+            receiving.strangers.fetch_sub(1, Ordering::Relaxed);
+            continue;
+        }
+        let served = receiving.clone();
+        let started = thread::Builder::new().name("from a peer".into()).spawn(move || {
+            let greeted = served.greet(&stream);
+            served.strangers.fetch_sub(1, Ordering::Relaxed);
+            if let Ok(Some(from)) = greeted {
+                let _ = served.receive(from, &stream);
+            }
+            // There may be other handles of the connection, so it doesn't end with this one.
+            let _ = stream.shutdown(Shutdown::Both);
         });
+        if started.is_err() {
+            receiving.strangers.fetch_sub(1, Ordering::Relaxed);
+        }
     }
 }
 
@@ -334,9 +355,11 @@ const ACCEPTED: u8 = 1;
 const REFUSED: u8 = 0;
 
 impl Receiving {
-    fn receive(&self, mut stream: TcpStream) -> io::Result<()> {
+    /// Reads a greeting and answers it: the replica that greets, if it is known under its number.
+    fn greet(&self, mut stream: &TcpStream) -> io::Result<Option<u8>> {
         stream.set_nodelay(true)?;
-        stream.set_read_timeout(Some(WRITE_PATIENCE))?;
+        stream.set_read_timeout(Some(GREETING_PATIENCE))?;
+        stream.set_write_timeout(Some(WRITE_PATIENCE))?;
         let mut greeting = [0; GREETING];
         stream.read_exact(&mut greeting)?;
         let Some((from, identity)) = greeter(self.place, &greeting) else {
@@ -346,23 +369,22 @@ impl Receiving {
                     "a connection from {who} to the peers' port is not from a replica that has this one as its peer"
                 ));
             }
-            return Ok(());
+            return Ok(None);
         };
         let is_known = self.identities.meet(from, identity)?;
         let mut answer = vec![if is_known { ACCEPTED } else { REFUSED }];
         answer.extend(self.identities.own());
         stream.write_all(&answer)?;
-        if !is_known {
-            return Ok(());
-        }
+        Ok(is_known.then_some(from))
+    }
+
+    /// Takes a replica's frames until its connection is over.
+    fn receive(&self, from: u8, stream: &TcpStream) -> io::Result<()> {
         stream.set_read_timeout(None)?;
         self.replace(from, stream.try_clone()?);
         let beating = stream.try_clone()?;
         thread::Builder::new().name("beats".into()).stack_size(64 << 10).spawn(move || beat(beating))?;
-        let ended = self.take_frames(&stream);
-        // There are other handles of the connection, so it doesn't end with this one.
-        let _ = stream.shutdown(Shutdown::Both);
-        ended
+        self.take_frames(stream)
     }
 
     fn take_frames(&self, stream: &TcpStream) -> io::Result<()> {

@@ -1,0 +1,59 @@
+"""The host in hosts/store, where cargo is there: builds it and runs its tests, and then plays a trial of 20 seconds with 3 kills over the programs that
+`rt ci` built, which the audit judges too. Runs alone too: python3 .ci/store.py [NODE PROGRAM], of other builds.
+
+It is built without optimisation and without what debuggers need: with its tests that takes half of the processor time of a release build alone.
+"""
+
+import os
+import shutil
+import subprocess
+import sys
+import tempfile
+
+TOP = os.path.dirname(os.path.dirname(os.path.abspath(__file__)))
+STORE = f"{TOP}/hosts/store"
+# what `rt ci` built: the program of `node` and `collect`, and that of all else
+BUILT = (f"{TOP}/crates/ep_server/out/ep_server", f"{TOP}/crates/ep_main/out/ep_main")
+CHEAP = {"CARGO_INCREMENTAL": "0", "CARGO_PROFILE_DEV_DEBUG": "0"}
+# as ./epaxos goes about it
+EPAXOS = """#!/bin/sh
+case "$1" in node | collect) exec {} "$@" ;; esac
+exec {} "$@"
+"""
+
+
+def is_well(words, **how):
+    """Whether the command ended with status 0."""
+    print(" ".join(os.path.relpath(it, TOP) if it.startswith(TOP) else it for it in words), flush=True)
+    return not subprocess.run(words, stdin=subprocess.DEVNULL, **how).returncode
+
+
+def trial(scratch, node, program):
+    """Whether the trial of three replicas found no fault."""
+    epaxos = f"{scratch}/epaxos"
+    with open(epaxos, "w", encoding="utf-8") as file:
+        file.write(EPAXOS.format(node, program))
+    os.chmod(epaxos, 0o755)
+    return is_well([f"{scratch}/target/debug/trial", "--short", "--audit", "--node", epaxos, "--dir", f"{scratch}/trial"])
+
+
+def tried(node=BUILT[0], program=BUILT[1]):
+    """How many of these passed, and how many failed."""
+    if not shutil.which("cargo"):
+        print("hosts/store is not tried: there is no cargo", flush=True)
+        return 0, 0
+    with tempfile.TemporaryDirectory(prefix="epaxos-store-") as scratch:
+        how = {"cwd": STORE, "env": {**os.environ, **CHEAP, "CARGO_TARGET_DIR": f"{scratch}/target"}}
+        # (the tests run the programs, so that this builds them too)
+        well = [is_well(["cargo", "test", "--offline", "--quiet"], **how)]
+        if not os.path.isfile(node) or not os.path.isfile(program):
+            print("no trial of hosts/store is played: `rt ci` has not built both programs", flush=True)
+        elif all(well):
+            well.append(trial(scratch, node, program))
+    return well.count(True), well.count(False)
+
+
+if __name__ == "__main__":
+    counts = tried(*map(os.path.abspath, sys.argv[1:3]))
+    print("{} passed, {} failed".format(*counts))
+    sys.exit(1 if counts[1] else 0)

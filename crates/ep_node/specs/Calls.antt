@@ -1,0 +1,50 @@
+-- What a node's calls do, as moves of a cluster whose nodes crash and come back.
+use Rattle.std.specs.Prelude.{◌≡◌, ◌≢◌, ℕ, ◌<◌, ◌≤◌, List, [], length}
+use Rattle.ep_base.specs.Quorums.{size}
+use Rattle.ep_journal.specs.Entries.{entry_of, entries_of}
+use Rattle.ep_journal.specs.Events.{event_of}
+use Rattle.ep_journal.specs.declared.entry.Entry.{Entry}
+use Rattle.ep_journal.specs.declared.event.Event.{Event as Happening}
+use Rattle.ep_log.specs.Crashing.{AreFirst}
+use Rattle.ep_replica.specs.Applied.{Applied}
+use Rattle.ep_replica.specs.Kept.{Kept}
+use Rattle.ep_rules.specs.Journals.{IsAmong}
+use Rattle.ep_node.specs.Crashes.{Cluster, fresh_cluster, Move, Take, HandOut, ComeBack, IsMove, moved}
+
+-- a node of the cluster has this replica; the first n of its entries are on the disk, and nothing was handed out of the others
+pub record IsNode (f : ℕ) (c : Cluster) (k : Kept) (n : ℕ) : Type 0 where
+  pub faults : k.faults ≡ f
+  pub member : k.me < size f
+  pub journal : c.journal k.me ≡ entries_of k.entries
+  pub out : c.out k.me ≤ n
+  pub synced : n ≤ length k.entries
+
+-- it is a move of the cluster, and leaves the node so
+pub record Makes (f : ℕ) (c : Cluster) (m : Move) (k : Kept) (n : ℕ) : Type 0 where
+  pub move : IsMove f c m
+  pub node : IsNode f (moved c m) k n
+
+-- the node that moves
+abbrev pub mover : Move → ℕ
+mover (Take r e) = r
+mover (HandOut r n) = r
+mover (ComeBack r n) = r
+
+-- What the calls of a node do are the moves of the laws on crashes.
+pub record CallsAreMoves : Type 0 where
+  -- a new node has no entries
+  pub begins : (f me : ℕ) → me < size f → IsNode f fresh_cluster (record { faults = f; me = me; entries = [] }) 0
+  -- an event that was taken is a `Take` of its entry, if what it handles was handed out
+  pub takes :
+      (f n : ℕ) (c : Cluster) (k k' : Kept) (event : Happening) (e : Entry) → IsNode f c k n → IsAmong c.given (event_of event) → Applied k event e k' →
+      Makes f c (Take k.me (entry_of e)) k' n
+  -- after a sync, which is no move, all entries are on the disk
+  pub syncs : (f n : ℕ) (c : Cluster) (k : Kept) → IsNode f c k n → IsNode f c k (length k.entries)
+  -- to lend the replica, all of whose entries are on the disk, is a `HandOut` of all of them
+  pub lends : (f : ℕ) (c : Cluster) (k : Kept) → IsNode f c k (length k.entries) → Makes f c (HandOut k.me (length k.entries)) k (length k.entries)
+  -- a crash is a `ComeBack` with the entries that the node is opened with: the first ones, with all that were on the disk
+  pub comes_back :
+      (f n : ℕ) (c : Cluster) (k : Kept) (es : List Entry) → IsNode f c k n → AreFirst n k.entries es →
+      Makes f c (ComeBack k.me (length es)) (record k { entries = es }) (length es)
+  -- what others do changes nothing of a node
+  pub others : (f n : ℕ) (c : Cluster) (k : Kept) (m : Move) → IsNode f c k n → mover m ≢ k.me → IsNode f (moved c m) k n
