@@ -10,3 +10,4 @@ mod Mending
 mod Moments
 mod Syncing
 mod Opened
+mod EachTaken

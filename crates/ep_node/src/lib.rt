@@ -11,6 +11,7 @@ mod open_fault;
 mod open_laws;
 mod opening;
 mod records;
+mod taking;
 
 pub use crash_law::{
     calls_are_moves, crashes_keep_agreement, crashes_keep_receipts, crashes_leave_no_trace,
