@@ -1,0 +1,59 @@
+-- What became of what the program was asked for.
+use Rattle.std.proofs.Common.{◌≡◌, ℕ, Bool, true, false, List, Option, Result, Ok, Err, refl, sym, ◌∙◌, ap, subst}
+use Rattle.std.specs.Prelude.{◌||◌, IsErrAnd}
+use Rattle.ep_base.specs.Devices.{FailsAsTold}
+use Rattle.ep_bundle.specs.Journals.{ReadsBundle, Finds}
+use Rattle.ep_bundle.specs.Reading.{Left, is_read_failed}
+use Rattle.ep_bundle.specs.declared.bundle_fault.BundleFault.{BundleFault}
+use Rattle.ep_bundle.specs.declared.bundle_fault.BundleFault.TheVariants as bundle
+use Rattle.ep_journal.specs.Entries.{Collected}
+use Rattle.ep_viewer.specs.Faults.{of_bundle, is_read, is_write}
+use Rattle.ep_rules.specs.declared.receipt.Receipt.{Receipt}
+use Rattle.ep_viewer.specs.Outputs.{Output, Wrote, WroteNothing}
+use Rattle.ep_viewer.specs.Views.{IsView, Views}
+use Rattle.ep_viewer.specs.declared.fault.Fault.{Fault}
+use Rattle.ep_viewer.specs.declared.fault.Fault.TheVariants.{Memory}
+
+-- a bundle that isn't read isn't viewed
+pub not_read :
+    (Tells : Collected → List ℕ → Type 0) (b : BundleFault) (r : Result Unit Fault) (zs : List ℕ) (place : ℕ) (left : Option (List ℕ)) (out : Output) → IsErrAnd r (λ e. e ≡ of_bundle b) →
+    Finds (ReadsBundle (record { at = 0; bytes = zs })) (Err b) place left → WroteNothing out → Views Tells r zs out
+not_read Tells b (Ok done) zs place left out is found silent = absurd is
+not_read Tells bundle.Memory (Err e) zs place left out is found silent = subst (λ (x : Fault). Views Tells (Err x) zs out) (sym is) silent
+not_read Tells bundle.ReadFailed (Err e) zs place left out is found silent = subst (λ (x : Fault). Views Tells (Err x) zs out) (sym is) silent
+not_read Tells (bundle.BadBundle offset) (Err e) zs place left out is found silent = subst (λ (x : Fault). Views Tells (Err x) zs out) (sym is) (found, silent)
+not_read Tells (bundle.NotARun replica entry) (Err e) zs place left out is found silent = subst (λ (x : Fault). Views Tells (Err x) zs out) (sym is) (found, silent)
+
+-- want of memory leaves the output as it was
+pub stopped : (Tells : Collected → List ℕ → Type 0) (r : Result Unit Fault) (zs : List ℕ) (out : Output) → IsErrAnd r (λ e. e ≡ Memory) → WroteNothing out → Views Tells r zs out
+stopped Tells (Ok done) zs out is silent = absurd is
+stopped Tells (Err e) zs out is silent = subst (λ (x : Fault). Views Tells (Err x) zs out) (sym is) silent
+
+pub viewed :
+    (Tells : Collected → List ℕ → Type 0) (journals : Collected) (receipts : List Receipt) (end : Left) (zs text : List ℕ) (out : Output) →
+    ReadsBundle (record { at = 0; bytes = zs }) (Ok ((journals, receipts), end)) → Tells journals text → Wrote out text → IsView Tells zs out
+viewed Tells journals receipts end zs text out read tells wrote =
+    record { journals = journals; receipts = receipts; end = end; read = read; text = text; tells = tells; wrote = wrote }
+
+read_of_bundle : (b : BundleFault) → is_read (of_bundle b) ≡ is_read_failed b
+read_of_bundle bundle.Memory = refl
+read_of_bundle bundle.ReadFailed = refl
+read_of_bundle (bundle.BadBundle offset) = refl
+read_of_bundle (bundle.NotARun replica entry) = refl
+
+write_of_bundle : (b : BundleFault) → is_write (of_bundle b) ≡ false
+write_of_bundle bundle.Memory = refl
+write_of_bundle bundle.ReadFailed = refl
+write_of_bundle (bundle.BadBundle offset) = refl
+write_of_bundle (bundle.NotARun replica entry) = refl
+
+-- an answer tells the fault e, of which `is_its` says this
+as_told : {A : Type 0} (is_its : Fault → Bool) (e : Fault) (told had has : Bool) (r : Result A Fault) → IsErrAnd r (λ x. x ≡ e) → is_its e ≡ told → has ≡ (told || had) → FailsAsTold is_its r had has
+as_told is_its e told had has (Ok a) is same flag = absurd is
+as_told is_its e told had has (Err x) is same flag = flag ∙ ap (λ (b : Bool). b || had) (sym (ap is_its is ∙ same))
+
+pub bundle_read : {A : Type 0} (b : BundleFault) (r : Result A Fault) (had has : Bool) → IsErrAnd r (λ x. x ≡ of_bundle b) → has ≡ (is_read_failed b || had) → FailsAsTold is_read r had has
+bundle_read b r had has is flag = as_told is_read (of_bundle b) (is_read_failed b) had has r is (read_of_bundle b) flag
+
+pub bundle_not_written : {A : Type 0} (b : BundleFault) (r : Result A Fault) (had : Bool) → IsErrAnd r (λ x. x ≡ of_bundle b) → FailsAsTold is_write r had had
+bundle_not_written b r had is = as_told is_write (of_bundle b) false had had r is (write_of_bundle b) refl

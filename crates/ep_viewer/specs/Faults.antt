@@ -1,0 +1,73 @@
+-- How the program ends at a fault, and the line that it then tells.
+use Rattle.std.specs.Prelude.{ℕ, Bool, true, false, List, ◌++◌, codes, decimal}
+use Rattle.ep_bundle.specs.declared.bundle_fault.BundleFault.{BundleFault}
+use Rattle.ep_bundle.specs.declared.bundle_fault.BundleFault.TheVariants as bundle
+use Rattle.ep_viewer.specs.declared.fault.Fault.{Fault}
+use Rattle.ep_viewer.specs.declared.fault.Fault.TheVariants.{BadBundle, NotARun, Memory, Read, Write}
+use Rattle.ep_viewer.specs.declared.status.Status.{Status}
+use Rattle.ep_viewer.specs.declared.status.Status.TheVariants.{Done, Refused, OutOfMemory, Failed}
+
+-- the exit status
+abbrev pub code_of : Status → ℕ
+code_of Done = 0
+code_of Refused = 2
+code_of OutOfMemory = 3
+code_of Failed = 4
+
+-- the first line; what is wrong with the words follows
+abbrev pub command_line_refused : List ℕ
+command_line_refused = codes "command line refused\n"
+
+-- the field that begins at this byte is at fault
+abbrev pub bad_bundle : ℕ → List ℕ
+bad_bundle offset = codes "bundle refused E12 at byte " ++ decimal offset ++ codes "\n"
+
+-- this entry of this replica isn't its next step
+abbrev pub not_a_run : ℕ → ℕ → List ℕ
+not_a_run replica entry = codes "bundle refused E11 at replica " ++ decimal replica ++ codes " entry " ++ decimal entry ++ codes "\n"
+
+abbrev pub out_of_memory : List ℕ
+out_of_memory = codes "out of memory\n"
+
+abbrev pub reading_failed : List ℕ
+reading_failed = codes "reading failed\n"
+
+abbrev pub writing_failed : List ℕ
+writing_failed = codes "writing failed\n"
+
+abbrev pub line_of : Fault → List ℕ
+line_of (BadBundle offset) = bad_bundle offset
+line_of (NotARun replica entry) = not_a_run replica entry
+line_of Memory = out_of_memory
+line_of Read = reading_failed
+line_of Write = writing_failed
+
+abbrev pub status_of : Fault → Status
+status_of (BadBundle offset) = Refused
+status_of (NotARun replica entry) = Refused
+status_of Memory = OutOfMemory
+status_of Read = Failed
+status_of Write = Failed
+
+-- the reader's own fault
+abbrev pub is_read : Fault → Bool
+is_read (BadBundle offset) = false
+is_read (NotARun replica entry) = false
+is_read Memory = false
+is_read Read = true
+is_read Write = false
+
+-- the writer's own fault
+abbrev pub is_write : Fault → Bool
+is_write (BadBundle offset) = false
+is_write (NotARun replica entry) = false
+is_write Memory = false
+is_write Read = false
+is_write Write = true
+
+-- a bundle's fault as the program's
+abbrev pub of_bundle : BundleFault → Fault
+of_bundle bundle.Memory = Memory
+of_bundle bundle.ReadFailed = Read
+of_bundle (bundle.BadBundle offset) = BadBundle offset
+of_bundle (bundle.NotARun replica entry) = NotARun replica entry

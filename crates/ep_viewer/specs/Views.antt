@@ -1,0 +1,74 @@
+-- What the program does, of the bytes zs that it reads, its output and its fault output.
+use Rattle.std.specs.Prelude.{◌≡◌, ℕ, List, Result, Ok, Err, ◌++◌, codes, string_bytes}
+use Rattle.ep_bundle.specs.Journals.{ReadsBundle}
+use Rattle.ep_bundle.specs.Reading.{Left}
+use Rattle.ep_bundle.specs.declared.bundle_fault.BundleFault.TheVariants as bundle
+use Rattle.ep_journal.specs.Entries.{Collected}
+use Rattle.ep_rules.specs.declared.receipt.Receipt.{Receipt}
+use Rattle.ep_view.specs.Shown.{IsShown}
+use Rattle.ep_words.specs.declared.part.Part.{Part}
+use Rattle.ep_base.specs.Devices.{FailsAsTold}
+use Rattle.ep_viewer.specs.Faults.{command_line_refused, out_of_memory, line_of, status_of, is_read, is_write}
+use Rattle.ep_viewer.specs.Outputs.{Input, Output, Wrote, WroteNothing, Told}
+use Rattle.ep_viewer.specs.declared.asked.Asked.{Asked}
+use Rattle.ep_viewer.specs.declared.asked.Asked.TheVariants.{Show, Columns, Version, Help}
+use Rattle.ep_viewer.specs.declared.declined.Declined.{Declined}
+use Rattle.ep_viewer.specs.declared.declined.Declined.TheVariants as declined
+use Rattle.ep_viewer.specs.declared.fault.Fault.{Fault}
+use Rattle.ep_viewer.specs.declared.fault.Fault.TheVariants.{BadBundle, NotARun, Memory, Read, Write}
+use Rattle.ep_viewer.specs.declared.status.Status.{Status}
+use Rattle.ep_viewer.specs.declared.status.Status.TheVariants.{Done, Refused, OutOfMemory}
+
+-- The bytes are one bundle, and this was written of its journals.
+pub record IsView (Tells : Collected → List ℕ → Type 0) (zs : List ℕ) (out : Output) : Type 0 where
+  pub journals : Collected
+  pub receipts : List Receipt
+  pub end : Left
+  pub read : ReadsBundle (record { at = 0; bytes = zs }) (Ok ((journals, receipts), end))
+  pub text : List ℕ
+  pub tells : Tells journals text
+  pub wrote : Wrote out text
+
+-- a bundle is viewed, or is refused, and then nothing is written
+abbrev pub Views : (Collected → List ℕ → Type 0) → Result Unit Fault → List ℕ → Output → Type 0
+Views Tells (Ok done) zs out = IsView Tells zs out
+Views Tells (Err (BadBundle offset)) zs out = ReadsBundle (record { at = 0; bytes = zs }) (Err (bundle.BadBundle offset)) × WroteNothing out
+Views Tells (Err (NotARun replica entry)) zs out = ReadsBundle (record { at = 0; bytes = zs }) (Err (bundle.NotARun replica entry)) × WroteNothing out
+Views Tells (Err Memory) zs out = WroteNothing out
+Views Tells (Err Read) zs out = WroteNothing out
+Views Tells (Err Write) zs out = Unit {0}
+
+abbrev pub Prints : Result Unit Fault → List ℕ → Output → Type 0
+Prints (Ok done) text out = Wrote out text
+Prints (Err (BadBundle offset)) text out = ⊥
+Prints (Err (NotARun replica entry)) text out = ⊥
+Prints (Err Memory) text out = ⊥
+Prints (Err Read) text out = ⊥
+Prints (Err Write) text out = Unit {0}
+
+abbrev pub IsAnyText : Collected → List ℕ → Type 0
+IsAnyText journals text = Unit {0}
+
+abbrev pub Does : Asked → Result Unit Fault → List ℕ → Output → Type 0
+Does (Show part) outcome zs out = Views (λ journals text. IsShown journals part text) outcome zs out
+Does (Columns part) outcome zs out = Views IsAnyText outcome zs out
+Does Version outcome zs out = Prints outcome (codes "epaxos 0.1.0\n") out
+Does (Help text) outcome zs out = Prints outcome (string_bytes text) out
+
+-- why nothing is done is told, and decides on the status
+abbrev pub TellsWhy : Declined → Status → Output → Type 0
+TellsWhy (declined.Words why) status fault = (status ≡ Refused) × Told fault (command_line_refused ++ string_bytes why)
+TellsWhy declined.Memory status fault = (status ≡ OutOfMemory) × Told fault out_of_memory
+
+-- a fault is told, and decides on the status
+abbrev pub Concludes : Result Unit Fault → Status → Output → Type 0
+Concludes (Ok done) status fault = (status ≡ Done) × WroteNothing fault
+Concludes (Err e) status fault = (status ≡ status_of e) × Told fault (line_of e)
+
+-- what was asked for was done, or why it wasn't is told; the input and the output failed where the outcome says so, and nowhere else
+pub record Performs (asked : Asked) (status : Status) (zs : List ℕ) (reader : Input) (out fault : Output) : Type 0 where
+  pub outcome : Result Unit Fault
+  pub does : Does asked outcome zs out
+  pub concludes : Concludes outcome status fault
+  pub read : FailsAsTold is_read outcome reader.had_failed reader.failed
+  pub written : FailsAsTold is_write outcome out.had_failed out.failed

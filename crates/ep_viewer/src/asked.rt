@@ -1,0 +1,16 @@
+//! What the program is asked for.
+
+use ep_words::Part;
+
+/// What the words of the command line ask for.
+#[derive(Drop)]
+pub enum Asked {
+    /// To show this part of a bundle's journals.
+    Show(Part),
+    /// To show it in a column a replica.
+    Columns(Part),
+    /// The program's name and its version.
+    Version,
+    /// Help: this text.
+    Help(String),
+}

@@ -1,0 +1,195 @@
+//! The words of the command line.
+
+use crate::asked::Asked;
+use crate::declined::Declined;
+use clap::error::ErrorKind;
+use clap::{Arg, ArgAction, ArgMatches, Command, Error};
+use ep_base::{InstanceId, ReplicaId};
+use ep_script::number_in;
+use ep_words::Part;
+use std::alloc::{AllocError, Global};
+use std::convert::AsStr;
+
+/// What the help of `show` says at its end.
+const AFTER_SHOW: &str = "\
+Standard input, to its end, is a bundle, as `replay --emit bundle` writes it. Each entry of its journals is a line, by stamp and
+then by replica: the event, what it sends to whom, and what it executes. NEVER HANDLED stands at the receiver of a frame that no
+entry handles. Nothing is audited, and nothing is printed before the end is read.
+
+Example:
+  epaxos replay --emit bundle < examples/one_put.script | epaxos show
+
+Exit status:
+  0  the entries are printed
+  2  the command line or the bundle is refused; standard error says where
+  3  memory was refused
+  4  reading or writing failed";
+
+/// What the words ask for, of which the first is the program's own name. `Words` where they are none that the program knows.
+pub(crate) fn read_words<T: AsStr>(alloc: Global, words: &[T]) -> Result<Asked, Declined> {
+    let command = program(alloc)?;
+    match command.try_get_matches_from(words) {
+        Ok(matches) => asked_by(alloc, &matches),
+        Err(error) => asked_instead(alloc, &error),
+    }
+}
+
+/// What is asked for where `clap` finds no matches: the version or help at most.
+fn asked_instead(alloc: Global, error: &Error) -> Result<Asked, Declined> {
+    match error.kind() {
+        ErrorKind::DisplayVersion => Ok(Asked::Version),
+        ErrorKind::DisplayHelp => Ok(Asked::Help(error.to_string(alloc)?)),
+        ErrorKind::OutOfMemory => Err(Declined::Memory),
+        _ => Err(Declined::Words(error.to_string(alloc)?)),
+    }
+}
+
+fn asked_by(alloc: Global, matches: &ArgMatches<'_>) -> Result<Asked, Declined> {
+    match matches.subcommand_matches("show") {
+        Some(options) => shown_by(alloc, options),
+        None => Err(Declined::Words(String::new(alloc))),
+    }
+}
+
+fn shown_by(alloc: Global, options: &ArgMatches<'_>) -> Result<Asked, Declined> {
+    let part = part_of(alloc, options)?;
+    if options.get_flag("columns") {
+        Ok(Asked::Columns(part))
+    } else {
+        Ok(Asked::Show(part))
+    }
+}
+
+/// Which entries are asked for.
+fn part_of(alloc: Global, options: &ArgMatches<'_>) -> Result<Part, Declined> {
+    let instance = instance_of(alloc, options)?;
+    let replica = replica_of(alloc, options)?;
+    let from = stamp_of(alloc, options, "from", 0)?;
+    let to = stamp_of(alloc, options, "to", u64::MAX)?;
+    Ok(Part {
+        instance,
+        replica,
+        from,
+        to,
+    })
+}
+
+/// The instance after its option, if it is there.
+fn instance_of(alloc: Global, options: &ArgMatches<'_>) -> Result<Option<InstanceId>, Declined> {
+    let Some(word) = options.get_str("instance") else {
+        return Ok(None);
+    };
+    match instance_named(word.as_bytes()) {
+        Some(instance) => Ok(Some(instance)),
+        None => Err(Declined::Words(format!(in alloc;
+            "error: invalid value {word:?} for '--instance <R.N>': it takes an instance, as 0.1: a replica from 0 to 6, and a number from 1 to 2000\n\nFor more information, try '--help'.\n"
+        )?)),
+    }
+}
+
+/// The instance that a word spells: a replica, a dot and a number.
+fn instance_named(word: &[u8]) -> Option<InstanceId> {
+    let dot = word.iter().position(|byte| *byte == b'.')?;
+    let replica = replica_named(word.get(..dot)?)?;
+    let number = number_in(word.get(dot + 1..)?, 1, 2000)?;
+    InstanceId::new(replica, number as u16).ok()
+}
+
+fn replica_named(word: &[u8]) -> Option<ReplicaId> {
+    let index = number_in(word, 0, 6)?;
+    ReplicaId::new(index as u8).ok()
+}
+
+/// The replica after its option, if it is there.
+fn replica_of(alloc: Global, options: &ArgMatches<'_>) -> Result<Option<ReplicaId>, Declined> {
+    let Some(word) = options.get_str("replica") else {
+        return Ok(None);
+    };
+    match replica_named(word.as_bytes()) {
+        Some(replica) => Ok(Some(replica)),
+        None => Err(Declined::Words(format!(in alloc;
+            "error: invalid value {word:?} for '--replica <R>': it takes a number from 0 to 6\n\nFor more information, try '--help'.\n"
+        )?)),
+    }
+}
+
+/// The stamp after this option, or this one where there is none.
+fn stamp_of(
+    alloc: Global,
+    options: &ArgMatches<'_>,
+    name: &str,
+    default: u64,
+) -> Result<u64, Declined> {
+    let Some(word) = options.get_str(name) else {
+        return Ok(default);
+    };
+    match stamp_named(word.as_bytes()) {
+        Some(stamp) => Ok(stamp),
+        None => Err(Declined::Words(format!(in alloc;
+            "error: invalid value {word:?} for '--{name} <STAMP>': it takes a number of 1 to 15 digits\n\nFor more information, try '--help'.\n"
+        )?)),
+    }
+}
+
+/// The stamp that a word of 1 to 15 decimal digits spells, of which the last 10 are a number of their own.
+fn stamp_named(word: &[u8]) -> Option<u64> {
+    if word.len() <= 10 {
+        return number_in(word, 0, 9_999_999_999);
+    }
+    let place = word.len() - 10;
+    let high = number_in(word.get(..place)?, 0, 99_999)?;
+    let low = number_in(word.get(place..)?, 0, 9_999_999_999)?;
+    Some(high * 10_000_000_000 + low)
+}
+
+fn program<'a>(alloc: Global) -> Result<Command<'a>, AllocError> {
+    let show = show_command(alloc)?;
+    let command = Command::new(alloc, "epaxos")
+        .about("A replicated key-value core without a leader")
+        .version("0.1.0")
+        .subcommand_required(true);
+    command.subcommand(show)
+}
+
+fn show_command<'a>(alloc: Global) -> Result<Command<'a>, AllocError> {
+    let columns = Arg::new(alloc, "columns")
+        .long("columns")
+        .help("A column a replica, 32 wide each")
+        .action(ArgAction::SetTrue);
+    let command = Command::new(alloc, "show")
+        .about("Reads a bundle on standard input, and prints the entries of its journals in words")
+        .after_help(AFTER_SHOW);
+    parted(alloc, command.arg(columns)?)
+}
+
+/// The command with the options that keep a part.
+fn parted<'a>(alloc: Global, command: Command<'a>) -> Result<Command<'a>, AllocError> {
+    let command = command.arg(option(
+        alloc,
+        "instance",
+        "R.N",
+        "Keeps the entries that name, send or execute this instance",
+    ))?;
+    let command = command.arg(option(alloc, "replica", "R", "Keeps those of this replica"))?;
+    let command = command.arg(option(
+        alloc,
+        "from",
+        "STAMP",
+        "Keeps those of this stamp and greater ones",
+    ))?;
+    command.arg(option(
+        alloc,
+        "to",
+        "STAMP",
+        "Keeps those of this stamp and lesser ones",
+    ))
+}
+
+/// An option with a value, which may be left out.
+fn option<'a>(alloc: Global, name: &'a str, value: &'a str, help: &'a str) -> Arg<'a> {
+    Arg::new(alloc, name)
+        .long(name)
+        .value_name(value)
+        .help(help)
+        .action(ArgAction::Set)
+}

@@ -1,0 +1,31 @@
+//! How the program ends.
+
+ghost use Rattle.std.specs.Prelude.{◌≡◌};
+ghost use Rattle.ep_viewer.specs.Faults.{code_of};
+
+/// How the program ends.
+#[derive(Clone, Copy, Debug, PartialEq, Eq)]
+pub enum Status {
+    /// What was asked for is printed.
+    Done,
+    /// The command line or the bundle is refused.
+    Refused,
+    /// Memory was refused.
+    OutOfMemory,
+    /// Reading or writing failed.
+    Failed,
+}
+
+impl Status {
+    /// The exit status.
+    pub fn code(self) -> u8
+        ensures { result ≡ code_of self }
+    {
+        match self {
+            Status::Done => 0,
+            Status::Refused => 2,
+            Status::OutOfMemory => 3,
+            Status::Failed => 4,
+        }
+    }
+}
