@@ -10,7 +10,11 @@ use Rattle.ep_journal.specs.Entries.{Collected}
 use Rattle.ep_viewer.specs.Faults.{of_bundle, is_read, is_write}
 use Rattle.ep_rules.specs.declared.receipt.Receipt.{Receipt}
 use Rattle.ep_viewer.specs.Outputs.{Output, Wrote, WroteNothing}
-use Rattle.ep_viewer.specs.Views.{IsView, Views}
+use Rattle.ep_viewer.specs.Views.{Does, IsView, Views}
+use Rattle.ep_view.specs.Shown.{IsShown}
+use Rattle.ep_words.specs.declared.part.Part.{Part}
+use Rattle.ep_viewer.specs.declared.asked.Asked.{Asked}
+use Rattle.ep_viewer.specs.declared.asked.Asked.TheVariants.{Show}
 use Rattle.ep_viewer.specs.declared.fault.Fault.{Fault}
 use Rattle.ep_viewer.specs.declared.fault.Fault.TheVariants.{Memory}
 
@@ -57,3 +61,7 @@ bundle_read b r had has is flag = as_told is_read (of_bundle b) (is_read_failed 
 
 pub bundle_not_written : {A : Type 0} (b : BundleFault) (r : Result A Fault) (had : Bool) → IsErrAnd r (λ x. x ≡ of_bundle b) → FailsAsTold is_write r had had
 bundle_not_written b r had is = as_told is_write (of_bundle b) false had had r is (write_of_bundle b) refl
+
+pub shown_as_asked :
+    (asked : Asked) (part : Part) (r : Result Unit Fault) (zs : List ℕ) (out : Output) → asked ≡ Show part → Views (λ journals text. IsShown journals part text) r zs out → Does asked r zs out
+shown_as_asked asked part r zs out is views = subst (λ (a : Asked). Does a r zs out) (sym is) views

@@ -1,4 +1,9 @@
+use Rattle.std.proofs.Common.{rules, ◌≡◌}
+use Rattle.ep_viewer.proofs.Ending.{shown_as_asked}
+use Rattle.ep_viewer.specs.declared.asked.Asked.TheVariants.{Show}
 use Rattle.ep_viewer.proofs.program.attempt.Goals as goal
 
 pub returns-in-Show-clause-done : goal.returns-in-Show-clause-done
-returns-in-Show-clause-done g c zs known = c.print_shown.ensures.done zs known
+returns-in-Show-clause-done g c zs known =
+    let is : c.args.asked.now ≡ Show c.in-Show.part = search rules in
+    shown_as_asked c.args.asked.now c.in-Show.part c.print_shown.result zs _ is (c.print_shown.ensures.done zs known)
