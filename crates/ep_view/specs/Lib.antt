@@ -1,0 +1,4 @@
+pub mod Handled
+pub mod Lookups
+pub mod Lines
+pub mod Shown

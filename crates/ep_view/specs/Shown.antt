@@ -1,0 +1,35 @@
+-- What is shown of journals.
+use Rattle.std.specs.Prelude.{◌≡◌, ℕ, Bool, cond, List, [], ◌∷◌, ◌++◌, Option, Some, None, codes}
+use Rattle.ep_journal.specs.Entries.{Collected, entries_at, journals_of}
+use Rattle.ep_journal.specs.declared.entry.Entry.{Entry}
+use Rattle.ep_rules.specs.Journals.{Scheduled, IsSchedule}
+use Rattle.ep_verdict.specs.Verdicts.{places_of}
+use Rattle.ep_words.specs.Kept.{keeps}
+use Rattle.ep_words.specs.declared.part.Part.{Part}
+use Rattle.ep_view.specs.Handled.{is_handled}
+use Rattle.ep_view.specs.Lines.{entry_text}
+use Rattle.ep_view.specs.Lookups.{entry_at}
+
+module _ (handled : List ℕ → Bool) (part : Part) where
+  -- the line of an entry, if it is asked for
+  abbrev pub line_of : ℕ → Option Entry → List ℕ
+  line_of r None = []
+  line_of r (Some e) = cond (keeps part r e) (entry_text handled r e ++ codes "\n") []
+
+  -- the lines of the entries at these places, each as its replica and number
+  abbrev pub lines_at : Collected → List (ℕ × ℕ) → List ℕ
+  lines_at c [] = []
+  lines_at c (p ∷ ps) = line_of p.0 (entry_at (entries_at c p.0) p.1) ++ lines_at c ps
+
+-- these are all entries of the journals, each as its replica and number, in the order of their schedule: by stamp, and then by replica
+pub record IsInOrder (c : Collected) (all : List (ℕ × ℕ)) : Type 0 where
+  pub order : List Scheduled
+  pub scheduled : IsSchedule (journals_of c) order
+  pub places : all ≡ places_of order
+
+-- the text has a line for each entry that is asked for, in the order of the journals' schedule. In it a frame is told as never handled exactly
+-- where no entry of any journal handles it
+pub record IsShown (c : Collected) (part : Part) (text : List ℕ) : Type 0 where
+  pub all : List (ℕ × ℕ)
+  pub ordered : IsInOrder c all
+  pub lines : text ≡ lines_at (is_handled c) part c all

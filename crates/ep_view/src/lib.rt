@@ -1,0 +1,18 @@
+//! Runs in words, for people who look at them: the entries of journals in the order of their stamps, or side by side in a
+//! column a replica.
+//!
+//! `show` and `columns` give the text. Each entry that is asked for is told once, with what it
+//! sends and executes, and a frame that no entry handles is told as that.
+//!
+//! Start with `showing.rt` and specs/Lines.antt, which says a line; the order of entries is `IsSchedule` of `ep_rules`, as
+//! `ep_verdict` makes it. What events and messages are told as is in `ep_words`.
+#![tactic(auto)]
+
+mod handled;
+mod lines;
+mod lookups;
+mod showing;
+mod side_by_side;
+
+pub use showing::show;
+pub use side_by_side::columns;

@@ -1,0 +1,100 @@
+//! The entries of journals, a line each.
+
+ghost use Rattle.std.specs.Prelude.{◌≡◌, ◌++◌, Some, IfOk, OnOk};
+ghost use Rattle.ep_journal.specs.Entries.{AreJournals, entries_at};
+ghost use Rattle.ep_view.specs.Handled.{is_in};
+ghost use Rattle.ep_view.specs.Lookups.{entry_at};
+ghost use Rattle.ep_view.specs.Shown.{line_of, lines_at, IsInOrder, IsShown};
+
+use crate::handled::Handled;
+use crate::lines::push_entry;
+use crate::lookups::entry_at;
+use ep_base::ReplicaId;
+use ep_journal::{Entry, Journals};
+use ep_verdict::Verdict;
+use ep_words::Part;
+use std::alloc::{AllocError, Global};
+
+/// All entries of the journals, by stamp and replica: each as its replica with its number.
+pub(crate) fn schedule(
+    alloc: Global,
+    journals: &Journals,
+) -> Result<Vec<(ReplicaId, u32)>, AllocError>
+    ensures { IfOk result (λ v. IsInOrder journals.now v.items) }
+{
+    let verdict = Verdict::of(alloc, journals)?;
+    let Verdict {
+        schedule,
+        committed: _,
+        history: _,
+    } = verdict;
+    Ok(schedule)
+}
+
+// Appends the line of an entry, if it is asked for.
+fn push_kept(
+    text: &mut Vec<u8>,
+    handled: &Handled,
+    part: &Part,
+    replica: ReplicaId,
+    entry: &Entry,
+) -> Result<(), AllocError>
+    ensures { OnOk result (text.new.items ≡ text.old.items ++ line_of (is_in handled.now) part.now replica (Some entry.now)) }
+{
+    if !part.keeps(replica, entry) {
+        return Ok(());
+    }
+    push_entry(text, handled, replica, entry)?;
+    text.push(b'\n')?;
+    Ok(())
+}
+
+// Appends the line of the entry at this place, if it is asked for.
+fn push_place(
+    text: &mut Vec<u8>,
+    journals: &Journals,
+    handled: &Handled,
+    part: &Part,
+    place: &(ReplicaId, u32),
+) -> Result<(), AllocError>
+    requires { AreJournals journals.now }
+    ensures { OnOk result (text.new.items ≡ text.old.items ++ line_of (is_in handled.now) part.now place.now.0 (entry_at (entries_at journals.now place.now.0) place.now.1)) }
+{
+    let (replica, number) = place;
+    match entry_at(journals, *replica, *number) {
+        None => Ok(()),
+        Some(entry) => push_kept(text, handled, part, *replica, entry),
+    }
+}
+
+// Appends the lines of the entries at these places.
+fn push_lines(
+    text: &mut Vec<u8>,
+    journals: &Journals,
+    handled: &Handled,
+    part: &Part,
+    places: &[(ReplicaId, u32)],
+) -> Result<(), AllocError>
+    requires { AreJournals journals.now }
+    ensures { OnOk result (text.new.items ≡ text.old.items ++ lines_at (is_in handled.now) part.now journals.now places.now) }
+{
+    for place in places {
+        push_place(text, journals, handled, part, place)?;
+    }
+    Ok(())
+}
+
+/// The entries of the journals that the part keeps, a line each, by stamp and then by replica: the event, what it sends to
+/// whom, with `NEVER HANDLED` at each receiver whose frame no entry of any journal handles, and what it executes, with the
+/// answers.
+#[tactic(auto, using(crate::proofs::AsShown::is_shown))]
+pub fn show(alloc: Global, journals: &Journals, part: &Part) -> Result<Vec<u8>, AllocError>
+    ensures { IfOk result (λ text. IsShown journals.now part.now text.items) }
+{
+    journals.are_journals();
+    let handled = Handled::of(alloc, journals)?;
+    let places = schedule(alloc, journals)?;
+    let mut text = Vec::new(alloc);
+    push_lines(&mut text, journals, &handled, part, &places)?;
+    Ok(text)
+}

@@ -1,0 +1,131 @@
+//! The entries of journals side by side, in a column a replica.
+
+use crate::handled::Handled;
+use crate::lines::push_happened;
+use crate::lookups::entry_at;
+use crate::showing::schedule;
+use ep_base::ReplicaId;
+use ep_journal::{Entry, Journals};
+use ep_report::push_number;
+use ep_words::Part;
+use std::alloc::{AllocError, Global};
+
+/// How many bytes wide a column is. There are two spaces between columns, so that three of them take 100.
+const WIDTH: usize = 32;
+
+// Where the first row of a text that is wider than a column ends, and where the next one begins: at the last space that leaves
+// the row no wider than the column, or else at the column's end.
+fn cut_of(text: &[u8]) -> (usize, usize) {
+    let mut cut = (WIDTH, WIDTH);
+    for place in 1..WIDTH + 1 {
+        if text.get(place) == Some(&b' ') {
+            cut = (place, place + 1);
+        }
+    }
+    cut
+}
+
+// The first row of a text, and what is left of it.
+fn first_row(text: &[u8]) -> (&[u8], &[u8]) {
+    if text.len() <= WIDTH {
+        return (text, &[]);
+    }
+    let (end, next) = cut_of(text);
+    (
+        text.get(..end).unwrap_or(text),
+        text.get(next..).unwrap_or(&[]),
+    )
+}
+
+// Appends a row in the replica's column.
+fn push_row(text: &mut Vec<u8>, replica: u8, row: &[u8]) -> Result<(), AllocError> {
+    for _ in 0..usize::from(replica) * (WIDTH + 2) {
+        text.push(b' ')?;
+    }
+    text.extend_from_slice(row)?;
+    text.push(b'\n')?;
+    Ok(())
+}
+
+// Appends a text in the replica's column.
+fn push_cell(text: &mut Vec<u8>, replica: u8, cell: &[u8]) -> Result<(), AllocError> {
+    let mut rest = cell;
+    for _ in 0..cell.len() {
+        if rest.is_empty() {
+            return Ok(());
+        }
+        let (row, after) = first_row(rest);
+        push_row(text, replica, row)?;
+        rest = after;
+    }
+    Ok(())
+}
+
+// What is told of an entry in its replica's column.
+fn cell_of(alloc: Global, handled: &Handled, entry: &Entry) -> Result<Vec<u8>, AllocError> {
+    let mut cell = Vec::from_slice(alloc, b"stamp ")?;
+    push_number(&mut cell, entry.stamp.ticks())?;
+    cell.extend_from_slice(b" entry ")?;
+    push_number(&mut cell, u64::from(entry.number))?;
+    cell.extend_from_slice(b": ")?;
+    push_happened(&mut cell, handled, entry)?;
+    Ok(cell)
+}
+
+// Appends an entry, if it is asked for.
+fn push_kept(
+    text: &mut Vec<u8>,
+    handled: &Handled,
+    part: &Part,
+    replica: ReplicaId,
+    entry: &Entry,
+) -> Result<(), AllocError> {
+    if !part.keeps(replica, entry) {
+        return Ok(());
+    }
+    let cell = cell_of(*text.allocator(), handled, entry)?;
+    push_cell(text, replica.index(), &cell)
+}
+
+// Appends the entries at these places.
+fn push_cells(
+    text: &mut Vec<u8>,
+    journals: &Journals,
+    handled: &Handled,
+    part: &Part,
+    places: &[(ReplicaId, u32)],
+) -> Result<(), AllocError> {
+    journals.are_journals();
+    for (replica, number) in places {
+        if let Some(entry) = entry_at(journals, *replica, *number) {
+            push_kept(text, handled, part, *replica, entry)?;
+        }
+    }
+    Ok(())
+}
+
+// Appends the names of as many columns.
+fn push_names(text: &mut Vec<u8>, count: u8) -> Result<(), AllocError> {
+    for replica in 0..count {
+        if replica > 0 {
+            for _ in 0..WIDTH + 2 - 9 {
+                text.push(b' ')?;
+            }
+        }
+        text.extend_from_slice(b"replica ")?;
+        push_number(text, u64::from(replica))?;
+    }
+    text.push(b'\n')?;
+    Ok(())
+}
+
+/// The entries of the journals that the part keeps, as `show` tells them, by stamp and then by replica, each in the column of
+/// its replica. A column is 32 wide, with two spaces between two: 100 for three replicas.
+pub fn columns(alloc: Global, journals: &Journals, part: &Part) -> Result<Vec<u8>, AllocError> {
+    let handled = Handled::of(alloc, journals)?;
+    let places = schedule(alloc, journals)?;
+    let mut text = Vec::new(alloc);
+    push_names(&mut text, journals.size().count())?;
+    push_cells(&mut text, journals, &handled, part, &places)?;
+    Ok(text)
+}
