@@ -4,9 +4,21 @@
 #![tactic(auto)]
 
 #[cfg(test)]
+mod agreement;
+#[cfg(test)]
+mod cluster;
+#[cfg(test)]
+mod contents;
+#[cfg(test)]
 mod crashing;
 #[cfg(test)]
+mod moments;
+#[cfg(test)]
+mod numbers;
+#[cfg(test)]
 mod opening;
+#[cfg(test)]
+mod random;
 #[cfg(test)]
 mod samples;
 #[cfg(test)]

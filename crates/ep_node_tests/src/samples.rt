@@ -1,6 +1,6 @@
 //! Nodes over devices in memory, for the tests.
 
-use ep_base::{Command, ReplicaId, Size};
+use ep_base::{Command, InstanceId, ReplicaId, Size};
 use ep_device::MemoryDevice;
 use ep_journal::Event;
 use ep_node::{Node, OpenFault};
@@ -22,6 +22,41 @@ pub fn open(
     let size = Size::new(3).expect(rt, "a size");
     let me = ReplicaId::new(1).expect(rt, "a replica");
     Node::open(alloc, device, size, me)
+}
+
+/// The node of the replica of this place, of three, on the device; the device, where none is opened.
+pub fn node_of(
+    rt: &impl Abort,
+    alloc: Global,
+    place: usize,
+    device: MemoryDevice,
+) -> Result<Node<MemoryDevice>, MemoryDevice> {
+    let size = Size::new(3).expect(rt, "a size");
+    let me = [0, 1, 2].get(place).copied().expect(rt, "a place");
+    let me = ReplicaId::new(me).expect(rt, "a replica");
+    match Node::open(alloc, device, size, me) {
+        Ok(node) => Ok(node),
+        Err((_, device)) => Err(device),
+    }
+}
+
+/// The instance of this leader and number.
+pub fn instance(rt: &impl Abort, leader: u8, number: u16) -> InstanceId {
+    let leader = ReplicaId::new(leader).expect(rt, "a replica");
+    InstanceId::new(leader, number).expect(rt, "an instance")
+}
+
+/// Request of this number of the client at this place: a put of x, or of y, to its last digit.
+pub fn put_at(rt: &impl Abort, alloc: Global, place: usize, request: u32, is_other: bool) -> Event {
+    let key = if is_other { b"y" } else { b"x" };
+    let value = [b'0' + (request % 10) as u8];
+    let command = Command::put(alloc, key, &value).expect(rt, "memory for a command");
+    Event::Propose {
+        client: if place == 0 { 1 } else { 2 },
+        request,
+        command,
+        seen: 0,
+    }
 }
 
 /// A client's request of this number: `put x 1`.
