@@ -226,13 +226,19 @@ impl Cluster {
         self.nodes[place] = node;
     }
 
+    /// How many entries the node of this place has.
+    fn taken(&self, rt: &impl Abort, place: usize) -> usize {
+        assert!(rt; place < self.nodes.len());
+        self.nodes[place].taken()
+    }
+
     /// The frame of this number is handled at this place, and that is on the disk.
     fn deliver_and_sync(&mut self, rt: &impl Abort, number: usize, place: usize) {
-        let crashes = self.crashes;
+        let taken = self.taken(rt, place);
         self.deliver(rt, number);
         self.sync(rt, place);
-        if self.crashes > crashes {
-            // What it handled may be gone. Its new device doesn't fail.
+        if self.taken(rt, place) <= taken {
+            // It crashed, or wanted memory, and does so no more; or the frame is one that it refuses.
             self.deliver(rt, number);
             self.sync(rt, place);
         }
@@ -288,12 +294,20 @@ impl Cluster {
         }
     }
 
+    /// The node executes the instance, where it has committed it; once more where it wanted memory.
+    fn execute_at(&mut self, rt: &impl Abort, place: usize, instance: InstanceId) {
+        let taken = self.taken(rt, place);
+        self.take(rt, place, Event::Execute(instance));
+        if self.taken(rt, place) == taken {
+            self.take(rt, place, Event::Execute(instance));
+        }
+    }
+
     /// The node executes each instance that it has committed.
     fn execute_all(&mut self, rt: &impl Abort, place: usize) {
         for leader in 0..3u8 {
             for number in 1..17u16 {
-                let event = Event::Execute(instance(rt, leader, number));
-                self.take(rt, place, event);
+                self.execute_at(rt, place, instance(rt, leader, number));
             }
         }
     }
