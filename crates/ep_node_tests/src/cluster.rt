@@ -312,7 +312,7 @@ impl Cluster {
         }
     }
 
-    /// The audit of the joined journals, which the logs hold, with every receipt that was handed out.
+    /// What the joined journals, which the logs hold, come to. They aren't audited.
     pub fn finish(self, rt: &impl Abort) -> Finished {
         let Cluster {
             alloc,
@@ -379,7 +379,7 @@ fn journals_of(rt: &impl Abort, alloc: Global, nodes: Vec<Node<MemoryDevice>>) -
     collect(journals).expect(rt, "the journals of a cluster")
 }
 
-/// The audit accepts the journals with the receipts.
+/// How much the journals commit and execute, and how many receipts there are.
 fn audited(rt: &impl Abort, alloc: Global, journals: &Journals, receipts: &[Receipt]) -> Finished {
     let verdict = Verdict::of(alloc, journals).expect(rt, "a verdict");
     let all = Finished {

@@ -138,7 +138,7 @@ fn no_crash(rt: HostRuntime) {
     assert!(rt; finished.committed == 3 && finished.executed == 3);
 }
 
-/// The run in which an allocation may be refused (tools/refused-memory): the audit accepts what came of it.
+/// The run in which an allocation may be refused (tools/refused-memory): the nodes agree even so.
 #[test]
 fn with_little_memory(rt: HostRuntime) {
     let mut cluster = Cluster::new(&rt, rt.alloc(), 0, 0, 0);
