@@ -7,7 +7,10 @@ use Rattle.ep_bundle.specs.Reading.{Left, is_read_failed}
 use Rattle.ep_bundle.specs.declared.bundle_fault.BundleFault.{BundleFault}
 use Rattle.ep_bundle.specs.declared.bundle_fault.BundleFault.TheVariants as bundle
 use Rattle.ep_journal.specs.Entries.{Collected}
-use Rattle.ep_viewer.specs.Faults.{of_bundle, is_read, is_write}
+use Rattle.ep_script.specs.Faults.{is_read_failed as is_script_read}
+use Rattle.ep_script.specs.declared.script_fault.ScriptFault.{ScriptFault}
+use Rattle.ep_script.specs.declared.script_fault.ScriptFault.TheVariants as script
+use Rattle.ep_viewer.specs.Faults.{of_bundle, of_script, is_read, is_write}
 use Rattle.ep_rules.specs.declared.receipt.Receipt.{Receipt}
 use Rattle.ep_viewer.specs.Outputs.{Output, Wrote, WroteNothing}
 use Rattle.ep_viewer.specs.Views.{Does, IsView, Views}
@@ -51,6 +54,16 @@ write_of_bundle bundle.ReadFailed = refl
 write_of_bundle (bundle.BadBundle offset) = refl
 write_of_bundle (bundle.NotARun replica entry) = refl
 
+read_of_script : (s : ScriptFault) → is_read (of_script s) ≡ is_script_read s
+read_of_script script.Memory = refl
+read_of_script script.ReadFailed = refl
+read_of_script (script.Refused n) = refl
+
+write_of_script : (s : ScriptFault) → is_write (of_script s) ≡ false
+write_of_script script.Memory = refl
+write_of_script script.ReadFailed = refl
+write_of_script (script.Refused n) = refl
+
 -- an answer tells the fault e, of which `is_its` says this
 as_told : {A : Type 0} (is_its : Fault → Bool) (e : Fault) (told had has : Bool) (r : Result A Fault) → IsErrAnd r (λ x. x ≡ e) → is_its e ≡ told → has ≡ (told || had) → FailsAsTold is_its r had has
 as_told is_its e told had has (Ok a) is same flag = absurd is
@@ -61,6 +74,12 @@ bundle_read b r had has is flag = as_told is_read (of_bundle b) (is_read_failed 
 
 pub bundle_not_written : {A : Type 0} (b : BundleFault) (r : Result A Fault) (had : Bool) → IsErrAnd r (λ x. x ≡ of_bundle b) → FailsAsTold is_write r had had
 bundle_not_written b r had is = as_told is_write (of_bundle b) false had had r is (write_of_bundle b) refl
+
+pub script_read : {A : Type 0} (s : ScriptFault) (r : Result A Fault) (had has : Bool) → IsErrAnd r (λ x. x ≡ of_script s) → has ≡ (is_script_read s || had) → FailsAsTold is_read r had has
+script_read s r had has is flag = as_told is_read (of_script s) (is_script_read s) had has r is (read_of_script s) flag
+
+pub script_not_written : {A : Type 0} (s : ScriptFault) (r : Result A Fault) (had : Bool) → IsErrAnd r (λ x. x ≡ of_script s) → FailsAsTold is_write r had had
+script_not_written s r had is = as_told is_write (of_script s) false had had r is (write_of_script s) refl
 
 pub shown_as_asked :
     (asked : Asked) (part : Part) (r : Result Unit Fault) (zs : List ℕ) (out : Output) → asked ≡ Show part → Views (λ journals text. IsShown journals part text) r zs out → Does asked r zs out

@@ -2,8 +2,10 @@
 use Rattle.std.specs.Prelude.{ℕ, Bool, true, false, List, ◌++◌, codes, decimal}
 use Rattle.ep_bundle.specs.declared.bundle_fault.BundleFault.{BundleFault}
 use Rattle.ep_bundle.specs.declared.bundle_fault.BundleFault.TheVariants as bundle
+use Rattle.ep_script.specs.declared.script_fault.ScriptFault.{ScriptFault}
+use Rattle.ep_script.specs.declared.script_fault.ScriptFault.TheVariants as script
 use Rattle.ep_viewer.specs.declared.fault.Fault.{Fault}
-use Rattle.ep_viewer.specs.declared.fault.Fault.TheVariants.{BadBundle, NotARun, Memory, Read, Write}
+use Rattle.ep_viewer.specs.declared.fault.Fault.TheVariants.{Script, BadBundle, NotARun, Memory, Read, Write}
 use Rattle.ep_viewer.specs.declared.status.Status.{Status}
 use Rattle.ep_viewer.specs.declared.status.Status.TheVariants.{Done, Refused, OutOfMemory, Failed}
 
@@ -17,6 +19,10 @@ code_of Failed = 4
 -- the first line; what is wrong with the words follows
 abbrev pub command_line_refused : List ℕ
 command_line_refused = codes "command line refused\n"
+
+-- this line is the first at fault
+abbrev pub script_refused : ℕ → List ℕ
+script_refused line = codes "script refused at line " ++ decimal line ++ codes "\n"
 
 -- the field that begins at this byte is at fault
 abbrev pub bad_bundle : ℕ → List ℕ
@@ -36,6 +42,7 @@ abbrev pub writing_failed : List ℕ
 writing_failed = codes "writing failed\n"
 
 abbrev pub line_of : Fault → List ℕ
+line_of (Script line) = script_refused line
 line_of (BadBundle offset) = bad_bundle offset
 line_of (NotARun replica entry) = not_a_run replica entry
 line_of Memory = out_of_memory
@@ -43,6 +50,7 @@ line_of Read = reading_failed
 line_of Write = writing_failed
 
 abbrev pub status_of : Fault → Status
+status_of (Script line) = Refused
 status_of (BadBundle offset) = Refused
 status_of (NotARun replica entry) = Refused
 status_of Memory = OutOfMemory
@@ -51,6 +59,7 @@ status_of Write = Failed
 
 -- the reader's own fault
 abbrev pub is_read : Fault → Bool
+is_read (Script line) = false
 is_read (BadBundle offset) = false
 is_read (NotARun replica entry) = false
 is_read Memory = false
@@ -59,6 +68,7 @@ is_read Write = false
 
 -- the writer's own fault
 abbrev pub is_write : Fault → Bool
+is_write (Script line) = false
 is_write (BadBundle offset) = false
 is_write (NotARun replica entry) = false
 is_write Memory = false
@@ -71,3 +81,9 @@ of_bundle bundle.Memory = Memory
 of_bundle bundle.ReadFailed = Read
 of_bundle (bundle.BadBundle offset) = BadBundle offset
 of_bundle (bundle.NotARun replica entry) = NotARun replica entry
+
+-- a script's fault as the program's
+abbrev pub of_script : ScriptFault → Fault
+of_script (script.Refused line) = Script line
+of_script script.Memory = Memory
+of_script script.ReadFailed = Read

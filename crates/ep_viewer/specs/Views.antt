@@ -5,17 +5,19 @@ use Rattle.ep_bundle.specs.Reading.{Left}
 use Rattle.ep_bundle.specs.declared.bundle_fault.BundleFault.TheVariants as bundle
 use Rattle.ep_journal.specs.Entries.{Collected}
 use Rattle.ep_rules.specs.declared.receipt.Receipt.{Receipt}
+use Rattle.ep_script.specs.Plan.{Plan, script_of}
+use Rattle.ep_trace.specs.Traced.{IsTraced}
 use Rattle.ep_view.specs.Shown.{IsShown}
 use Rattle.ep_words.specs.declared.part.Part.{Part}
 use Rattle.ep_base.specs.Devices.{FailsAsTold}
 use Rattle.ep_viewer.specs.Faults.{command_line_refused, out_of_memory, line_of, status_of, is_read, is_write}
 use Rattle.ep_viewer.specs.Outputs.{Input, Output, Wrote, WroteNothing, Told}
 use Rattle.ep_viewer.specs.declared.asked.Asked.{Asked}
-use Rattle.ep_viewer.specs.declared.asked.Asked.TheVariants.{Show, Columns, Version, Help}
+use Rattle.ep_viewer.specs.declared.asked.Asked.TheVariants.{Show, Columns, Trace, Version, Help}
 use Rattle.ep_viewer.specs.declared.declined.Declined.{Declined}
 use Rattle.ep_viewer.specs.declared.declined.Declined.TheVariants as declined
 use Rattle.ep_viewer.specs.declared.fault.Fault.{Fault}
-use Rattle.ep_viewer.specs.declared.fault.Fault.TheVariants.{BadBundle, NotARun, Memory, Read, Write}
+use Rattle.ep_viewer.specs.declared.fault.Fault.TheVariants.{Script, BadBundle, NotARun, Memory, Read, Write}
 use Rattle.ep_viewer.specs.declared.status.Status.{Status}
 use Rattle.ep_viewer.specs.declared.status.Status.TheVariants.{Done, Refused, OutOfMemory}
 
@@ -32,14 +34,34 @@ pub record IsView (Tells : Collected → List ℕ → Type 0) (zs : List ℕ) (o
 -- a bundle is viewed, or is refused, and then nothing is written
 abbrev pub Views : (Collected → List ℕ → Type 0) → Result Unit Fault → List ℕ → Output → Type 0
 Views Tells (Ok done) zs out = IsView Tells zs out
+Views Tells (Err (Script line)) zs out = ⊥
 Views Tells (Err (BadBundle offset)) zs out = ReadsBundle (record { at = 0; bytes = zs }) (Err (bundle.BadBundle offset)) × WroteNothing out
 Views Tells (Err (NotARun replica entry)) zs out = ReadsBundle (record { at = 0; bytes = zs }) (Err (bundle.NotARun replica entry)) × WroteNothing out
 Views Tells (Err Memory) zs out = WroteNothing out
 Views Tells (Err Read) zs out = WroteNothing out
 Views Tells (Err Write) zs out = Unit {0}
 
+-- The bytes are a script, and what was written is its trace.
+pub record IsTrace (zs : List ℕ) (out : Output) : Type 0 where
+  pub plan : Plan
+  pub script : script_of zs ≡ Ok plan
+  pub text : List ℕ
+  pub trace : IsTraced plan text
+  pub wrote : Wrote out text
+
+-- a script is traced, or is refused, and then nothing is written
+abbrev pub Traces : Result Unit Fault → List ℕ → Output → Type 0
+Traces (Ok done) zs out = IsTrace zs out
+Traces (Err (Script line)) zs out = (script_of zs ≡ Err line) × WroteNothing out
+Traces (Err (BadBundle offset)) zs out = ⊥
+Traces (Err (NotARun replica entry)) zs out = ⊥
+Traces (Err Memory) zs out = WroteNothing out
+Traces (Err Read) zs out = WroteNothing out
+Traces (Err Write) zs out = Unit {0}
+
 abbrev pub Prints : Result Unit Fault → List ℕ → Output → Type 0
 Prints (Ok done) text out = Wrote out text
+Prints (Err (Script line)) text out = ⊥
 Prints (Err (BadBundle offset)) text out = ⊥
 Prints (Err (NotARun replica entry)) text out = ⊥
 Prints (Err Memory) text out = ⊥
@@ -52,6 +74,7 @@ IsAnyText journals text = Unit {0}
 abbrev pub Does : Asked → Result Unit Fault → List ℕ → Output → Type 0
 Does (Show part) outcome zs out = Views (λ journals text. IsShown journals part text) outcome zs out
 Does (Columns part) outcome zs out = Views IsAnyText outcome zs out
+Does Trace outcome zs out = Traces outcome zs out
 Does Version outcome zs out = Prints outcome (codes "epaxos 0.1.0\n") out
 Does (Help text) outcome zs out = Prints outcome (string_bytes text) out
 

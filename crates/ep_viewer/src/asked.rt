@@ -9,6 +9,8 @@ pub enum Asked {
     Show(Part),
     /// To show it in a column a replica.
     Columns(Part),
+    /// To trace a script's replay.
+    Trace,
     /// The program's name and its version.
     Version,
     /// Help: this text.

@@ -25,6 +25,24 @@ Exit status:
   3  memory was refused
   4  reading or writing failed";
 
+/// What the help of `replay` says at its end.
+const AFTER_REPLAY: &str = "\
+Standard input, to its end, is a script: lines as in the example; docs/FORMATS.md, section 4, has all of them.
+Nothing is printed before the end is read.
+
+A trace has a line for each event that the script tries, in order: the script's line, the replica's entry, the event, the number
+of each message that it sends and to whom, and what it executes; or why it is refused. Then each message that was never given,
+and each instance that a replica knows of and hasn't committed. So it tells which numbers the next `deliver` may name.
+
+Example:
+  printf 'replicas 3\\npropose 0 1 put x 1\\nflush\\nflush\\nexecute 0 0.1\\n' | epaxos replay --emit trace
+
+Exit status:
+  0  the script was played, the audit accepted what it left (a trace isn't audited), and what was asked for is printed
+  2  the command line or the script is refused; standard error says where
+  3  memory was refused
+  4  reading or writing failed";
+
 /// What the words ask for, of which the first is the program's own name. `Words` where they are none that the program knows.
 pub(crate) fn read_words<T: AsStr>(alloc: Global, words: &[T]) -> Result<Asked, Declined> {
     let command = program(alloc)?;
@@ -45,9 +63,23 @@ fn asked_instead(alloc: Global, error: &Error) -> Result<Asked, Declined> {
 }
 
 fn asked_by(alloc: Global, matches: &ArgMatches<'_>) -> Result<Asked, Declined> {
-    match matches.subcommand_matches("show") {
-        Some(options) => shown_by(alloc, options),
-        None => Err(Declined::Words(String::new(alloc))),
+    if let Some(options) = matches.subcommand_matches("show") {
+        return shown_by(alloc, options);
+    }
+    if let Some(options) = matches.subcommand_matches("replay") {
+        return traced_by(alloc, options);
+    }
+    Err(Declined::Words(String::new(alloc)))
+}
+
+/// Of a replay only its trace is asked for here.
+fn traced_by(alloc: Global, options: &ArgMatches<'_>) -> Result<Asked, Declined> {
+    match options.get_str("emit") {
+        Some("trace") => Ok(Asked::Trace),
+        _ => Err(Declined::Words(String::from_str(
+            alloc,
+            "error: of a replay, this program prints a trace alone\n\nFor more information, try '--help'.\n",
+        )?)),
     }
 }
 
@@ -144,11 +176,24 @@ fn stamp_named(word: &[u8]) -> Option<u64> {
 
 fn program<'a>(alloc: Global) -> Result<Command<'a>, AllocError> {
     let show = show_command(alloc)?;
+    let replay = replay_command(alloc)?;
     let command = Command::new(alloc, "epaxos")
         .about("A replicated key-value core without a leader")
         .version("0.1.0")
         .subcommand_required(true);
-    command.subcommand(show)
+    command.subcommand(show)?.subcommand(replay)
+}
+
+fn replay_command<'a>(alloc: Global) -> Result<Command<'a>, AllocError> {
+    let emit = Arg::new(alloc, "emit")
+        .long("emit")
+        .value_name("WHAT")
+        .help("What to print: report (the default), bundle or trace")
+        .action(ArgAction::Set);
+    let command = Command::new(alloc, "replay")
+        .about("Reads a script on standard input, plays it in one thread, audits what it leaves, and prints a report, a bundle or a trace")
+        .after_help(AFTER_REPLAY);
+    command.arg(emit)
 }
 
 fn show_command<'a>(alloc: Global) -> Result<Command<'a>, AllocError> {

@@ -1,17 +1,20 @@
 //! Why the program ends before its work is done.
 
 ghost use Rattle.std.specs.Prelude.{◌≡◌};
-ghost use Rattle.ep_viewer.specs.Faults.{of_bundle, status_of};
+ghost use Rattle.ep_viewer.specs.Faults.{of_bundle, of_script, status_of};
 ghost use Rattle.ep_viewer.specs.declared.fault.Fault.TheVariants.{Memory, Write};
 
 use crate::status::Status;
 use ep_base::{ReplicaId, WriteFailed};
 use ep_bundle::BundleFault;
+use ep_script::ScriptFault;
 use std::alloc::AllocError;
 
 /// Why the program ends before its work is done.
 #[derive(Clone, Copy, Debug, PartialEq, Eq)]
 pub enum Fault {
+    /// The script is refused; this is its first line at fault, counted from 1.
+    Script(u32),
     /// The bundle is refused; this is the offset of its first field at fault, counted from 0.
     BadBundle(u64),
     /// The bundle is refused; this entry of this replica, counted from 1, is the first that isn't its replica's next step.
@@ -30,7 +33,7 @@ impl Fault {
         ensures { result ≡ status_of self.now }
     {
         match self {
-            Fault::BadBundle(_) | Fault::NotARun(_, _) => Status::Refused,
+            Fault::Script(_) | Fault::BadBundle(_) | Fault::NotARun(_, _) => Status::Refused,
             Fault::Memory => Status::OutOfMemory,
             Fault::Read | Fault::Write => Status::Failed,
         }
@@ -46,6 +49,18 @@ impl From<BundleFault> for Fault {
             BundleFault::ReadFailed => Fault::Read,
             BundleFault::BadBundle(offset) => Fault::BadBundle(offset),
             BundleFault::NotARun(replica, entry) => Fault::NotARun(replica, entry),
+        }
+    }
+}
+
+impl From<ScriptFault> for Fault {
+    ghost from_gives = { λ s e. e ≡ of_script s };
+
+    fn from(fault: ScriptFault) -> Fault {
+        match fault {
+            ScriptFault::Refused(line) => Fault::Script(line),
+            ScriptFault::Memory => Fault::Memory,
+            ScriptFault::ReadFailed => Fault::Read,
         }
     }
 }

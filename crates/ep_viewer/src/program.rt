@@ -12,6 +12,7 @@ use crate::fault::Fault;
 use crate::showing::{print_columns, print_shown};
 use crate::status::Status;
 use crate::telling::{tell, tell_words};
+use crate::tracing::print_trace;
 use ep_base::{Sink, Source};
 use std::alloc::Global;
 
@@ -47,6 +48,7 @@ fn attempt<S: Source, W: Sink>(
     match asked {
         Asked::Show(part) => print_shown(alloc, part, reader, writer),
         Asked::Columns(part) => print_columns(alloc, part, reader, writer),
+        Asked::Trace => print_trace(alloc, reader, writer),
         Asked::Version => {
             writer.put(b"epaxos 0.1.0\n")?;
             Ok(())

@@ -2,7 +2,7 @@
 
 ghost use Rattle.std.specs.Prelude.{◌++◌, decimal};
 ghost use Rattle.ep_base.specs.Devices.{Puts};
-ghost use Rattle.ep_viewer.specs.Faults.{command_line_refused, line_of, bad_bundle, not_a_run};
+ghost use Rattle.ep_viewer.specs.Faults.{command_line_refused, line_of, script_refused, bad_bundle, not_a_run};
 
 use crate::fault::Fault;
 use ep_base::{ReplicaId, Sink, WriteFailed};
@@ -13,6 +13,7 @@ pub(crate) fn tell<F: Sink>(fault: Fault, sink: &mut F) -> Result<(), WriteFaile
     ensures { Puts (F.held sink.old) (F.held sink.new) (F.has_failed sink.old) (F.has_failed sink.new) result (line_of fault) }
 {
     match fault {
+        Fault::Script(line) => tell_script(line, sink),
         Fault::BadBundle(offset) => tell_bad_bundle(offset, sink),
         Fault::NotARun(replica, entry) => tell_not_a_run(replica, entry, sink),
         Fault::Memory => sink.put(b"out of memory\n"),
@@ -27,6 +28,15 @@ pub(crate) fn tell_words<F: Sink>(why: &str, sink: &mut F) -> Result<(), WriteFa
 {
     sink.put(b"command line refused\n")?;
     sink.put(why.as_bytes())
+}
+
+fn tell_script<F: Sink>(line: u32, sink: &mut F) -> Result<(), WriteFailed>
+    ensures { Puts (F.held sink.old) (F.held sink.new) (F.has_failed sink.old) (F.has_failed sink.new) result (script_refused line) }
+{
+    let mut digits = Buffer::new();
+    sink.put(b"script refused at line ")?;
+    sink.put(digits.format(line).as_bytes())?;
+    sink.put(b"\n")
 }
 
 fn tell_bad_bundle<F: Sink>(offset: u64, sink: &mut F) -> Result<(), WriteFailed>

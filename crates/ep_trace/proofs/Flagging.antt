@@ -1,0 +1,82 @@
+-- One message more is given, and those that never were.
+use Rattle.std.proofs.Common.{◌≡◌, ◌≢◌, ◌↔◌, inl, inr, ℕ, zero, suc, ◌+◌, ◌-◌, ◌<◌, ◌≤◌, Bool, true, false, eqb, ltb, List, [], ◌∷◌, ◌++◌, length, get_or, set, refl, sym, subst, ◌∙◌, arith}
+use Rattle.std.proofs.lemmas.Bool.{eqb-true, eqb-false, ltb-true, ltb-false}
+use Rattle.std.proofs.lemmas.List.{get_or-set_same, get_or-set_other}
+use Rattle.ep_base.specs.Deps.{IsRising}
+use Rattle.ep_rules.specs.Worlds.{In}
+use Rattle.ep_rules.proofs.Merged.{in_left, in_right, in_split}
+use Rattle.ep_replay.specs.Replays.{AreUngiven}
+use Rattle.ep_trace.specs.Tables.{AreFlagged}
+use Rattle.ep_trace.specs.declared.given.Given.{Given}
+
+in_one : (m n : ℕ) → In m (n ∷ []) → n ≡ m
+in_one m n (inl is) = is
+in_one m n (inr h) = absurd h
+
+-- Flags.
+
+pub flagged : (old new : Given) (mid : List Bool) (n : ℕ) (given : List ℕ) → 1 ≤ n → n ≤ length mid → ((place : ℕ) → get_or mid place false ≡ get_or old.flags.items place false)
+    → new.flags.items ≡ set mid (n - 1) true → AreFlagged old given → AreFlagged new (given ++ n ∷ [])
+flagged old new mid n given some room same sets are = flag
+  where
+    go : (place : ℕ) → (b : Bool) → eqb (suc place) n ≡ b → (get_or (set mid (n - 1) true) place false ≡ true) ↔ In (suc place) (given ++ n ∷ [])
+    go place true test =
+        let this : suc place ≡ n = eqb-true (suc place) n test in
+        let at : n - 1 ≡ place = omega arith in (
+          (λ _. in_right (suc place) given (n ∷ []) (inl (sym this))),
+          (λ _. subst (λ i. get_or (set mid (n - 1) true) i false ≡ true) at (get_or-set_same mid (n - 1) true false (omega arith))),
+        )
+    go place false test =
+        let apart : suc place ≢ n = eqb-false (suc place) n test in
+        let other : place ≢ n - 1 = (λ e. apart (omega arith)) in
+        let was : get_or (set mid (n - 1) true) place false ≡ get_or old.flags.items place false = get_or-set_other mid (n - 1) place true false other ∙ same place in (
+          (λ h. in_left (suc place) given (n ∷ []) ((are place).0 (sym was ∙ h))),
+          (λ h. was ∙ (are place).1 (elim (in_split (suc place) given (n ∷ []) h) [
+            | inl before ↦ before
+            | inr here ↦ absurd (apart (sym (in_one (suc place) n here)))
+          ])),
+        )
+
+    flag : (place : ℕ) → (get_or new.flags.items place false ≡ true) ↔ In (suc place) (given ++ n ∷ [])
+    flag place = subst (λ (fs : List Bool). (get_or fs place false ≡ true) ↔ In (suc place) (given ++ n ∷ [])) (sym sets) (go place (eqb (suc place) n) refl)
+
+-- The messages that were never given.
+
+pub none_ungiven : (given : List ℕ) → AreUngiven given 0 []
+none_ungiven given = record { rising = tt; these = (λ m. ((λ h. absurd h), (λ h. absurd (let one : 1 ≤ m = h.0 in let le : m ≤ 0 = h.1 in omega arith)))) }
+
+below : (given : List ℕ) (n : ℕ) (ms : List ℕ) → AreUngiven given n ms → (m : ℕ) → In m ms → m ≤ n
+below given n ms are m h = (((are.these m).0 h)).1
+
+rising_push : (ms : List ℕ) (n : ℕ) → IsRising ms → ((m : ℕ) → In m ms → m ≤ n) → IsRising (ms ++ (n + 1) ∷ [])
+rising_push [] n rises all = (tt, tt)
+rising_push (m ∷ []) n rises all = (let le : m ≤ n = all m (inl refl) in omega arith, (tt, tt))
+rising_push (m ∷ k ∷ ms) n rises all = (rises.0, rising_push (k ∷ ms) n rises.1 (λ j h. all j (inr h)))
+
+-- one message more, which wasn't given
+pub one_ungiven : (flags : Given) (given : List ℕ) (n : ℕ) (ms : List ℕ) → AreFlagged flags given → get_or flags.flags.items n false ≡ false → AreUngiven given n ms → AreUngiven given (n + 1) (ms ++ (n + 1) ∷ [])
+one_ungiven flags given n ms are unset was = record { rising = rising_push ms n was.rising (below given n ms was); these = (λ m. (to m, from m (eqb (n + 1) m) refl)) }
+  where
+    never : ¬ In (suc n) given
+    never h = let set : get_or flags.flags.items n false ≡ true = (are n).1 h in absurd (cc)
+
+    to : (m : ℕ) → In m (ms ++ (n + 1) ∷ []) → (1 ≤ m) × (m ≤ n + 1) × ¬ In m given
+    to m h = elim (in_split m ms ((n + 1) ∷ []) h) [
+      | inl before ↦ (let w = (was.these m).0 before in (w.0, omega arith, w.2))
+      | inr here ↦ (let is : n + 1 ≡ m = in_one m (n + 1) here in (omega arith, omega arith, (λ g. never (subst (λ k. In k given) (let s : m ≡ suc n = omega arith in s) g))))
+    ]
+
+    from : (m : ℕ) (b : Bool) → eqb (n + 1) m ≡ b → (1 ≤ m) × (m ≤ n + 1) × ¬ In m given → In m (ms ++ (n + 1) ∷ [])
+    from m true test h = in_right m ms ((n + 1) ∷ []) (inl (eqb-true (n + 1) m test))
+    from m false test h = let apart : n + 1 ≢ m = eqb-false (n + 1) m test in let le : m ≤ n + 1 = h.1 in in_left m ms ((n + 1) ∷ []) ((was.these m).1 (h.0, omega arith, h.2))
+
+-- one message more, which was given
+pub same_ungiven : (flags : Given) (given : List ℕ) (n : ℕ) (ms : List ℕ) → AreFlagged flags given → get_or flags.flags.items n false ≡ true → AreUngiven given n ms → AreUngiven given (n + 1) ms
+same_ungiven flags given n ms are is_set was = record { rising = was.rising; these = (λ m. (to m, from m (eqb (n + 1) m) refl)) }
+  where
+    to : (m : ℕ) → In m ms → (1 ≤ m) × (m ≤ n + 1) × ¬ In m given
+    to m h = (let w = (was.these m).0 h in (w.0, omega arith, w.2))
+
+    from : (m : ℕ) (b : Bool) → eqb (n + 1) m ≡ b → (1 ≤ m) × (m ≤ n + 1) × ¬ In m given → In m ms
+    from m true test h = let is : n + 1 ≡ m = eqb-true (n + 1) m test in absurd (h.2 (subst (λ k. In k given) (let s : suc n ≡ m = omega arith in s) ((are n).0 is_set)))
+    from m false test h = let apart : n + 1 ≢ m = eqb-false (n + 1) m test in let le : m ≤ n + 1 = h.1 in (was.these m).1 (h.0, omega arith, h.2)

@@ -1,0 +1,5 @@
+mod Flagging
+mod Stepping
+mod Leading
+mod Opening
+mod Telling

@@ -1,0 +1,4 @@
+pub mod Lines
+pub mod Traced
+pub mod Left
+pub mod Tables

@@ -1,0 +1,154 @@
+//! What is left at a replay's end.
+
+ghost use Rattle.std.specs.Prelude.{◌≡◌, ◌<◌, ◌≤◌, ◌++◌, ℕ, List, Some, OnOk};
+ghost use Rattle.ep_base.specs.Quorums.{size};
+ghost use Rattle.ep_trace.specs.Left.{ungiven_line, ungiven_lines, phase_text, waiting_text, open_line, AddsOpen, OpenBelow, AddsLeft};
+ghost use Rattle.ep_world.specs.Played.{message_in, replica_in};
+
+use ep_base::{InstanceId, ReplicaId};
+use ep_frame::Frame;
+use ep_phase::LeadPhase;
+use ep_replica::Replica;
+use ep_report::{push_instance, push_number};
+use ep_words::push_message;
+use ep_world::World;
+use std::alloc::AllocError;
+
+// Appends the line of a message that was never given.
+fn push_ungiven(text: &mut Vec<u8>, message: u64, frame: &Frame) -> Result<(), AllocError>
+    ensures { OnOk result (text.new.items ≡ text.old.items ++ ungiven_line message (Some frame.now)) }
+{
+    text.extend_from_slice(b"never given  #")?;
+    push_number(text, message)?;
+    text.extend_from_slice(b" from ")?;
+    push_number(text, u64::from(frame.from().index()))?;
+    text.extend_from_slice(b" to ")?;
+    push_number(text, u64::from(frame.origin().to.index()))?;
+    text.extend_from_slice(b": ")?;
+    push_message(text, frame)?;
+    text.push(b'\n')?;
+    Ok(())
+}
+
+// Appends the line of the message of this number, if there is one.
+fn push_numbered(text: &mut Vec<u8>, world: &World, message: u64) -> Result<(), AllocError>
+    ensures { OnOk result (text.new.items ≡ text.old.items ++ ungiven_line message (message_in world.now message)) }
+{
+    match world.message(message) {
+        Some(frame) => push_ungiven(text, message, frame),
+        None => Ok(()),
+    }
+}
+
+// Appends the lines of the messages of these numbers, which were never given.
+fn push_all_ungiven(
+    text: &mut Vec<u8>,
+    world: &World,
+    messages: &[u64],
+) -> Result<(), AllocError>
+    ensures { OnOk result (text.new.items ≡ text.old.items ++ ungiven_lines world.now messages.now) }
+{
+    for message in messages {
+        push_numbered(text, world, *message)?;
+    }
+    Ok(())
+}
+
+// Appends what a replica sent that leads an instance in this phase.
+fn push_phase(text: &mut Vec<u8>, phase: LeadPhase) -> Result<(), AllocError>
+    ensures { OnOk result (text.new.items ≡ text.old.items ++ phase_text phase) }
+{
+    match phase {
+        LeadPhase::Proposing => text.extend_from_slice(b"PreAccepts"),
+        LeadPhase::Accepting => text.extend_from_slice(b"Accepts"),
+        LeadPhase::Preparing => text.extend_from_slice(b"Prepares"),
+    }
+}
+
+// Appends what the replica waits for.
+fn push_waiting(
+    text: &mut Vec<u8>,
+    progress: Option<(LeadPhase, u8)>,
+) -> Result<(), AllocError>
+    ensures { OnOk result (text.new.items ≡ text.old.items ++ waiting_text progress) }
+{
+    let Some((phase, answers)) = progress else {
+        return text.extend_from_slice(
+            b"which waits for a Commit, or has to recover it",
+        );
+    };
+    text.extend_from_slice(b"which leads it: ")?;
+    push_phase(text, phase)?;
+    text.extend_from_slice(b" are out, answers of others so far: ")?;
+    push_number(text, u64::from(answers))
+}
+
+// Appends the line of an instance that isn't committed.
+fn push_open(
+    text: &mut Vec<u8>,
+    replica: ReplicaId,
+    instance: InstanceId,
+    progress: Option<(LeadPhase, u8)>,
+) -> Result<(), AllocError>
+    ensures { OnOk result (text.new.items ≡ text.old.items ++ open_line replica instance progress) }
+{
+    text.extend_from_slice(b"not committed  ")?;
+    push_instance(text, instance)?;
+    text.extend_from_slice(b" at replica ")?;
+    push_number(text, u64::from(replica.index()))?;
+    text.extend_from_slice(b", ")?;
+    push_waiting(text, progress)?;
+    text.push(b'\n')?;
+    Ok(())
+}
+
+// Appends the lines of what a replica knows of and hasn't committed.
+fn push_all_open(text: &mut Vec<u8>, replica: &Replica) -> Result<(), AllocError>
+    ensures { OnOk result (AddsOpen replica.now text.old.items text.new.items) }
+{
+    let mut next = replica.next_open(None);
+    while let Some(instance) = next {
+        // (that it is in range is known by asking for its number)
+        let _number = instance.number();
+        push_open(text, replica.me(), instance, replica.leads(instance))?;
+        next = replica.next_open(Some(instance));
+    }
+    Ok(())
+}
+
+// Appends those of the replica of this number.
+fn push_replica(text: &mut Vec<u8>, world: &World, replica: u8) -> Result<(), AllocError>
+    requires low { replica ≤ 6 }
+    requires there { replica < size world.now.faults }
+    ensures { OnOk result (AddsOpen (replica_in world.now replica) text.old.items text.new.items) }
+{
+    let Ok(replica) = ReplicaId::new(replica) else {
+        unreachable!()
+    };
+    match world.replica(replica) {
+        Some(replica) => push_all_open(text, replica),
+        None => unreachable!(),
+    }
+}
+
+// Appends those of each replica.
+fn push_each_open(text: &mut Vec<u8>, world: &World) -> Result<(), AllocError>
+    ensures { OnOk result ((open : List ℕ) × OpenBelow world.now (size world.now.faults) open × (text.new.items ≡ text.old.items ++ open)) }
+{
+    for replica in 0..world.size().count() {
+        push_replica(text, world, replica)?;
+    }
+    Ok(())
+}
+
+/// Appends the messages of these numbers, which were never given, and then what each replica knows of and hasn't committed.
+pub(crate) fn push_left(
+    text: &mut Vec<u8>,
+    world: &World,
+    ungiven: &[u64],
+) -> Result<(), AllocError>
+    ensures { OnOk result (AddsLeft world.now ungiven.now text.old.items text.new.items) }
+{
+    push_all_ungiven(text, world, ungiven)?;
+    push_each_open(text, world)
+}

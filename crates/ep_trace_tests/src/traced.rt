@@ -1,0 +1,1 @@
+//! A worked script, traced.
