@@ -179,7 +179,7 @@ goes_on {X} G Each adds xs i x d s next s' lt is done leads b t =
       text = a.text ++ c.text;
       related = (λ end more h. subst (λ (z : List ℕ). G (told s b) xs z end) (sym (append_assoc a.text c.text more))
           (a.related end (c.text ++ more) (subst (λ (ys : List X). G (told next a.behind) ys (c.text ++ more) end) (sym rest)
-              (adds (told next a.behind) (told s' c.behind) end x (drop (suc i) xs) c.text more c.related (subst (λ n. G (told s' c.behind) (drop n xs) more end) one h)))));
+          (adds (told next a.behind) (told s' c.behind) end x (drop (suc i) xs) c.text more c.related (subst (λ n. G (told s' c.behind) (drop n xs) more end) one h)))));
       tells = c.tells;
       appended = c.appended ∙ ap (λ (z : List ℕ). z ++ c.text) a.appended ∙ append_assoc s.text.items a.text c.text;
     }
@@ -221,7 +221,7 @@ pub ended : (s s' : Tracer) (sent : ℕ) (ms : List ℕ) → sent ≡ length s.w
     → s'.world ≡ s.world → s'.clients ≡ s.clients → s'.given ≡ s.given → AddsLeft s.world ms s.text.items s'.text.items
     → Leads (λ p text q. (q ≡ p) × IsLeft q text) s s'
 ended s s' sent ms all these world clients given adds b t =
-    let left : IsLeft (told s b) _ = record { ungiven = ms; open = adds.0; these = subst (λ n. AreUngiven b.given n ms) all (these b.given t.flags); waiting = adds.1; is = refl } in
+    let left : IsLeft (told s b) _ = record { ungiven = ms; rest = adds.0; these = subst (λ n. AreUngiven b.given n ms) all (these b.given t.flags); waiting = adds.1; is = refl } in
     let same : told s' b ≡ told s b = ap (λ (w : Played). record { world = w; proposers = b.proposers; given = b.given; receipts = b.receipts; refused = b.refused }) world in
     record {
       behind = b;

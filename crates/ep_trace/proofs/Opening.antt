@@ -28,7 +28,7 @@ pub record Listed (k : Kept) (next : Option ℕ) (old new : List ℕ) : Type 0 w
   pub is : List ℕ
   pub rising : IsRising is
   pub these : (i : ℕ) → In i is ↔ (IsOpen (state_of k).records i × IsBefore next i)
-  pub open : IsOpenToo k next
+  pub too : IsOpenToo k next
   pub text : new ≡ old ++ open_lines k is
 
 -- how many turns are left
@@ -41,8 +41,8 @@ in_one m n (inl is) = is
 in_one m n (inr h) = absurd h
 
 pub starts : (k : Kept) (next : Option ℕ) (t : List ℕ) → IsNextOpen (state_of k).records None next → Listed k next t t
-starts k None t found = record { is = []; rising = tt; these = (λ i. ((λ h. absurd h), (λ h. absurd (found i h.0 tt)))); open = tt; text = sym (append-nil t) }
-starts k (Some n) t found = record { is = []; rising = tt; these = (λ i. ((λ h. absurd h), (λ h. absurd (found.2 i h.0 tt h.1)))); open = found.0; text = sym (append-nil t) }
+starts k None t found = record { is = []; rising = tt; these = (λ i. ((λ h. absurd h), (λ h. absurd (found i h.0 tt)))); too = tt; text = sym (append-nil t) }
+starts k (Some n) t found = record { is = []; rising = tt; these = (λ i. ((λ h. absurd h), (λ h. absurd (found.2 i h.0 tt h.1)))); too = found.0; text = sym (append-nil t) }
 
 rising_more : (is : List ℕ) (n : ℕ) → IsRising is → ((i : ℕ) → In i is → i < n) → IsRising (is ++ n ∷ [])
 rising_more [] n rises all = (tt, tt)
@@ -58,15 +58,15 @@ lines_more k (i ∷ is) n =
 
 -- nothing open is between the one and the next
 nothing_between : (k : Kept) (n : ℕ) (next : Option ℕ) → IsNextOpen (state_of k).records (Some n) next → (i : ℕ) → IsOpen (state_of k).records i → IsBefore next i → i ≤ n
-nothing_between k n None found i open before = go (ltb n i) refl
+nothing_between k n None found i is before = go (ltb n i) refl
   where
     go : (b : Bool) → ltb n i ≡ b → i ≤ n
-    go true test = absurd (found i open (ltb-true n i test))
+    go true test = absurd (found i is (ltb-true n i test))
     go false test = ltb-false n i test
-nothing_between k n (Some m) found i open before = go (ltb n i) refl
+nothing_between k n (Some m) found i is before = go (ltb n i) refl
   where
     go : (b : Bool) → ltb n i ≡ b → i ≤ n
-    go true test = absurd (found.2 i open (ltb-true n i test) before)
+    go true test = absurd (found.2 i is (ltb-true n i test) before)
     go false test = ltb-false n i test
 
 -- the next one is after the one
@@ -85,7 +85,7 @@ goes_on k n next old mid new was found told = record {
   is = was.is ++ n ∷ [];
   rising = rising_more was.is n was.rising (λ i h. ((was.these i).0 h).1);
   these = (λ i. (to i, from i));
-  open = open_too k n next found;
+  too = open_too k n next found;
   text = told ∙ ap (λ (z : List ℕ). z ++ last) was.text ∙ append_assoc old (open_lines k was.is) last ∙ ap (λ (z : List ℕ). old ++ z) (sym (lines_more k was.is n));
 }
   where
@@ -95,7 +95,7 @@ goes_on k n next old mid new was found told = record {
     to : (i : ℕ) → In i (was.is ++ n ∷ []) → IsOpen (state_of k).records i × IsBefore next i
     to i h = elim (in_split i was.is (n ∷ []) h) [
       | inl before ↦ (let w = (was.these i).0 before in (w.0, comes_before k n next found i (let lt : i < n = w.1 in omega arith)))
-      | inr here ↦ (let is : n ≡ i = in_one i n here in (subst (λ j. IsOpen (state_of k).records j) is was.open, comes_before k n next found i (omega arith)))
+      | inr here ↦ (let is : n ≡ i = in_one i n here in (subst (λ j. IsOpen (state_of k).records j) is was.too, comes_before k n next found i (omega arith)))
     ]
 
     from : (i : ℕ) → IsOpen (state_of k).records i × IsBefore next i → In i (was.is ++ n ∷ [])
@@ -115,7 +115,7 @@ over k old new was = (was.is, record { rising = was.rising; these = (λ i. ((λ 
 
 -- those of the replicas below n were told
 abbrev pub ToldBelow : Played → ℕ → List ℕ → List ℕ → Type 0
-ToldBelow w n old new = (open : List ℕ) × OpenBelow w n open × (new ≡ old ++ open)
+ToldBelow w n old new = (more : List ℕ) × OpenBelow w n more × (new ≡ old ++ more)
 
 pub none_below : (w : Played) (t : List ℕ) → ToldBelow w 0 t t
 none_below w t = ([], refl, sym (append-nil t))

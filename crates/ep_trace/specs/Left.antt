@@ -64,12 +64,12 @@ OpenBelow w (suc n) text = (before : List ℕ) × OpenBelow w n before × AddsOp
 
 -- the text has more: the messages of these numbers, and what each replica knows of and hasn't committed
 abbrev pub AddsLeft : Played → List ℕ → List ℕ → List ℕ → Type 0
-AddsLeft w messages old new = (open : List ℕ) × OpenBelow w (size w.faults) open × (new ≡ old ++ (ungiven_lines w messages ++ open))
+AddsLeft w messages old new = (rest : List ℕ) × OpenBelow w (size w.faults) rest × (new ≡ old ++ (ungiven_lines w messages ++ rest))
 
 -- each message that was never given, in rising number; then each instance that a replica knows of and hasn't committed, by replica
 pub record IsLeft (p : Replay) (text : List ℕ) : Type 0 where
   pub ungiven : List ℕ
-  pub open : List ℕ
+  pub rest : List ℕ
   pub these : AreUngiven p.given (length p.world.messages) ungiven
-  pub waiting : OpenBelow p.world (size p.world.faults) open
-  pub is : text ≡ ungiven_lines p.world ungiven ++ open
+  pub waiting : OpenBelow p.world (size p.world.faults) rest
+  pub is : text ≡ ungiven_lines p.world ungiven ++ rest

@@ -41,11 +41,7 @@ fn push_numbered(text: &mut Vec<u8>, world: &World, message: u64) -> Result<(), 
 }
 
 // Appends the lines of the messages of these numbers, which were never given.
-fn push_all_ungiven(
-    text: &mut Vec<u8>,
-    world: &World,
-    messages: &[u64],
-) -> Result<(), AllocError>
+fn push_all_ungiven(text: &mut Vec<u8>, world: &World, messages: &[u64]) -> Result<(), AllocError>
     ensures { OnOk result (text.new.items ≡ text.old.items ++ ungiven_lines world.now messages.now) }
 {
     for message in messages {
@@ -66,16 +62,11 @@ fn push_phase(text: &mut Vec<u8>, phase: LeadPhase) -> Result<(), AllocError>
 }
 
 // Appends what the replica waits for.
-fn push_waiting(
-    text: &mut Vec<u8>,
-    progress: Option<(LeadPhase, u8)>,
-) -> Result<(), AllocError>
+fn push_waiting(text: &mut Vec<u8>, progress: Option<(LeadPhase, u8)>) -> Result<(), AllocError>
     ensures { OnOk result (text.new.items ≡ text.old.items ++ waiting_text progress) }
 {
     let Some((phase, answers)) = progress else {
-        return text.extend_from_slice(
-            b"which waits for a Commit, or has to recover it",
-        );
+        return text.extend_from_slice(b"which waits for a Commit, or has to recover it");
     };
     text.extend_from_slice(b"which leads it: ")?;
     push_phase(text, phase)?;
@@ -133,7 +124,7 @@ fn push_replica(text: &mut Vec<u8>, world: &World, replica: u8) -> Result<(), Al
 
 // Appends those of each replica.
 fn push_each_open(text: &mut Vec<u8>, world: &World) -> Result<(), AllocError>
-    ensures { OnOk result ((open : List ℕ) × OpenBelow world.now (size world.now.faults) open × (text.new.items ≡ text.old.items ++ open)) }
+    ensures { OnOk result ((more : List ℕ) × OpenBelow world.now (size world.now.faults) more × (text.new.items ≡ text.old.items ++ more)) }
 {
     for replica in 0..world.size().count() {
         push_replica(text, world, replica)?;
