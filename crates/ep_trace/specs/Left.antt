@@ -18,9 +18,13 @@ use Rattle.ep_world.specs.Played.{Played, message_in, replica_in}
 
 -- Messages.
 
+-- from whom to whom, and its words
+abbrev pub frame_text : List ℕ → List ℕ
+frame_text b = codes " from " ++ decimal (sender_at b) ++ codes " to " ++ decimal (origin_at b).to ++ codes ": " ++ words_at b
+
 abbrev pub ungiven_line : ℕ → Option (List ℕ) → List ℕ
 ungiven_line m None = []
-ungiven_line m (Some b) = codes "never given  #" ++ decimal m ++ codes " from " ++ decimal (sender_at b) ++ codes " to " ++ decimal (origin_at b).to ++ codes ": " ++ words_at b ++ codes "\n"
+ungiven_line m (Some b) = codes "never given  #" ++ decimal m ++ frame_text b ++ codes "\n"
 
 -- the messages of these numbers
 abbrev pub ungiven_lines : Played → List ℕ → List ℕ
@@ -35,10 +39,14 @@ phase_text Proposing = codes "PreAccepts"
 phase_text Accepting = codes "Accepts"
 phase_text Preparing = codes "Prepares"
 
+-- how far it is with that
+abbrev pub leading_text : LeadPhase → ℕ → List ℕ
+leading_text phase answers = codes "which leads it: " ++ phase_text phase ++ codes " are out, answers of others so far: " ++ decimal answers
+
 -- what the replica waits for
 abbrev pub waiting_text : Option (LeadPhase × ℕ) → List ℕ
 waiting_text None = codes "which waits for a Commit, or has to recover it"
-waiting_text (Some p) = codes "which leads it: " ++ phase_text p.0 ++ codes " are out, answers of others so far: " ++ decimal p.1
+waiting_text (Some p) = leading_text p.0 p.1
 
 abbrev pub open_line : ℕ → ℕ → Option (LeadPhase × ℕ) → List ℕ
 open_line r i progress = codes "not committed  " ++ instance_text i ++ codes " at replica " ++ decimal r ++ codes ", " ++ waiting_text progress ++ codes "\n"

@@ -52,9 +52,13 @@ sent_text n (b ∷ bs) = codes "; sends " ++ receiver_text n b ++ more_sent (n +
 abbrev pub place_text : ℕ → ℕ → Entry → List ℕ
 place_text line r e = codes "line " ++ decimal line ++ codes "  stamp " ++ decimal e.stamp ++ codes "  replica " ++ decimal r ++ codes " entry " ++ decimal e.number ++ codes "  "
 
--- the entry that an event made at replica r: the event, what it sends, and what it executes
+-- what happened in it: the event, what it sends, and what it executes
+abbrev pub happened_text : Numbers → Entry → List ℕ
+happened_text n e = happening_text n.given e.event e.frames ++ sent_text n.first e.frames ++ done_text e.done
+
+-- the entry that an event made at replica r
 abbrev pub made_line : Numbers → ℕ → Entry → List ℕ
-made_line n r e = place_text n.line r e ++ happening_text n.given e.event e.frames ++ sent_text n.first e.frames ++ done_text e.done ++ codes "\n"
+made_line n r e = place_text n.line r e ++ happened_text n e ++ codes "\n"
 
 -- Events that are refused.
 

@@ -2,7 +2,7 @@
 
 ghost use Rattle.std.specs.Prelude.{◌≡◌, ◌<◌, ◌≤◌, ◌++◌, ℕ, List, Some, OnOk};
 ghost use Rattle.ep_base.specs.Quorums.{size};
-ghost use Rattle.ep_trace.specs.Left.{ungiven_line, ungiven_lines, phase_text, waiting_text, open_line, AddsOpen, OpenBelow, AddsLeft};
+ghost use Rattle.ep_trace.specs.Left.{frame_text, leading_text, ungiven_line, ungiven_lines, phase_text, waiting_text, open_line, AddsOpen, OpenBelow, AddsLeft};
 ghost use Rattle.ep_world.specs.Played.{message_in, replica_in};
 
 use ep_base::{InstanceId, ReplicaId};
@@ -14,18 +14,25 @@ use ep_words::push_message;
 use ep_world::World;
 use std::alloc::AllocError;
 
+// Appends from whom to whom a frame is, and its words.
+fn push_frame(text: &mut Vec<u8>, frame: &Frame) -> Result<(), AllocError>
+    ensures { OnOk result (text.new.items ≡ text.old.items ++ frame_text frame.now) }
+{
+    text.extend_from_slice(b" from ")?;
+    push_number(text, u64::from(frame.from().index()))?;
+    text.extend_from_slice(b" to ")?;
+    push_number(text, u64::from(frame.origin().to.index()))?;
+    text.extend_from_slice(b": ")?;
+    push_message(text, frame)
+}
+
 // Appends the line of a message that was never given.
 fn push_ungiven(text: &mut Vec<u8>, message: u64, frame: &Frame) -> Result<(), AllocError>
     ensures { OnOk result (text.new.items ≡ text.old.items ++ ungiven_line message (Some frame.now)) }
 {
     text.extend_from_slice(b"never given  #")?;
     push_number(text, message)?;
-    text.extend_from_slice(b" from ")?;
-    push_number(text, u64::from(frame.from().index()))?;
-    text.extend_from_slice(b" to ")?;
-    push_number(text, u64::from(frame.origin().to.index()))?;
-    text.extend_from_slice(b": ")?;
-    push_message(text, frame)?;
+    push_frame(text, frame)?;
     text.push(b'\n')?;
     Ok(())
 }
@@ -61,17 +68,24 @@ fn push_phase(text: &mut Vec<u8>, phase: LeadPhase) -> Result<(), AllocError>
     }
 }
 
-// Appends what the replica waits for.
-fn push_waiting(text: &mut Vec<u8>, progress: Option<(LeadPhase, u8)>) -> Result<(), AllocError>
-    ensures { OnOk result (text.new.items ≡ text.old.items ++ waiting_text progress) }
+// Appends how far a replica is that leads an instance.
+fn push_leading(text: &mut Vec<u8>, phase: LeadPhase, answers: u8) -> Result<(), AllocError>
+    ensures { OnOk result (text.new.items ≡ text.old.items ++ leading_text phase answers) }
 {
-    let Some((phase, answers)) = progress else {
-        return text.extend_from_slice(b"which waits for a Commit, or has to recover it");
-    };
     text.extend_from_slice(b"which leads it: ")?;
     push_phase(text, phase)?;
     text.extend_from_slice(b" are out, answers of others so far: ")?;
     push_number(text, u64::from(answers))
+}
+
+// Appends what the replica waits for.
+fn push_waiting(text: &mut Vec<u8>, progress: Option<(LeadPhase, u8)>) -> Result<(), AllocError>
+    ensures { OnOk result (text.new.items ≡ text.old.items ++ waiting_text progress) }
+{
+    match progress {
+        None => text.extend_from_slice(b"which waits for a Commit, or has to recover it"),
+        Some((phase, answers)) => push_leading(text, phase, answers),
+    }
 }
 
 // Appends the line of an instance that isn't committed.

@@ -1,7 +1,7 @@
 //! The lines of events.
 
 ghost use Rattle.std.specs.Prelude.{◌≡◌, ◌+◌, ◌++◌, IfOk, OnOk, codes, decimal};
-ghost use Rattle.ep_trace.specs.Lines.{number_text, handled_text, happening_text, receiver_text, more_sent, sent_text, place_text, made_line, proposal_text, asked_text, refusal_line};
+ghost use Rattle.ep_trace.specs.Lines.{number_text, handled_text, happening_text, receiver_text, more_sent, sent_text, place_text, happened_text, made_line, proposal_text, asked_text, refusal_line};
 ghost use Rattle.ep_view.specs.Lines.{words_at};
 ghost use Rattle.ep_report.specs.Parts.{instance_text};
 
@@ -134,6 +134,16 @@ fn push_place(
     text.extend_from_slice(b"  ")
 }
 
+// Appends what happened in an entry.
+fn push_happened(text: &mut Vec<u8>, numbers: Numbers, entry: &Entry) -> Result<(), AllocError>
+    ensures { OnOk result (text.new.items ≡ text.old.items ++ happened_text numbers entry.now) }
+{
+    let frames = entry.frames.as_slice();
+    push_happening(text, numbers.given, &entry.event, frames)?;
+    push_sent(text, numbers.first, frames)?;
+    push_done(text, entry.done.as_slice())
+}
+
 /// Appends the line of the entry that an event made at this replica.
 pub(crate) fn push_made(
     text: &mut Vec<u8>,
@@ -143,11 +153,8 @@ pub(crate) fn push_made(
 ) -> Result<(), AllocError>
     ensures { OnOk result (text.new.items ≡ text.old.items ++ made_line numbers replica entry.now) }
 {
-    let frames = entry.frames.as_slice();
     push_place(text, numbers.line, replica, entry)?;
-    push_happening(text, numbers.given, &entry.event, frames)?;
-    push_sent(text, numbers.first, frames)?;
-    push_done(text, entry.done.as_slice())?;
+    push_happened(text, numbers, entry)?;
     text.push(b'\n')?;
     Ok(())
 }
