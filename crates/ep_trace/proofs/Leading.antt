@@ -24,7 +24,7 @@ use Rattle.ep_replay.specs.Tables.{AreCounted}
 use Rattle.ep_replay.specs.declared.clients.Client.{Client}
 use Rattle.ep_replay.specs.declared.clients.Clients.{Clients}
 use Rattle.ep_report.specs.declared.cause.Cause.{Cause}
-use Rattle.ep_trace.specs.Left.{IsLeft, AddsLeft}
+use Rattle.ep_trace.specs.Left.{IsLeft, AddsLeft, ungiven_lines}
 use Rattle.ep_trace.specs.Lines.{made_line, asked_text, refusal_line, refused_line}
 use Rattle.ep_trace.specs.Tables.{AreFlagged, Behind, Led, Leads, Tells, nothing, told}
 use Rattle.ep_trace.specs.Traced.{given_by, TellsTry, TellsGives, TellsLine, TellsAll, TellsRun, IsTraced}
@@ -221,12 +221,13 @@ pub ended : (s s' : Tracer) (sent : ℕ) (ms : List ℕ) → sent ≡ length s.w
     → s'.world ≡ s.world → s'.clients ≡ s.clients → s'.given ≡ s.given → AddsLeft s.world ms s.text.items s'.text.items
     → Leads (λ p text q. (q ≡ p) × IsLeft q text) s s'
 ended s s' sent ms all these world clients given adds b t =
-    let left : IsLeft (told s b) _ = record { ungiven = ms; rest = adds.0; these = subst (λ n. AreUngiven b.given n ms) all (these b.given t.flags); waiting = adds.1; is = refl } in
+    let text : List ℕ = ungiven_lines s.world ms ++ adds.0 in
+    let left : IsLeft (told s b) text = record { ungiven = ms; rest = adds.0; these = subst (λ n. AreUngiven b.given n ms) all (these b.given t.flags); waiting = adds.1; is = refl } in
     let same : told s' b ≡ told s b = ap (λ (w : Played). record { world = w; proposers = b.proposers; given = b.given; receipts = b.receipts; refused = b.refused }) world in
     record {
       behind = b;
-      text = _;
-      related = (same, subst (λ (p : Replay). IsLeft p _) (sym same) left);
+      text = text;
+      related = (same, subst (λ (p : Replay). IsLeft p text) (sym same) left);
       tells = record {
         clients = subst (λ (cs : Clients). AreCounted cs b.proposers b.receipts) (sym clients) t.clients;
         flags = subst (λ (g : Given). AreFlagged g b.given) (sym given) t.flags;

@@ -16,3 +16,8 @@ sent (Ok x) number fs first rest t e n is told are =
     joined t (codes "; sends ") (receiver_text number first) (more_sent (number + 1) (words_at first) rest) e n is told
     ∙ ap (λ (z : List (List ℕ)). t ++ sent_text number z) (sym are)
 sent (Err x) number fs first rest t e n is told are = told
+
+pub three : {T E : Type 0} (r : Result T E) (t a b c m1 m2 n : List ℕ) → m1 ≡ t ++ a → m2 ≡ m1 ++ b → OnOk r (n ≡ m2 ++ c) → OnOk r (n ≡ t ++ (a ++ b ++ c))
+three (Ok x) t a b c m1 m2 n first second third =
+    third ∙ ap (λ (z : List ℕ). z ++ c) (second ∙ ap (λ (z : List ℕ). z ++ b) first ∙ append_assoc t a b) ∙ append_assoc t (a ++ b) c
+three (Err x) t a b c m1 m2 n first second third = third

@@ -33,23 +33,27 @@ ungiven_lines w (m ∷ ms) = ungiven_line m (message_in w m) ++ ungiven_lines w 
 
 -- Instances.
 
--- what a replica sent that leads an instance in this phase
+-- that it leads the instance in this phase
 abbrev pub phase_text : LeadPhase → List ℕ
-phase_text Proposing = codes "PreAccepts"
-phase_text Accepting = codes "Accepts"
-phase_text Preparing = codes "Prepares"
+phase_text Proposing = codes ", which leads it: PreAccepts are out"
+phase_text Accepting = codes ", which leads it: Accepts are out"
+phase_text Preparing = codes ", which leads it: Prepares are out"
 
 -- how far it is with that
 abbrev pub leading_text : LeadPhase → ℕ → List ℕ
-leading_text phase answers = codes "which leads it: " ++ phase_text phase ++ codes " are out, answers of others so far: " ++ decimal answers
+leading_text phase answers = phase_text phase ++ codes ", answers of others so far: " ++ decimal answers
 
 -- what the replica waits for
 abbrev pub waiting_text : Option (LeadPhase × ℕ) → List ℕ
-waiting_text None = codes "which waits for a Commit, or has to recover it"
+waiting_text None = codes ", which waits for a Commit, or has to recover it"
 waiting_text (Some p) = leading_text p.0 p.1
 
+-- where an instance isn't committed
+abbrev pub spot_text : ℕ → ℕ → List ℕ
+spot_text r i = instance_text i ++ codes " at replica " ++ decimal r
+
 abbrev pub open_line : ℕ → ℕ → Option (LeadPhase × ℕ) → List ℕ
-open_line r i progress = codes "not committed  " ++ instance_text i ++ codes " at replica " ++ decimal r ++ codes ", " ++ waiting_text progress ++ codes "\n"
+open_line r i progress = codes "not committed  " ++ spot_text r i ++ waiting_text progress ++ codes "\n"
 
 -- these instances at the replica
 abbrev pub open_lines : Kept → List ℕ → List ℕ

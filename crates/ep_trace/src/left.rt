@@ -2,7 +2,7 @@
 
 ghost use Rattle.std.specs.Prelude.{◌≡◌, ◌<◌, ◌≤◌, ◌++◌, ℕ, List, Some, OnOk};
 ghost use Rattle.ep_base.specs.Quorums.{size};
-ghost use Rattle.ep_trace.specs.Left.{frame_text, leading_text, ungiven_line, ungiven_lines, phase_text, waiting_text, open_line, AddsOpen, OpenBelow, AddsLeft};
+ghost use Rattle.ep_trace.specs.Left.{frame_text, leading_text, ungiven_line, ungiven_lines, phase_text, waiting_text, spot_text, open_line, AddsOpen, OpenBelow, AddsLeft};
 ghost use Rattle.ep_world.specs.Played.{message_in, replica_in};
 
 use ep_base::{InstanceId, ReplicaId};
@@ -57,14 +57,14 @@ fn push_all_ungiven(text: &mut Vec<u8>, world: &World, messages: &[u64]) -> Resu
     Ok(())
 }
 
-// Appends what a replica sent that leads an instance in this phase.
+// Appends that a replica leads an instance in this phase.
 fn push_phase(text: &mut Vec<u8>, phase: LeadPhase) -> Result<(), AllocError>
     ensures { OnOk result (text.new.items ≡ text.old.items ++ phase_text phase) }
 {
     match phase {
-        LeadPhase::Proposing => text.extend_from_slice(b"PreAccepts"),
-        LeadPhase::Accepting => text.extend_from_slice(b"Accepts"),
-        LeadPhase::Preparing => text.extend_from_slice(b"Prepares"),
+        LeadPhase::Proposing => text.extend_from_slice(b", which leads it: PreAccepts are out"),
+        LeadPhase::Accepting => text.extend_from_slice(b", which leads it: Accepts are out"),
+        LeadPhase::Preparing => text.extend_from_slice(b", which leads it: Prepares are out"),
     }
 }
 
@@ -72,9 +72,8 @@ fn push_phase(text: &mut Vec<u8>, phase: LeadPhase) -> Result<(), AllocError>
 fn push_leading(text: &mut Vec<u8>, phase: LeadPhase, answers: u8) -> Result<(), AllocError>
     ensures { OnOk result (text.new.items ≡ text.old.items ++ leading_text phase answers) }
 {
-    text.extend_from_slice(b"which leads it: ")?;
     push_phase(text, phase)?;
-    text.extend_from_slice(b" are out, answers of others so far: ")?;
+    text.extend_from_slice(b", answers of others so far: ")?;
     push_number(text, u64::from(answers))
 }
 
@@ -83,9 +82,18 @@ fn push_waiting(text: &mut Vec<u8>, progress: Option<(LeadPhase, u8)>) -> Result
     ensures { OnOk result (text.new.items ≡ text.old.items ++ waiting_text progress) }
 {
     match progress {
-        None => text.extend_from_slice(b"which waits for a Commit, or has to recover it"),
+        None => text.extend_from_slice(b", which waits for a Commit, or has to recover it"),
         Some((phase, answers)) => push_leading(text, phase, answers),
     }
+}
+
+// Appends where an instance isn't committed.
+fn push_spot(text: &mut Vec<u8>, replica: ReplicaId, instance: InstanceId) -> Result<(), AllocError>
+    ensures { OnOk result (text.new.items ≡ text.old.items ++ spot_text replica instance) }
+{
+    push_instance(text, instance)?;
+    text.extend_from_slice(b" at replica ")?;
+    push_number(text, u64::from(replica.index()))
 }
 
 // Appends the line of an instance that isn't committed.
@@ -98,10 +106,7 @@ fn push_open(
     ensures { OnOk result (text.new.items ≡ text.old.items ++ open_line replica instance progress) }
 {
     text.extend_from_slice(b"not committed  ")?;
-    push_instance(text, instance)?;
-    text.extend_from_slice(b" at replica ")?;
-    push_number(text, u64::from(replica.index()))?;
-    text.extend_from_slice(b", ")?;
+    push_spot(text, replica, instance)?;
     push_waiting(text, progress)?;
     text.push(b'\n')?;
     Ok(())
