@@ -52,8 +52,8 @@ ROWS = (
 # what is run on devices that fail, all but audits and upgrades: the words, and the script
 DEVICES = (("replay",), ("replay", "--emit", "bundle"), ("run",), ("run", "--host", "ring"), ("run", "--emit", "bundle"))
 PUT = b"replicas 3\npropose 0 1 put x 1\n"
-# the script whose bundle, which takes several reads, is audited and upgraded on devices that fail
-LONG = ".ci/scripts/seven.script"
+# a script whose bundle has over 16 KiB, so that it takes several reads, and is audited and upgraded on devices that fail
+LONG = b"replicas 3\n" + b"propose 0 1 put x 1\nflush\nflush\n" * 40
 
 
 def looks():
@@ -133,7 +133,7 @@ def failing_devices():
     for words in DEVICES:
         yield swept("failing-devices", ["ep_main", "--", *words], PUT)
     for words in (["audit"], ["upgrade"]):
-        yield swept("failing-devices", ["ep_main", "--", *words], bundle_of(read(LONG)))
+        yield swept("failing-devices", ["ep_main", "--", *words], bundle_of(LONG))
     # (a script that is refused, so that the fault output is written on)
     yield swept("failing-devices", ["ep_main", "--", "replay"], b"replicas 4\n")
 

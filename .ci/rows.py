@@ -13,7 +13,7 @@ A row is a folder .ci/rows/NAME with files, each of which may lack:
 PROGRAM is ep_main as it was built; what begins with `node` or `collect` is run by ep_server, and what begins with `show` by
 ep_viewer, which were built as it was. Runs of `epaxos node` on one log, and its bundle, are made here.
 More rows are made of the scripts and reports in docs/FORMATS.md, examples/ and .ci/scripts/ (NAME.script is played, NAME.run is run
-by both hosts), and by .ci/made.py.
+by both hosts), and by .ci/made.py and .ci/words.py.
 """
 
 import gzip
@@ -53,6 +53,9 @@ class Row:
     files: dict = field(default_factory=dict)
     # outputs that are as good as the one that is wanted
     others: list = field(default_factory=list)
+    # whether the output has only to begin so, and how the fault output has to end behind what is told, where it may say more
+    is_begun: bool = False
+    rest: bytes | None = None
 
     def run(self, program):
         """Returns what is wrong with a run of the program, or nothing."""
@@ -77,9 +80,10 @@ class Row:
         status, wrote, told = self.one(program, runs[-1], bytes(given), self.redirect, folder)
         if status != self.status:
             return f"status {status} and not {self.status}; on standard error {told[:200]!r}"
-        if told != self.told:
+        is_told = told == self.told if self.rest is None else told.startswith(self.told) and told.endswith(self.rest)
+        if not is_told:
             return f"standard error has {told[:200]!r} and not {self.told[:200]!r}"
-        if wrote != self.wanted and wrote not in self.others:
+        if wrote != self.wanted and wrote not in self.others and not (self.is_begun and wrote.startswith(self.wanted)):
             at = next((place for place, (a, b) in enumerate(zip(wrote, self.wanted)) if a != b), min(len(wrote), len(self.wanted)))
             return f"standard output has {len(wrote)} bytes and not {len(self.wanted)}, or differs first in line {wrote[:at].count(10) + 1}: {wrote[at : at + 80]!r} and not {self.wanted[at : at + 80]!r}"
         return ""
@@ -170,8 +174,10 @@ def every():
     """All rows."""
     sys.path.insert(0, f"{TOP}/.ci")
     import made
+    import words
 
     yield from stored()
+    yield from (Row(**it) for it in words.every())
     yield from written()
     for name, script, report in made.every():
         yield from played(name, script, report)
