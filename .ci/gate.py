@@ -1,7 +1,7 @@
 """The gate.
 
   .ci/run             first looks whether the copies that tools write are up to date, and whether the edits of wrong/ still fit. Then
-                      runs the test command of README.md, `rt ci`, and then what it built: the rows of .ci/rows.py by both compilers,
+                      runs the test command of README.md, `rt ci`, and the tests in tests/ (tools/tests); and then what was built: the rows of .ci/rows.py by both compilers,
                       some of them with each allocation refused in turn (tools/refused-memory), and runs of the program with each read
                       and each write failed in turn (tools/failing-devices); and last the host in hosts/store, where cargo is (.ci/store.py)
   .ci/run --built     runs only what an earlier `rt ci` built
@@ -31,8 +31,6 @@ MOST = "500"
 # tests that are run with each allocation refused, or MOST of them: the crate, and a word of their names
 TESTS = (
     ("ep_replica_tests", ""),
-    ("ep_journal_tests", ""),
-    ("ep_exec_tests", "circle"),
     ("ep_world_tests", "played_on"),
     ("ep_audit_tests", ""),
     ("ep_host_tests", "a_put_and_a_get"),
@@ -78,6 +76,15 @@ def test_command():
         print(last, end="", flush=True)
     passed, failed = map(int, counts.groups()) if counts else (0, 0)
     return passed, failed or int(status != 0)
+
+
+def tests():
+    """Runs the tests that `rt ci` doesn't prove, and returns how many passed and how many failed."""
+    ran = subprocess.run(["tools/tests"], stdin=subprocess.DEVNULL, stdout=subprocess.PIPE, text=True, errors="replace")
+    print("tests/: ", ran.stdout, sep="", end="", flush=True)
+    counts = re.search(r"(\d+) passed, (\d+) failed\n\Z", ran.stdout)
+    passed, failed = map(int, counts.groups()) if counts else (0, 0)
+    return passed, failed or int(ran.returncode != 0)
 
 
 def swept(tool, words, given=None):
@@ -168,7 +175,7 @@ def main(words):
     with clock.Clock() as spent:
         passed = failed = 0
         fits = bool(words) or looks()
-        for part in ([test_command] * (not words) + [built]) * fits:
+        for part in ([test_command, tests] * (not words) + [built]) * fits:
             counts = part()
             passed, failed = passed + counts[0], failed + counts[1]
         failed += not fits
