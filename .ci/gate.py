@@ -36,7 +36,7 @@ TESTS = (
     ("ep_host_tests", "a_put_and_a_get"),
 )
 # scripts that are played, made into a bundle, and audited so
-SCRIPTS = ("examples/one_put.script", "examples/crossing_puts.script", ".ci/scripts/seven.script")
+SCRIPTS = ("examples/one_put.script", "examples/crossing_puts.script", "examples/swap.script", ".ci/scripts/seven.script")
 # what the names of rows begin with whose last run is made again so
 ROWS = (
     "audit-of-one-put",
@@ -105,7 +105,7 @@ def read(name):
 
 def last_run(row):
     """The words of a row's last run, and what it reads."""
-    given, runs = row.given, [it.split("\n") for it in "\n".join(row.words).split("\n|\n")]
+    given, runs = row.given, rows.runs_of(row.words)
     for words in runs[:-1]:
         given = bytearray(row.one(PROGRAM, words, given, "")[1])
     for place, byte in row.change:

@@ -13,7 +13,7 @@ A row is a folder .ci/rows/NAME with files, each of which may lack:
 PROGRAM is ep_main as it was built; what begins with `node` or `collect` is run by ep_server, and what begins with `show` by
 ep_viewer, which were built as it was. Runs of `epaxos node` on one log, and its bundle, are made here.
 More rows are made of the scripts and reports in docs/FORMATS.md, examples/ and .ci/scripts/ (NAME.script is played, NAME.run is run
-by both hosts), and by .ci/made.py and .ci/words.py.
+by both hosts), and by .ci/made.py, .ci/words.py and .ci/cases.py.
 """
 
 import gzip
@@ -35,9 +35,14 @@ def program_of(program, words):
     return program.replace("ep_main", own.get(words[0], "ep_main") if words else "ep_main")
 
 
+def runs_of(words):
+    """The words of each run, of those of a row."""
+    return [it.split("\n") for it in "\n".join(words).split("\n|\n")]
+
+
 def is_passed_over(program, words):
-    """Whether the words are another program's, and Rattle's own compiler, which made ep_main, made no such program (`rt ci` says so then)."""
-    return program.endswith(".by-rattle") and not os.path.isfile(program_of(program, words))
+    """Whether the words of a run are another program's, and Rattle's own compiler, which made ep_main, made no such program (`rt ci` says so then)."""
+    return program.endswith(".by-rattle") and not all(os.path.isfile(program_of(program, it)) for it in runs_of(words))
 
 
 @dataclass
@@ -69,7 +74,7 @@ class Row:
 
     def run_in(self, folder, program):
         """The same in this folder; in the caller's where there is none."""
-        given, runs = self.given, [it.split("\n") for it in "\n".join(self.words).split("\n|\n")]
+        given, runs = self.given, runs_of(self.words)
         for words in runs[:-1]:
             first = self.one(program, words, given, "", folder)
             if first[0] or first[2]:
@@ -173,15 +178,16 @@ def written():
 def every():
     """All rows."""
     sys.path.insert(0, f"{TOP}/.ci")
+    import cases
     import made
     import words
 
     yield from stored()
-    yield from (Row(**it) for it in words.every())
+    yield from (Row(**it) for it in (*words.every(), *cases.every()))
     yield from written()
-    for name, script, report in made.every():
+    for name, script, report in (*made.every(), *cases.played()):
         yield from played(name, script, report)
-    for name, words, script, reports in made.weather():
+    for name, words, script, reports in (*made.weather(), *cases.hosted()):
         yield from hosted(name, words, script, reports)
     for subcommand, scripts in (("replay", made.refused()), ("run", made.refused_runs())):
         for name, script, line in scripts:
