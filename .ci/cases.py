@@ -71,6 +71,7 @@ REFUSED_BY_RUN = (
     (b"replicas 3\nrepeat 0 1 00000000001\n", 2),
     (b"replicas 3\nrepeat 0 1 -1\n", 2),
     (b"replicas 3\nsection\ndrop 1 1 1\n", 3),
+    (b"replicas 3\nhold 1 1 2\n", 2),
     (b"replicas 3\nhold 2 02 7\n", 2),
     (b"replicas 3\ndrop 3 1 1\n", 2),
     (b"replicas 3\ndrop 1 3 1\n", 2),
