@@ -254,8 +254,7 @@ def played():
     yield "a request behind 2,001 others", *counted()
 
 
-# Message 1 is asked for before it is sent. The first flush gives it, the second one its answer, the third one the Commits, 3 and 4, and the last one none;
-# if one were given twice, there would be a message 5.
+# Message 1 is asked for before it is sent. The first flush gives it, the second one its answer, the third one the Commits, 3 and 4, and the last one none.
 GIVEN = b"replicas 3\ndeliver 1\npropose 0 1 put x 1\nflush\nexecute 0 0.1\nflush\nexecute 0 0.1\nflush\nflush\ndeliver 5\n"
 
 
@@ -352,7 +351,7 @@ def of_two_replicas():
     return [text(committed, [*its, third], receipts, lost=0) for its in ((first, second), (second, first))]
 
 
-# The entries of two replays, shown. A proposal's stamp is above what its client has seen; entries without a frame handled are of stamp 1.
+# The entries of three replays, shown. A proposal's stamp is above what its client has seen.
 PUT, SAME = "PreAccept 0.1 ballot (0, 0) put x 1 seq 1 deps -", "PreAcceptOK 0.1 ballot (0, 0) seq 1 deps -"
 COMMIT = "Commit 0.1 put x 1 seq 1 deps -"
 SHOWN_GIVEN = f"""stamp 1  replica 0 entry 1  propose put x 1 (client 1 request 1 seen 0); took 0.1; sends to 1: {PUT}
@@ -361,6 +360,15 @@ stamp 3  replica 0 entry 2  handle 1:1:0 {SAME}; sends to 1, to 2: {COMMIT}
 stamp 4  replica 0 entry 3  execute 0.1; executed 0.1 -> absent
 stamp 4  replica 1 entry 2  handle 0:2:0 {COMMIT}
 stamp 4  replica 2 entry 1  handle 0:2:1 {COMMIT}
+"""
+# Message 2 is given before 1; the flush gives 1 and the answer to 2, and not 2 again.
+LATE = b"replicas 3\npropose 0 1 put x 1\npropose 1 2 put y 2\ndeliver 2\nflush\n"
+LATER = "PreAccept 1.1 ballot (0, 1) put y 2 seq 1 deps -"
+SHOWN_LATE = f"""stamp 1  replica 0 entry 1  propose put x 1 (client 1 request 1 seen 0); took 0.1; sends to 1: {PUT}
+stamp 1  replica 1 entry 1  propose put y 2 (client 2 request 1 seen 0); took 1.1; sends to 2: {LATER}
+stamp 2  replica 1 entry 2  handle 0:1:0 {PUT}; sends to 0 NEVER HANDLED: {SAME}
+stamp 2  replica 2 entry 1  handle 1:1:0 {LATER}; sends to 1: PreAcceptOK 1.1 ballot (0, 1) seq 1 deps -
+stamp 3  replica 1 entry 3  handle 2:1:0 PreAcceptOK 1.1 ballot (0, 1) seq 1 deps -; sends to 0 NEVER HANDLED, to 2 NEVER HANDLED: Commit 1.1 put y 2 seq 1 deps -
 """
 SEEN = b"replicas 3\npropose 0 1 put x 1\nflush\nflush\nexecute 0 0.1\npropose 1 1 get x\npropose 2 2 get x\n"
 SHOWN_SEEN = f"""stamp 1  replica 0 entry 1  propose put x 1 (client 1 request 1 seen 0); took 0.1; sends to 1: {PUT}
@@ -381,5 +389,5 @@ def every():
         yield dict(name=f"{subcommand} refuses a line without an end", words=[subcommand], redirect="< /dev/zero", told=b"script refused at line 1\n", status=2)
     for option in ("--capacity=", "--turns=00010000000"):
         yield dict(name=f"words refused: run {option}", words=["run", option], given=b"replicas 3\n", told=REFUSED, rest=HELP, status=2)
-    for name, script, shown in (("what a flush gives", GIVEN, SHOWN_GIVEN), ("what a client has seen", SEEN, SHOWN_SEEN)):
+    for name, script, shown in (("what a flush gives", GIVEN, SHOWN_GIVEN), ("a flush behind a later message", LATE, SHOWN_LATE), ("what a client has seen", SEEN, SHOWN_SEEN)):
         yield dict(name=f"{name}, shown", words=["replay", "--emit", "bundle", "|", "show"], given=script, wanted=shown.encode())
