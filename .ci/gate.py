@@ -30,10 +30,7 @@ PROGRAMS = {PROGRAM: "", f"{PROGRAM}.by-rattle": " (built by Rattle's own compil
 MOST = "500"
 # tests that are run with each allocation refused, or MOST of them: the crate, and a word of their names
 TESTS = (
-    ("ep_replica_tests", ""),
     ("ep_world_tests", "played_on"),
-    ("ep_audit_tests", ""),
-    ("ep_host_tests", "a_put_and_a_get"),
 )
 # scripts that are played, made into a bundle, and audited so
 SCRIPTS = ("examples/one_put.script", "examples/crossing_puts.script", "examples/swap.script", ".ci/scripts/seven.script")
