@@ -1,0 +1,15 @@
+//! Tests of `ep_explain`: bundles that are refused, and what is told of them.
+//!
+//! They stand apart from the crate, so that its functions aren't proved again with them.
+#![tactic(auto)]
+
+#[cfg(test)]
+mod audits;
+#[cfg(test)]
+mod fields;
+#[cfg(test)]
+mod rows;
+#[cfg(test)]
+mod steps;
+#[cfg(test)]
+mod turned;
