@@ -16,9 +16,13 @@ reason_line words = codes "  " ++ filter is_plain words
 abbrev pub section : List ℕ → List (List ℕ) → List (List ℕ)
 section line reasons = line ∷ map reason_line reasons
 
+-- the audit's line of a fault, and its reasons
+abbrev pub fault_section : AuditFault → List (List ℕ) → List (List ℕ)
+fault_section x reasons = section (fault_text (fault_of x)) reasons
+
 -- the faults in their order, each with reasons of its own
 pub data AreTold : List AuditFault → List ℕ → Type 0 where
   none : AreTold [] []
   more :
       (xs : List AuditFault) (text : List ℕ) (x : AuditFault) (reasons : List (List ℕ)) → AreTold xs text →
-      AreTold (xs ++ x ∷ []) (text ++ text_of (section (fault_text (fault_of x)) reasons))
+      AreTold (xs ++ x ∷ []) (text ++ text_of (fault_section x reasons))

@@ -2,7 +2,7 @@
 
 ghost use Rattle.ep_journal.specs.Entries.{AreJournals};
 
-use crate::handled::{push_entry, push_replica};
+use crate::handled::{add_clock, push_entry};
 use crate::lookups::{entries_of, entry_at, is_request, proposal_in};
 use crate::reasons::Reasons;
 use ep_base::{Answer, InstanceId, ReplicaId};
@@ -22,10 +22,10 @@ pub(crate) fn unknown_reasons(
     journals.are_journals();
     let mut reasons = Reasons::new(alloc);
     if let Some(receipt) = receipt_at(receipts, place) {
+        add_unknown(alloc, receipt, &mut reasons)?;
         add_claim(alloc, receipt, &mut reasons)?;
         add_proposal(alloc, journals, receipt, &mut reasons)?;
         add_execution(alloc, journals, receipt, &mut reasons)?;
-        add_unknown(alloc, receipt, &mut reasons)?;
     }
     Ok(reasons)
 }
@@ -40,9 +40,9 @@ pub(crate) fn order_reasons(
     journals.are_journals();
     let mut reasons = Reasons::new(alloc);
     if let Some(receipt) = receipt_at(receipts, place) {
+        add_order(alloc, journals, receipt, &mut reasons)?;
         add_claim(alloc, receipt, &mut reasons)?;
         add_proposal(alloc, journals, receipt, &mut reasons)?;
-        add_order(alloc, journals, receipt, &mut reasons)?;
     }
     Ok(reasons)
 }
@@ -95,9 +95,8 @@ fn add_no_proposal(
     instance: InstanceId,
     reasons: &mut Reasons,
 ) -> Result<(), AllocError> {
-    let mut line = Vec::from_slice(alloc, b"proposal: none; ")?;
-    push_replica(&mut line, instance.replica())?;
-    line.extend_from_slice(b" proposes nothing as ")?;
+    let leader = instance.replica().index();
+    let mut line = format!(in alloc; "proposal: none; replica {leader} proposes nothing as ")?.into_bytes();
     push_instance(&mut line, instance)?;
     reasons.add(line)
 }
@@ -155,12 +154,8 @@ fn add_no_execution(
     count: usize,
     reasons: &mut Reasons,
 ) -> Result<(), AllocError> {
-    let mut line = Vec::from_slice(alloc, b"execution: none; ")?;
-    push_entry(&mut line, receipt.replica, receipt.entry)?;
-    line.extend_from_slice(b" isn't there: its journal has ")?;
-    push_number(&mut line, count as u64)?;
-    line.extend_from_slice(b" entries")?;
-    reasons.add(line)
+    let (replica, entry) = (receipt.replica.index(), receipt.entry);
+    reasons.tell(format!(in alloc; "execution: none; replica {replica} entry {entry} isn't there: its journal ends with entry {count}")?)
 }
 
 fn add_found_execution(
@@ -206,20 +201,16 @@ fn answer_in(done: &[(InstanceId, Answer)], instance: InstanceId) -> Option<&Ans
     None
 }
 
-/// What it usually means that a receipt is unknown.
+/// What to do where a receipt is unknown, and what that usually means.
 fn add_unknown(alloc: Global, receipt: &Receipt, reasons: &mut Reasons) -> Result<(), AllocError> {
+    let (client, request) = (receipt.client, receipt.request);
+    let replica = receipt.replica.index();
+    reasons.tell(format!(in alloc; "do: ask client {client} for the answer to request {request} that replica {replica} gave; if the receipt is that, copy the log of replica {replica} again, and audit it with the others")?)?;
     reasons.say(b"likely: a false claim: the receipt was made up, or changed after it was given")?;
-    let mut line = Vec::from_slice(alloc, b"else: ")?;
-    push_replica(&mut line, receipt.instance.replica())?;
-    line.extend_from_slice(b", which proposed it, or ")?;
-    push_replica(&mut line, receipt.replica)?;
-    line.extend_from_slice(
-        b", which executed it, forgot: it lost the end of its journal, or was set back to an older copy",
-    )?;
-    reasons.add(line)
+    reasons.tell(format!(in alloc; "else: the log of replica {replica} was copied before it gave the receipt; or it forgot: it lost the end of its journal, or was set back to an older copy")?)
 }
 
-/// What it usually means that a proposal isn't later than what its client had seen.
+/// What to do where a proposal isn't later than what its client had seen, and what that usually means.
 fn add_order(
     alloc: Global,
     journals: &Journals,
@@ -228,28 +219,28 @@ fn add_order(
 ) -> Result<(), AllocError>
     requires { AreJournals journals.now }
 {
-    let entries = entries_of(journals, receipt.instance.replica());
-    match proposal_in(entries, receipt.instance) {
-        Some(entry) if has_seen(&entry.event, receipt.seen) => {
-            add_set_back(alloc, receipt.instance.replica(), reasons)
-        }
-        _ => reasons.say(
-            b"likely: a false claim: the client didn't propose with the seen stamp that the receipt says",
-        ),
+    let leader = receipt.instance.replica();
+    match proposal_in(entries_of(journals, leader), receipt.instance) {
+        Some(entry) if has_seen(&entry.event, receipt.seen) => add_low(alloc, leader, reasons),
+        _ => add_false_order(alloc, receipt, reasons),
     }
 }
 
-fn add_set_back(
+/// The leader stamped too low.
+fn add_low(alloc: Global, leader: ReplicaId, reasons: &mut Reasons) -> Result<(), AllocError> {
+    add_clock(alloc, leader, reasons)?;
+    reasons.say(b"since: a proposal has a greater stamp than the seen stamp that it comes with")
+}
+
+/// The receipt has another seen stamp than the proposal.
+fn add_false_order(
     alloc: Global,
-    replica: ReplicaId,
+    receipt: &Receipt,
     reasons: &mut Reasons,
 ) -> Result<(), AllocError> {
-    let mut line = Vec::from_slice(alloc, b"likely: the clock of ")?;
-    push_replica(&mut line, replica)?;
-    line.extend_from_slice(
-        b" was set back: it stamps a proposal above the seen stamp that comes with it",
-    )?;
-    reasons.add(line)
+    let (client, request, seen) = (receipt.client, receipt.request, receipt.seen);
+    reasons.tell(format!(in alloc; "do: ask client {client} with which seen stamp it proposed request {request}: {seen} is the receipt's, and not the proposal's")?)?;
+    reasons.say(b"likely: a false claim: the client proposed with another seen stamp, or the receipt was changed")
 }
 
 /// Whether the event is a proposal with this seen stamp.

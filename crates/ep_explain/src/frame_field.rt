@@ -1,5 +1,6 @@
 //! The fields of frames.
 
+use crate::form::Form;
 use crate::walk::number_of;
 use ep_base::{InstanceId, ReplicaId};
 use ep_report::{push_instance, push_number};
@@ -13,19 +14,6 @@ pub(crate) struct FrameField<'a> {
     pub start: usize,
     pub len: usize,
     pub form: Form,
-}
-
-/// What a field's bytes are.
-#[derive(Clone, Copy, Debug, PartialEq, Eq)]
-pub(crate) enum Form {
-    /// A number, the highest byte first.
-    Number,
-    /// The code of a kind of message.
-    Kind,
-    /// A key or a value.
-    Word,
-    /// An instance: its replica, and its number of two bytes.
-    Instance,
 }
 
 /// A field of the header, which is a number.

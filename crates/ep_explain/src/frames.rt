@@ -1,18 +1,12 @@
 //! Frames in words, and how two of them differ.
 
 use crate::frame_field::{field_at, push_value};
+use crate::side::Side;
 use bytes::Bytes;
 use ep_frame::{Frame, FrameFault};
 use ep_report::push_number;
 use ep_words::{push_message, push_origin};
 use std::alloc::AllocError;
-
-/// The bytes of a frame, and what they are called.
-#[derive(Clone, Copy, Debug)]
-pub(crate) struct Side<'a> {
-    pub name: &'a [u8],
-    pub bytes: &'a [u8],
-}
 
 /// Appends a frame: which one it is, to whom it goes, its stamp and its message.
 pub(crate) fn push_frame(text: &mut Vec<u8>, frame: &Frame) -> Result<(), AllocError> {

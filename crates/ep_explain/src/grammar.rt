@@ -3,8 +3,10 @@
 use crate::allowed::Allowed;
 use crate::field::Field;
 use crate::reasons::Reasons;
-use crate::spot::{Section, Spot};
-use crate::walk::{Stop, Walk, number_of};
+use crate::region::Region;
+use crate::spot::Spot;
+use crate::stop::Stop;
+use crate::walk::{Walk, number_of};
 use ep_report::push_number;
 use ep_script::push_word;
 use std::alloc::{AllocError, Global};
@@ -38,11 +40,11 @@ fn pass_bundle(walk: &mut Walk<'_>) -> Result<(), Stop> {
     let receipts = walk.number(Field::ReceiptCount, 4, Allowed::Any)?;
     let terms = Terms { version, replicas };
     for replica in 0..replicas {
-        walk.enter(Section::Journal(replica));
+        walk.enter(Region::Journal(replica));
         pass_journal(walk, terms, replica)?;
     }
     for receipt in 0..receipts {
-        walk.enter(Section::Receipt(receipt.saturating_add(1)));
+        walk.enter(Region::Receipt(receipt.saturating_add(1)));
         pass_receipt(walk, terms)?;
     }
     Ok(())
@@ -52,7 +54,7 @@ fn pass_journal(walk: &mut Walk<'_>, terms: Terms, replica: u64) -> Result<(), S
     walk.number(Field::JournalReplica, 1, Allowed::One(replica))?;
     let entries = walk.number(Field::EntryCount, 4, Allowed::Any)?;
     for entry in 0..entries {
-        walk.enter(Section::Entry(replica, entry.saturating_add(1)));
+        walk.enter(Region::Entry(replica, entry.saturating_add(1)));
         pass_entry(walk, terms)?;
     }
     Ok(())
@@ -155,62 +157,80 @@ fn pass_receipt(walk: &mut Walk<'_>, terms: Terms) -> Result<(), Stop> {
     pass_answer(walk)
 }
 
-/// The field, what it may be, and what it is.
+/// What to do, what it usually means, and the field: what it may be, and what it is.
 fn add_spot(
     alloc: Global,
     spot: Spot,
     rest: &[u8],
     reasons: &mut Reasons,
 ) -> Result<(), AllocError> {
-    let mut line = Vec::from_slice(alloc, b"field: ")?;
-    spot.field.push_name(&mut line)?;
-    line.extend_from_slice(b", in the ")?;
-    spot.section.push(&mut line)?;
-    reasons.add(line)?;
+    add_cure(reasons)?;
     if rest.len() < spot.len {
+        reasons.say(b"likely: the bundle was cut, or a length or a count before this place was changed")?;
+        add_field(alloc, spot, reasons)?;
         return add_cut(alloc, spot.len, rest.len(), reasons);
     }
-    let mut line = Vec::from_slice(alloc, b"allowed: ")?;
-    spot.allowed.push(&mut line)?;
-    reasons.add(line)?;
-    add_found(alloc, spot, rest, reasons)
+    reasons.say(b"likely: the bundle was changed here, or a length or a count before this place was")?;
+    add_field(alloc, spot, reasons)?;
+    add_allowed(alloc, spot, rest, reasons)
 }
 
-/// The input ends within a field.
+/// What to do.
+fn add_cure(reasons: &mut Reasons) -> Result<(), AllocError> {
+    reasons.say(
+        b"do: copy the bundle again from where it was made, or make it anew from the logs by `epaxos collect`",
+    )
+}
+
+/// The field, and where it is.
+fn add_field(alloc: Global, spot: Spot, reasons: &mut Reasons) -> Result<(), AllocError> {
+    let mut line = Vec::from_slice(alloc, b"field: ")?;
+    spot.field.push_name(&mut line)?;
+    line.extend_from_slice(b", in ")?;
+    spot.region.push(&mut line)?;
+    reasons.add(line)
+}
+
+/// The input ends within the field.
 fn add_cut(
     alloc: Global,
     len: usize,
     left: usize,
     reasons: &mut Reasons,
 ) -> Result<(), AllocError> {
-    let mut line = Vec::from_slice(alloc, b"found: the input ends; of the field's ")?;
-    push_number(&mut line, len as u64)?;
-    line.extend_from_slice(b" bytes there are ")?;
-    push_number(&mut line, left as u64)?;
-    reasons.add(line)?;
-    reasons.say(b"likely: the bundle was cut, or a length or a count before this place was changed")
+    reasons.tell(format!(in alloc; "found: {left} of the field's {len} bytes, and then the end")?)
 }
 
-/// What the field is.
-fn add_found(
+/// What the field may be, and what it is.
+fn add_allowed(
     alloc: Global,
     spot: Spot,
     rest: &[u8],
     reasons: &mut Reasons,
 ) -> Result<(), AllocError> {
+    let mut line = Vec::from_slice(alloc, b"allowed: ")?;
+    spot.allowed.push(&mut line)?;
+    reasons.add(line)?;
     let mut line = Vec::from_slice(alloc, b"found: ")?;
+    push_found(&mut line, spot, rest)?;
+    reasons.add(line)
+}
+
+/// Appends what the field is.
+fn push_found(line: &mut Vec<u8>, spot: Spot, rest: &[u8]) -> Result<(), AllocError> {
     let (front, _) = rest.split_at(spot.len.min(rest.len()));
     match spot.allowed {
-        Allowed::Magic | Allowed::OtherKey => push_word(&mut line, front)?,
-        _ => push_number(&mut line, number_of(front))?,
+        Allowed::Magic | Allowed::OtherKey => push_word(line, front),
+        _ => push_number(line, number_of(front)),
     }
-    reasons.add(line)?;
-    reasons.say(b"likely: the bundle was changed here, or a length or a count before this place was")
 }
 
 /// The bundle is over, and bytes are left.
 fn add_left(alloc: Global, rest: &[u8], reasons: &mut Reasons) -> Result<(), AllocError> {
-    let mut line = Vec::from_slice(alloc, b"field: none; the bundle is over, and bytes are left: ")?;
-    push_number(&mut line, rest.len() as u64)?;
-    reasons.add(line)
+    add_cure(reasons)?;
+    reasons.say(
+        b"likely: something was appended to the bundle, or a count before this place was changed",
+    )?;
+    let left = rest.len();
+    reasons.tell(format!(in alloc; "found: {left} bytes after the last receipt, where the bundle is over")?)
 }

@@ -1,16 +1,15 @@
-//! Why a handled frame, or a receipt, doesn't agree with the journals.
+//! Why a handled frame isn't as its sender's journal has it.
 
 ghost use Rattle.ep_journal.specs.Entries.{AreJournals};
 
-use crate::claims::{order_reasons, unknown_reasons};
-use crate::frames::{Side, push_difference, push_frame};
+use crate::frames::{push_difference, push_frame};
 use crate::lookups::{entries_of, entry_at, sent_there};
 use crate::reasons::Reasons;
+use crate::side::Side;
 use ep_base::ReplicaId;
-use ep_bundle::Bundle;
 use ep_frame::Frame;
 use ep_journal::{Entry, Event, Journals};
-use ep_report::{AuditFault, push_number};
+use ep_report::push_number;
 use ep_words::push_event;
 use std::alloc::{AllocError, Global};
 
@@ -22,24 +21,19 @@ struct Handling<'a> {
     frame: &'a Frame,
 }
 
-/// The reasons of a fault of the bundle.
-pub(crate) fn reasons_of(
+/// What is wrong with what the replica's entry of this number handles.
+pub(crate) fn handling_reasons(
     alloc: Global,
-    bundle: &Bundle,
-    fault: AuditFault,
+    journals: &Journals,
+    replica: ReplicaId,
+    number: u32,
 ) -> Result<Reasons, AllocError> {
-    let journals = &bundle.journals;
-    match fault {
-        AuditFault::UnsentFrame(replica, number)
-        | AuditFault::ChangedFrame(replica, number)
-        | AuditFault::StampOrder(replica, number) => {
-            handling_reasons(alloc, journals, replica, number)
-        }
-        AuditFault::UnknownReceipt(place) => {
-            unknown_reasons(alloc, journals, &bundle.receipts, place)
-        }
-        AuditFault::CallerOrder(place) => order_reasons(alloc, journals, &bundle.receipts, place),
+    journals.are_journals();
+    let mut reasons = Reasons::new(alloc);
+    if let Some(handling) = handling_at(journals, replica, number) {
+        add_handling(alloc, journals, handling, &mut reasons)?;
     }
+    Ok(reasons)
 }
 
 /// The frame that the replica's entry of this number handles.
@@ -57,30 +51,8 @@ fn handling_at(journals: &Journals, replica: ReplicaId, number: u32) -> Option<H
     }
 }
 
-/// What is wrong with what the replica's entry of this number handles.
-fn handling_reasons(
-    alloc: Global,
-    journals: &Journals,
-    replica: ReplicaId,
-    number: u32,
-) -> Result<Reasons, AllocError> {
-    journals.are_journals();
-    let mut reasons = Reasons::new(alloc);
-    if let Some(handling) = handling_at(journals, replica, number) {
-        add_handled(alloc, handling.frame, &mut reasons)?;
-        add_origin(alloc, journals, handling, &mut reasons)?;
-    }
-    Ok(reasons)
-}
-
-fn add_handled(alloc: Global, frame: &Frame, reasons: &mut Reasons) -> Result<(), AllocError> {
-    let mut line = Vec::from_slice(alloc, b"handled: ")?;
-    push_frame(&mut line, frame)?;
-    reasons.add(line)
-}
-
-/// What stands where the frame's origin points, and what follows from it.
-fn add_origin(
+/// What is wrong with the frame, by what stands where its origin points.
+fn add_handling(
     alloc: Global,
     journals: &Journals,
     handling: Handling<'_>,
@@ -88,10 +60,15 @@ fn add_origin(
 ) -> Result<(), AllocError>
     requires { AreJournals journals.now }
 {
-    match sent_there(journals, handling.frame) {
-        None => add_unsent(alloc, journals, handling, reasons),
-        Some(sent) => add_sent(alloc, journals, handling, sent, reasons),
+    let Some(sent) = sent_there(journals, handling.frame) else {
+        return add_unsent(alloc, journals, handling, reasons);
+    };
+    if sent.as_slice() == handling.frame.as_slice() {
+        return add_early(alloc, handling, reasons);
     }
+    add_forgot(alloc, handling, reasons)?;
+    add_changed(alloc, handling.frame, sent, reasons)?;
+    add_sender(alloc, journals, handling.frame, reasons)
 }
 
 /// Nothing stands there.
@@ -105,11 +82,62 @@ fn add_unsent(
 {
     let frame = handling.frame;
     let entries = entries_of(journals, frame.from());
-    match entry_at(entries, frame.origin().entry) {
-        None => add_no_entry(alloc, frame, entries.len(), reasons)?,
-        Some(entry) => add_no_place(alloc, frame, entry, reasons)?,
-    }
-    add_forgotten(alloc, handling, reasons)
+    let Some(entry) = entry_at(entries, frame.origin().entry) else {
+        add_behind(alloc, handling, reasons)?;
+        return add_no_entry(alloc, frame, entries.len(), reasons);
+    };
+    add_forgot(alloc, handling, reasons)?;
+    add_no_place(alloc, frame, entry, reasons)?;
+    add_sender(alloc, journals, frame, reasons)
+}
+
+/// What to do where the sender's journal ends too early, and what that usually means.
+fn add_behind(
+    alloc: Global,
+    handling: Handling<'_>,
+    reasons: &mut Reasons,
+) -> Result<(), AllocError> {
+    let sender = handling.frame.from().index();
+    let receiver = handling.replica.index();
+    reasons.tell(format!(in alloc; "do: copy the log of replica {sender} again, and audit it with the others; if this stays, stop replica {sender}, and see from which log it was last started, and whether its disk kept what was synced")?)?;
+    reasons.tell(format!(in alloc; "likely: the log of replica {sender} was copied before that of replica {receiver}; or replica {sender} forgot: it lost the end of its journal, or was set back to an older copy")?)?;
+    add_forged(alloc, handling, reasons)
+}
+
+/// What to do where the sender's journal has something else, and what that usually means.
+fn add_forgot(
+    alloc: Global,
+    handling: Handling<'_>,
+    reasons: &mut Reasons,
+) -> Result<(), AllocError> {
+    let sender = handling.frame.from().index();
+    let receiver = handling.replica.index();
+    reasons.tell(format!(in alloc; "do: stop replica {sender}, and see from which log it was last started, and whether its disk kept what was synced; replica {receiver} only handled what came")?)?;
+    reasons.tell(format!(in alloc; "likely: replica {sender} forgot: it lost the end of its journal, or was set back to an older copy, and went on from there")?)?;
+    add_forged(alloc, handling, reasons)
+}
+
+/// What else it can mean; and the frame.
+fn add_forged(
+    alloc: Global,
+    handling: Handling<'_>,
+    reasons: &mut Reasons,
+) -> Result<(), AllocError> {
+    let receiver = handling.replica.index();
+    reasons.tell(format!(in alloc; "else: the frame was forged, or changed on its way to replica {receiver} or in a journal afterwards")?)?;
+    add_frame(alloc, b"handled: ", handling.frame, reasons)
+}
+
+/// A frame, under this name.
+fn add_frame(
+    alloc: Global,
+    name: &[u8],
+    frame: &Frame,
+    reasons: &mut Reasons,
+) -> Result<(), AllocError> {
+    let mut line = Vec::from_slice(alloc, name)?;
+    push_frame(&mut line, frame)?;
+    reasons.add(line)
 }
 
 /// The sender has no such entry.
@@ -119,12 +147,8 @@ fn add_no_entry(
     count: usize,
     reasons: &mut Reasons,
 ) -> Result<(), AllocError> {
-    let mut line = Vec::from_slice(alloc, b"sent: nothing; ")?;
-    push_entry(&mut line, frame.from(), frame.origin().entry)?;
-    line.extend_from_slice(b" isn't there: its journal has ")?;
-    push_number(&mut line, count as u64)?;
-    line.extend_from_slice(b" entries")?;
-    reasons.add(line)
+    let (sender, entry) = (frame.from().index(), frame.origin().entry);
+    reasons.tell(format!(in alloc; "sent: nothing; replica {sender} entry {entry} isn't there: its journal ends with entry {count}")?)
 }
 
 /// The sender's entry doesn't send so many frames.
@@ -134,44 +158,19 @@ fn add_no_place(
     entry: &Entry,
     reasons: &mut Reasons,
 ) -> Result<(), AllocError> {
-    let mut line = Vec::from_slice(alloc, b"sent: nothing; ")?;
-    push_entry(&mut line, frame.from(), frame.origin().entry)?;
-    line.extend_from_slice(b" sends ")?;
-    push_number(&mut line, entry.frames.as_slice().len() as u64)?;
-    line.extend_from_slice(b" frames: ")?;
-    push_event(&mut line, &entry.event)?;
-    reasons.add(line)
-}
-
-/// A frame stands there: another one, or this one with too great a stamp.
-fn add_sent(
-    alloc: Global,
-    journals: &Journals,
-    handling: Handling<'_>,
-    sent: &Frame,
-    reasons: &mut Reasons,
-) -> Result<(), AllocError>
-    requires { AreJournals journals.now }
-{
-    if sent.as_slice() == handling.frame.as_slice() {
-        return add_stamps(alloc, handling, reasons);
-    }
-    add_other(alloc, handling.frame, sent, reasons)?;
-    add_sender(alloc, journals, handling.frame, reasons)?;
-    add_forgotten(alloc, handling, reasons)
+    let (sender, number) = (frame.from().index(), entry.number);
+    let count = entry.frames.as_slice().len();
+    reasons.tell(format!(in alloc; "sent: nothing; replica {sender} entry {number} sends {count} in all, counted from 0")?)
 }
 
 /// The other frame, and how it differs.
-fn add_other(
+fn add_changed(
     alloc: Global,
     handled: &Frame,
     sent: &Frame,
     reasons: &mut Reasons,
 ) -> Result<(), AllocError> {
-    let mut line = Vec::from_slice(alloc, b"sent: ")?;
-    push_frame(&mut line, sent)?;
-    reasons.add(line)?;
-    let mut line = Vec::new(alloc);
+    add_frame(alloc, b"sent: ", sent, reasons)?;
     let one = Side {
         name: b"handled",
         bytes: handled.as_slice(),
@@ -180,6 +179,7 @@ fn add_other(
         name: b"sent",
         bytes: sent.as_slice(),
     };
+    let mut line = Vec::new(alloc);
     push_difference(&mut line, one, other)?;
     reasons.add(line)
 }
@@ -204,64 +204,28 @@ fn add_sender(
 }
 
 /// The stamps aren't in order.
-fn add_stamps(
+fn add_early(
     alloc: Global,
     handling: Handling<'_>,
     reasons: &mut Reasons,
 ) -> Result<(), AllocError> {
-    let mut line = Vec::from_slice(alloc, b"stamps: the frame has ")?;
-    push_number(&mut line, handling.frame.origin().stamp.ticks())?;
-    line.extend_from_slice(b", and the entry that handles it ")?;
-    push_number(&mut line, handling.entry.stamp.ticks())?;
-    line.extend_from_slice(b", which has to be greater")?;
-    reasons.add(line)?;
-    let mut line = Vec::from_slice(alloc, b"likely: the clock of ")?;
-    push_replica(&mut line, handling.replica)?;
-    line.extend_from_slice(b" was set back, or its journal was changed afterwards")?;
-    reasons.add(line)?;
-    add_look(alloc, handling.replica, handling.frame.from(), reasons)
+    add_clock(alloc, handling.replica, reasons)?;
+    reasons.say(b"since: an entry has a greater stamp than the frame that it handles")?;
+    add_frame(alloc, b"handled: ", handling.frame, reasons)?;
+    let stamp = handling.frame.origin().stamp.ticks();
+    let other = handling.entry.stamp.ticks();
+    reasons.tell(format!(in alloc; "stamps: the frame has {stamp}, and the entry that handles it {other}")?)
 }
 
-/// What it usually means that the sender's journal hasn't got the frame.
-fn add_forgotten(
+/// What to do where a replica stamped too low, and what that usually means.
+pub(crate) fn add_clock(
     alloc: Global,
-    handling: Handling<'_>,
+    replica: ReplicaId,
     reasons: &mut Reasons,
 ) -> Result<(), AllocError> {
-    let sender = handling.frame.from();
-    let mut line = Vec::from_slice(alloc, b"likely: ")?;
-    push_replica(&mut line, sender)?;
-    line.extend_from_slice(
-        b" forgot: it lost the end of its journal, or was set back to an older copy, and went on from there",
-    )?;
-    reasons.add(line)?;
-    add_look(alloc, sender, handling.replica, reasons)?;
-    let mut line = Vec::from_slice(alloc, b"else: the frame was forged, or changed on its way to ")?;
-    push_replica(&mut line, handling.replica)?;
-    line.extend_from_slice(b" or in a journal afterwards")?;
-    reasons.add(line)
-}
-
-/// Whose log is to be looked at, and whose isn't.
-fn add_look(
-    alloc: Global,
-    suspect: ReplicaId,
-    other: ReplicaId,
-    reasons: &mut Reasons,
-) -> Result<(), AllocError> {
-    let mut line = Vec::from_slice(alloc, b"look at: how ")?;
-    push_replica(&mut line, suspect)?;
-    line.extend_from_slice(
-        b" was last started, from which log, and whether its disk kept what was synced; not at ",
-    )?;
-    push_replica(&mut line, other)?;
-    reasons.add(line)
-}
-
-/// Appends a replica.
-pub(crate) fn push_replica(text: &mut Vec<u8>, replica: ReplicaId) -> Result<(), AllocError> {
-    text.extend_from_slice(b"replica ")?;
-    push_number(text, u64::from(replica.index()))
+    let replica = replica.index();
+    reasons.tell(format!(in alloc; "do: compare the journal of replica {replica} with its log, and see what stamps its entries")?)?;
+    reasons.tell(format!(in alloc; "likely: the journal of replica {replica} was changed afterwards, or its program stamps by a clock of its own, which was set back")?)
 }
 
 /// Appends an entry of a replica.
@@ -270,7 +234,8 @@ pub(crate) fn push_entry(
     replica: ReplicaId,
     number: u32,
 ) -> Result<(), AllocError> {
-    push_replica(text, replica)?;
+    text.extend_from_slice(b"replica ")?;
+    push_number(text, u64::from(replica.index()))?;
     text.extend_from_slice(b" entry ")?;
     push_number(text, u64::from(number))
 }

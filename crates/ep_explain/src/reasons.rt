@@ -59,6 +59,11 @@ impl Reasons {
         Ok(())
     }
 
+    /// Adds a line of this text.
+    pub(crate) fn tell(&mut self, text: String) -> Result<(), AllocError> {
+        self.add(text.into_bytes())
+    }
+
     /// Adds a line of these words.
     pub(crate) fn say(&mut self, words: &[u8]) -> Result<(), AllocError> {
         let alloc = *self.lines.allocator();

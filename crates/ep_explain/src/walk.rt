@@ -2,16 +2,9 @@
 
 use crate::allowed::Allowed;
 use crate::field::Field;
-use crate::spot::{Section, Spot};
-
-/// Why a walk ends.
-#[derive(Clone, Copy, Debug, PartialEq, Eq)]
-pub(crate) enum Stop {
-    /// This field begins at the place.
-    At(Spot),
-    /// The place was not met.
-    Past,
-}
+use crate::region::Region;
+use crate::spot::Spot;
+use crate::stop::Stop;
 
 /// The bytes that aren't passed yet, and the offset of the first of them.
 #[derive(Drop)]
@@ -19,7 +12,7 @@ pub(crate) struct Walk<'a> {
     rest: &'a [u8],
     at: u64,
     wanted: u64,
-    section: Section,
+    region: Region,
 }
 
 /// The number that these bytes spell, the highest first.
@@ -38,7 +31,7 @@ impl<'a> Walk<'a> {
             rest: bytes,
             at: 0,
             wanted,
-            section: Section::Header,
+            region: Region::Header,
         }
     }
 
@@ -47,9 +40,9 @@ impl<'a> Walk<'a> {
         self.rest
     }
 
-    /// Goes into this part.
-    pub(crate) fn enter(&mut self, section: Section) {
-        self.section = section;
+    /// Goes into this region.
+    pub(crate) fn enter(&mut self, region: Region) {
+        self.region = region;
     }
 
     /// Passes a field of so many bytes, and gives them; ends where it is the one that is looked for.
@@ -57,7 +50,7 @@ impl<'a> Walk<'a> {
         if self.at == self.wanted && len > 0 {
             return Err(Stop::At(Spot {
                 field,
-                section: self.section,
+                region: self.region,
                 len,
                 allowed,
             }));

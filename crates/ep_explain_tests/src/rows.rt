@@ -56,8 +56,8 @@ pub(crate) fn changed(rt: &impl Abort, alloc: Global, changes: &[(usize, u8)]) -
 
 /// Whether this is what is told of the bytes.
 pub(crate) fn tells(rt: &impl Abort, alloc: Global, bytes: &[u8], wanted: &str) -> bool {
-    let text = explain(alloc, bytes).expect(rt, "memory for words");
-    text.as_slice() == wanted.as_bytes()
+    let told = explain(alloc, bytes).expect(rt, "memory for words");
+    told.text.as_slice() == wanted.as_bytes()
 }
 
 /// Whether this is told of the bundle with these bytes at these places.

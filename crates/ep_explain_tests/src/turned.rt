@@ -42,16 +42,17 @@ fn tells_verdict(text: &[u8]) -> bool {
 /// Whether the bundle, cut to so many bytes, has the field at which it is cut told.
 fn is_told_cut(rt: &impl Abort, alloc: Global, len: usize) -> bool {
     let (front, _) = BUNDLE.as_slice().split_at(len.min(BUNDLE.len()));
-    let text = explain(alloc, front).expect(rt, "memory for words");
-    names_field(&text)
+    let told = explain(alloc, front).expect(rt, "memory for words");
+    names_field(&told.text)
 }
 
 /// Whether the bundle with this byte turned is accepted, or told of with its reasons.
 fn is_told_turned(rt: &impl Abort, alloc: Global, place: usize, bits: u8) -> bool {
     let byte = if place < BUNDLE.len() { BUNDLE[place] } else { 0 };
     let bytes = changed(rt, alloc, &[(place, byte ^ bits)]);
-    let text = explain(alloc, &bytes).expect(rt, "memory for words");
-    names_field(&text) || tells_cause(&text) || tells_verdict(&text) || is_over(&text)
+    let told = explain(alloc, &bytes).expect(rt, "memory for words");
+    let text = &told.text;
+    names_field(text) || tells_cause(text) || tells_verdict(text) || is_over(text)
 }
 
 /// Whether bytes are left behind the bundle's end.
