@@ -36,8 +36,9 @@ pub(crate) fn push_frame_fault(text: &mut Vec<u8>, fault: FrameFault) -> Result<
     let alloc = *text.allocator();
     text.extend_from_slice(fault.to_string(alloc)?.as_bytes())?;
     if let FrameFault::Field(place) = fault {
-        text.extend_from_slice(b", the ")?;
+        text.extend_from_slice(b" (")?;
         text.extend_from_slice(field_at(&[], place as usize).name)?;
+        text.push(b')')?;
     }
     Ok(())
 }

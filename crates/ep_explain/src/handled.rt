@@ -14,7 +14,7 @@ use ep_words::push_event;
 use std::alloc::{AllocError, Global};
 
 /// An entry that handles a frame.
-#[derive(Clone, Copy)]
+#[derive(Drop)]
 struct Handling<'a> {
     replica: ReplicaId,
     entry: &'a Entry,
@@ -31,7 +31,7 @@ pub(crate) fn handling_reasons(
     journals.are_journals();
     let mut reasons = Reasons::new(alloc);
     if let Some(handling) = handling_at(journals, replica, number) {
-        add_handling(alloc, journals, handling, &mut reasons)?;
+        add_handling(alloc, journals, &handling, &mut reasons)?;
     }
     Ok(reasons)
 }
@@ -55,7 +55,7 @@ fn handling_at(journals: &Journals, replica: ReplicaId, number: u32) -> Option<H
 fn add_handling(
     alloc: Global,
     journals: &Journals,
-    handling: Handling<'_>,
+    handling: &Handling<'_>,
     reasons: &mut Reasons,
 ) -> Result<(), AllocError>
     requires { AreJournals journals.now }
@@ -75,7 +75,7 @@ fn add_handling(
 fn add_unsent(
     alloc: Global,
     journals: &Journals,
-    handling: Handling<'_>,
+    handling: &Handling<'_>,
     reasons: &mut Reasons,
 ) -> Result<(), AllocError>
     requires { AreJournals journals.now }
@@ -94,7 +94,7 @@ fn add_unsent(
 /// What to do where the sender's journal ends too early, and what that usually means.
 fn add_behind(
     alloc: Global,
-    handling: Handling<'_>,
+    handling: &Handling<'_>,
     reasons: &mut Reasons,
 ) -> Result<(), AllocError> {
     let sender = handling.frame.from().index();
@@ -107,7 +107,7 @@ fn add_behind(
 /// What to do where the sender's journal has something else, and what that usually means.
 fn add_forgot(
     alloc: Global,
-    handling: Handling<'_>,
+    handling: &Handling<'_>,
     reasons: &mut Reasons,
 ) -> Result<(), AllocError> {
     let sender = handling.frame.from().index();
@@ -120,7 +120,7 @@ fn add_forgot(
 /// What else it can mean; and the frame.
 fn add_forged(
     alloc: Global,
-    handling: Handling<'_>,
+    handling: &Handling<'_>,
     reasons: &mut Reasons,
 ) -> Result<(), AllocError> {
     let receiver = handling.replica.index();
@@ -206,7 +206,7 @@ fn add_sender(
 /// The stamps aren't in order.
 fn add_early(
     alloc: Global,
-    handling: Handling<'_>,
+    handling: &Handling<'_>,
     reasons: &mut Reasons,
 ) -> Result<(), AllocError> {
     add_clock(alloc, handling.replica, reasons)?;

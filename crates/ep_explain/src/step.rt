@@ -39,7 +39,7 @@ pub(crate) fn add_draft(
     };
     match event.checked() {
         Err(fault) => add_no_frame(alloc, fault, reasons),
-        Ok(event) => add_event(alloc, journal, event, told, reasons),
+        Ok(event) => add_event(alloc, journal, event, &told, reasons),
     }
 }
 
@@ -55,7 +55,7 @@ fn add_event(
     alloc: Global,
     journal: &mut Journal,
     event: Event,
-    told: Told<'_>,
+    told: &Told<'_>,
     reasons: &mut Reasons,
 ) -> Result<(), AllocError> {
     add_words(alloc, &event, reasons)?;
@@ -103,7 +103,7 @@ fn add_taken(
     alloc: Global,
     taken: Result<(), StepFault>,
     entries: &[Entry],
-    told: Told<'_>,
+    told: &Told<'_>,
     reasons: &mut Reasons,
 ) -> Result<(), AllocError> {
     match taken {
@@ -147,7 +147,7 @@ fn meaning_of(fault: StepFault) -> &'static str {
 fn add_differences(
     alloc: Global,
     entries: &[Entry],
-    told: Told<'_>,
+    told: &Told<'_>,
     reasons: &mut Reasons,
 ) -> Result<(), AllocError> {
     let Some(step) = entries.last() else {

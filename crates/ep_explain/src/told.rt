@@ -4,7 +4,7 @@ use bytes::Bytes;
 use ep_base::{Answer, InstanceId, Stamp};
 
 /// What the bytes of an entry say beside its event.
-#[derive(Clone, Copy)]
+#[derive(Drop)]
 pub(crate) struct Told<'a> {
     pub stamp: Stamp,
     pub frames: &'a [Bytes],

@@ -9,102 +9,111 @@ verdict accepted
 const A_CHANGED_FRAME: &str = "\
 verdict refused
 A2 changed frame at replica 1 entry 1
+  do: stop replica 0, and see from which log it was last started, and whether its disk kept what was synced; replica 1 only handled what came
+  likely: replica 0 forgot: it lost the end of its journal, or was set back to an older copy, and went on from there
+  else: the frame was forged, or changed on its way to replica 1 or in a journal afterwards
   handled: 0:1:0 to 1 stamp 1 PreAccept 0.1 ballot (0, 0) put x 2 seq 1 deps -
   sent: 0:1:0 to 1 stamp 1 PreAccept 0.1 ballot (0, 0) put x 1 seq 1 deps -
   first difference: value or second key (byte 41), handled 2, sent 1
   replica 0 entry 1: propose put x 1 (client 1 request 1 seen 0)
-  likely: replica 0 forgot: it lost the end of its journal, or was set back to an older copy, and went on from there
-  look at: how replica 0 was last started, from which log, and whether its disk kept what was synced; not at replica 1
-  else: the frame was forged, or changed on its way to replica 1 or in a journal afterwards
 ";
 
 const AN_UNSENT_FRAME: &str = "\
 verdict refused
 A1 unsent frame at replica 2 entry 1
-  handled: 0:9:1 to 2 stamp 3 Commit 0.1 put x 1 seq 1 deps -
-  sent: nothing; replica 0 entry 9 isn't there: its journal has 3 entries
-  likely: replica 0 forgot: it lost the end of its journal, or was set back to an older copy, and went on from there
-  look at: how replica 0 was last started, from which log, and whether its disk kept what was synced; not at replica 2
+  do: copy the log of replica 0 again, and audit it with the others; if this stays, stop replica 0, and see from which log it was last started, and whether its disk kept what was synced
+  likely: the log of replica 0 was copied before that of replica 2; or replica 0 forgot: it lost the end of its journal, or was set back to an older copy
   else: the frame was forged, or changed on its way to replica 2 or in a journal afterwards
+  handled: 0:9:1 to 2 stamp 3 Commit 0.1 put x 1 seq 1 deps -
+  sent: nothing; replica 0 entry 9 isn't there: its journal ends with entry 3
 ";
 
 const A_FRAME_PAST_THE_LAST: &str = "\
 verdict refused
 A1 unsent frame at replica 2 entry 1
-  handled: 0:2:9 to 2 stamp 3 Commit 0.1 put x 1 seq 1 deps -
-  sent: nothing; replica 0 entry 2 sends 2 frames: handle 1:1:0 PreAcceptOK 0.1 ballot (0, 0) seq 1 deps -
+  do: stop replica 0, and see from which log it was last started, and whether its disk kept what was synced; replica 2 only handled what came
   likely: replica 0 forgot: it lost the end of its journal, or was set back to an older copy, and went on from there
-  look at: how replica 0 was last started, from which log, and whether its disk kept what was synced; not at replica 2
   else: the frame was forged, or changed on its way to replica 2 or in a journal afterwards
+  handled: 0:2:9 to 2 stamp 3 Commit 0.1 put x 1 seq 1 deps -
+  sent: nothing; replica 0 entry 2 sends 2 in all, counted from 0
+  replica 0 entry 2: handle 1:1:0 PreAcceptOK 0.1 ballot (0, 0) seq 1 deps -
 ";
 
 const AN_EARLY_STAMP: &str = "\
 verdict refused
 A3 stamp order at replica 1 entry 1
+  do: compare the journal of replica 1 with its log, and see what stamps its entries
+  likely: the journal of replica 1 was changed afterwards, or its program stamps by a clock of its own, which was set back
+  since: an entry has a greater stamp than the frame that it handles
   handled: 0:1:0 to 1 stamp 1 PreAccept 0.1 ballot (0, 0) put x 1 seq 1 deps -
-  stamps: the frame has 1, and the entry that handles it 1, which has to be greater
-  likely: the clock of replica 1 was set back, or its journal was changed afterwards
-  look at: how replica 1 was last started, from which log, and whether its disk kept what was synced; not at replica 0
+  stamps: the frame has 1, and the entry that handles it 1
 ";
 
 const AN_UNKNOWN_RECEIPT: &str = "\
 verdict refused
 A4 unknown receipt 1
+  do: ask client 1 for the answer to request 1 that replica 0 gave; if the receipt is that, copy the log of replica 0 again, and audit it with the others
+  likely: a false claim: the receipt was made up, or changed after it was given
+  else: the log of replica 0 was copied before it gave the receipt; or it forgot: it lost the end of its journal, or was set back to an older copy
   claimed: client 1 request 1 0.1 absent, executed by replica 0 entry 9 stamp 4, proposed after seen stamp 0
   proposal: replica 0 entry 1 stamp 1: propose put x 1 (client 1 request 1 seen 0)
-  execution: none; replica 0 entry 9 isn't there: its journal has 3 entries
-  likely: a false claim: the receipt was made up, or changed after it was given
-  else: replica 0, which proposed it, or replica 0, which executed it, forgot: it lost the end of its journal, or was set back to an older copy
+  execution: none; replica 0 entry 9 isn't there: its journal ends with entry 3
 ";
 
 const ANOTHER_ANSWER: &str = "\
 verdict refused
 A4 unknown receipt 1
+  do: ask client 1 for the answer to request 2 that replica 0 gave; if the receipt is that, copy the log of replica 0 again, and audit it with the others
+  likely: a false claim: the receipt was made up, or changed after it was given
+  else: the log of replica 0 was copied before it gave the receipt; or it forgot: it lost the end of its journal, or was set back to an older copy
   claimed: client 1 request 2 0.1 lost, executed by replica 0 entry 3 stamp 4, proposed after seen stamp 0
   proposal: replica 0 entry 1 stamp 1: propose put x 1 (client 1 request 1 seen 0); it is another request's
   execution: replica 0 entry 3 stamp 4: execute 0.1; for 0.1 it answers absent
-  likely: a false claim: the receipt was made up, or changed after it was given
-  else: replica 0, which proposed it, or replica 0, which executed it, forgot: it lost the end of its journal, or was set back to an older copy
 ";
 
 const NO_PROPOSAL: &str = "\
 verdict refused
 A4 unknown receipt 1
+  do: ask client 1 for the answer to request 1 that replica 0 gave; if the receipt is that, copy the log of replica 0 again, and audit it with the others
+  likely: a false claim: the receipt was made up, or changed after it was given
+  else: the log of replica 0 was copied before it gave the receipt; or it forgot: it lost the end of its journal, or was set back to an older copy
   claimed: client 1 request 1 1.2 absent, executed by replica 0 entry 3 stamp 4, proposed after seen stamp 0
   proposal: none; replica 1 proposes nothing as 1.2
   execution: replica 0 entry 3 stamp 4: execute 0.1; for 1.2 it has no answer
-  likely: a false claim: the receipt was made up, or changed after it was given
-  else: replica 1, which proposed it, or replica 0, which executed it, forgot: it lost the end of its journal, or was set back to an older copy
 ";
 
 const AN_ORDER_THAT_WAS_CLAIMED: &str = "\
 verdict refused
 A5 caller order at receipt 1
+  do: ask client 1 with which seen stamp it proposed request 1: 1 is the receipt's, and not the proposal's
+  likely: a false claim: the client proposed with another seen stamp, or the receipt was changed
   claimed: client 1 request 1 0.1 absent, executed by replica 0 entry 3 stamp 4, proposed after seen stamp 1
   proposal: replica 0 entry 1 stamp 1: propose put x 1 (client 1 request 1 seen 0); its stamp has to be above the receipt's seen stamp
-  likely: a false claim: the client didn't propose with the seen stamp that the receipt says
 ";
 
 const AN_ORDER_THAT_WAS_BROKEN: &str = "\
 verdict refused
 A5 caller order at receipt 1
+  do: compare the journal of replica 0 with its log, and see what stamps its entries
+  likely: the journal of replica 0 was changed afterwards, or its program stamps by a clock of its own, which was set back
+  since: a proposal has a greater stamp than the seen stamp that it comes with
   claimed: client 1 request 1 0.1 absent, executed by replica 0 entry 3 stamp 4, proposed after seen stamp 1
   proposal: replica 0 entry 1 stamp 1: propose put x 1 (client 1 request 1 seen 1); its stamp has to be above the receipt's seen stamp
-  likely: the clock of replica 0 was set back: it stamps a proposal above the seen stamp that comes with it
 ";
 
 const TWO_FAULTS: &str = "\
 verdict refused
 A1 unsent frame at replica 2 entry 1
-  handled: 0:9:1 to 2 stamp 3 Commit 0.1 put x 1 seq 1 deps -
-  sent: nothing; replica 0 entry 9 isn't there: its journal has 3 entries
-  likely: replica 0 forgot: it lost the end of its journal, or was set back to an older copy, and went on from there
-  look at: how replica 0 was last started, from which log, and whether its disk kept what was synced; not at replica 2
+  do: copy the log of replica 0 again, and audit it with the others; if this stays, stop replica 0, and see from which log it was last started, and whether its disk kept what was synced
+  likely: the log of replica 0 was copied before that of replica 2; or replica 0 forgot: it lost the end of its journal, or was set back to an older copy
   else: the frame was forged, or changed on its way to replica 2 or in a journal afterwards
+  handled: 0:9:1 to 2 stamp 3 Commit 0.1 put x 1 seq 1 deps -
+  sent: nothing; replica 0 entry 9 isn't there: its journal ends with entry 3
 A5 caller order at receipt 1
+  do: ask client 1 with which seen stamp it proposed request 1: 1 is the receipt's, and not the proposal's
+  likely: a false claim: the client proposed with another seen stamp, or the receipt was changed
   claimed: client 1 request 1 0.1 absent, executed by replica 0 entry 3 stamp 4, proposed after seen stamp 1
   proposal: replica 0 entry 1 stamp 1: propose put x 1 (client 1 request 1 seen 0); its stamp has to be above the receipt's seen stamp
-  likely: a false claim: the client didn't propose with the seen stamp that the receipt says
 ";
 
 // The bundle as it is.

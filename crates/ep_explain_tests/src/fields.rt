@@ -4,62 +4,71 @@ use crate::rows::tells_of;
 
 const ANOTHER_MAGIC: &str = "\
 bundle refused E12 at byte 0
+  do: copy the bundle again from where it was made, or make it anew from the logs by `epaxos collect`
+  likely: the bundle was changed here, or a length or a count before this place was
   field: magic, in the header
   allowed: EPJB
   found: FPJB
-  likely: the bundle was changed here, or a length or a count before this place was
 ";
 
 const FOUR_REPLICAS: &str = "\
 bundle refused E12 at byte 5
+  do: copy the bundle again from where it was made, or make it anew from the logs by `epaxos collect`
+  likely: the bundle was changed here, or a length or a count before this place was
   field: number of replicas, in the header
   allowed: 3, 5 or 7
   found: 4
-  likely: the bundle was changed here, or a length or a count before this place was
 ";
 
 const ANOTHER_JOURNAL: &str = "\
 bundle refused E12 at byte 265
+  do: copy the bundle again from where it was made, or make it anew from the logs by `epaxos collect`
+  likely: the bundle was changed here, or a length or a count before this place was
   field: replica of the journal, in the journal of replica 1
   allowed: 1
   found: 2
-  likely: the bundle was changed here, or a length or a count before this place was
 ";
 
 const ANOTHER_OP: &str = "\
 bundle refused E12 at byte 40
+  do: copy the bundle again from where it was made, or make it anew from the logs by `epaxos collect`
+  likely: the bundle was changed here, or a length or a count before this place was
   field: op (2 get, 3 put, 4 del, 5 swap), in the journal of replica 0 entry 1
   allowed: 2 to 4
   found: 5
-  likely: the bundle was changed here, or a length or a count before this place was
 ";
 
 const ANOTHER_KIND: &str = "\
 bundle refused E12 at byte 373
+  do: copy the bundle again from where it was made, or make it anew from the logs by `epaxos collect`
+  likely: the bundle was changed here, or a length or a count before this place was
   field: event kind (1 propose, 2 handle, 3 give up, 4 recover, 5 execute), in the journal of replica 1 entry 2
   allowed: 1 to 5
   found: 6
-  likely: the bundle was changed here, or a length or a count before this place was
 ";
 
 const A_REPLICA_THAT_IS_NONE: &str = "\
 bundle refused E12 at byte 515
-  field: replica that executed, in the receipt 1
+  do: copy the bundle again from where it was made, or make it anew from the logs by `epaxos collect`
+  likely: the bundle was changed here, or a length or a count before this place was
+  field: replica that executed, in receipt 1
   allowed: 0 to 2
   found: 3
-  likely: the bundle was changed here, or a length or a count before this place was
 ";
 
 const A_FRAME_TOO_LONG: &str = "\
 bundle refused E12 at byte 450
-  field: frame, in the journal of replica 2 entry 1
-  found: the input ends; of the field's 65535 bytes there are 79
+  do: copy the bundle again from where it was made, or make it anew from the logs by `epaxos collect`
   likely: the bundle was cut, or a length or a count before this place was changed
+  field: frame, in the journal of replica 2 entry 1
+  found: 79 of the field's 65535 bytes, and then the end
 ";
 
 const ONE_RECEIPT_LESS: &str = "\
 bundle refused E12 at byte 496
-  field: none; the bundle is over, and bytes are left: 33
+  do: copy the bundle again from where it was made, or make it anew from the logs by `epaxos collect`
+  likely: something was appended to the bundle, or a count before this place was changed
+  found: 33 bytes after the last receipt, where the bundle is over
 ";
 
 // The first byte is another one.

@@ -8,7 +8,11 @@ mod audits;
 #[cfg(test)]
 mod fields;
 #[cfg(test)]
+mod odd_words;
+#[cfg(test)]
 mod rows;
+#[cfg(test)]
+mod split_brain;
 #[cfg(test)]
 mod steps;
 #[cfg(test)]

@@ -1,6 +1,6 @@
 //! The bundle that the rows change, and how they are compared.
 
-use ep_explain::explain;
+use ep_explain::{Finding, explain};
 use std::alloc::Global;
 use std::process::Abort;
 
@@ -54,10 +54,21 @@ pub(crate) fn changed(rt: &impl Abort, alloc: Global, changes: &[(usize, u8)]) -
     bytes
 }
 
+/// What was found where this is told.
+fn finding_of(text: &str) -> Finding {
+    if text == "verdict accepted\n" {
+        Finding::Accepted
+    } else if text.starts_with("verdict refused\n") {
+        Finding::Refused
+    } else {
+        Finding::Unreadable
+    }
+}
+
 /// Whether this is what is told of the bytes.
 pub(crate) fn tells(rt: &impl Abort, alloc: Global, bytes: &[u8], wanted: &str) -> bool {
     let told = explain(alloc, bytes).expect(rt, "memory for words");
-    told.text.as_slice() == wanted.as_bytes()
+    told.text.as_slice() == wanted.as_bytes() && told.finding == finding_of(wanted)
 }
 
 /// Whether this is told of the bundle with these bytes at these places.

@@ -4,65 +4,73 @@ use crate::rows::tells_of;
 
 const A_STAMP_THAT_FALLS: &str = "\
 bundle refused E11 at replica 0 entry 2
+  do: make the bundle anew from the logs by `epaxos collect`, which names a log that is at fault
+  likely: this entry, or one before it, was changed after it was written, or one before it is missing
   event: handle 1:1:0 PreAcceptOK 0.1 ballot (0, 0) seq 1 deps -
   cause: its stamp 1 isn't above the stamp of the entry before it, 1
-  likely: this entry, or one before it, was changed after it was written, or one before it is missing
 ";
 
 const NO_FRAME: &str = "\
 bundle refused E11 at replica 0 entry 2
-  cause: the bytes that are handled are no frame: the field at 26 is not allowed, the status
+  do: make the bundle anew from the logs by `epaxos collect`, which names a log that is at fault
   likely: this entry, or one before it, was changed after it was written, or one before it is missing
+  cause: the bytes that are handled are no frame: the field at 26 is not allowed (status)
 ";
 
 const ANOTHER_VERSION: &str = "\
 bundle refused E11 at replica 0 entry 2
+  do: make the bundle anew from the logs by `epaxos collect`, which names a log that is at fault
+  likely: this entry, or one before it, was changed after it was written, or one before it is missing
   event: handle 1:1:0 PreAcceptOK 0.1 ballot (0, 0) seq 1 deps -
   cause: the event is refused: E14 bad frame: the frame is of another version than the bundle
-  likely: this entry, or one before it, was changed after it was written, or one before it is missing
 ";
 
 const ANOTHER_RECEIVER: &str = "\
 bundle refused E11 at replica 0 entry 2
+  do: make the bundle anew from the logs by `epaxos collect`, which names a log that is at fault
+  likely: this entry, or one before it, was changed after it was written, or one before it is missing
   event: handle 1:1:0 PreAcceptOK 0.1 ballot (0, 0) seq 1 deps -
   cause: the event is refused: E13 not mine: the frame is for another replica
-  likely: this entry, or one before it, was changed after it was written, or one before it is missing
 ";
 
 const A_REFUSED_EVENT: &str = "\
 bundle refused E11 at replica 0 entry 3
-  event: execute 0.2
-  cause: the event is refused: E10 not committed 0.2: it is to be executed, and isn't committed here
+  do: make the bundle anew from the logs by `epaxos collect`, which names a log that is at fault
   likely: this entry, or one before it, was changed after it was written, or one before it is missing
+  event: execute 0.2
+  cause: the event is refused: E10 not committed 0.2: it has to be committed here before the execution
 ";
 
 const OTHER_FRAMES: &str = "\
 bundle refused E11 at replica 0 entry 1
+  do: make the bundle anew from the logs by `epaxos collect`, which names a log that is at fault
+  likely: this entry, or one before it, was changed after it was written, or one before it is missing
   event: propose put x 1 (client 1 request 1 seen 0)
   cause: its frames aren't those of the step: expected 1, found 1; the first that differs is at place 0, counted from 0
   expected: 0:1:0 to 1 stamp 1 PreAccept 0.1 ballot (0, 0) put x 1 seq 1 deps -
   found: 0:1:0 to 1 stamp 1 PreAccept 0.1 ballot (0, 0) put x 2 seq 1 deps -
   first difference: value or second key (byte 41), expected 1, found 2
-  likely: this entry, or one before it, was changed after it was written, or one before it is missing
 ";
 
 const A_FRAME_THAT_IS_NONE: &str = "\
 bundle refused E11 at replica 0 entry 2
+  do: make the bundle anew from the logs by `epaxos collect`, which names a log that is at fault
+  likely: this entry, or one before it, was changed after it was written, or one before it is missing
   event: handle 1:1:0 PreAcceptOK 0.1 ballot (0, 0) seq 1 deps -
   cause: its frames aren't those of the step: expected 2, found 2; the first that differs is at place 1, counted from 0
   expected: 0:2:1 to 2 stamp 3 Commit 0.1 put x 1 seq 1 deps -
   found: no frame: unknown kind
   first difference: kind (byte 3), expected Commit, found 9
-  likely: this entry, or one before it, was changed after it was written, or one before it is missing
 ";
 
 const OTHER_EXECUTIONS: &str = "\
 bundle refused E11 at replica 0 entry 3
+  do: make the bundle anew from the logs by `epaxos collect`, which names a log that is at fault
+  likely: this entry, or one before it, was changed after it was written, or one before it is missing
   event: execute 0.1
   cause: its executions aren't those of the step: expected 1, found 1; the first that differs is at place 0, counted from 0
   expected: 0.1 absent
   found: 0.1 lost
-  likely: this entry, or one before it, was changed after it was written, or one before it is missing
 ";
 
 // Entry 2 of replica 0 has the stamp of entry 1.

@@ -1,12 +1,16 @@
 //! Each cut of a bundle, and each bundle with one byte turned: all are told of.
 
+ghost use Rattle.std.specs.Prelude.{◌≤◌, length};
+
 use crate::rows::{BUNDLE, changed};
 use ep_explain::explain;
 use std::alloc::Global;
 use std::process::Abort;
 
 /// Where the line begins that is behind this place; the length where there is none.
-fn next_line(text: &[u8], place: usize) -> usize {
+fn next_line(text: &[u8], place: usize) -> usize
+    ensures { result ≤ length text.now }
+{
     for at in place..text.len() {
         if text[at] == b'\n' {
             return at + 1;
@@ -15,28 +19,34 @@ fn next_line(text: &[u8], place: usize) -> usize {
     text.len()
 }
 
-/// Whether a field was refused, and its second line names it.
+/// Whether a line of the text begins so.
+fn has_line(text: &[u8], begin: &[u8]) -> bool {
+    let mut place = 0;
+    for _ in 0..10 {
+        place = next_line(text, place);
+        if text[place..].starts_with(begin) {
+            return true;
+        }
+    }
+    false
+}
+
+/// Whether a field was refused, and a line names it.
 fn names_field(text: &[u8]) -> bool {
-    let line = &text[next_line(text, 0)..];
     text.starts_with(b"bundle refused E12 at byte ")
-        && line.starts_with(b"  field: ")
-        && !line.starts_with(b"  field: none")
+        && has_line(text, b"  field: ")
+        && has_line(text, b"  found: ")
 }
 
 /// Whether an entry was refused, and a cause is told.
 fn tells_cause(text: &[u8]) -> bool {
-    let line = &text[next_line(text, 0)..];
-    let next = &line[next_line(line, 0)..];
-    text.starts_with(b"bundle refused E11 at replica ")
-        && (line.starts_with(b"  cause: ") || next.starts_with(b"  cause: "))
+    text.starts_with(b"bundle refused E11 at replica ") && has_line(text, b"  cause: ")
 }
 
-/// Whether an audit was told, and what it refused has a reason.
+/// Whether an audit was told, and what it refused has what to do under it.
 fn tells_verdict(text: &[u8]) -> bool {
-    let line = &text[next_line(text, 0)..];
-    let next = &line[next_line(line, 0)..];
     text == b"verdict accepted\n".as_slice()
-        || (text.starts_with(b"verdict refused\nA") && next.starts_with(b"  "))
+        || (text.starts_with(b"verdict refused\nA") && has_line(text, b"  do: "))
 }
 
 /// Whether the bundle, cut to so many bytes, has the field at which it is cut told.
@@ -57,7 +67,8 @@ fn is_told_turned(rt: &impl Abort, alloc: Global, place: usize, bits: u8) -> boo
 
 /// Whether bytes are left behind the bundle's end.
 fn is_over(text: &[u8]) -> bool {
-    text.starts_with(b"bundle refused E12 at byte 496\n  field: none")
+    text.starts_with(b"bundle refused E12 at byte 496\n  do: ")
+        && has_line(text, b"  found: 33 bytes after the last receipt")
 }
 
 #[test]
