@@ -4,7 +4,7 @@ use ep_report::push_number;
 use std::alloc::AllocError;
 
 /// What a field may be.
-#[derive(Clone, Copy, Debug, PartialEq, Eq)]
+#[derive(Clone, Copy)]
 pub(crate) enum Allowed {
     /// Any bytes, or any number.
     Any,

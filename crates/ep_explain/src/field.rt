@@ -3,7 +3,7 @@
 use std::alloc::AllocError;
 
 /// A field of a bundle, by docs/FORMATS.md, section 2.
-#[derive(Clone, Copy, Debug, PartialEq, Eq)]
+#[derive(Clone, Copy)]
 pub(crate) enum Field {
     Magic,
     Version,

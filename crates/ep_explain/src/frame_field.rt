@@ -8,7 +8,7 @@ use ep_script::push_word;
 use std::alloc::AllocError;
 
 /// A field of a frame: its name, where it begins, and how many bytes it has.
-#[derive(Clone, Copy, Debug)]
+#[derive(Clone, Copy)]
 pub(crate) struct FrameField<'a> {
     pub name: &'a [u8],
     pub start: usize,

@@ -12,7 +12,7 @@ use ep_script::push_word;
 use std::alloc::{AllocError, Global};
 
 /// The version of a bundle, and how many replicas it has.
-#[derive(Clone, Copy, Debug, PartialEq, Eq)]
+#[derive(Clone, Copy)]
 struct Terms {
     version: u64,
     replicas: u64,

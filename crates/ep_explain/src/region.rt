@@ -4,7 +4,7 @@ use ep_report::push_number;
 use std::alloc::AllocError;
 
 /// A part of a bundle, in which fields stand.
-#[derive(Clone, Copy, Debug, PartialEq, Eq)]
+#[derive(Clone, Copy)]
 pub(crate) enum Region {
     Header,
     /// The journal of the replica of this number.

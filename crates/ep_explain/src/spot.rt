@@ -5,7 +5,7 @@ use crate::field::Field;
 use crate::region::Region;
 
 /// A field where it stands: what it is, where it is, how many bytes it has, and what they may be.
-#[derive(Clone, Copy, Debug, PartialEq, Eq)]
+#[derive(Clone, Copy)]
 pub(crate) struct Spot {
     pub field: Field,
     pub region: Region,

@@ -5,19 +5,12 @@ ghost use Rattle.ep_base.specs.Quorums.{size};
 
 use crate::reasons::Reasons;
 use crate::step::{MOST_ENTRIES, add_draft};
-use ep_base::{Noted, ReplicaId};
+use ep_base::{Noted, ReplicaId, Source};
 use ep_bundle::{
     BundleFault, BundleHeader, read_draft, read_entry, read_header, read_journal, read_opening,
 };
 use ep_journal::Journal;
 use std::alloc::{AllocError, Global};
-
-/// The bytes of a bundle that are left, and the offset of the first of them.
-#[derive(Drop)]
-struct Rest<'a> {
-    source: Noted<&'a [u8]>,
-    place: u64,
-}
 
 /// Why the replica's entry of this number, in these bytes, isn't its next step.
 pub(crate) fn step_reasons(
@@ -45,66 +38,87 @@ fn add_step(
     number: u32,
     reasons: &mut Reasons,
 ) -> Result<(), BundleFault> {
-    let mut rest = Rest {
-        source: Noted::new(bytes),
-        place: 0,
-    };
-    let header = read_header(&mut rest.source, &mut rest.place)?;
-    if replica.index() >= header.cluster.count() {
-        return Err(BundleFault::BadBundle(0));
-    }
-    for lower in 0..replica.index() {
-        pass_journal(alloc, &header, lower, &mut rest)?;
-    }
-    let mut journal = Journal::new(alloc, header.cluster, header.version, replica);
-    add_next(alloc, &mut journal, number, &mut rest, reasons)
+    let mut source = Noted::new(bytes);
+    let mut place = 0;
+    let mut journal = read_up_to(alloc, &mut source, &mut place, replica, number)?;
+    add_next(alloc, &mut source, &mut place, &mut journal, reasons)
 }
 
-/// Reads the journal of the replica of this number.
-fn pass_journal(
+/// Reads the entry, and tells what is wrong with it as the journal's next one.
+fn add_next<S: Source>(
     alloc: Global,
-    header: &BundleHeader,
-    index: u8,
-    rest: &mut Rest<'_>,
-) -> Result<(), BundleFault>
-    requires { index < size header.now.cluster }
-{
-    let Ok(replica) = ReplicaId::new(index) else {
-        return Err(BundleFault::BadBundle(rest.place));
-    };
-    let (version, cluster) = (header.version, header.cluster);
-    let source = &mut rest.source;
-    read_journal(alloc, cluster, version, replica, source, &mut rest.place)?;
-    Ok(())
-}
-
-/// Reads the journal's entries before the one of this number, and tells what is wrong with that one.
-fn add_next(
-    alloc: Global,
+    source: &mut S,
+    place: &mut u64,
     journal: &mut Journal,
-    number: u32,
-    rest: &mut Rest<'_>,
     reasons: &mut Reasons,
 ) -> Result<(), BundleFault> {
-    let replica = journal.me();
-    read_opening(&mut rest.source, &mut rest.place, replica)?;
-    for _ in 1..number {
-        pass_entry(alloc, journal, rest)?;
-    }
-    let (version, cluster) = (journal.version(), journal.size());
-    let draft = read_draft(alloc, &mut rest.source, &mut rest.place, version, cluster)?;
+    let draft = read_draft(alloc, source, place, journal.version(), journal.size())?;
     add_draft(alloc, journal, draft, reasons)?;
     Ok(())
 }
 
-/// Reads the journal's next entry.
-fn pass_entry(
+/// Reads a bundle up to the replica's entry of this number, and gives that replica's journal before it.
+fn read_up_to<S: Source>(
     alloc: Global,
+    source: &mut S,
+    place: &mut u64,
+    replica: ReplicaId,
+    number: u32,
+) -> Result<Journal, BundleFault> {
+    let header = read_header(source, place)?;
+    if replica.index() >= header.cluster.count() {
+        return Err(BundleFault::BadBundle(*place));
+    }
+    for lower in 0..replica.index() {
+        pass_journal(alloc, source, place, &header, lower)?;
+    }
+    read_opening(source, place, replica)?;
+    let mut journal = Journal::new(alloc, header.cluster, header.version, replica);
+    pass_entries(alloc, source, place, &mut journal, number)?;
+    Ok(journal)
+}
+
+/// Reads the journal of the replica of this number.
+fn pass_journal<S: Source>(
+    alloc: Global,
+    source: &mut S,
+    place: &mut u64,
+    header: &BundleHeader,
+    index: u8,
+) -> Result<(), BundleFault>
+    requires { index < size header.now.cluster }
+{
+    let Ok(replica) = ReplicaId::new(index) else {
+        return Err(BundleFault::BadBundle(*place));
+    };
+    let (version, cluster) = (header.version, header.cluster);
+    read_journal(alloc, cluster, version, replica, source, place)?;
+    Ok(())
+}
+
+/// Reads the journal's entries before the one of this number.
+fn pass_entries<S: Source>(
+    alloc: Global,
+    source: &mut S,
+    place: &mut u64,
     journal: &mut Journal,
-    rest: &mut Rest<'_>,
+    number: u32,
+) -> Result<(), BundleFault> {
+    for _ in 1..number {
+        pass_entry(alloc, source, place, journal)?;
+    }
+    Ok(())
+}
+
+/// Reads the journal's next entry.
+fn pass_entry<S: Source>(
+    alloc: Global,
+    source: &mut S,
+    place: &mut u64,
+    journal: &mut Journal,
 ) -> Result<(), BundleFault> {
     if journal.entries().len() >= MOST_ENTRIES {
-        return Err(BundleFault::BadBundle(rest.place));
+        return Err(BundleFault::BadBundle(*place));
     }
-    read_entry(alloc, &mut rest.source, &mut rest.place, journal)
+    read_entry(alloc, source, place, journal)
 }

@@ -3,7 +3,7 @@
 use crate::spot::Spot;
 
 /// Why a walk ends.
-#[derive(Clone, Copy, Debug, PartialEq, Eq)]
+#[derive(Clone, Copy)]
 pub(crate) enum Stop {
     /// This field begins at the place.
     At(Spot),
