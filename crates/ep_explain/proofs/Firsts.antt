@@ -12,7 +12,7 @@ use Rattle.ep_rules.specs.declared.receipt.Receipt.{Receipt}
 use Rattle.ep_explain.specs.Faults.{listed, faults_in, faults_below, receipt_faults, all_faults, IsFirst}
 
 -- the first one, if there is one
-head : List AuditFault → Option AuditFault
+abbrev head : List AuditFault → Option AuditFault
 head [] = None
 head (x ∷ xs) = Some x
 
@@ -58,3 +58,7 @@ module _ (c : Collected) (ts : List Receipt) (h : AreJournals c) (some : 0 < c.f
 
 pub is_first : (c : Collected) (ts : List Receipt) → AreJournals c → 0 < c.faults → IsFirst c.faults (journals_of c) ts (all_faults c ts)
 is_first c ts h some = first c ts h some (all_faults c ts) (first_below c (size c.faults)) refl (head_all c ts)
+
+-- the same of a list that was made
+pub is_first_of : (c : Collected) (ts : List Receipt) (xs : List AuditFault) → AreJournals c → 0 < c.faults → xs ≡ all_faults c ts → IsFirst c.faults (journals_of c) ts xs
+is_first_of c ts xs h some e = subst (λ z. IsFirst c.faults (journals_of c) ts z) (sym e) (is_first c ts h some)
