@@ -96,7 +96,9 @@ fn add_no_proposal(
     reasons: &mut Reasons,
 ) -> Result<(), AllocError> {
     let leader = instance.replica().index();
-    let mut line = format!(in alloc; "proposal: none; replica {leader} proposes nothing as ")?.into_bytes();
+    let mut line = format!(in alloc;
+        "proposal: none; replica {leader} proposes nothing as "
+    )?.into_bytes();
     push_instance(&mut line, instance)?;
     reasons.add(line)
 }
@@ -155,7 +157,9 @@ fn add_no_execution(
     reasons: &mut Reasons,
 ) -> Result<(), AllocError> {
     let (replica, entry) = (receipt.replica.index(), receipt.entry);
-    reasons.tell(format!(in alloc; "execution: none; replica {replica} entry {entry} isn't there: its journal ends with entry {count}")?)
+    reasons.tell(format!(in alloc;
+        "execution: none; replica {replica} entry {entry} isn't there: its journal ends with entry {count}"
+    )?)
 }
 
 fn add_found_execution(
@@ -175,11 +179,7 @@ fn add_found_execution(
 }
 
 /// Appends what the entry answers for the receipt's instance.
-fn push_execution(
-    line: &mut Vec<u8>,
-    receipt: &Receipt,
-    entry: &Entry,
-) -> Result<(), AllocError> {
+fn push_execution(line: &mut Vec<u8>, receipt: &Receipt, entry: &Entry) -> Result<(), AllocError> {
     line.extend_from_slice(b"; for ")?;
     push_instance(line, receipt.instance)?;
     match answer_in(entry.done.as_slice(), receipt.instance) {
@@ -205,9 +205,13 @@ fn answer_in(done: &[(InstanceId, Answer)], instance: InstanceId) -> Option<&Ans
 fn add_unknown(alloc: Global, receipt: &Receipt, reasons: &mut Reasons) -> Result<(), AllocError> {
     let (client, request) = (receipt.client, receipt.request);
     let replica = receipt.replica.index();
-    reasons.tell(format!(in alloc; "do: ask client {client} for the answer to request {request} that replica {replica} gave; if the receipt is that, copy the log of replica {replica} again, and audit it with the others")?)?;
+    reasons.tell(format!(in alloc;
+        "do: ask client {client} for the answer to request {request} that replica {replica} gave; if the receipt is that, copy the log of replica {replica} again, and audit it with the others"
+    )?)?;
     reasons.say(b"likely: a false claim: the receipt was made up, or changed after it was given")?;
-    reasons.tell(format!(in alloc; "else: the log of replica {replica} was copied before it gave the receipt; or it forgot: it lost the end of its journal, or was set back to an older copy")?)
+    reasons.tell(format!(in alloc;
+        "else: the log of replica {replica} was copied before it gave the receipt; or it forgot: it lost the end of its journal, or was set back to an older copy"
+    )?)
 }
 
 /// What to do where a proposal isn't later than what its client had seen, and what that usually means.
@@ -239,8 +243,12 @@ fn add_false_order(
     reasons: &mut Reasons,
 ) -> Result<(), AllocError> {
     let (client, request, seen) = (receipt.client, receipt.request, receipt.seen);
-    reasons.tell(format!(in alloc; "do: ask client {client} with which seen stamp it proposed request {request}: {seen} is the receipt's, and not the proposal's")?)?;
-    reasons.say(b"likely: a false claim: the client proposed with another seen stamp, or the receipt was changed")
+    reasons.tell(format!(in alloc;
+        "do: ask client {client} with which seen stamp it proposed request {request}: {seen} is the receipt's, and not the proposal's"
+    )?)?;
+    reasons.say(
+        b"likely: a false claim: the client proposed with another seen stamp, or the receipt was changed",
+    )
 }
 
 /// Whether the event is a proposal with this seen stamp.

@@ -33,11 +33,7 @@ pub fn explain(alloc: Global, bytes: &[u8]) -> Result<Explained, AllocError>
 }
 
 /// What is told where the reader refuses the bytes.
-fn explain_refusal(
-    alloc: Global,
-    bytes: &[u8],
-    fault: BundleFault,
-) -> Result<Explained, AllocError>
+fn explain_refusal(alloc: Global, bytes: &[u8], fault: BundleFault) -> Result<Explained, AllocError>
     ensures told { IfOk result (λ told. IsRefusalTold fault told.finding told.text.items) }
     ensures named { IfOk result (λ _. IsNoBundle fault) }
 {

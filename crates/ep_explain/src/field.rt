@@ -45,7 +45,8 @@ impl Field {
             Field::ReceiptCount => b"number of receipts",
             Field::JournalReplica => b"replica of the journal",
             Field::EntryCount => b"number of entries",
-            Field::EventKind => b"event kind (1 propose, 2 handle, 3 give up, 4 recover, 5 execute)",
+            Field::EventKind =>
+                b"event kind (1 propose, 2 handle, 3 give up, 4 recover, 5 execute)",
             Field::Stamp => b"stamp",
             Field::Client => b"client",
             Field::Request => b"request",

@@ -115,7 +115,11 @@ fn pass_command(walk: &mut Walk<'_>, terms: Terms) -> Result<(), Stop> {
     let key = walk.number(Field::KeyLength, 1, Allowed::Range(1, 255))?;
     let text = walk.number(Field::TextLength, 2, text_lengths(op))?;
     walk.run(Field::Key, key as usize, Allowed::Any)?;
-    let allowed = if op == 5 { Allowed::OtherKey } else { Allowed::Any };
+    let allowed = if op == 5 {
+        Allowed::OtherKey
+    } else {
+        Allowed::Any
+    };
     walk.run(Field::Text, text as usize, allowed)?;
     Ok(())
 }
@@ -166,11 +170,15 @@ fn add_spot(
 ) -> Result<(), AllocError> {
     add_cure(reasons)?;
     if rest.len() < spot.len {
-        reasons.say(b"likely: the bundle was cut, or a length or a count before this place was changed")?;
+        reasons.say(
+            b"likely: the bundle was cut, or a length or a count before this place was changed",
+        )?;
         add_field(alloc, spot, reasons)?;
         return add_cut(alloc, spot.len, rest.len(), reasons);
     }
-    reasons.say(b"likely: the bundle was changed here, or a length or a count before this place was")?;
+    reasons.say(
+        b"likely: the bundle was changed here, or a length or a count before this place was",
+    )?;
     add_field(alloc, spot, reasons)?;
     add_allowed(alloc, spot, rest, reasons)
 }
@@ -232,5 +240,7 @@ fn add_left(alloc: Global, rest: &[u8], reasons: &mut Reasons) -> Result<(), All
         b"likely: something was appended to the bundle, or a count before this place was changed",
     )?;
     let left = rest.len();
-    reasons.tell(format!(in alloc; "found: {left} bytes after the last receipt, where the bundle is over")?)
+    reasons.tell(format!(in alloc;
+        "found: {left} bytes after the last receipt, where the bundle is over"
+    )?)
 }

@@ -99,8 +99,12 @@ fn add_behind(
 ) -> Result<(), AllocError> {
     let sender = handling.frame.from().index();
     let receiver = handling.replica.index();
-    reasons.tell(format!(in alloc; "do: copy the log of replica {sender} again, and audit it with the others; if this stays, stop replica {sender}, and see from which log it was last started, and whether its disk kept what was synced")?)?;
-    reasons.tell(format!(in alloc; "likely: the log of replica {sender} was copied before that of replica {receiver}; or replica {sender} forgot: it lost the end of its journal, or was set back to an older copy")?)?;
+    reasons.tell(format!(in alloc;
+        "do: copy the log of replica {sender} again, and audit it with the others; if this stays, stop replica {sender}, and see from which log it was last started, and whether its disk kept what was synced"
+    )?)?;
+    reasons.tell(format!(in alloc;
+        "likely: the log of replica {sender} was copied before that of replica {receiver}; or replica {sender} forgot: it lost the end of its journal, or was set back to an older copy"
+    )?)?;
     add_forged(alloc, handling, reasons)
 }
 
@@ -112,8 +116,12 @@ fn add_forgot(
 ) -> Result<(), AllocError> {
     let sender = handling.frame.from().index();
     let receiver = handling.replica.index();
-    reasons.tell(format!(in alloc; "do: stop replica {sender}, and see from which log it was last started, and whether its disk kept what was synced; replica {receiver} only handled what came")?)?;
-    reasons.tell(format!(in alloc; "likely: replica {sender} forgot: it lost the end of its journal, or was set back to an older copy, and went on from there")?)?;
+    reasons.tell(format!(in alloc;
+        "do: stop replica {sender}, and see from which log it was last started, and whether its disk kept what was synced; replica {receiver} only handled what came"
+    )?)?;
+    reasons.tell(format!(in alloc;
+        "likely: replica {sender} forgot: it lost the end of its journal, or was set back to an older copy, and went on from there"
+    )?)?;
     add_forged(alloc, handling, reasons)
 }
 
@@ -124,7 +132,9 @@ fn add_forged(
     reasons: &mut Reasons,
 ) -> Result<(), AllocError> {
     let receiver = handling.replica.index();
-    reasons.tell(format!(in alloc; "else: the frame was forged, or changed on its way to replica {receiver} or in a journal afterwards")?)?;
+    reasons.tell(format!(in alloc;
+        "else: the frame was forged, or changed on its way to replica {receiver} or in a journal afterwards"
+    )?)?;
     add_frame(alloc, b"handled: ", handling.frame, reasons)
 }
 
@@ -148,7 +158,9 @@ fn add_no_entry(
     reasons: &mut Reasons,
 ) -> Result<(), AllocError> {
     let (sender, entry) = (frame.from().index(), frame.origin().entry);
-    reasons.tell(format!(in alloc; "sent: nothing; replica {sender} entry {entry} isn't there: its journal ends with entry {count}")?)
+    reasons.tell(format!(in alloc;
+        "sent: nothing; replica {sender} entry {entry} isn't there: its journal ends with entry {count}"
+    )?)
 }
 
 /// The sender's entry doesn't send so many frames.
@@ -160,7 +172,9 @@ fn add_no_place(
 ) -> Result<(), AllocError> {
     let (sender, number) = (frame.from().index(), entry.number);
     let count = entry.frames.as_slice().len();
-    reasons.tell(format!(in alloc; "sent: nothing; replica {sender} entry {number} sends {count} in all, counted from 0")?)
+    reasons.tell(format!(in alloc;
+        "sent: nothing; replica {sender} entry {number} sends {count} in all, counted from 0"
+    )?)
 }
 
 /// The other frame, and how it differs.
@@ -214,7 +228,9 @@ fn add_early(
     add_frame(alloc, b"handled: ", handling.frame, reasons)?;
     let stamp = handling.frame.origin().stamp.ticks();
     let other = handling.entry.stamp.ticks();
-    reasons.tell(format!(in alloc; "stamps: the frame has {stamp}, and the entry that handles it {other}")?)
+    reasons.tell(format!(in alloc;
+        "stamps: the frame has {stamp}, and the entry that handles it {other}"
+    )?)
 }
 
 /// What to do where a replica stamped too low, and what that usually means.
@@ -224,8 +240,12 @@ pub(crate) fn add_clock(
     reasons: &mut Reasons,
 ) -> Result<(), AllocError> {
     let replica = replica.index();
-    reasons.tell(format!(in alloc; "do: compare the journal of replica {replica} with its log, and see what stamps its entries")?)?;
-    reasons.tell(format!(in alloc; "likely: the journal of replica {replica} was changed afterwards, or its program stamps by a clock of its own, which was set back")?)
+    reasons.tell(format!(in alloc;
+        "do: compare the journal of replica {replica} with its log, and see what stamps its entries"
+    )?)?;
+    reasons.tell(format!(in alloc;
+        "likely: the journal of replica {replica} was changed afterwards, or its program stamps by a clock of its own, which was set back"
+    )?)
 }
 
 /// Appends an entry of a replica.

@@ -95,7 +95,9 @@ fn add_stamps(
     reasons: &mut Reasons,
 ) -> Result<(), AllocError> {
     let stamp = stamp.ticks();
-    reasons.tell(format!(in alloc; "cause: its stamp {stamp} isn't above the stamp of the entry before it, {last}")?)
+    reasons.tell(format!(in alloc;
+        "cause: its stamp {stamp} isn't above the stamp of the entry before it, {last}"
+    )?)
 }
 
 /// The event was refused; or it led to this last entry, with other frames or executions.
@@ -187,7 +189,9 @@ fn add_frames(
     reasons: &mut Reasons,
 ) -> Result<(), AllocError> {
     let (many, others) = (expected.len(), found.len());
-    reasons.tell(format!(in alloc; "cause: its frames aren't those of the step: expected {many}, found {others}; the first that differs is at place {place}, counted from 0")?)?;
+    reasons.tell(format!(in alloc;
+        "cause: its frames aren't those of the step: expected {many}, found {others}; the first that differs is at place {place}, counted from 0"
+    )?)?;
     add_expected(alloc, expected.get(place), reasons)?;
     add_found(alloc, found.get(place), reasons)?;
     match (expected.get(place), found.get(place)) {
@@ -253,7 +257,9 @@ fn add_executions(
 ) -> Result<(), AllocError> {
     let place = first_other_execution(expected, found);
     let (many, others) = (expected.len(), found.len());
-    reasons.tell(format!(in alloc; "cause: its executions aren't those of the step: expected {many}, found {others}; the first that differs is at place {place}, counted from 0")?)?;
+    reasons.tell(format!(in alloc;
+        "cause: its executions aren't those of the step: expected {many}, found {others}; the first that differs is at place {place}, counted from 0"
+    )?)?;
     add_execution(alloc, b"expected: ", expected.get(place), reasons)?;
     add_execution(alloc, b"found: ", found.get(place), reasons)
 }

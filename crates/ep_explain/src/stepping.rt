@@ -23,7 +23,9 @@ pub(crate) fn step_reasons(
     reasons.say(
         b"do: make the bundle anew from the logs by `epaxos collect`, which names a log that is at fault",
     )?;
-    reasons.say(b"likely: this entry, or one before it, was changed after it was written, or one before it is missing")?;
+    reasons.say(
+        b"likely: this entry, or one before it, was changed after it was written, or one before it is missing",
+    )?;
     match add_step(alloc, bytes, replica, number, &mut reasons) {
         Err(BundleFault::Memory) => Err(AllocError),
         _ => Ok(reasons),

@@ -46,7 +46,12 @@ impl<'a> Walk<'a> {
     }
 
     /// Passes a field of so many bytes, and gives them; ends where it is the one that is looked for.
-    pub(crate) fn run(&mut self, field: Field, len: usize, allowed: Allowed) -> Result<&'a [u8], Stop> {
+    pub(crate) fn run(
+        &mut self,
+        field: Field,
+        len: usize,
+        allowed: Allowed,
+    ) -> Result<&'a [u8], Stop> {
         if self.at == self.wanted && len > 0 {
             return Err(Stop::At(Spot {
                 field,
@@ -65,7 +70,12 @@ impl<'a> Walk<'a> {
     }
 
     /// Passes a number of so many bytes, and gives it; ends where it is the one that is looked for.
-    pub(crate) fn number(&mut self, field: Field, len: usize, allowed: Allowed) -> Result<u64, Stop> {
+    pub(crate) fn number(
+        &mut self,
+        field: Field,
+        len: usize,
+        allowed: Allowed,
+    ) -> Result<u64, Stop> {
         Ok(number_of(self.run(field, len, allowed)?))
     }
 }
