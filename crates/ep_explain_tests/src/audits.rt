@@ -147,7 +147,12 @@ fn a_frame_past_the_last(rt: HostRuntime) {
 // Replica 1 has the stamp 1, in its first entry, in what it sends, and in what replica 0 handles of that.
 #[test]
 fn an_early_stamp(rt: HostRuntime) {
-    let told = tells_of(&rt, rt.alloc(), &[(278, 1), (350, 1), (128, 1)], AN_EARLY_STAMP);
+    let told = tells_of(
+        &rt,
+        rt.alloc(),
+        &[(278, 1), (350, 1), (128, 1)],
+        AN_EARLY_STAMP,
+    );
     assert!(rt; told);
 }
 
@@ -182,7 +187,12 @@ fn an_order_that_was_claimed(rt: HostRuntime) {
 // The proposal and the receipt say that the client had seen stamp 1.
 #[test]
 fn an_order_that_was_broken(rt: HostRuntime) {
-    let told = tells_of(&rt, rt.alloc(), &[(39, 1), (514, 1)], AN_ORDER_THAT_WAS_BROKEN);
+    let told = tells_of(
+        &rt,
+        rt.alloc(),
+        &[(39, 1), (514, 1)],
+        AN_ORDER_THAT_WAS_BROKEN,
+    );
     assert!(rt; told);
 }
 

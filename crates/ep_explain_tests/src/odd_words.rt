@@ -6,7 +6,8 @@ use std::process::Abort;
 
 /// What is told where replica 1 handled the PreAccept with this key and value, each of one byte.
 fn told(rt: &impl Abort, alloc: Global, key: &str, value: &str) -> String {
-    format!(in alloc; "\
+    format!(in alloc;
+        "\
 verdict refused
 A2 changed frame at replica 1 entry 1
   do: stop replica 0, and see from which log it was last started, and whether its disk kept what was synced; replica 1 only handled what came
@@ -16,19 +17,20 @@ A2 changed frame at replica 1 entry 1
   sent: 0:1:0 to 1 stamp 1 PreAccept 0.1 ballot (0, 0) put x 1 seq 1 deps -
   first difference: key (byte 40), handled {key}, sent x
   replica 0 entry 1: propose put x 1 (client 1 request 1 seen 0)
-")
+"
+    )
     .expect(rt, "memory for words")
 }
 
 /// Whether these two bytes, as a key and a value, are told as these words.
-fn are_told(
-    rt: &impl Abort,
-    alloc: Global,
-    bytes: (u8, u8),
-    words: (&str, &str),
-) -> bool {
+fn are_told(rt: &impl Abort, alloc: Global, bytes: (u8, u8), words: (&str, &str)) -> bool {
     let wanted = told(rt, alloc, words.0, words.1);
-    tells_of(rt, alloc, &[(323, bytes.0), (324, bytes.1)], wanted.as_str())
+    tells_of(
+        rt,
+        alloc,
+        &[(323, bytes.0), (324, bytes.1)],
+        wanted.as_str(),
+    )
 }
 
 #[test]

@@ -58,7 +58,11 @@ fn is_told_cut(rt: &impl Abort, alloc: Global, len: usize) -> bool {
 
 /// Whether the bundle with this byte turned is accepted, or told of with its reasons.
 fn is_told_turned(rt: &impl Abort, alloc: Global, place: usize, bits: u8) -> bool {
-    let byte = if place < BUNDLE.len() { BUNDLE[place] } else { 0 };
+    let byte = if place < BUNDLE.len() {
+        BUNDLE[place]
+    } else {
+        0
+    };
     let bytes = changed(rt, alloc, &[(place, byte ^ bits)]);
     let told = explain(alloc, &bytes).expect(rt, "memory for words");
     let text = &told.text;
