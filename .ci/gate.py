@@ -1,7 +1,7 @@
 """The gate.
 
   .ci/run             first looks whether the copies that tools write are up to date, and whether the edits of wrong/ still fit. Then
-                      runs the test command of README.md, `rt ci`, and then what it built: the rows of .ci/rows.py by both compilers,
+                      runs the test command of README.md, `rt ci`, and the tests in tests/ (tools/tests); and then what was built: the rows of .ci/rows.py by both compilers,
                       some of them with each allocation refused in turn (tools/refused-memory), and runs of the program with each read
                       and each write failed in turn (tools/failing-devices); and last the host in hosts/store, where cargo is (.ci/store.py)
   .ci/run --built     runs only what an earlier `rt ci` built
@@ -30,15 +30,10 @@ PROGRAMS = {PROGRAM: "", f"{PROGRAM}.by-rattle": " (built by Rattle's own compil
 MOST = "500"
 # tests that are run with each allocation refused, or MOST of them: the crate, and a word of their names
 TESTS = (
-    ("ep_replica_tests", ""),
-    ("ep_journal_tests", ""),
-    ("ep_exec_tests", "circle"),
     ("ep_world_tests", "played_on"),
-    ("ep_audit_tests", ""),
-    ("ep_host_tests", "a_put_and_a_get"),
 )
 # scripts that are played, made into a bundle, and audited so
-SCRIPTS = ("examples/one_put.script", "examples/crossing_puts.script", ".ci/scripts/seven.script")
+SCRIPTS = ("examples/one_put.script", "examples/crossing_puts.script", "examples/swap.script", ".ci/scripts/seven.script")
 # what the names of rows begin with whose last run is made again so
 ROWS = (
     "audit-of-one-put",
@@ -52,8 +47,8 @@ ROWS = (
 # what is run on devices that fail, all but audits and upgrades: the words, and the script
 DEVICES = (("replay",), ("replay", "--emit", "bundle"), ("run",), ("run", "--host", "ring"), ("run", "--emit", "bundle"))
 PUT = b"replicas 3\npropose 0 1 put x 1\n"
-# the script whose bundle, which takes several reads, is audited and upgraded on devices that fail
-LONG = ".ci/scripts/seven.script"
+# a script whose bundle has over 16 KiB, so that it takes several reads, and is audited and upgraded on devices that fail
+LONG = b"replicas 3\n" + b"propose 0 1 put x 1\nflush\nflush\n" * 40
 
 
 def looks():
@@ -80,6 +75,15 @@ def test_command():
     return passed, failed or int(status != 0)
 
 
+def tests():
+    """Runs the tests that `rt ci` doesn't prove, and returns how many passed and how many failed."""
+    ran = subprocess.run(["tools/tests"], stdin=subprocess.DEVNULL, stdout=subprocess.PIPE, text=True, errors="replace")
+    print("tests/: ", ran.stdout, sep="", end="", flush=True)
+    counts = re.search(r"(\d+) passed, (\d+) failed\n\Z", ran.stdout)
+    passed, failed = map(int, counts.groups()) if counts else (0, 0)
+    return passed, failed or int(ran.returncode != 0)
+
+
 def swept(tool, words, given=None):
     """Whether the tool's runs all ended as they may."""
     return not subprocess.run([f"{TOP}/tools/{tool}", *words], input=given).returncode
@@ -98,7 +102,7 @@ def read(name):
 
 def last_run(row):
     """The words of a row's last run, and what it reads."""
-    given, runs = row.given, [it.split("\n") for it in "\n".join(row.words).split("\n|\n")]
+    given, runs = row.given, rows.runs_of(row.words)
     for words in runs[:-1]:
         given = bytearray(row.one(PROGRAM, words, given, "")[1])
     for place, byte in row.change:
@@ -133,7 +137,7 @@ def failing_devices():
     for words in DEVICES:
         yield swept("failing-devices", ["ep_main", "--", *words], PUT)
     for words in (["audit"], ["upgrade"]):
-        yield swept("failing-devices", ["ep_main", "--", *words], bundle_of(read(LONG)))
+        yield swept("failing-devices", ["ep_main", "--", *words], bundle_of(LONG))
     # (a script that is refused, so that the fault output is written on)
     yield swept("failing-devices", ["ep_main", "--", "replay"], b"replicas 4\n")
 
@@ -168,7 +172,7 @@ def main(words):
     with clock.Clock() as spent:
         passed = failed = 0
         fits = bool(words) or looks()
-        for part in ([test_command] * (not words) + [built]) * fits:
+        for part in ([test_command, tests] * (not words) + [built]) * fits:
             counts = part()
             passed, failed = passed + counts[0], failed + counts[1]
         failed += not fits

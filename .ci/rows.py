@@ -13,7 +13,7 @@ A row is a folder .ci/rows/NAME with files, each of which may lack:
 PROGRAM is ep_main as it was built; what begins with `node` or `collect` is run by ep_server, and what begins with `show`, and traces,
 by ep_viewer, which were built as it was. Runs of `epaxos node` on one log, and its bundle, are made here.
 More rows are made of the scripts and reports in docs/FORMATS.md, examples/ and .ci/scripts/ (NAME.script is played, NAME.run is run
-by both hosts, and where there is a NAME.trace, NAME.script is traced), and by .ci/made.py.
+by both hosts, and where there is a NAME.trace, NAME.script is traced), and by .ci/made.py, .ci/words.py and .ci/cases.py.
 """
 
 import gzip
@@ -37,9 +37,14 @@ def program_of(program, words):
     return program.replace("ep_main", own.get(words[0], "ep_main") if words else "ep_main")
 
 
+def runs_of(words):
+    """The words of each run, of those of a row."""
+    return [it.split("\n") for it in "\n".join(words).split("\n|\n")]
+
+
 def is_passed_over(program, words):
-    """Whether the words are another program's, and Rattle's own compiler, which made ep_main, made no such program (`rt ci` says so then)."""
-    return program.endswith(".by-rattle") and not os.path.isfile(program_of(program, words))
+    """Whether the words of a run are another program's, and Rattle's own compiler, which made ep_main, made no such program (`rt ci` says so then)."""
+    return program.endswith(".by-rattle") and not all(os.path.isfile(program_of(program, it)) for it in runs_of(words))
 
 
 @dataclass
@@ -55,6 +60,9 @@ class Row:
     files: dict = field(default_factory=dict)
     # outputs that are as good as the one that is wanted
     others: list = field(default_factory=list)
+    # whether the output has only to begin so, and how the fault output has to end behind what is told, where it may say more
+    is_begun: bool = False
+    rest: bytes | None = None
 
     def run(self, program):
         """Returns what is wrong with a run of the program, or nothing."""
@@ -68,7 +76,7 @@ class Row:
 
     def run_in(self, folder, program):
         """The same in this folder; in the caller's where there is none."""
-        given, runs = self.given, [it.split("\n") for it in "\n".join(self.words).split("\n|\n")]
+        given, runs = self.given, runs_of(self.words)
         for words in runs[:-1]:
             first = self.one(program, words, given, "", folder)
             if first[0] or first[2]:
@@ -79,9 +87,10 @@ class Row:
         status, wrote, told = self.one(program, runs[-1], bytes(given), self.redirect, folder)
         if status != self.status:
             return f"status {status} and not {self.status}; on standard error {told[:200]!r}"
-        if told != self.told:
+        is_told = told == self.told if self.rest is None else told.startswith(self.told) and told.endswith(self.rest)
+        if not is_told:
             return f"standard error has {told[:200]!r} and not {self.told[:200]!r}"
-        if wrote != self.wanted and wrote not in self.others:
+        if wrote != self.wanted and wrote not in self.others and not (self.is_begun and wrote.startswith(self.wanted)):
             at = next((place for place, (a, b) in enumerate(zip(wrote, self.wanted)) if a != b), min(len(wrote), len(self.wanted)))
             return f"standard output has {len(wrote)} bytes and not {len(self.wanted)}, or differs first in line {wrote[:at].count(10) + 1}: {wrote[at : at + 80]!r} and not {self.wanted[at : at + 80]!r}"
         return ""
@@ -173,13 +182,16 @@ def written():
 def every():
     """All rows."""
     sys.path.insert(0, f"{TOP}/.ci")
+    import cases
     import made
+    import words
 
     yield from stored()
+    yield from (Row(**it) for it in (*words.every(), *cases.every()))
     yield from written()
-    for name, script, report in made.every():
+    for name, script, report in (*made.every(), *cases.played()):
         yield from played(name, script, report)
-    for name, words, script, reports in made.weather():
+    for name, words, script, reports in (*made.weather(), *cases.hosted()):
         yield from hosted(name, words, script, reports)
     for subcommand, scripts in (("replay", made.refused()), ("run", made.refused_runs())):
         for name, script, line in scripts:

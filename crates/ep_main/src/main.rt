@@ -1,7 +1,7 @@
 //! `epaxos`: replays scripts of a replicated key-value core, runs them in threads, audits and upgrades bundles, and prints reports.
 //!
 //! `main` hands the words and the standard streams to `engine`, in `program.rt`, which is all of the program: over any source
-//! and sinks, so that its contract can say what the bytes and the status mean, and tests can run it over memory.
+//! and sinks, so that its contract can say what the bytes and the status mean.
 //!
 //! Start with `program.rt`, `command_line.rt` (the words, by `clap`) and specs/Runs.antt (what is done, by status).
 //!
@@ -25,8 +25,6 @@ mod run_options;
 mod running;
 mod status;
 mod telling;
-#[cfg(test)]
-mod tests;
 mod upgrading;
 
 use crate::ahead::read_ahead;

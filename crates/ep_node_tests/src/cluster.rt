@@ -1,18 +1,16 @@
 //! Three nodes on devices in memory, which crash and come back, and the frames that they handed out.
 
 use crate::agreement::agree;
+use crate::audited::{Finished, Left, audited, journals_of};
 use crate::contents::{content, contents};
-use crate::samples::{device, instance, node_of, put_at};
+use crate::samples::{device, instance, node_of, put_of};
 use ep_base::InstanceId;
-use ep_collect::collect;
 use ep_device::MemoryDevice;
 use ep_frame::Frame;
-use ep_journal::{Event, Journal, Journals};
-use ep_log::read_log;
+use ep_journal::Event;
 use ep_node::{Node, NodeFault};
 use ep_replica::Replica;
 use ep_rules::Receipt;
-use ep_verdict::Verdict;
 use std::alloc::Global;
 use std::mem;
 use std::process::Abort;
@@ -35,14 +33,6 @@ pub struct Cluster {
     /// How often a node crashed, and whether the chosen content was there.
     crashes: usize,
     was_there: bool,
-}
-
-/// What a cluster's journals come to.
-#[derive(Clone, Copy)]
-pub struct Finished {
-    pub committed: usize,
-    pub executed: usize,
-    pub receipts: usize,
 }
 
 impl Cluster {
@@ -146,10 +136,15 @@ impl Cluster {
         }
     }
 
-    /// A client's put, of x or of y, to the number of the request.
+    /// A client's put, of x or of y, to the last digit of the request. The clients know of each receipt that was handed out.
     pub fn propose(&mut self, rt: &impl Abort, place: usize, is_other: bool) {
         self.requests = self.requests.saturating_add(1);
-        let event = put_at(rt, self.alloc, place, self.requests, is_other);
+        let event = Event::Propose {
+            client: if place == 0 { 1 } else { 2 },
+            request: self.requests,
+            command: put_of(rt, self.alloc, self.requests, is_other),
+            seen: latest(&self.receipts),
+        };
         self.take(rt, place, event);
     }
 
@@ -212,18 +207,28 @@ impl Cluster {
         }
     }
 
-    /// The node crashes and comes back, with all that it had handed out of, and with nothing that it hadn't taken.
-    pub fn crash(&mut self, rt: &impl Abort, place: usize) {
-        assert!(rt; place < self.nodes.len() && place < self.out.len());
-        let taken = self.nodes[place].taken();
+    /// The device of the node of this place, where a node on an empty device stands now.
+    fn device_of(&mut self, rt: &impl Abort, place: usize) -> MemoryDevice {
         let Ok(other) = node_of(rt, self.alloc, place, device(rt, self.alloc, &[], 0)) else {
             panic!(rt; "no node");
         };
-        let device = mem::replace(&mut self.nodes[place], other).into_device();
+        assert!(rt; place < self.nodes.len());
+        mem::replace(&mut self.nodes[place], other).into_device()
+    }
+
+    /// The node crashes and comes back, with all that it had handed out of, and with nothing that it hadn't taken.
+    pub fn crash(&mut self, rt: &impl Abort, place: usize) {
+        let taken = self.taken(rt, place);
+        let device = self.device_of(rt, place);
         let node = self.back(rt, place, device);
         assert!(rt; place < self.nodes.len() && place < self.out.len());
         assert!(rt; self.out[place] <= node.taken() && node.taken() <= taken);
         self.nodes[place] = node;
+    }
+
+    /// The node crashes, and its disk has lost all that it said was there.
+    pub fn forget(&mut self, rt: &impl Abort, place: usize) {
+        drop(self.device_of(rt, place));
     }
 
     /// How many entries the node of this place has.
@@ -312,8 +317,8 @@ impl Cluster {
         }
     }
 
-    /// What the joined journals, which the logs hold, come to. They aren't audited.
-    pub fn finish(self, rt: &impl Abort) -> Finished {
+    /// The journals that the logs hold, and every receipt that was handed out.
+    pub fn stop(self, rt: &impl Abort) -> Left {
         let Cluster {
             alloc,
             nodes,
@@ -325,12 +330,29 @@ impl Cluster {
             crashes: _,
             was_there: _,
         } = self;
-        let journals = journals_of(rt, alloc, nodes);
-        let all = audited(rt, alloc, &journals, &receipts);
-        drop(journals);
-        drop(receipts);
-        all
+        Left {
+            journals: journals_of(rt, alloc, nodes),
+            receipts,
+        }
     }
+
+    /// How much the audit finds in what the nodes left, which it accepts.
+    pub fn finish(self, rt: &impl Abort) -> Finished {
+        let alloc = self.alloc;
+        let left = self.stop(rt);
+        let finished = audited(rt, alloc, &left);
+        drop(left);
+        finished
+    }
+}
+
+/// The greatest stamp of the receipts, 0 where there is none.
+fn latest(receipts: &[Receipt]) -> u64 {
+    let mut stamp = 0;
+    for receipt in receipts {
+        stamp = receipt.stamp.max(stamp);
+    }
+    stamp
 }
 
 /// Adds the frames and receipts of a replica's entries from this one on.
@@ -355,38 +377,4 @@ fn hand_out_of(
             receipts.push(receipt).expect(rt, "memory for a receipt");
         }
     }
-}
-
-/// The journal that the node's log holds.
-fn journal_of(rt: &impl Abort, alloc: Global, node: Node<MemoryDevice>) -> Journal {
-    let taken = node.taken();
-    let device = node.into_device();
-    let log = read_log(alloc, device.bytes()).expect(rt, "a log");
-    drop(device);
-    assert!(rt; !log.is_torn && log.journal.entries().len() == taken);
-    log.journal
-}
-
-/// The journals of the nodes, collected from the last to the first.
-fn journals_of(rt: &impl Abort, alloc: Global, nodes: Vec<Node<MemoryDevice>>) -> Journals {
-    let mut journals = Vec::new(alloc);
-    for node in nodes {
-        journals
-            .push(journal_of(rt, alloc, node))
-            .expect(rt, "memory for a journal");
-    }
-    journals.reverse();
-    collect(journals).expect(rt, "the journals of a cluster")
-}
-
-/// How much the journals commit and execute, and how many receipts there are.
-fn audited(rt: &impl Abort, alloc: Global, journals: &Journals, receipts: &[Receipt]) -> Finished {
-    let verdict = Verdict::of(alloc, journals).expect(rt, "a verdict");
-    let all = Finished {
-        committed: verdict.committed.len(),
-        executed: verdict.history.len(),
-        receipts: receipts.len(),
-    };
-    drop(verdict);
-    all
 }

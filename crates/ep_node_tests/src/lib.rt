@@ -6,11 +6,17 @@
 #[cfg(test)]
 mod agreement;
 #[cfg(test)]
+mod audited;
+#[cfg(test)]
+mod batches;
+#[cfg(test)]
 mod cluster;
 #[cfg(test)]
 mod contents;
 #[cfg(test)]
 mod crashing;
+#[cfg(test)]
+mod forgetting;
 #[cfg(test)]
 mod moments;
 #[cfg(test)]

@@ -126,7 +126,8 @@ const NEVER: Crash = Crash {
     is_before: false,
 };
 
-/// The run without a crash: frames to accept (kind 3) and to prepare (kind 6) are sent, and all three puts are executed.
+/// The run without a crash: frames to accept (kind 3) and to prepare (kind 6) are sent, and all three puts are executed, each with a
+/// receipt.
 #[test]
 fn no_crash(rt: HostRuntime) {
     let mut cluster = Cluster::new(&rt, rt.alloc(), 0, 0, 0);
@@ -135,10 +136,10 @@ fn no_crash(rt: HostRuntime) {
     assert!(rt; cluster.sent_of(3) > 0);
     assert!(rt; cluster.sent_of(6) > 0);
     let finished = cluster.finish(&rt);
-    assert!(rt; finished.committed == 3 && finished.executed == 3);
+    assert!(rt; finished.committed == 3 && finished.executed == 3 && finished.receipts == 3);
 }
 
-/// The run in which an allocation may be refused (tools/refused-memory): the nodes agree even so.
+/// The run in which an allocation may be refused (tools/refused-memory): the nodes agree even so, and the audit accepts.
 #[test]
 fn with_little_memory(rt: HostRuntime) {
     let mut cluster = Cluster::new(&rt, rt.alloc(), 0, 0, 0);

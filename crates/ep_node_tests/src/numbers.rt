@@ -7,7 +7,7 @@ pub struct Numbers(u64);
 impl Numbers {
     /// The numbers of this seed.
     pub fn new(seed: u64) -> Numbers {
-        Numbers((seed | 1) ^ 0x9e37_79b9_7f4a_7c15)
+        Numbers((seed ^ 0x9e37_79b9_7f4a_7c15).max(1))
     }
 
     /// The next number, below this one; 0 where that is 0.

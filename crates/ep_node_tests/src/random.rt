@@ -1,5 +1,6 @@
 //! Three nodes that crash at random moments, with random contents, while frames are lost, repeated and reordered.
 
+use crate::audited::Finished;
 use crate::cluster::Cluster;
 use crate::numbers::Numbers;
 use crate::samples::instance;
@@ -22,8 +23,8 @@ fn happen(rt: &impl Abort, cluster: &mut Cluster, numbers: &mut Numbers, place: 
     }
 }
 
-/// A run of the numbers of this seed, how often a node crashed in it, and how much of it was executed.
-fn run(rt: &impl Abort, alloc: Global, seed: u64) -> (usize, usize) {
+/// A run of the numbers of this seed, how often a node crashed in it, and what it left.
+fn run(rt: &impl Abort, alloc: Global, seed: u64) -> (usize, Finished) {
     let mut numbers = Numbers::new(seed);
     let call = numbers.below(40) as u64;
     let mut cluster = Cluster::new(rt, alloc, numbers.below(3), call, numbers.below(200));
@@ -40,7 +41,7 @@ fn run(rt: &impl Abort, alloc: Global, seed: u64) -> (usize, usize) {
     }
     cluster.settle(rt);
     let crashes = cluster.count();
-    (crashes, cluster.finish(rt).executed)
+    (crashes, cluster.finish(rt))
 }
 
 #[test]
@@ -48,11 +49,14 @@ fn random_runs(rt: HostRuntime) {
     let alloc = rt.alloc();
     let mut crashed = 0usize;
     let mut executed = 0usize;
+    let mut receipts = 0usize;
     for seed in 0..1000 {
-        let (crashes, done) = run(&rt, alloc, seed);
+        let (crashes, finished) = run(&rt, alloc, seed);
         crashed = crashed.saturating_add(crashes);
-        executed = executed.saturating_add(done);
+        executed = executed.saturating_add(finished.executed);
+        receipts = receipts.saturating_add(finished.receipts);
     }
     assert!(rt; crashed > 1000, "{crashed}");
     assert!(rt; executed > 1000, "{executed}");
+    assert!(rt; receipts > 1000, "{receipts}");
 }

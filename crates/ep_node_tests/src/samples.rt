@@ -46,17 +46,11 @@ pub fn instance(rt: &impl Abort, leader: u8, number: u16) -> InstanceId {
     InstanceId::new(leader, number).expect(rt, "an instance")
 }
 
-/// Request of this number of the client at this place: a put of x, or of y, to its last digit.
-pub fn put_at(rt: &impl Abort, alloc: Global, place: usize, request: u32, is_other: bool) -> Event {
+/// A put of x, or of y, to the last digit of this number.
+pub fn put_of(rt: &impl Abort, alloc: Global, number: u32, is_other: bool) -> Command {
     let key = if is_other { b"y" } else { b"x" };
-    let value = [b'0' + (request % 10) as u8];
-    let command = Command::put(alloc, key, &value).expect(rt, "memory for a command");
-    Event::Propose {
-        client: if place == 0 { 1 } else { 2 },
-        request,
-        command,
-        seen: 0,
-    }
+    let value = [b'0' + (number % 10) as u8];
+    Command::put(alloc, key, &value).expect(rt, "memory for a command")
 }
 
 /// A client's request of this number: `put x 1`.
