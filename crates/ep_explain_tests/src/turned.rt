@@ -94,9 +94,10 @@ fn each_turned_byte_is_told(rt: HostRuntime) {
 }
 
 #[test]
-fn each_high_bit_is_told(rt: HostRuntime) {
+fn each_fifth_high_bit_is_told(rt: HostRuntime) {
     let alloc = rt.alloc();
-    for place in 0..BUNDLE.len() {
+    for fifth in 0..BUNDLE.len() / 5 {
+        let place = 5 * fifth;
         let told = is_told_turned(&rt, alloc, place, 0x80);
         assert!(rt; told, "turned at {place}");
     }
