@@ -1,0 +1,28 @@
+//! Numbers in the attributes of tags.
+
+ghost use Rattle.std.specs.Prelude.{◌≡◌, ◌++◌, OnOk};
+ghost use Rattle.ep_draw.specs.Shapes.{attribute, ends};
+
+use crate::layout::Point;
+use ep_report::push_number;
+use std::alloc::AllocError;
+
+/// Appends an attribute, from its name's space on to its last quote.
+pub(crate) fn push_attribute(text: &mut Vec<u8>, start: &[u8], number: u64) -> Result<(), AllocError>
+    ensures { OnOk result (text.new.items ≡ text.old.items ++ attribute start.now number) }
+{
+    text.extend_from_slice(start)?;
+    push_number(text, number)?;
+    text.push(b'\'')?;
+    Ok(())
+}
+
+/// Appends where a line begins and ends.
+pub(crate) fn push_ends(text: &mut Vec<u8>, from: Point, to: Point) -> Result<(), AllocError>
+    ensures { OnOk result (text.new.items ≡ text.old.items ++ ends from to) }
+{
+    push_attribute(text, b" x1='", from.x)?;
+    push_attribute(text, b" y1='", from.y)?;
+    push_attribute(text, b" x2='", to.x)?;
+    push_attribute(text, b" y2='", to.y)
+}

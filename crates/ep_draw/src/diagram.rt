@@ -1,0 +1,161 @@
+//! Space-time diagrams.
+
+ghost use Rattle.std.specs.Prelude.{◌≡◌, ◌≤◌, ◌++◌, ℕ, List, Err, IfOk, OnOk, length, codes};
+ghost use Rattle.ep_journal.specs.Entries.{AreJournals, entries_at};
+ghost use Rattle.ep_view.specs.Handled.{is_in};
+ghost use Rattle.ep_view.specs.Lookups.{entry_at};
+ghost use Rattle.ep_draw.specs.Drawn.{keeps_some, kept, file_text, opening, IsDrawn, IsTooMany};
+ghost use Rattle.ep_draw.specs.declared.draw_fault.DrawFault.TheVariants.{TooMany};
+
+use crate::arrow::{Arrow, push_arrows};
+use crate::attributes::push_attribute;
+use crate::dots::push_dots;
+use crate::draw_fault::DrawFault;
+use crate::frames::add_arrows;
+use crate::labels::{add_labels, width_of};
+use crate::layout::row_y;
+use crate::scene::Scene;
+use crate::shape::{Shape, push_shapes};
+use crate::style::{KEY, STYLE, WIDTH};
+use ep_base::ReplicaId;
+use ep_journal::Journals;
+use ep_matching::first_fault;
+use ep_report::{AuditFault, push_number};
+use ep_view::{Handled, entry_at, schedule};
+use ep_words::Part;
+use std::alloc::{AllocError, Global};
+
+/// How many events a diagram shows.
+const MOST: usize = 2000;
+
+/// What is drawn around the dots.
+#[derive(Drop)]
+pub struct Picture {
+    width: u64,
+    height: u64,
+    shapes: Vec<Shape>,
+    arrows: Vec<Arrow>,
+}
+
+/// Whether the part keeps the entry at this place.
+fn is_kept(journals: &Journals, part: &Part, place: &(ReplicaId, u32)) -> bool
+    requires { AreJournals journals.now }
+    ensures { result ≡ keeps_some part.now place.now.0 (entry_at (entries_at journals.now place.now.0) place.now.1) }
+{
+    let (replica, number) = place;
+    match entry_at(journals, *replica, *number) {
+        Some(entry) => part.keeps(*replica, entry),
+        None => false,
+    }
+}
+
+/// Those of the places whose entries the part keeps, in the same order.
+fn kept(
+    alloc: Global,
+    journals: &Journals,
+    part: &Part,
+    places: &[(ReplicaId, u32)],
+) -> Result<Vec<(ReplicaId, u32)>, AllocError>
+    requires { AreJournals journals.now }
+    ensures { IfOk result (λ rows. rows.items ≡ kept journals.now part.now places.now) }
+{
+    let mut rows = Vec::new(alloc);
+    for place in places {
+        if is_kept(journals, part, place) {
+            rows.push(*place)?;
+        }
+    }
+    Ok(rows)
+}
+
+/// The entry that the fault names, if it names one.
+fn place_of(fault: Option<AuditFault>) -> Option<(ReplicaId, u32)> {
+    match fault? {
+        AuditFault::UnsentFrame(replica, entry)
+        | AuditFault::ChangedFrame(replica, entry)
+        | AuditFault::StampOrder(replica, entry) => Some((replica, entry)),
+        AuditFault::UnknownReceipt(_) | AuditFault::CallerOrder(_) => None,
+    }
+}
+
+// What is drawn around the dots of the scene.
+fn picture_of(
+    alloc: Global,
+    scene: &Scene<'_>,
+    fault: Option<AuditFault>,
+) -> Result<Picture, AllocError> {
+    let mut picture = Picture {
+        width: WIDTH,
+        height: row_y(scene.rows.len()).saturating_add(24),
+        shapes: Vec::new(alloc),
+        arrows: Vec::new(alloc),
+    };
+    add_labels(&mut picture.shapes, scene, fault)?;
+    add_arrows(&mut picture.arrows, scene)?;
+    picture.width = width_of(&picture.shapes).saturating_add(24).max(WIDTH);
+    Ok(picture)
+}
+
+// Appends the start of the file: how wide and how high the picture is.
+fn push_opening(text: &mut Vec<u8>, width: u64, height: u64) -> Result<(), AllocError>
+    ensures { OnOk result (text.new.items ≡ text.old.items ++ opening width height) }
+{
+    push_attribute(text, b"<svg xmlns='http://www.w3.org/2000/svg' width='", width)?;
+    push_attribute(text, b" height='", height)?;
+    text.extend_from_slice(b" viewBox='0 0 ")?;
+    push_number(text, width)?;
+    push_attribute(text, b" ", height)?;
+    text.extend_from_slice(b">\n<title>Space-time diagram</title>\n")
+}
+
+// Appends the file.
+fn push_file(text: &mut Vec<u8>, scene: &Scene<'_>, picture: &Picture) -> Result<(), AllocError>
+    requires { length scene.now.rows.now ≤ 2000 }
+    ensures { OnOk result (text.new.items ≡ text.old.items ++ file_text (is_in scene.now.handled.now) scene.now.journals.now scene.now.rows.now picture.now) }
+{
+    push_opening(text, picture.width, picture.height)?;
+    text.extend_from_slice(STYLE)?;
+    text.extend_from_slice(KEY)?;
+    push_shapes(text, &picture.shapes)?;
+    push_arrows(text, &picture.arrows)?;
+    push_dots(text, scene)?;
+    text.extend_from_slice(b"</svg>\n")
+}
+
+// Draws a scene.
+fn drawn(
+    alloc: Global,
+    scene: &Scene<'_>,
+    fault: Option<AuditFault>,
+) -> Result<Vec<u8>, AllocError>
+    requires { length scene.now.rows.now ≤ 2000 }
+{
+    let picture = picture_of(alloc, scene, fault)?;
+    let mut text = Vec::new(alloc);
+    push_file(&mut text, scene, &picture)?;
+    Ok(text)
+}
+
+/// Draws the entries that the part keeps as a space-time diagram (Lamport, 1978), an SVG file: a line a replica, a dot an event, in
+/// rows by stamp and then by replica, an arrow from where a frame was sent to each place where it was handled, a cross where it
+/// never was, executions with their answers, and in red the audit's first fault.
+///
+/// `TooMany` exactly where the part keeps more than 2,000 entries.
+pub fn diagram(alloc: Global, journals: &Journals, part: &Part) -> Result<Vec<u8>, DrawFault> {
+    journals.are_journals();
+    let places = schedule(alloc, journals)?;
+    let rows = kept(alloc, journals, part, &places)?;
+    if rows.len() > MOST {
+        return Err(DrawFault::TooMany(rows.len()));
+    }
+    let fault = first_fault(alloc, journals, &[])?;
+    let handled = Handled::of(alloc, journals)?;
+    let scene = Scene {
+        journals,
+        rows: &rows,
+        handled: &handled,
+        fault: place_of(fault),
+    };
+    let text = drawn(alloc, &scene, fault)?;
+    Ok(text)
+}
