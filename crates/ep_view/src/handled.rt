@@ -15,13 +15,13 @@ use std::alloc::{AllocError, Global};
 
 /// The frames that journals handle.
 #[derive(Drop)]
-pub(crate) struct Handled {
+pub struct Handled {
     frames: IndexSet<Vec<u8>>,
 }
 
 impl Handled {
     /// The frames that some entry of some journal handles.
-    pub(crate) fn of(alloc: Global, journals: &Journals) -> Result<Handled, AllocError>
+    pub fn of(alloc: Global, journals: &Journals) -> Result<Handled, AllocError>
         ensures { IfOk result (λ h. AreHandled journals.now h) }
     {
         journals.are_journals();
@@ -39,7 +39,7 @@ impl Handled {
     }
 
     /// Whether the frame is one of them.
-    pub(crate) fn has(&self, frame: &Frame) -> bool
+    pub fn has(&self, frame: &Frame) -> bool
         ensures { result ≡ is_in self.now frame.now }
     {
         self.frames.contains(frame.as_slice())

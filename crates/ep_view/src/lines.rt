@@ -32,8 +32,8 @@ fn push_more_done(text: &mut Vec<u8>, done: &[(InstanceId, Answer)]) -> Result<(
     Ok(())
 }
 
-// Appends what was executed, if anything was.
-fn push_done(text: &mut Vec<u8>, done: &[(InstanceId, Answer)]) -> Result<(), AllocError>
+/// Appends what was executed, if anything was.
+pub fn push_done(text: &mut Vec<u8>, done: &[(InstanceId, Answer)]) -> Result<(), AllocError>
     ensures { OnOk result (text.new.items ≡ text.old.items ++ done_text done.now) }
 {
     let [first, rest @ ..] = done else {
@@ -55,8 +55,8 @@ fn push_took(text: &mut Vec<u8>, frames: &[Frame]) -> Result<(), AllocError>
     push_instance(text, first.instance())
 }
 
-// Appends an event, and for a proposal the instance that it takes.
-fn push_taken(text: &mut Vec<u8>, event: &Event, frames: &[Frame]) -> Result<(), AllocError>
+/// Appends an event, and for a proposal the instance that it takes.
+pub fn push_taken(text: &mut Vec<u8>, event: &Event, frames: &[Frame]) -> Result<(), AllocError>
     ensures { OnOk result (text.new.items ≡ text.old.items ++ taken_text event.now frames.now) }
 {
     push_event(text, event)?;
@@ -66,8 +66,8 @@ fn push_taken(text: &mut Vec<u8>, event: &Event, frames: &[Frame]) -> Result<(),
     }
 }
 
-// The words of the frame's message, alone.
-fn words_of(alloc: Global, frame: &Frame) -> Result<Vec<u8>, AllocError>
+/// The words of the frame's message, alone.
+pub fn words_of(alloc: Global, frame: &Frame) -> Result<Vec<u8>, AllocError>
     ensures { IfOk result (λ words. words.items ≡ words_at frame.now) }
 {
     let mut words = Vec::new(alloc);
@@ -75,8 +75,8 @@ fn words_of(alloc: Global, frame: &Frame) -> Result<Vec<u8>, AllocError>
     Ok(words)
 }
 
-// Appends what stands between the receivers of two frames with these words.
-fn push_between(text: &mut Vec<u8>, words: &[u8], next: &[u8]) -> Result<(), AllocError>
+/// Appends what stands between the receivers of two frames with these words.
+pub fn push_between(text: &mut Vec<u8>, words: &[u8], next: &[u8]) -> Result<(), AllocError>
     ensures { OnOk result (text.new.items ≡ text.old.items ++ between words.now next.now) }
 {
     if words == next {

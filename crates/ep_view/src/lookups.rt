@@ -8,7 +8,7 @@ use ep_base::ReplicaId;
 use ep_journal::{Entry, Journals};
 
 /// The entries of this replica; none where it is no replica of the cluster.
-pub(crate) fn entries_of(journals: &Journals, replica: ReplicaId) -> &[Entry]
+pub fn entries_of(journals: &Journals, replica: ReplicaId) -> &[Entry]
     requires { AreJournals journals.now }
     ensures { result.now ≡ entries_at journals.now replica }
 {
@@ -29,7 +29,7 @@ fn entry_in(entries: &[Entry], number: u32) -> Option<&Entry>
 }
 
 /// The replica's entry of this number, from 1.
-pub(crate) fn entry_at(journals: &Journals, replica: ReplicaId, number: u32) -> Option<&Entry>
+pub fn entry_at(journals: &Journals, replica: ReplicaId, number: u32) -> Option<&Entry>
     requires { AreJournals journals.now }
     ensures { option_copied result ≡ entry_at (entries_at journals.now replica) number }
 {

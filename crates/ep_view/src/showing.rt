@@ -16,10 +16,7 @@ use ep_words::Part;
 use std::alloc::{AllocError, Global};
 
 /// All entries of the journals, by stamp and replica: each as its replica with its number.
-pub(crate) fn schedule(
-    alloc: Global,
-    journals: &Journals,
-) -> Result<Vec<(ReplicaId, u32)>, AllocError>
+pub fn schedule(alloc: Global, journals: &Journals) -> Result<Vec<(ReplicaId, u32)>, AllocError>
     ensures { IfOk result (λ v. IsInOrder journals.now v.items) }
 {
     let verdict = Verdict::of(alloc, journals)?;
