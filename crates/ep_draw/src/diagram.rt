@@ -1,26 +1,23 @@
 //! Space-time diagrams.
 
-ghost use Rattle.std.specs.Prelude.{◌≡◌, ◌≤◌, ◌++◌, ℕ, List, Err, IfOk, OnOk, length, codes};
+ghost use Rattle.std.specs.Prelude.{◌≡◌, ◌≤◌, ◌++◌, ℕ, Err, IfOk, OnOk, length};
 ghost use Rattle.ep_journal.specs.Entries.{AreJournals, entries_at};
-ghost use Rattle.ep_view.specs.Handled.{is_in};
 ghost use Rattle.ep_view.specs.Lookups.{entry_at};
-ghost use Rattle.ep_draw.specs.Drawn.{keeps_some, kept, file_text, opening, IsDrawn, IsTooMany};
+ghost use Rattle.ep_draw.specs.Drawn.{keeps_some, kept, measured, viewed, front, opening, body, file_text, IsFile, IsDrawn, IsTooMany};
 ghost use Rattle.ep_draw.specs.declared.draw_fault.DrawFault.TheVariants.{TooMany};
 
-use crate::arrow::{Arrow, push_arrows};
-use crate::attributes::push_attribute;
 use crate::dots::push_dots;
 use crate::draw_fault::DrawFault;
 use crate::frames::add_arrows;
 use crate::labels::{add_labels, width_of};
 use crate::layout::row_y;
 use crate::scene::Scene;
-use crate::shape::{Shape, push_shapes};
 use crate::style::{KEY, STYLE, WIDTH};
 use ep_base::ReplicaId;
 use ep_journal::Journals;
 use ep_matching::first_fault;
 use ep_report::{AuditFault, push_number};
+use ep_svg::{Arrow, Shape, push_arrows, push_attribute, push_shapes};
 use ep_view::{Handled, entry_at, schedule};
 use ep_words::Part;
 use std::alloc::{AllocError, Global};
@@ -96,28 +93,55 @@ fn picture_of(
     Ok(picture)
 }
 
-// Appends the start of the file: how wide and how high the picture is.
-fn push_opening(text: &mut Vec<u8>, width: u64, height: u64) -> Result<(), AllocError>
-    ensures { OnOk result (text.new.items ≡ text.old.items ++ opening width height) }
+// Appends how wide and how high the picture is.
+fn push_measured(text: &mut Vec<u8>, width: u64, height: u64) -> Result<(), AllocError>
+    ensures { OnOk result (text.new.items ≡ text.old.items ++ measured width height) }
 {
     push_attribute(text, b"<svg xmlns='http://www.w3.org/2000/svg' width='", width)?;
-    push_attribute(text, b" height='", height)?;
+    push_attribute(text, b" height='", height)
+}
+
+// Appends that all of the picture is seen, and its title.
+fn push_viewed(text: &mut Vec<u8>, width: u64, height: u64) -> Result<(), AllocError>
+    ensures { OnOk result (text.new.items ≡ text.old.items ++ viewed width height) }
+{
     text.extend_from_slice(b" viewBox='0 0 ")?;
     push_number(text, width)?;
     push_attribute(text, b" ", height)?;
     text.extend_from_slice(b">\n<title>Space-time diagram</title>\n")
 }
 
+// Appends the styles and the key.
+#[tactic(auto, unfolding(crate::specs::Drawn::front))]
+fn push_front(text: &mut Vec<u8>) -> Result<(), AllocError>
+    ensures { OnOk result (text.new.items ≡ text.old.items ++ front) }
+{
+    text.extend_from_slice(STYLE)?;
+    text.extend_from_slice(KEY)
+}
+
+fn push_opening(text: &mut Vec<u8>, picture: &Picture) -> Result<(), AllocError>
+    ensures { OnOk result (text.new.items ≡ text.old.items ++ opening picture.now) }
+{
+    push_measured(text, picture.width, picture.height)?;
+    push_viewed(text, picture.width, picture.height)?;
+    push_front(text)
+}
+
+fn push_body(text: &mut Vec<u8>, picture: &Picture) -> Result<(), AllocError>
+    ensures { OnOk result (text.new.items ≡ text.old.items ++ body picture.now) }
+{
+    push_shapes(text, &picture.shapes)?;
+    push_arrows(text, &picture.arrows)
+}
+
 // Appends the file.
 fn push_file(text: &mut Vec<u8>, scene: &Scene<'_>, picture: &Picture) -> Result<(), AllocError>
     requires { length scene.now.rows.now ≤ 2000 }
-    ensures { OnOk result (text.new.items ≡ text.old.items ++ file_text (is_in scene.now.handled.now) scene.now.journals.now scene.now.rows.now picture.now) }
+    ensures { OnOk result (text.new.items ≡ text.old.items ++ file_text scene.now.journals.now scene.now.rows.now picture.now) }
 {
-    push_opening(text, picture.width, picture.height)?;
-    text.extend_from_slice(STYLE)?;
-    text.extend_from_slice(KEY)?;
-    push_shapes(text, &picture.shapes)?;
-    push_arrows(text, &picture.arrows)?;
+    push_opening(text, picture)?;
+    push_body(text, picture)?;
     push_dots(text, scene)?;
     text.extend_from_slice(b"</svg>\n")
 }
@@ -129,6 +153,7 @@ fn drawn(
     fault: Option<AuditFault>,
 ) -> Result<Vec<u8>, AllocError>
     requires { length scene.now.rows.now ≤ 2000 }
+    ensures { IfOk result (λ text. IsFile scene.now.journals.now scene.now.rows.now text.items) }
 {
     let picture = picture_of(alloc, scene, fault)?;
     let mut text = Vec::new(alloc);
@@ -136,26 +161,43 @@ fn drawn(
     Ok(text)
 }
 
+// Draws the entries at these places, in rows.
+fn draw_rows(
+    alloc: Global,
+    journals: &Journals,
+    rows: &[(ReplicaId, u32)],
+) -> Result<Vec<u8>, AllocError>
+    requires { length rows.now ≤ 2000 }
+    ensures { IfOk result (λ text. IsFile journals.now rows.now text.items) }
+{
+    let fault = first_fault(alloc, journals, &[])?;
+    let handled = Handled::of(alloc, journals)?;
+    let scene = Scene {
+        journals,
+        rows,
+        handled: &handled,
+        fault: place_of(fault),
+    };
+    drawn(alloc, &scene, fault)
+}
+
 /// Draws the entries that the part keeps as a space-time diagram (Lamport, 1978), an SVG file: a line a replica, a dot an event, in
 /// rows by stamp and then by replica, an arrow from where a frame was sent to each place where it was handled, a cross where it
 /// never was, executions with their answers, and in red the audit's first fault.
 ///
 /// `TooMany` exactly where the part keeps more than 2,000 entries.
-pub fn diagram(alloc: Global, journals: &Journals, part: &Part) -> Result<Vec<u8>, DrawFault> {
+pub fn diagram(alloc: Global, journals: &Journals, part: &Part) -> Result<Vec<u8>, DrawFault>
+    ensures drawn { IfOk result (λ svg. IsDrawn journals.now part.now svg.items) }
+    ensures too_many { (n : ℕ) → result ≡ Err (TooMany n) → IsTooMany journals.now part.now n }
+{
     journals.are_journals();
     let places = schedule(alloc, journals)?;
     let rows = kept(alloc, journals, part, &places)?;
     if rows.len() > MOST {
         return Err(DrawFault::TooMany(rows.len()));
     }
-    let fault = first_fault(alloc, journals, &[])?;
-    let handled = Handled::of(alloc, journals)?;
-    let scene = Scene {
-        journals,
-        rows: &rows,
-        handled: &handled,
-        fault: place_of(fault),
-    };
-    let text = drawn(alloc, &scene, fault)?;
-    Ok(text)
+    match draw_rows(alloc, journals, &rows) {
+        Ok(text) => Ok(text),
+        Err(_) => Err(DrawFault::Memory),
+    }
 }

@@ -1,22 +1,19 @@
 //! The events of a diagram, a dot each.
 
-ghost use Rattle.std.specs.Prelude.{◌≡◌, ◌≤◌, ◌<◌, ◌^◌, ◌++◌, IfOk, OnOk, length};
+ghost use Rattle.std.specs.Prelude.{◌≡◌, ◌≤◌, ◌<◌, ◌^◌, ◌++◌, OnOk, length};
 ghost use Rattle.ep_journal.specs.Entries.{entries_at};
-ghost use Rattle.ep_view.specs.Handled.{is_in};
-ghost use Rattle.ep_view.specs.Lines.{entry_text};
-ghost use Rattle.ep_draw.specs.Layout.{column, row};
-ghost use Rattle.ep_draw.specs.Drawn.{class_of, circle_start, circle_text, dot_text, dots_from};
+ghost use Rattle.ep_view.specs.Lookups.{entry_at};
+ghost use Rattle.ep_draw.specs.Drawn.{class_of, spot, circle_start, circle_text, dot_text, dots_from};
 
-use crate::attributes::push_attribute;
-use crate::escaping::push_escaped;
-use crate::layout::Point;
 use crate::scene::Scene;
+use crate::words::told;
 use ep_base::ReplicaId;
 use ep_journal::{Entry, Event};
-use ep_view::{Handled, push_entry};
-use std::alloc::{AllocError, Global};
+use ep_svg::{Point, push_attribute, push_escaped};
+use std::alloc::AllocError;
 
 // The kind of event, as a class of the file.
+#[tactic(auto, unfolding(crate::specs::Drawn::class_of))]
 fn class_of(event: &Event) -> &'static [u8]
     ensures { result.now ≡ class_of event.now }
 {
@@ -29,18 +26,11 @@ fn class_of(event: &Event) -> &'static [u8]
     }
 }
 
-// The entry in words.
-fn told(
-    alloc: Global,
-    handled: &Handled,
-    replica: ReplicaId,
-    entry: &Entry,
-) -> Result<Vec<u8>, AllocError>
-    ensures { IfOk result (λ words. words.items ≡ entry_text (is_in handled.now) replica entry.now) }
+fn push_spot(text: &mut Vec<u8>, at: Point) -> Result<(), AllocError>
+    ensures { OnOk result (text.new.items ≡ text.old.items ++ spot at.x at.y) }
 {
-    let mut words = Vec::new(alloc);
-    push_entry(&mut words, handled, replica, entry)?;
-    Ok(words)
+    push_attribute(text, b"' cx='", at.x)?;
+    push_attribute(text, b" cy='", at.y)
 }
 
 // Appends the tag of a dot, of this class and here.
@@ -49,8 +39,7 @@ fn push_circle(text: &mut Vec<u8>, class: &[u8], at: Point) -> Result<(), AllocE
 {
     text.extend_from_slice(b"<circle class='dot ")?;
     text.extend_from_slice(class)?;
-    push_attribute(text, b"' cx='", at.x)?;
-    push_attribute(text, b" cy='", at.y)?;
+    push_spot(text, at)?;
     text.extend_from_slice(b" r='6'><title>")
 }
 
@@ -62,9 +51,9 @@ fn push_dot(
     replica: ReplicaId,
     entry: &Entry,
 ) -> Result<(), AllocError>
-    ensures { OnOk result (text.new.items ≡ text.old.items ++ circle_text (is_in scene.now.handled.now) at.x at.y replica entry.now) }
+    ensures { OnOk result (text.new.items ≡ text.old.items ++ circle_text at.x at.y replica entry.now) }
 {
-    let words = told(*text.allocator(), scene.handled, replica, entry)?;
+    let words = told(*text.allocator(), replica, entry)?;
     push_circle(text, class_of(&entry.event), at)?;
     push_escaped(text, &words)?;
     text.extend_from_slice(b"</title></circle>\n")
@@ -78,7 +67,7 @@ fn push_row(
     row: &(ReplicaId, u32),
 ) -> Result<(), AllocError>
     requires { place < 2 ^ 32 }
-    ensures { OnOk result (text.new.items ≡ text.old.items ++ dot_text (is_in scene.now.handled.now) scene.now.journals.now place row.now) }
+    ensures { OnOk result (text.new.items ≡ text.old.items ++ dot_text scene.now.journals.now place row.now (entry_at (entries_at scene.now.journals.now row.now.0) row.now.1)) }
 {
     let (replica, number) = row;
     match scene.entry((*replica, *number)) {
@@ -93,12 +82,10 @@ fn push_row(
 /// Appends the dots of all rows.
 pub(crate) fn push_dots(text: &mut Vec<u8>, scene: &Scene<'_>) -> Result<(), AllocError>
     requires { length scene.now.rows.now ≤ 2000 }
-    ensures { OnOk result (text.new.items ≡ text.old.items ++ dots_from (is_in scene.now.handled.now) scene.now.journals.now 0 scene.now.rows.now) }
+    ensures { OnOk result (text.new.items ≡ text.old.items ++ dots_from scene.now.journals.now 0 scene.now.rows.now) }
 {
-    let mut place = 0;
-    for row in scene.rows {
+    for (place, row) in scene.rows.iter().enumerate() {
         push_row(text, scene, place, row)?;
-        place += 1;
     }
     Ok(())
 }

@@ -1,14 +1,11 @@
 //! The frames of a diagram: an arrow from the entry that sent a frame to each entry that handled it, a cross where none did.
 
-use crate::arrow::Arrow;
-use crate::fate::Fate;
-use crate::kind::Kind;
-use crate::layout::Point;
 use crate::scene::{Scene, handles};
 use ep_base::ReplicaId;
 use ep_frame::Frame;
 use ep_journal::{Entry, Event};
 use ep_report::{push_instance, push_number};
+use ep_svg::{Arrow, Fate, Kind, Point};
 use ep_words::{push_message, push_origin};
 use std::alloc::{AllocError, Global};
 
@@ -42,9 +39,23 @@ fn words_of(alloc: Global, frame: &Frame, fate: Fate) -> Result<Vec<u8>, AllocEr
     Ok(words)
 }
 
+// The kind of the frame's message.
+fn kind_of(frame: &Frame) -> Kind {
+    match frame.view().header().kind {
+        1 => Kind::PreAccept,
+        2 => Kind::PreAcceptOk,
+        3 => Kind::Accept,
+        4 => Kind::AcceptOk,
+        5 => Kind::Commit,
+        6 => Kind::Prepare,
+        7 => Kind::PrepareOk,
+        _ => Kind::Nack,
+    }
+}
+
 // The letters of its kind, and its instance.
 fn label_of(alloc: Global, frame: &Frame) -> Result<Vec<u8>, AllocError> {
-    let mut label = Vec::from_slice(alloc, Kind::of(frame).letters())?;
+    let mut label = Vec::from_slice(alloc, kind_of(frame).letters())?;
     label.push(b' ')?;
     push_instance(&mut label, frame.instance())?;
     Ok(label)
@@ -64,7 +75,7 @@ fn arrow_of(alloc: Global, frame: &Frame, way: Way) -> Result<Arrow, AllocError>
     let label = label_of(alloc, frame)?;
     let words = words_of(alloc, frame, way.fate)?;
     Ok(Arrow {
-        kind: Kind::of(frame),
+        kind: kind_of(frame),
         fate: way.fate,
         is_fault: way.is_fault,
         from: way.from,

@@ -1,14 +1,13 @@
 //! What stands around the dots of a diagram: what it is, the replicas' lines, and at the right of each row what happened, in
 //! words.
 
-use crate::layout::{Point, row_y};
+use crate::layout::row_y;
 use crate::scene::Scene;
-use crate::shape::{Look, Shape};
+use crate::words::told;
 use ep_base::ReplicaId;
 use ep_journal::Entry;
 use ep_report::{AuditFault, push_number};
-use ep_view::push_done;
-use ep_words::push_event;
+use ep_svg::{Look, Point, Shape};
 use std::alloc::{AllocError, Global};
 
 /// How many bytes of a row's words are shown; the title of its dot has all.
@@ -64,7 +63,7 @@ fn add_heading(
     let title = title_of(*shapes.allocator(), scene)?;
     add_words(shapes, Look::Title, Point { x: 24, y: 28 }, title)?;
     add_plain(shapes, 52, b"Time runs downwards, an event a row, in the order of the stamps at the left. At the right stands what happened:")?;
-    add_plain(shapes, 70, b"0:2 is replica 0's entry 2, and 0:2:1 the frame 1, from 0, that it sent. To point at a dot or an arrow tells all of it.")?;
+    add_plain(shapes, 70, b"0:2 is replica 0's entry 2, and 0:2:1 the frame 1, from 0, that it sent. A dot or an arrow tells all of it where the pointer rests.")?;
     match fault {
         Some(fault) => add_alarm(shapes, fault),
         None => Ok(()),
@@ -97,18 +96,6 @@ fn add_lives(shapes: &mut Vec<Shape>, scene: &Scene<'_>, bottom: u64) -> Result<
         }
     }
     Ok(())
-}
-
-// The words of a row: its replica and entry, the event, and what was executed.
-fn told(alloc: Global, replica: ReplicaId, entry: &Entry) -> Result<Vec<u8>, AllocError> {
-    let mut words = Vec::new(alloc);
-    push_number(&mut words, u64::from(replica.index()))?;
-    words.push(b':')?;
-    push_number(&mut words, u64::from(entry.number))?;
-    words.push(b' ')?;
-    push_event(&mut words, &entry.event)?;
-    push_done(&mut words, entry.done.as_slice())?;
-    Ok(words)
 }
 
 // The words that are shown: all, or where they are long their beginning.

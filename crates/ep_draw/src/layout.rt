@@ -4,13 +4,7 @@ ghost use Rattle.std.specs.Prelude.{◌≡◌, ◌≤◌, ◌<◌, ◌^◌};
 ghost use Rattle.ep_draw.specs.Layout.{step, column, row};
 
 use ep_base::{ReplicaId, Size};
-
-/// A place.
-#[derive(Clone, Copy, Debug, PartialEq, Eq)]
-pub(crate) struct Point {
-    pub x: u64,
-    pub y: u64,
-}
+use ep_svg::Point;
 
 /// Where the lines of a cluster's replicas stand: columns from left to right, rows downwards.
 #[derive(Clone, Copy, Debug, PartialEq, Eq)]
@@ -60,37 +54,5 @@ impl Layout {
             x: self.column(replica),
             y: row_y(place),
         }
-    }
-}
-
-impl Point {
-    /// A point before this one, on the way from another one: less by so much in x, and above by so much in y.
-    pub fn short_of(self, from: Point, by: u64, above: u64) -> Point {
-        let x = if from.x < self.x {
-            self.x.saturating_sub(by)
-        } else {
-            self.x.saturating_add(by)
-        };
-        Point {
-            x,
-            y: self.y.saturating_sub(above),
-        }
-    }
-
-    /// The point of the line to here from another one that is so far from here in x.
-    pub fn back_to(self, from: Point, by: u64) -> Point {
-        let width = self.x.abs_diff(from.x);
-        let height = self.y.abs_diff(from.y);
-        if width == 0 {
-            return self;
-        }
-        let rise = height.saturating_mul(by) / width;
-        let near = self.short_of(from, by, 0);
-        let y = if from.y < self.y {
-            self.y.saturating_sub(rise)
-        } else {
-            self.y.saturating_add(rise)
-        };
-        Point { x: near.x, y }
     }
 }

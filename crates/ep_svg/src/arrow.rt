@@ -1,13 +1,13 @@
 //! Arrows.
 
 ghost use Rattle.std.specs.Prelude.{◌≡◌, ◌++◌, OnOk};
-ghost use Rattle.ep_draw.specs.Shapes.{kind_class, fate_class, alarm_class, arrow_class, arrow_title, arrow_label, arrow_text, arrows_text};
+ghost use Rattle.ep_svg.specs.Shapes.{kind_class, fate_class, alarm_class, end_class, arrow_class, arrow_title, arrow_label, arrow_text, arrows_text};
 
-use crate::attributes::{push_attribute, push_ends};
+use crate::attributes::{push_ends, push_standing};
 use crate::escaping::push_escaped;
 use crate::fate::Fate;
 use crate::kind::Kind;
-use crate::layout::Point;
+use crate::point::Point;
 use std::alloc::AllocError;
 
 /// A frame, from where it was sent towards where it was handled.
@@ -62,13 +62,20 @@ fn alarm_class(is_fault: bool) -> &'static [u8]
     if is_fault { b" fault" } else { b"" }
 }
 
+// Appends the classes of its end.
+fn push_end(text: &mut Vec<u8>, arrow: &Arrow) -> Result<(), AllocError>
+    ensures { OnOk result (text.new.items ≡ text.old.items ++ end_class arrow.now) }
+{
+    text.extend_from_slice(fate_class(arrow.fate))?;
+    text.extend_from_slice(alarm_class(arrow.is_fault))
+}
+
 fn push_class(text: &mut Vec<u8>, arrow: &Arrow) -> Result<(), AllocError>
     ensures { OnOk result (text.new.items ≡ text.old.items ++ arrow_class arrow.now) }
 {
     text.extend_from_slice(b"<g class='frame ")?;
     text.extend_from_slice(kind_class(arrow.kind))?;
-    text.extend_from_slice(fate_class(arrow.fate))?;
-    text.extend_from_slice(alarm_class(arrow.is_fault))
+    push_end(text, arrow)
 }
 
 fn push_title(text: &mut Vec<u8>, arrow: &Arrow) -> Result<(), AllocError>
@@ -83,9 +90,7 @@ fn push_label(text: &mut Vec<u8>, arrow: &Arrow) -> Result<(), AllocError>
     ensures { OnOk result (text.new.items ≡ text.old.items ++ arrow_label arrow.now) }
 {
     text.extend_from_slice(b"/><text")?;
-    push_attribute(text, b" x='", arrow.at.x)?;
-    push_attribute(text, b" y='", arrow.at.y)?;
-    text.push(b'>')?;
+    push_standing(text, arrow.at)?;
     push_escaped(text, &arrow.label)?;
     text.extend_from_slice(b"</text></g>\n")
 }
@@ -100,7 +105,7 @@ fn push_arrow(text: &mut Vec<u8>, arrow: &Arrow) -> Result<(), AllocError>
 }
 
 /// Appends arrows, one after the other.
-pub(crate) fn push_arrows(text: &mut Vec<u8>, arrows: &[Arrow]) -> Result<(), AllocError>
+pub fn push_arrows(text: &mut Vec<u8>, arrows: &[Arrow]) -> Result<(), AllocError>
     ensures { OnOk result (text.new.items ≡ text.old.items ++ arrows_text arrows.now) }
 {
     for arrow in arrows {

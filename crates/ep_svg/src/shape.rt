@@ -1,29 +1,14 @@
 //! What is drawn besides arrows and dots.
 
 ghost use Rattle.std.specs.Prelude.{◌≡◌, ◌++◌, OnOk};
-ghost use Rattle.ep_draw.specs.Shapes.{look_class, look_text, shape_text, shapes_text};
-ghost use Rattle.ep_draw.specs.declared.shape.Shape.TheVariants as shape;
+ghost use Rattle.ep_svg.specs.Shapes.{look_class, look_text, shape_text, shapes_text};
+ghost use Rattle.ep_svg.specs.declared.shape.Shape.TheVariants as shape;
 
-use crate::attributes::{push_attribute, push_ends};
+use crate::attributes::{push_attribute, push_ends, push_standing};
 use crate::escaping::push_escaped;
-use crate::layout::Point;
+use crate::look::Look;
+use crate::point::Point;
 use std::alloc::AllocError;
-
-/// How a shape looks.
-#[derive(Clone, Copy, Debug, PartialEq, Eq)]
-pub enum Look {
-    /// The line of a replica.
-    Life,
-    /// A line from a row's stamp to its words.
-    Guide,
-    Title,
-    Plain,
-    /// The name of a replica.
-    Head,
-    Stamp,
-    /// The audit's first fault.
-    Alarm,
-}
 
 /// What is drawn besides arrows and dots.
 #[derive(Drop)]
@@ -71,9 +56,7 @@ fn push_words(text: &mut Vec<u8>, look: Look, at: Point, words: &Vec<u8>) -> Res
     ensures { OnOk result (text.new.items ≡ text.old.items ++ shape_text (shape.Words look at words.now)) }
 {
     push_look(text, b"<text class='", look)?;
-    push_attribute(text, b" x='", at.x)?;
-    push_attribute(text, b" y='", at.y)?;
-    text.push(b'>')?;
+    push_standing(text, at)?;
     push_escaped(text, words)?;
     text.extend_from_slice(b"</text>\n")
 }
@@ -97,7 +80,7 @@ fn push_shape(text: &mut Vec<u8>, shape: &Shape) -> Result<(), AllocError>
 }
 
 /// Appends shapes, one after the other.
-pub(crate) fn push_shapes(text: &mut Vec<u8>, shapes: &[Shape]) -> Result<(), AllocError>
+pub fn push_shapes(text: &mut Vec<u8>, shapes: &[Shape]) -> Result<(), AllocError>
     ensures { OnOk result (text.new.items ≡ text.old.items ++ shapes_text shapes.now) }
 {
     for shape in shapes {

@@ -1,14 +1,14 @@
 //! Numbers in the attributes of tags.
 
 ghost use Rattle.std.specs.Prelude.{◌≡◌, ◌++◌, OnOk};
-ghost use Rattle.ep_draw.specs.Shapes.{attribute, ends};
+ghost use Rattle.ep_svg.specs.Shapes.{attribute, ends, standing};
 
-use crate::layout::Point;
+use crate::point::Point;
 use ep_report::push_number;
 use std::alloc::AllocError;
 
 /// Appends an attribute, from its name's space on to its last quote.
-pub(crate) fn push_attribute(text: &mut Vec<u8>, start: &[u8], number: u64) -> Result<(), AllocError>
+pub fn push_attribute(text: &mut Vec<u8>, start: &[u8], number: u64) -> Result<(), AllocError>
     ensures { OnOk result (text.new.items ≡ text.old.items ++ attribute start.now number) }
 {
     text.extend_from_slice(start)?;
@@ -25,4 +25,14 @@ pub(crate) fn push_ends(text: &mut Vec<u8>, from: Point, to: Point) -> Result<()
     push_attribute(text, b" y1='", from.y)?;
     push_attribute(text, b" x2='", to.x)?;
     push_attribute(text, b" y2='", to.y)
+}
+
+/// Appends where words stand, and ends their tag.
+pub(crate) fn push_standing(text: &mut Vec<u8>, at: Point) -> Result<(), AllocError>
+    ensures { OnOk result (text.new.items ≡ text.old.items ++ standing at) }
+{
+    push_attribute(text, b" x='", at.x)?;
+    push_attribute(text, b" y='", at.y)?;
+    text.push(b'>')?;
+    Ok(())
 }

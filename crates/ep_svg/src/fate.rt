@@ -17,7 +17,7 @@ pub enum Fate {
 
 impl Fate {
     /// What became of it, in words.
-    pub(crate) fn words(self) -> &'static [u8] {
+    pub fn words(self) -> &'static [u8] {
         match self {
             Fate::Handled => b"",
             Fate::Lost => b" - NEVER HANDLED",

@@ -1,0 +1,17 @@
+//! How shapes look.
+
+/// How a shape looks.
+#[derive(Clone, Copy, Debug, PartialEq, Eq)]
+pub enum Look {
+    /// The line of a replica.
+    Life,
+    /// A line from a row's stamp to its words.
+    Guide,
+    Title,
+    Plain,
+    /// The name of a replica.
+    Head,
+    Stamp,
+    /// The audit's first fault.
+    Alarm,
+}
