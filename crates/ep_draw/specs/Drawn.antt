@@ -12,8 +12,8 @@ use Rattle.ep_words.specs.declared.part.Part.{Part}
 use Rattle.ep_svg.specs.Escaping.{escaped}
 use Rattle.ep_draw.specs.Layout.{column, row}
 use Rattle.ep_svg.specs.Shapes.{attribute, shapes_text, arrows_text}
-use Rattle.ep_draw.specs.declared.TheConstants.{KEY, STYLE}
-use Rattle.ep_draw.specs.declared.diagram.Picture.{Picture}
+use Rattle.ep_draw.specs.declared.style.TheConstants.{KEY, STYLE}
+use Rattle.ep_draw.specs.declared.picture.Picture.{Picture}
 
 abbrev pub keeps_some : Part → ℕ → Option Entry → Bool
 keeps_some part r None = false

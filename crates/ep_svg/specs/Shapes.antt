@@ -8,9 +8,9 @@ use Rattle.ep_svg.specs.declared.kind.Kind.{Kind}
 use Rattle.ep_svg.specs.declared.kind.Kind.TheVariants.{PreAccept, PreAcceptOk, Accept, AcceptOk, Commit, Prepare, PrepareOk, Nack}
 use Rattle.ep_svg.specs.declared.point.Point.{Point}
 use Rattle.ep_svg.specs.declared.look.Look.{Look}
-use Rattle.ep_svg.specs.declared.look.Look.TheVariants.{Life, Guide, Title, Plain, Head, Stamp, Alarm}
+use Rattle.ep_svg.specs.declared.look.Look.TheVariants.{Life, Guide, Title, Plain, Head, Stamp, Alarm, Alone, Together, Missing, Needs}
 use Rattle.ep_svg.specs.declared.shape.Shape.{Shape}
-use Rattle.ep_svg.specs.declared.shape.Shape.TheVariants.{Line, Words, Ring}
+use Rattle.ep_svg.specs.declared.shape.Shape.TheVariants.{Line, Words, Rect, Ring}
 
 -- from the start of an attribute, its space, its name and its first quote, to its last quote
 abbrev pub attribute : List ℕ → ℕ → List ℕ
@@ -19,9 +19,16 @@ attribute start n = start ++ decimal n ++ codes "'"
 abbrev pub ends : Point → Point → List ℕ
 ends from to = attribute (codes " x1='") from.x ++ attribute (codes " y1='") from.y ++ attribute (codes " x2='") to.x ++ attribute (codes " y2='") to.y
 
+abbrev pub corner : Point → List ℕ
+corner at = attribute (codes " x='") at.x ++ attribute (codes " y='") at.y
+
+-- how wide and how high
+abbrev pub measures : Point → List ℕ
+measures extent = attribute (codes " width='") extent.x ++ attribute (codes " height='") extent.y
+
 -- where words stand, up to the end of their tag
 abbrev pub standing : Point → List ℕ
-standing at = attribute (codes " x='") at.x ++ attribute (codes " y='") at.y ++ codes ">"
+standing at = corner at ++ codes ">"
 
 -- Shapes.
 
@@ -33,6 +40,10 @@ look_class Plain = codes "plain"
 look_class Head = codes "head"
 look_class Stamp = codes "stamp"
 look_class Alarm = codes "alarm"
+look_class Alone = codes "alone"
+look_class Together = codes "together"
+look_class Missing = codes "missing"
+look_class Needs = codes "needs"
 
 abbrev pub look_text : List ℕ → Look → List ℕ
 look_text start look = start ++ look_class look ++ codes "'"
@@ -40,6 +51,7 @@ look_text start look = start ++ look_class look ++ codes "'"
 abbrev pub shape_text : Shape → List ℕ
 shape_text (Line look from to) = look_text (codes "<line class='") look ++ ends from to ++ codes "/>\n"
 shape_text (Words look at words) = look_text (codes "<text class='") look ++ standing at ++ escaped words.items ++ codes "</text>\n"
+shape_text (Rect look at extent) = look_text (codes "<rect class='") look ++ corner at ++ measures extent ++ codes " rx='6'/>\n"
 shape_text (Ring at) = attribute (codes "<circle class='ring' cx='") at.x ++ attribute (codes " cy='") at.y ++ codes " r='11'/>\n"
 
 abbrev pub shapes_text : List Shape → List ℕ

@@ -1,7 +1,7 @@
 //! Numbers in the attributes of tags.
 
 ghost use Rattle.std.specs.Prelude.{◌≡◌, ◌++◌, OnOk};
-ghost use Rattle.ep_svg.specs.Shapes.{attribute, ends, standing};
+ghost use Rattle.ep_svg.specs.Shapes.{attribute, ends, corner, measures, standing};
 
 use crate::point::Point;
 use ep_report::push_number;
@@ -27,12 +27,27 @@ pub(crate) fn push_ends(text: &mut Vec<u8>, from: Point, to: Point) -> Result<()
     push_attribute(text, b" y2='", to.y)
 }
 
+/// Appends a place.
+pub(crate) fn push_corner(text: &mut Vec<u8>, at: Point) -> Result<(), AllocError>
+    ensures { OnOk result (text.new.items ≡ text.old.items ++ corner at) }
+{
+    push_attribute(text, b" x='", at.x)?;
+    push_attribute(text, b" y='", at.y)
+}
+
+/// Appends how wide and how high something is.
+pub(crate) fn push_extent(text: &mut Vec<u8>, extent: Point) -> Result<(), AllocError>
+    ensures { OnOk result (text.new.items ≡ text.old.items ++ measures extent) }
+{
+    push_attribute(text, b" width='", extent.x)?;
+    push_attribute(text, b" height='", extent.y)
+}
+
 /// Appends where words stand, and ends their tag.
 pub(crate) fn push_standing(text: &mut Vec<u8>, at: Point) -> Result<(), AllocError>
     ensures { OnOk result (text.new.items ≡ text.old.items ++ standing at) }
 {
-    push_attribute(text, b" x='", at.x)?;
-    push_attribute(text, b" y='", at.y)?;
+    push_corner(text, at)?;
     text.push(b'>')?;
     Ok(())
 }

@@ -14,4 +14,12 @@ pub enum Look {
     Stamp,
     /// The audit's first fault.
     Alarm,
+    /// An instance that is in no cycle of dependencies.
+    Alone,
+    /// Instances that depend on each other.
+    Together,
+    /// An instance that isn't committed.
+    Missing,
+    /// A dependency.
+    Needs,
 }

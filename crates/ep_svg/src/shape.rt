@@ -4,7 +4,7 @@ ghost use Rattle.std.specs.Prelude.{◌≡◌, ◌++◌, OnOk};
 ghost use Rattle.ep_svg.specs.Shapes.{look_class, look_text, shape_text, shapes_text};
 ghost use Rattle.ep_svg.specs.declared.shape.Shape.TheVariants as shape;
 
-use crate::attributes::{push_attribute, push_ends, push_standing};
+use crate::attributes::{push_attribute, push_corner, push_ends, push_extent, push_standing};
 use crate::escaping::push_escaped;
 use crate::look::Look;
 use crate::point::Point;
@@ -15,6 +15,8 @@ use std::alloc::AllocError;
 pub enum Shape {
     Line { look: Look, from: Point, to: Point },
     Words { look: Look, at: Point, words: Vec<u8> },
+    /// A rectangle from its upper left corner, so wide and so high.
+    Rect { look: Look, at: Point, extent: Point },
     /// A ring round the dot of an entry.
     Ring { at: Point },
 }
@@ -31,6 +33,10 @@ fn look_class(look: Look) -> &'static [u8]
         Look::Head => b"head",
         Look::Stamp => b"stamp",
         Look::Alarm => b"alarm",
+        Look::Alone => b"alone",
+        Look::Together => b"together",
+        Look::Missing => b"missing",
+        Look::Needs => b"needs",
     }
 }
 
@@ -61,6 +67,15 @@ fn push_words(text: &mut Vec<u8>, look: Look, at: Point, words: &Vec<u8>) -> Res
     text.extend_from_slice(b"</text>\n")
 }
 
+fn push_rect(text: &mut Vec<u8>, look: Look, at: Point, extent: Point) -> Result<(), AllocError>
+    ensures { OnOk result (text.new.items ≡ text.old.items ++ shape_text (shape.Rect look at extent)) }
+{
+    push_look(text, b"<rect class='", look)?;
+    push_corner(text, at)?;
+    push_extent(text, extent)?;
+    text.extend_from_slice(b" rx='6'/>\n")
+}
+
 fn push_ring(text: &mut Vec<u8>, at: Point) -> Result<(), AllocError>
     ensures { OnOk result (text.new.items ≡ text.old.items ++ shape_text (shape.Ring at)) }
 {
@@ -75,6 +90,7 @@ fn push_shape(text: &mut Vec<u8>, shape: &Shape) -> Result<(), AllocError>
     match shape {
         Shape::Line { look, from, to } => push_line(text, *look, *from, *to),
         Shape::Words { look, at, words } => push_words(text, *look, *at, words),
+        Shape::Rect { look, at, extent } => push_rect(text, *look, *at, *extent),
         Shape::Ring { at } => push_ring(text, *at),
     }
 }

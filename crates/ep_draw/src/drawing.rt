@@ -8,31 +8,20 @@ ghost use Rattle.ep_draw.specs.declared.draw_fault.DrawFault.TheVariants.{TooMan
 
 use crate::dots::push_dots;
 use crate::draw_fault::DrawFault;
-use crate::frames::add_arrows;
-use crate::labels::{add_labels, width_of};
-use crate::layout::row_y;
+use crate::picture::Picture;
 use crate::scene::Scene;
-use crate::style::{KEY, STYLE, WIDTH};
+use crate::style::{KEY, STYLE};
 use ep_base::ReplicaId;
 use ep_journal::Journals;
 use ep_matching::first_fault;
 use ep_report::{AuditFault, push_number};
-use ep_svg::{Arrow, Shape, push_arrows, push_attribute, push_shapes};
+use ep_svg::{push_arrows, push_attribute, push_shapes};
 use ep_view::{Handled, entry_at, schedule};
 use ep_words::Part;
 use std::alloc::{AllocError, Global};
 
 /// How many events a diagram shows.
 const MOST: usize = 2000;
-
-/// What is drawn around the dots.
-#[derive(Drop)]
-pub struct Picture {
-    width: u64,
-    height: u64,
-    shapes: Vec<Shape>,
-    arrows: Vec<Arrow>,
-}
 
 /// Whether the part keeps the entry at this place.
 fn is_kept(journals: &Journals, part: &Part, place: &(ReplicaId, u32)) -> bool
@@ -73,24 +62,6 @@ fn place_of(fault: Option<AuditFault>) -> Option<(ReplicaId, u32)> {
         | AuditFault::StampOrder(replica, entry) => Some((replica, entry)),
         AuditFault::UnknownReceipt(_) | AuditFault::CallerOrder(_) => None,
     }
-}
-
-// What is drawn around the dots of the scene.
-fn picture_of(
-    alloc: Global,
-    scene: &Scene<'_>,
-    fault: Option<AuditFault>,
-) -> Result<Picture, AllocError> {
-    let mut picture = Picture {
-        width: WIDTH,
-        height: row_y(scene.rows.len()).saturating_add(24),
-        shapes: Vec::new(alloc),
-        arrows: Vec::new(alloc),
-    };
-    add_labels(&mut picture.shapes, scene, fault)?;
-    add_arrows(&mut picture.arrows, scene)?;
-    picture.width = width_of(&picture.shapes).saturating_add(24).max(WIDTH);
-    Ok(picture)
 }
 
 // Appends how wide and how high the picture is.
@@ -155,17 +126,17 @@ fn drawn(
     requires { length scene.now.rows.now ≤ 2000 }
     ensures { IfOk result (λ text. IsFile scene.now.journals.now scene.now.rows.now text.items) }
 {
-    let picture = picture_of(alloc, scene, fault)?;
+    let picture = Picture::of(alloc, scene, fault)?;
     let mut text = Vec::new(alloc);
     push_file(&mut text, scene, &picture)?;
     Ok(text)
 }
 
 // Draws the entries at these places, in rows.
-fn draw_rows(
+fn draw_rows<'a>(
     alloc: Global,
-    journals: &Journals,
-    rows: &[(ReplicaId, u32)],
+    journals: &'a Journals,
+    rows: &'a [(ReplicaId, u32)],
 ) -> Result<Vec<u8>, AllocError>
     requires { length rows.now ≤ 2000 }
     ensures { IfOk result (λ text. IsFile journals.now rows.now text.items) }
