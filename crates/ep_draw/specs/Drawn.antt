@@ -1,5 +1,5 @@
 -- What a space-time diagram has.
-use Rattle.std.specs.Prelude.{◌≡◌, ◌≤◌, ℕ, suc, Bool, false, cond, length, List, [], ◌∷◌, ◌++◌, Option, Some, None, codes, decimal}
+use Rattle.std.specs.Prelude.{◌≡◌, ◌≤◌, ◌<◌, ℕ, suc, Bool, false, cond, length, List, [], ◌∷◌, ◌++◌, Option, Some, None, codes, decimal}
 use Rattle.ep_journal.specs.Entries.{Collected, entries_at}
 use Rattle.ep_journal.specs.declared.entry.Entry.{Entry}
 use Rattle.ep_journal.specs.declared.event.Event.{Event}
@@ -13,6 +13,8 @@ use Rattle.ep_svg.specs.Escaping.{escaped}
 use Rattle.ep_draw.specs.Layout.{column, row}
 use Rattle.ep_svg.specs.Shapes.{attribute, shapes_text, arrows_text}
 use Rattle.ep_draw.specs.declared.style.TheConstants.{KEY, STYLE}
+use Rattle.ep_draw.specs.declared.draw_fault.DrawFault.{DrawFault}
+use Rattle.ep_draw.specs.declared.draw_fault.DrawFault.TheVariants.{Memory, TooMany}
 use Rattle.ep_draw.specs.declared.picture.Picture.{Picture}
 
 abbrev pub keeps_some : Part → ℕ → Option Entry → Bool
@@ -47,12 +49,12 @@ told_text r e = place_text r e.number ++ happening_text e
 abbrev pub spot : ℕ → ℕ → List ℕ
 spot x y = attribute (codes "' cx='") x ++ attribute (codes " cy='") y
 
-abbrev pub circle_start : List ℕ → ℕ → ℕ → List ℕ
-circle_start class x y = codes "<circle class='dot " ++ class ++ spot x y ++ codes " r='6'><title>"
+abbrev pub titled : ℕ → Entry → List ℕ
+titled r e = codes " r='6'><title>" ++ escaped (told_text r e) ++ codes "</title></circle>\n"
 
 -- the dot of an entry of replica r, here, with the entry in words
 abbrev pub circle_text : ℕ → ℕ → ℕ → Entry → List ℕ
-circle_text x y r e = circle_start (class_of e.event) x y ++ escaped (told_text r e) ++ codes "</title></circle>\n"
+circle_text x y r e = codes "<circle class='dot " ++ class_of e.event ++ spot x y ++ titled r e
 
 -- the dot of an entry in the row k: on its replica's line
 abbrev pub dot_text : Collected → ℕ → ℕ × ℕ → Option Entry → List ℕ
@@ -70,9 +72,9 @@ abbrev pub measured : ℕ → ℕ → List ℕ
 measured width height = attribute (codes "<svg xmlns='http://www.w3.org/2000/svg' width='") width ++ attribute (codes " height='") height
 
 abbrev pub viewed : ℕ → ℕ → List ℕ
-viewed width height = codes " viewBox='0 0 " ++ decimal width ++ attribute (codes " ") height ++ codes ">\n<title>Space-time diagram</title>\n"
+viewed width height = codes " viewBox='0 0 " ++ decimal width ++ attribute (codes " ") height
 
--- the styles and the key, which are the same in each file
+-- the title, the styles and the key, which are the same in each file
 unfoldable pub front : List ℕ
 front = STYLE.now ++ KEY.now
 
@@ -91,17 +93,28 @@ pub record IsFile (c : Collected) (rows : List (ℕ × ℕ)) (svg : List ℕ) : 
   pub picture : Picture
   pub text : svg ≡ file_text c rows picture
 
--- The file has a dot for each entry that the part keeps, in rows by stamp and then by replica: 2,000 at most. No shape and no arrow of its picture
+-- these are the entries that the part keeps, of all entries by stamp and then by replica
+pub record AreKept (c : Collected) (part : Part) (rows : List (ℕ × ℕ)) : Type 0 where
+  pub all : List (ℕ × ℕ)
+  pub ordered : IsInOrder c all
+  pub are : rows ≡ kept c part all
+
+-- The file has a dot for each entry that the part keeps, 2,000 at most, in rows by stamp and then by replica. No shape and no arrow of its picture
 -- is a dot, and whatever words they and the dots bear stand there escaped.
 pub record IsDrawn (c : Collected) (part : Part) (svg : List ℕ) : Type 0 where
-  pub all : List (ℕ × ℕ)
-  pub ordered : IsInOrder c all
-  pub few : length (kept c part all) ≤ 2000
-  pub file : IsFile c (kept c part all) svg
+  pub rows : List (ℕ × ℕ)
+  pub are_kept : AreKept c part rows
+  pub few : length rows ≤ 2000
+  pub file : IsFile c rows svg
 
--- The part keeps so many entries, more than 2,000.
+-- the part keeps so many entries, more than 2,000
 pub record IsTooMany (c : Collected) (part : Part) (count : ℕ) : Type 0 where
-  pub all : List (ℕ × ℕ)
-  pub ordered : IsInOrder c all
-  pub kept_so_many : length (kept c part all) ≡ count
-  pub many : 2001 ≤ count
+  pub rows : List (ℕ × ℕ)
+  pub are_kept : AreKept c part rows
+  pub so_many : length rows ≡ count
+  pub many : 2000 < count
+
+-- why nothing is drawn
+abbrev pub IsRefused : Collected → Part → DrawFault → Type 0
+IsRefused c part Memory = Unit {0}
+IsRefused c part (TooMany n) = IsTooMany c part n

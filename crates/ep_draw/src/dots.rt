@@ -3,7 +3,7 @@
 ghost use Rattle.std.specs.Prelude.{◌≡◌, ◌≤◌, ◌<◌, ◌^◌, ◌++◌, OnOk, length};
 ghost use Rattle.ep_journal.specs.Entries.{entries_at};
 ghost use Rattle.ep_view.specs.Lookups.{entry_at};
-ghost use Rattle.ep_draw.specs.Drawn.{class_of, spot, circle_start, circle_text, dot_text, dots_from};
+ghost use Rattle.ep_draw.specs.Drawn.{class_of, spot, titled, circle_text, dot_text, dots_from};
 
 use crate::scene::Scene;
 use crate::words::told;
@@ -33,30 +33,29 @@ fn push_spot(text: &mut Vec<u8>, at: Point) -> Result<(), AllocError>
     push_attribute(text, b" cy='", at.y)
 }
 
-// Appends the tag of a dot, of this class and here.
-fn push_circle(text: &mut Vec<u8>, class: &[u8], at: Point) -> Result<(), AllocError>
-    ensures { OnOk result (text.new.items ≡ text.old.items ++ circle_start class.now at.x at.y) }
+// Appends the entry in words, and ends its dot.
+fn push_titled(text: &mut Vec<u8>, replica: ReplicaId, entry: &Entry) -> Result<(), AllocError>
+    ensures { OnOk result (text.new.items ≡ text.old.items ++ titled replica entry.now) }
 {
-    text.extend_from_slice(b"<circle class='dot ")?;
-    text.extend_from_slice(class)?;
-    push_spot(text, at)?;
-    text.extend_from_slice(b" r='6'><title>")
+    let words = told(*text.allocator(), replica, entry)?;
+    text.extend_from_slice(b" r='6'><title>")?;
+    push_escaped(text, &words)?;
+    text.extend_from_slice(b"</title></circle>\n")
 }
 
 // Appends the dot of an entry, here.
 fn push_dot(
     text: &mut Vec<u8>,
-    scene: &Scene<'_>,
     at: Point,
     replica: ReplicaId,
     entry: &Entry,
 ) -> Result<(), AllocError>
     ensures { OnOk result (text.new.items ≡ text.old.items ++ circle_text at.x at.y replica entry.now) }
 {
-    let words = told(*text.allocator(), replica, entry)?;
-    push_circle(text, class_of(&entry.event), at)?;
-    push_escaped(text, &words)?;
-    text.extend_from_slice(b"</title></circle>\n")
+    text.extend_from_slice(b"<circle class='dot ")?;
+    text.extend_from_slice(class_of(&entry.event))?;
+    push_spot(text, at)?;
+    push_titled(text, replica, entry)
 }
 
 // Appends the dot of the entry at this place, in this row.
@@ -74,7 +73,7 @@ fn push_row(
         None => Ok(()),
         Some(entry) => {
             let at = scene.layout().dot(*replica, place);
-            push_dot(text, scene, at, *replica, entry)
+            push_dot(text, at, *replica, entry)
         }
     }
 }

@@ -1,10 +1,9 @@
 //! Space-time diagrams.
 
-ghost use Rattle.std.specs.Prelude.{◌≡◌, ◌≤◌, ◌++◌, ℕ, Err, IfOk, OnOk, length};
+ghost use Rattle.std.specs.Prelude.{◌≡◌, ◌≤◌, ◌++◌, IfOk, IfErr, OnOk, length};
 ghost use Rattle.ep_journal.specs.Entries.{AreJournals, entries_at};
 ghost use Rattle.ep_view.specs.Lookups.{entry_at};
-ghost use Rattle.ep_draw.specs.Drawn.{keeps_some, kept, measured, viewed, front, opening, body, file_text, IsFile, IsDrawn, IsTooMany};
-ghost use Rattle.ep_draw.specs.declared.draw_fault.DrawFault.TheVariants.{TooMany};
+ghost use Rattle.ep_draw.specs.Drawn.{keeps_some, kept, measured, viewed, front, opening, body, file_text, IsFile, AreKept, IsDrawn, IsRefused};
 
 use crate::dots::push_dots;
 use crate::draw_fault::DrawFault;
@@ -55,11 +54,11 @@ fn kept(
 }
 
 /// The entry that the fault names, if it names one.
-fn place_of(fault: Option<AuditFault>) -> Option<(ReplicaId, u32)> {
-    match fault? {
+fn place_of(fault: &Option<AuditFault>) -> Option<(ReplicaId, u32)> {
+    match fault.as_ref()? {
         AuditFault::UnsentFrame(replica, entry)
         | AuditFault::ChangedFrame(replica, entry)
-        | AuditFault::StampOrder(replica, entry) => Some((replica, entry)),
+        | AuditFault::StampOrder(replica, entry) => Some((*replica, *entry)),
         AuditFault::UnknownReceipt(_) | AuditFault::CallerOrder(_) => None,
     }
 }
@@ -72,17 +71,16 @@ fn push_measured(text: &mut Vec<u8>, width: u64, height: u64) -> Result<(), Allo
     push_attribute(text, b" height='", height)
 }
 
-// Appends that all of the picture is seen, and its title.
+// Appends that all of the picture is seen.
 fn push_viewed(text: &mut Vec<u8>, width: u64, height: u64) -> Result<(), AllocError>
     ensures { OnOk result (text.new.items ≡ text.old.items ++ viewed width height) }
 {
     text.extend_from_slice(b" viewBox='0 0 ")?;
     push_number(text, width)?;
-    push_attribute(text, b" ", height)?;
-    text.extend_from_slice(b">\n<title>Space-time diagram</title>\n")
+    push_attribute(text, b" ", height)
 }
 
-// Appends the styles and the key.
+// Appends the title, the styles and the key.
 #[tactic(auto, unfolding(crate::specs::Drawn::front))]
 fn push_front(text: &mut Vec<u8>) -> Result<(), AllocError>
     ensures { OnOk result (text.new.items ≡ text.old.items ++ front) }
@@ -121,7 +119,7 @@ fn push_file(text: &mut Vec<u8>, scene: &Scene<'_>, picture: &Picture) -> Result
 fn drawn(
     alloc: Global,
     scene: &Scene<'_>,
-    fault: Option<AuditFault>,
+    fault: &Option<AuditFault>,
 ) -> Result<Vec<u8>, AllocError>
     requires { length scene.now.rows.now ≤ 2000 }
     ensures { IfOk result (λ text. IsFile scene.now.journals.now scene.now.rows.now text.items) }
@@ -147,9 +145,45 @@ fn draw_rows<'a>(
         journals,
         rows,
         handled: &handled,
-        fault: place_of(fault),
+        fault: place_of(&fault),
     };
-    drawn(alloc, &scene, fault)
+    drawn(alloc, &scene, &fault)
+}
+
+// The entries that the part keeps, by stamp and then by replica.
+#[tactic(auto, using(crate::proofs::Drawings::are_kept))]
+fn rows_of(
+    alloc: Global,
+    journals: &Journals,
+    part: &Part,
+) -> Result<Vec<(ReplicaId, u32)>, AllocError>
+    ensures { IfOk result (λ rows. AreKept journals.now part.now rows.items) }
+{
+    journals.are_journals();
+    let places = schedule(alloc, journals)?;
+    kept(alloc, journals, part, &places)
+}
+
+// Draws these entries, if they aren't too many.
+#[tactic(auto, using(crate::proofs::Drawings::is_drawn, crate::proofs::Drawings::is_too_many))]
+fn draw_kept(
+    alloc: Global,
+    journals: &Journals,
+    part: &Part,
+    rows: &[(ReplicaId, u32)],
+) -> Result<Vec<u8>, DrawFault>
+    requires { AreKept journals.now part.now rows.now }
+    ensures drawn { IfOk result (λ svg. IsDrawn journals.now part.now svg.items) }
+    ensures refused { IfErr result (λ fault. IsRefused journals.now part.now fault) }
+{
+    let _part = part;
+    if rows.len() > MOST {
+        return Err(DrawFault::TooMany(rows.len()));
+    }
+    match draw_rows(alloc, journals, rows) {
+        Ok(text) => Ok(text),
+        Err(_) => Err(DrawFault::Memory),
+    }
 }
 
 /// Draws the entries that the part keeps as a space-time diagram (Lamport, 1978), an SVG file: a line a replica, a dot an event, in
@@ -159,16 +193,10 @@ fn draw_rows<'a>(
 /// `TooMany` exactly where the part keeps more than 2,000 entries.
 pub fn diagram(alloc: Global, journals: &Journals, part: &Part) -> Result<Vec<u8>, DrawFault>
     ensures drawn { IfOk result (λ svg. IsDrawn journals.now part.now svg.items) }
-    ensures too_many { (n : ℕ) → result ≡ Err (TooMany n) → IsTooMany journals.now part.now n }
+    ensures refused { IfErr result (λ fault. IsRefused journals.now part.now fault) }
 {
-    journals.are_journals();
-    let places = schedule(alloc, journals)?;
-    let rows = kept(alloc, journals, part, &places)?;
-    if rows.len() > MOST {
-        return Err(DrawFault::TooMany(rows.len()));
-    }
-    match draw_rows(alloc, journals, &rows) {
-        Ok(text) => Ok(text),
+    match rows_of(alloc, journals, part) {
+        Ok(rows) => draw_kept(alloc, journals, part, &rows),
         Err(_) => Err(DrawFault::Memory),
     }
 }

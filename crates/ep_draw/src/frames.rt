@@ -94,16 +94,17 @@ fn add_way(arrows: &mut Vec<Arrow>, frame: &Frame, way: Way) -> Result<(), Alloc
 
 // The way to the entry in this row, if it handles the frame.
 fn way_to(scene: &Scene<'_>, row: usize, frame: &Frame) -> Option<Way> {
-    let place = scene.rows.get(row).copied()?;
-    let entry = scene.entry(place)?;
+    let place = scene.rows.get(row)?;
+    let entry = scene.entry(*place)?;
     if !handles(entry, frame) {
         return None;
     }
+    let (replica, _) = place;
     Some(Way {
         from: scene.sender(frame)?,
-        to: scene.layout().dot(place.0, row),
+        to: scene.layout().dot(*replica, row),
         fate: Fate::Handled,
-        is_fault: scene.is_fault(place),
+        is_fault: scene.is_fault(*place),
     })
 }
 
@@ -154,8 +155,9 @@ fn is_drawn(scene: &Scene<'_>, frame: &Frame) -> bool {
 }
 
 // The way of a frame that is handled in this row, and that no entry of the picture sent.
-fn way_in(scene: &Scene<'_>, row: usize, replica: ReplicaId, frame: &Frame) -> Way {
-    let to = scene.layout().dot(replica, row);
+fn way_in(scene: &Scene<'_>, row: usize, place: &(ReplicaId, u32), frame: &Frame) -> Way {
+    let (replica, _) = place;
+    let to = scene.layout().dot(*replica, row);
     let line = Point {
         x: scene.layout().column(frame.from()),
         y: to.y,
@@ -168,7 +170,7 @@ fn way_in(scene: &Scene<'_>, row: usize, replica: ReplicaId, frame: &Frame) -> W
         from,
         to,
         fate,
-        is_fault: false,
+        is_fault: scene.is_fault(*place),
     }
 }
 
@@ -182,14 +184,10 @@ fn add_met(
     if is_drawn(scene, frame) {
         return Ok(());
     }
-    let Some(place) = scene.rows.get(row).copied() else {
-        return Ok(());
-    };
-    let way = Way {
-        is_fault: scene.is_fault(place),
-        ..way_in(scene, row, place.0, frame)
-    };
-    add_way(arrows, frame, way)
+    match scene.rows.get(row) {
+        Some(place) => add_way(arrows, frame, way_in(scene, row, place, frame)),
+        None => Ok(()),
+    }
 }
 
 fn add_frames(

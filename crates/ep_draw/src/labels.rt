@@ -42,14 +42,14 @@ fn title_of(alloc: Global, scene: &Scene<'_>) -> Result<Vec<u8>, AllocError> {
 }
 
 // The audit's first fault, in words.
-fn alarm_of(alloc: Global, fault: AuditFault) -> Result<Vec<u8>, AllocError> {
+fn alarm_of(alloc: Global, fault: &AuditFault) -> Result<Vec<u8>, AllocError> {
     let told = fault.to_string(alloc)?;
     let mut words = Vec::from_slice(alloc, b"The audit's first fault: ")?;
     words.extend_from_slice(told.as_bytes())?;
     Ok(words)
 }
 
-fn add_alarm(shapes: &mut Vec<Shape>, fault: AuditFault) -> Result<(), AllocError> {
+fn add_alarm(shapes: &mut Vec<Shape>, fault: &AuditFault) -> Result<(), AllocError> {
     let words = alarm_of(*shapes.allocator(), fault)?;
     add_words(shapes, Look::Alarm, Point { x: 300, y: 28 }, words)
 }
@@ -58,7 +58,7 @@ fn add_alarm(shapes: &mut Vec<Shape>, fault: AuditFault) -> Result<(), AllocErro
 fn add_heading(
     shapes: &mut Vec<Shape>,
     scene: &Scene<'_>,
-    fault: Option<AuditFault>,
+    fault: &Option<AuditFault>,
 ) -> Result<(), AllocError> {
     let title = title_of(*shapes.allocator(), scene)?;
     add_words(shapes, Look::Title, Point { x: 24, y: 28 }, title)?;
@@ -170,7 +170,7 @@ fn add_rows(shapes: &mut Vec<Shape>, scene: &Scene<'_>) -> Result<(), AllocError
 pub(crate) fn add_labels(
     shapes: &mut Vec<Shape>,
     scene: &Scene<'_>,
-    fault: Option<AuditFault>,
+    fault: &Option<AuditFault>,
 ) -> Result<(), AllocError> {
     add_heading(shapes, scene, fault)?;
     add_lives(shapes, scene, row_y(scene.rows.len()))?;

@@ -23,7 +23,7 @@ impl Picture {
     pub(crate) fn of(
         alloc: Global,
         scene: &Scene<'_>,
-        fault: Option<AuditFault>,
+        fault: &Option<AuditFault>,
     ) -> Result<Picture, AllocError> {
         let mut picture = Picture {
             width: WIDTH,

@@ -51,9 +51,8 @@ impl<'a> Scene<'a> {
 
     /// Where the entry that the frame names as its own is drawn.
     pub fn sender(&self, frame: &Frame) -> Option<Point> {
-        let place = (frame.from(), frame.origin().entry);
-        let row = self.row_of(place)?;
-        Some(self.layout().dot(place.0, row))
+        let row = self.row_of((frame.from(), frame.origin().entry))?;
+        Some(self.layout().dot(frame.from(), row))
     }
 
     /// The frame that stands where this one says that it was sent.

@@ -3,8 +3,10 @@
 /// How wide the key is.
 pub(crate) const WIDTH: u64 = 900;
 
-/// The styles of classes, and the ends of lines.
-pub(crate) const STYLE: &[u8] = b"<style>
+/// The end of the first tag, the title, the styles of classes, and the ends of lines.
+pub(crate) const STYLE: &[u8] = b">
+<title>Space-time diagram</title>
+<style>
 text{font:12px ui-monospace,'DejaVu Sans Mono',Menlo,Consolas,monospace;fill:#222;white-space:pre}
 .title{font-size:16px;font-weight:bold}
 .head{font-weight:bold;text-anchor:middle;font-size:13px}
