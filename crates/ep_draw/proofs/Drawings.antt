@@ -1,5 +1,5 @@
 -- What a drawn file is, and when there is none.
-use Rattle.std.proofs.Common.{◌≡◌, ◌≤◌, ◌<◌, ℕ, List, length, refl}
+use Rattle.std.proofs.Common.{◌≡◌, ◌≤◌, ◌<◌, ℕ, List, ◌++◌, length, refl, ap, ◌∙◌, append_assoc}
 use Rattle.ep_journal.specs.Entries.{Collected}
 use Rattle.ep_words.specs.declared.part.Part.{Part}
 use Rattle.ep_view.specs.Shown.{IsInOrder}
@@ -17,3 +17,6 @@ is_drawn c part rows svg k few file = record { rows = rows; are_kept = k; few = 
 
 pub is_too_many : (c : Collected) (part : Part) (rows : List (ℕ × ℕ)) → AreKept c part rows → 2000 < length rows → IsTooMany c part (length rows)
 is_too_many c part rows k many = record { rows = rows; are_kept = k; so_many = refl; many = many }
+
+pub joined : (t a b e n : List ℕ) → e ≡ t ++ a → n ≡ e ++ b → n ≡ t ++ (a ++ b)
+joined t a b e n p h = h ∙ ap (λ (z : List ℕ). z ++ b) p ∙ append_assoc t a b

@@ -46,6 +46,9 @@ happening_text e = taken_text e.event e.frames ++ done_text e.done
 abbrev pub told_text : ℕ → Entry → List ℕ
 told_text r e = place_text r e.number ++ happening_text e
 
+abbrev pub classed : Event → List ℕ
+classed event = codes "<circle class='dot " ++ class_of event
+
 abbrev pub spot : ℕ → ℕ → List ℕ
 spot x y = attribute (codes "' cx='") x ++ attribute (codes " cy='") y
 
@@ -54,7 +57,7 @@ titled r e = codes " r='6'><title>" ++ escaped (told_text r e) ++ codes "</title
 
 -- the dot of an entry of replica r, here, with the entry in words
 abbrev pub circle_text : ℕ → ℕ → ℕ → Entry → List ℕ
-circle_text x y r e = codes "<circle class='dot " ++ class_of e.event ++ spot x y ++ titled r e
+circle_text x y r e = classed e.event ++ spot x y ++ titled r e
 
 -- the dot of an entry in the row k: on its replica's line
 abbrev pub dot_text : Collected → ℕ → ℕ × ℕ → Option Entry → List ℕ

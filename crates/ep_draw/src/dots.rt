@@ -3,7 +3,7 @@
 ghost use Rattle.std.specs.Prelude.{◌≡◌, ◌≤◌, ◌<◌, ◌^◌, ◌++◌, OnOk, length};
 ghost use Rattle.ep_journal.specs.Entries.{entries_at};
 ghost use Rattle.ep_view.specs.Lookups.{entry_at};
-ghost use Rattle.ep_draw.specs.Drawn.{class_of, spot, titled, circle_text, dot_text, dots_from};
+ghost use Rattle.ep_draw.specs.Drawn.{class_of, classed, spot, titled, circle_text, dot_text, dots_from};
 
 use crate::scene::Scene;
 use crate::words::told;
@@ -24,6 +24,14 @@ fn class_of(event: &Event) -> &'static [u8]
         Event::Recover(_) => b"recover",
         Event::Execute(_) => b"execute",
     }
+}
+
+fn push_class(text: &mut Vec<u8>, event: &Event) -> Result<(), AllocError>
+    ensures { OnOk result (text.new.items ≡ text.old.items ++ classed event.now) }
+{
+    text.extend_from_slice(b"<circle class='dot ")?;
+    text.extend_from_slice(class_of(event))?;
+    Ok(())
 }
 
 fn push_spot(text: &mut Vec<u8>, at: Point) -> Result<(), AllocError>
@@ -52,8 +60,7 @@ fn push_dot(
 ) -> Result<(), AllocError>
     ensures { OnOk result (text.new.items ≡ text.old.items ++ circle_text at.x at.y replica entry.now) }
 {
-    text.extend_from_slice(b"<circle class='dot ")?;
-    text.extend_from_slice(class_of(&entry.event))?;
+    push_class(text, &entry.event)?;
     push_spot(text, at)?;
     push_titled(text, replica, entry)
 }

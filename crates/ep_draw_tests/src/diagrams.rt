@@ -15,7 +15,7 @@ fn script(rt: &impl Abort, alloc: Global, text: &[u8]) -> Script {
     }
 }
 
-fn left(rt: &impl Abort, alloc: Global, text: &[u8]) -> Replayed {
+pub(crate) fn left(rt: &impl Abort, alloc: Global, text: &[u8]) -> Replayed {
     let script = script(rt, alloc, text);
     match replay(alloc, &script) {
         Ok(left) => left,
@@ -55,7 +55,7 @@ fn count(text: &[u8], mark: &[u8]) -> usize {
 }
 
 /// Whether each mark stands in the text so often.
-fn has(text: &[u8], marks: &[(&[u8], usize)]) -> bool {
+pub(crate) fn has(text: &[u8], marks: &[(&[u8], usize)]) -> bool {
     let mut has = true;
     for (mark, times) in marks {
         has = has && count(text, mark) == *times;

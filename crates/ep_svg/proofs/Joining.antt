@@ -2,7 +2,7 @@
 use Rattle.std.proofs.Common.{◌≡◌, ℕ, List, ◌++◌, Result, Ok, Err, ap, ◌∙◌, append_assoc}
 use Rattle.std.specs.Prelude.{OnOk}
 
-joined : (t a b c e f n : List ℕ) → e ≡ t ++ a → f ≡ e ++ b → n ≡ f ++ c → n ≡ t ++ (a ++ b ++ c)
+pub joined : (t a b c e f n : List ℕ) → e ≡ t ++ a → f ≡ e ++ b → n ≡ f ++ c → n ≡ t ++ (a ++ b ++ c)
 joined t a b c e f n p q h =
     h ∙ ap (λ (z : List ℕ). z ++ c) q ∙ ap (λ (z : List ℕ). z ++ b ++ c) p ∙ ap (λ (z : List ℕ). z ++ c) (append_assoc t a b) ∙ append_assoc t (a ++ b) c
 

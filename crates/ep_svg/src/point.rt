@@ -22,14 +22,14 @@ impl Point {
     }
 
     /// The point of the line to here from another one that is so far from here in x; where the line is steep, one that is no more
-    /// than 12 above or below.
+    /// than 8 above or below.
     pub fn back_to(self, from: Point, by: u64) -> Point {
         let width = self.x.abs_diff(from.x);
         let height = self.y.abs_diff(from.y);
         if width == 0 {
             return self;
         }
-        let rise = (height.saturating_mul(by) / width).min(12);
+        let rise = (height.saturating_mul(by) / width).min(8);
         let near = self.short_of(from, by, 0);
         let y = if from.y < self.y {
             self.y.saturating_sub(rise)
