@@ -67,7 +67,11 @@ fn place_of(fault: &Option<AuditFault>) -> Option<(ReplicaId, u32)> {
 fn push_measured(text: &mut Vec<u8>, width: u64, height: u64) -> Result<(), AllocError>
     ensures { OnOk result (text.new.items ≡ text.old.items ++ measured width height) }
 {
-    push_attribute(text, b"<svg xmlns='http://www.w3.org/2000/svg' width='", width)?;
+    push_attribute(
+        text,
+        b"<svg xmlns='http://www.w3.org/2000/svg' width='",
+        width,
+    )?;
     push_attribute(text, b" height='", height)
 }
 

@@ -20,6 +20,7 @@ struct Way {
 
 // How far beside a replica's line, and how far below its sender, a frame ends that isn't handled in the picture.
 const BESIDE: u64 = 26;
+
 const BELOW: u64 = 14;
 
 // Which frame it is, what it says, and what became of it.

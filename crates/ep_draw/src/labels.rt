@@ -62,8 +62,16 @@ fn add_heading(
 ) -> Result<(), AllocError> {
     let title = title_of(*shapes.allocator(), scene)?;
     add_words(shapes, Look::Title, Point { x: 24, y: 28 }, title)?;
-    add_plain(shapes, 52, b"Time runs downwards, an event a row, in the order of the stamps at the left. At the right stands what happened:")?;
-    add_plain(shapes, 70, b"0:2 is replica 0's entry 2, and 0:2:1 the frame 1, from 0, that it sent. A dot or an arrow tells all of it where the pointer rests.")?;
+    add_plain(
+        shapes,
+        52,
+        b"Time runs downwards, an event a row, in the order of the stamps at the left. At the right stands what happened:",
+    )?;
+    add_plain(
+        shapes,
+        70,
+        b"0:2 is replica 0's entry 2, and 0:2:1 the frame 1, from 0, that it sent. A dot or an arrow tells all of it where the pointer rests.",
+    )?;
     match fault {
         Some(fault) => add_alarm(shapes, fault),
         None => Ok(()),

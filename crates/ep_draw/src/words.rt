@@ -28,11 +28,7 @@ fn push_happening(text: &mut Vec<u8>, entry: &Entry) -> Result<(), AllocError>
 }
 
 /// An entry of this replica in words: its replica and number, what happened, and what was executed.
-pub(crate) fn told(
-    alloc: Global,
-    replica: ReplicaId,
-    entry: &Entry,
-) -> Result<Vec<u8>, AllocError>
+pub(crate) fn told(alloc: Global, replica: ReplicaId, entry: &Entry) -> Result<Vec<u8>, AllocError>
     ensures { IfOk result (λ words. words.items ≡ told_text replica entry.now) }
 {
     let mut words = Vec::new(alloc);

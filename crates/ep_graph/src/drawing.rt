@@ -54,9 +54,21 @@ fn title_of(alloc: Global, count: usize) -> Result<Vec<u8>, AllocError> {
 fn add_heading(shapes: &mut Vec<Shape>, count: usize) -> Result<(), AllocError> {
     let title = title_of(*shapes.allocator(), count)?;
     add_words(shapes, Look::Title, Point { x: 24, y: 28 }, title)?;
-    add_plain(shapes, 52, b"What stands above is executed first. An arrow leads to what an instance depends on; to what that depends on")?;
-    add_plain(shapes, 70, b"in turn no arrow is drawn. Instances in one box depend on each other: they are executed one after the other,")?;
-    add_plain(shapes, 88, b"from the top, by seq and then by instance. A box of dashes is an instance that isn't committed.")
+    add_plain(
+        shapes,
+        52,
+        b"What stands above is executed first. An arrow leads to what an instance depends on; to what that depends on",
+    )?;
+    add_plain(
+        shapes,
+        70,
+        b"in turn no arrow is drawn. Instances in one box depend on each other: they are executed one after the other,",
+    )?;
+    add_plain(
+        shapes,
+        88,
+        b"from the top, by seq and then by instance. A box of dashes is an instance that isn't committed.",
+    )
 }
 
 /// The box of the component of this first node.
@@ -148,11 +160,7 @@ fn width_of(places: &[Place]) -> u64 {
     width
 }
 
-fn add_graph(
-    shapes: &mut Vec<Shape>,
-    plan: &Plan<'_>,
-    places: &[Place],
-) -> Result<(), AllocError> {
+fn add_graph(shapes: &mut Vec<Shape>, plan: &Plan<'_>, places: &[Place]) -> Result<(), AllocError> {
     add_heading(shapes, plan.committed.len())?;
     add_arrows(shapes, &plan.layers.edges, places)?;
     for place in places {
@@ -177,7 +185,11 @@ fn picture_of(alloc: Global, plan: &Plan<'_>) -> Result<Picture, AllocError> {
 fn push_measured(text: &mut Vec<u8>, width: u64, height: u64) -> Result<(), AllocError>
     ensures { OnOk result (text.new.items ≡ text.old.items ++ measured width height) }
 {
-    push_attribute(text, b"<svg xmlns='http://www.w3.org/2000/svg' width='", width)?;
+    push_attribute(
+        text,
+        b"<svg xmlns='http://www.w3.org/2000/svg' width='",
+        width,
+    )?;
     push_attribute(text, b" height='", height)
 }
 

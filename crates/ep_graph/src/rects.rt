@@ -101,7 +101,10 @@ impl Pen {
     fn corner(self, extent: Point) -> Point {
         Point {
             x: self.at.x,
-            y: self.at.y.saturating_add(self.height.saturating_sub(extent.y)),
+            y: self
+                .at
+                .y
+                .saturating_add(self.height.saturating_sub(extent.y)),
         }
     }
 }

@@ -19,18 +19,22 @@ read_one b bs ws r = at38 (eqb b 38) refl
         Reads (cond t (codes "&#39;") (printed_byte b ∷ []) ++ bs) (printed_byte b ∷ ws)
     at39 true e38 e60 e62 e34 e = subst (λ (n : ℕ). Reads (codes "&#39;" ++ bs) (printed_byte n ∷ ws)) (sym (eqb-true b 39 e)) (single_quote bs ws r)
     at39 false e38 e60 e62 e34 e = plain (printed_byte b) bs ws (still_plain b (nat_le 32 b && nat_le b 126) (is_plain-is b e38 e60 e62 e34 e)) r
+
     at34 : (t : Bool) → eqb b 38 ≡ false → eqb b 60 ≡ false → eqb b 62 ≡ false → eqb b 34 ≡ t →
         Reads (cond t (codes "&quot;") (cond (eqb b 39) (codes "&#39;") (printed_byte b ∷ [])) ++ bs) (printed_byte b ∷ ws)
     at34 true e38 e60 e62 e = subst (λ (n : ℕ). Reads (codes "&quot;" ++ bs) (printed_byte n ∷ ws)) (sym (eqb-true b 34 e)) (double_quote bs ws r)
     at34 false e38 e60 e62 e = at39 (eqb b 39) e38 e60 e62 e refl
+
     at62 : (t : Bool) → eqb b 38 ≡ false → eqb b 60 ≡ false → eqb b 62 ≡ t →
         Reads (cond t (codes "&gt;") (cond (eqb b 34) (codes "&quot;") (cond (eqb b 39) (codes "&#39;") (printed_byte b ∷ []))) ++ bs) (printed_byte b ∷ ws)
     at62 true e38 e60 e = subst (λ (n : ℕ). Reads (codes "&gt;" ++ bs) (printed_byte n ∷ ws)) (sym (eqb-true b 62 e)) (greater bs ws r)
     at62 false e38 e60 e = at34 (eqb b 34) e38 e60 e refl
+
     at60 : (t : Bool) → eqb b 38 ≡ false → eqb b 60 ≡ t →
         Reads (cond t (codes "&lt;") (cond (eqb b 62) (codes "&gt;") (cond (eqb b 34) (codes "&quot;") (cond (eqb b 39) (codes "&#39;") (printed_byte b ∷ [])))) ++ bs) (printed_byte b ∷ ws)
     at60 true e38 e = subst (λ (n : ℕ). Reads (codes "&lt;" ++ bs) (printed_byte n ∷ ws)) (sym (eqb-true b 60 e)) (less bs ws r)
     at60 false e38 e = at62 (eqb b 62) e38 e refl
+
     at38 : (t : Bool) → eqb b 38 ≡ t →
         Reads (cond t (codes "&amp;") (cond (eqb b 60) (codes "&lt;") (cond (eqb b 62) (codes "&gt;") (cond (eqb b 34) (codes "&quot;") (cond (eqb b 39) (codes "&#39;") (printed_byte b ∷ []))))) ++ bs) (printed_byte b ∷ ws)
     at38 true e = subst (λ (n : ℕ). Reads (codes "&amp;" ++ bs) (printed_byte n ∷ ws)) (sym (eqb-true b 38 e)) (ampersand bs ws r)

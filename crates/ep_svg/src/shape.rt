@@ -13,12 +13,26 @@ use std::alloc::AllocError;
 /// What is drawn besides arrows and dots.
 #[derive(Drop)]
 pub enum Shape {
-    Line { look: Look, from: Point, to: Point },
-    Words { look: Look, at: Point, words: Vec<u8> },
+    Line {
+        look: Look,
+        from: Point,
+        to: Point,
+    },
+    Words {
+        look: Look,
+        at: Point,
+        words: Vec<u8>,
+    },
     /// A rectangle from its upper left corner, so wide and so high.
-    Rect { look: Look, at: Point, extent: Point },
+    Rect {
+        look: Look,
+        at: Point,
+        extent: Point,
+    },
     /// A ring round the dot of an entry.
-    Ring { at: Point },
+    Ring {
+        at: Point,
+    },
 }
 
 // A look as a class of the file.

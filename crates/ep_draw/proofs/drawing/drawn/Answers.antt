@@ -7,4 +7,4 @@ pub returns : goal.returns
 returns c =
     is_file c.args.scene.now.journals.now c.args.scene.now.rows.now c.in_ok-picture.picture c.push_file.new.text.items
     (c.in_ok-push_file.ensures
-     ∙ ap (λ (z : List ℕ). z ++ file_text c.args.scene.now.journals.now c.args.scene.now.rows.now c.in_ok-picture.picture) c.new-text.ensures.items)
+    ∙ ap (λ (z : List ℕ). z ++ file_text c.args.scene.now.journals.now c.args.scene.now.rows.now c.in_ok-picture.picture) c.new-text.ensures.items)
