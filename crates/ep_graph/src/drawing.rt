@@ -1,6 +1,7 @@
 //! Dependency graphs.
 
 ghost use Rattle.std.specs.Prelude.{◌≡◌, ◌++◌, IfOk, OnOk};
+ghost use Rattle.ep_svg.specs.Shapes.{shapes_text};
 ghost use Rattle.ep_graph.specs.Graphs.{measured, viewed, front, opening, IsGraphFile};
 
 use crate::graph_fault::GraphFault;
@@ -218,13 +219,19 @@ fn push_opening(text: &mut Vec<u8>, picture: &Picture) -> Result<(), AllocError>
     push_front(text)
 }
 
+fn push_body(text: &mut Vec<u8>, picture: &Picture) -> Result<(), AllocError>
+    ensures { OnOk result (text.new.items ≡ text.old.items ++ shapes_text picture.now.shapes.items) }
+{
+    push_shapes(text, &picture.shapes)
+}
+
 // The file of a picture.
 fn file_of(alloc: Global, picture: &Picture) -> Result<Vec<u8>, AllocError>
     ensures { IfOk result (λ text. IsGraphFile text.items) }
 {
     let mut text = Vec::new(alloc);
     push_opening(&mut text, picture)?;
-    push_shapes(&mut text, &picture.shapes)?;
+    push_body(&mut text, picture)?;
     text.extend_from_slice(b"</svg>\n")?;
     Ok(text)
 }

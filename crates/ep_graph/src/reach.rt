@@ -66,23 +66,40 @@ impl Reach {
         self.nodes().binary_search(&instance).ok()
     }
 
-    // Each node, and what it depends on.
+    // A node, and what it depends on.
+    fn edges_of(
+        &self,
+        alloc: Global,
+        committed: &[(InstanceId, Decree)],
+        node: usize,
+    ) -> Result<Marks, AllocError> {
+        let mut row = Marks::none(alloc, self.nodes.len())?;
+        row.add(node);
+        if let Some(instance) = self.nodes().get(node) {
+            self.add_deps(&mut row, decree_of(committed, *instance));
+        }
+        Ok(row)
+    }
+
+    // Takes in what the decree depends on.
+    fn add_deps(&self, row: &mut Marks, decree: Option<&Decree>) {
+        let Some(decree) = decree else {
+            return;
+        };
+        for dep in decree.attrs.deps.as_slice() {
+            if let Some(other) = self.node(*dep) {
+                row.add(other);
+            }
+        }
+    }
+
     fn add_edges(
         &mut self,
         alloc: Global,
         committed: &[(InstanceId, Decree)],
     ) -> Result<(), AllocError> {
-        let count = self.nodes.len();
-        for node in 0..count {
-            let mut row = Marks::none(alloc, count)?;
-            row.add(node);
-            if let Some(decree) = decree_of(committed, self.nodes()[node]) {
-                for dep in decree.attrs.deps.as_slice() {
-                    if let Some(other) = self.node(*dep) {
-                        row.add(other);
-                    }
-                }
-            }
+        for node in 0..self.nodes.len() {
+            let row = self.edges_of(alloc, committed, node)?;
             self.rows.push(row)?;
         }
         Ok(())
@@ -91,14 +108,22 @@ impl Reach {
     // What is reached through a node, for one node after the other (Warshall, 1962).
     fn close(&mut self, alloc: Global) -> Result<(), AllocError> {
         for through in 0..self.rows.len() {
-            let reached = self.rows[through].copy(alloc)?;
-            for row in self.rows.iter_mut() {
-                if row.has(through) {
-                    row.join(&reached);
-                }
-            }
+            let reached = match self.rows.get(through) {
+                Some(row) => row.copy(alloc)?,
+                None => Marks::none(alloc, 0)?,
+            };
+            self.join_through(through, &reached);
         }
         Ok(())
+    }
+
+    // Each node that reaches this one reaches what it reaches.
+    fn join_through(&mut self, through: usize, reached: &Marks) {
+        for row in self.rows.iter_mut() {
+            if row.has(through) {
+                row.join(reached);
+            }
+        }
     }
 
     /// What the node reaches.
@@ -124,7 +149,7 @@ impl Reach {
         let mut count = 0usize;
         for other in 0..self.rows.len() {
             if self.has(node, other) {
-                count += 1;
+                count = count.saturating_add(1);
             }
         }
         count

@@ -10,7 +10,7 @@ returns c =
       picture = c.args.picture.now;
       text =
           joined c.new-text.result.items (opening c.args.picture.now) (shapes_text c.args.picture.now.shapes.items) (codes "</svg>\n")
-          c.push_opening.new.text.items c.push_shapes.new.text.items c.extend_from_slice.new.self.items c.in_ok-push_opening.ensures c.in_ok-push_shapes.ensures
+          c.push_opening.new.text.items c.push_body.new.text.items c.extend_from_slice.new.self.items c.in_ok-push_opening.ensures c.in_ok-push_body.ensures
           c.in_ok-extend_from_slice.ensures.items
           ∙ ap (λ (z : List ℕ). z ++ (opening c.args.picture.now ++ shapes_text c.args.picture.now.shapes.items ++ codes "</svg>\n")) c.new-text.ensures.items;
     }
