@@ -48,7 +48,7 @@ pub fn journals_of(rt: &impl Abort, alloc: Global, nodes: Vec<Node<MemoryDevice>
 }
 
 /// How much the verdict has, with so many receipts.
-fn finished(verdict: &Verdict, receipts: usize) -> Finished {
+fn counted(verdict: &Verdict, receipts: usize) -> Finished {
     Finished {
         committed: verdict.committed.len(),
         executed: verdict.history.len(),
@@ -59,7 +59,7 @@ fn finished(verdict: &Verdict, receipts: usize) -> Finished {
 /// How much there is, which the audit accepts.
 pub fn audited(rt: &impl Abort, alloc: Global, left: &Left) -> Finished {
     let verdict = audit(alloc, &left.journals, &left.receipts).expect(rt, "a verdict");
-    let all = finished(&verdict, left.receipts.len());
+    let all = counted(&verdict, left.receipts.len());
     drop(verdict);
     all
 }
