@@ -1,4 +1,4 @@
-use Rattle.std.proofs.Common.{◌≡◌, ℕ, List, ◌++◌, codes, ap, ◌∙◌}
+use Rattle.std.proofs.Common.{ℕ, List, ◌++◌, codes, ap, ◌∙◌}
 use Rattle.ep_svg.specs.Shapes.{shapes_text}
 use Rattle.ep_svg.proofs.Joining.{joined}
 use Rattle.ep_graph.specs.Graphs.{opening}

@@ -1,4 +1,4 @@
-use Rattle.std.proofs.Common.{◌≡◌, ℕ, List, ◌++◌, codes, ap, ◌∙◌}
+use Rattle.std.proofs.Common.{ℕ, List, ◌++◌, codes, ap, ◌∙◌}
 use Rattle.ep_svg.specs.Shapes.{kind_class, end_class}
 use Rattle.ep_svg.proofs.Joining.{three}
 use Rattle.ep_svg.proofs.arrow.push_class.Goals as goal
