@@ -24,12 +24,7 @@ pub(crate) fn left(rt: &impl Abort, alloc: Global, text: &[u8]) -> Replayed {
 }
 
 /// The diagram of what the script leaves.
-fn drawn(
-    rt: &impl Abort,
-    alloc: Global,
-    text: &[u8],
-    part: &Part,
-) -> Result<Vec<u8>, DrawFault> {
+fn drawn(rt: &impl Abort, alloc: Global, text: &[u8], part: &Part) -> Result<Vec<u8>, DrawFault> {
     let left = left(rt, alloc, text);
     let told = match diagram(alloc, &left.journals, part) {
         Err(DrawFault::Memory) => diagram(alloc, &left.journals, part),
@@ -72,14 +67,32 @@ fn one_put(rt: HostRuntime) {
     let text = picture(&rt, alloc, ONE_PUT, &Part::all());
     let marks: [(&[u8], usize); 13] = [
         (b"<circle class='dot ", 5 + 4),
-        (b"<circle class='dot propose' cx='116' cy='272' r='6'><title>0:1 propose put x 1 (client 1 request 1 seen 0); took 0.1</title>", 1),
-        (b"<circle class='dot handle' cx='286' cy='304' r='6'><title>1:1 handle 0:1:0 PreAccept 0.1 ballot (0, 0) put x 1 seq 1 deps -</title>", 1),
-        (b"<circle class='dot handle' cx='116' cy='336' r='6'><title>0:2 handle 1:1:0 PreAcceptOK 0.1 ballot (0, 0) seq 1 deps -</title>", 1),
-        (b"<circle class='dot execute' cx='116' cy='368' r='6'><title>0:3 execute 0.1; executed 0.1 -&gt; absent</title>", 1),
+        (
+            b"<circle class='dot propose' cx='116' cy='272' r='6'><title>0:1 propose put x 1 (client 1 request 1 seen 0); took 0.1</title>",
+            1,
+        ),
+        (
+            b"<circle class='dot handle' cx='286' cy='304' r='6'><title>1:1 handle 0:1:0 PreAccept 0.1 ballot (0, 0) put x 1 seq 1 deps -</title>",
+            1,
+        ),
+        (
+            b"<circle class='dot handle' cx='116' cy='336' r='6'><title>0:2 handle 1:1:0 PreAcceptOK 0.1 ballot (0, 0) seq 1 deps -</title>",
+            1,
+        ),
+        (
+            b"<circle class='dot execute' cx='116' cy='368' r='6'><title>0:3 execute 0.1; executed 0.1 -&gt; absent</title>",
+            1,
+        ),
         (b"<line class='life'", 3),
         (b"<line class='guide'", 4),
-        (b"<g class='frame preaccept handled'><title>frame 0:1:0 to 1: PreAccept 0.1 ballot (0, 0) put x 1 seq 1 deps -</title><line x1='116' y1='272' x2='286' y2='304'/>", 1),
-        (b"<g class='frame preacceptok handled'><title>frame 1:1:0 to 0: PreAcceptOK 0.1 ballot (0, 0) seq 1 deps -</title><line x1='286' y1='304' x2='116' y2='336'/>", 1),
+        (
+            b"<g class='frame preaccept handled'><title>frame 0:1:0 to 1: PreAccept 0.1 ballot (0, 0) put x 1 seq 1 deps -</title><line x1='116' y1='272' x2='286' y2='304'/>",
+            1,
+        ),
+        (
+            b"<g class='frame preacceptok handled'><title>frame 1:1:0 to 0: PreAcceptOK 0.1 ballot (0, 0) seq 1 deps -</title><line x1='286' y1='304' x2='116' y2='336'/>",
+            1,
+        ),
         (b"<g class='frame commit lost'>", 2),
         (b" - NEVER HANDLED</title>", 2),
         (b" handled'>", 2),
@@ -113,18 +126,33 @@ fn words_are_no_markup(rt: HostRuntime) {
     let text = picture(&rt, alloc, script, &Part::all());
     let marks: [(&[u8], usize); 4] = [
         (b"<script", 0),
-        (b"put &lt;&quot;&amp;&#39;&gt; &lt;/title&gt;&lt;script&gt;%0a%ff (client 1", 2),
+        (
+            b"put &lt;&quot;&amp;&#39;&gt; &lt;/title&gt;&lt;script&gt;%0a%ff (client 1",
+            2,
+        ),
         (b"put <", 0),
         (b"&amp;#39;", 0),
     ];
     assert!(rt; has(&text, &marks));
 }
 
-/// A script of so many gets at replica 0, and one at replica 1.
+/// Appends a proposal: of the replicas in turn, and each of another key.
+fn push_get(text: &mut Vec<u8>, number: u16) -> Result<(), AllocError> {
+    text.extend_from_slice(b"propose ")?;
+    text.push(b'0' + (number % 7) as u8)?;
+    text.extend_from_slice(b" 1 get ")?;
+    text.push(b'a' + (number % 26) as u8)?;
+    text.push(b'a' + (number / 26 % 26) as u8)?;
+    text.push(b'a' + (number / 676 % 26) as u8)?;
+    text.push(b'\n')?;
+    Ok(())
+}
+
+/// A script of so many gets, each one event.
 fn gets(alloc: Global, times: u16) -> Result<Vec<u8>, AllocError> {
-    let mut text = Vec::from_slice(alloc, b"replicas 3\npropose 1 1 get x\n")?;
-    for _ in 0..times {
-        text.extend_from_slice(b"propose 0 1 get x\n")?;
+    let mut text = Vec::from_slice(alloc, b"replicas 7\n")?;
+    for number in 0..times {
+        push_get(&mut text, number)?;
     }
     Ok(text)
 }
@@ -134,7 +162,10 @@ fn is_refused(alloc: Global, told: Result<Vec<u8>, DrawFault>) -> Result<bool, A
         Ok(_) => Ok(false),
         Err(fault) => {
             let words = fault.to_string(alloc)?;
-            Ok(words.as_bytes() == b"2001 events are asked for, and a diagram shows 2000 at most: keep a part of them, by --from and --to".as_slice())
+            Ok(
+                words.as_bytes()
+                    == b"2001 events are asked for, and a diagram shows 2000 at most: keep a part of them, by --from and --to".as_slice(),
+            )
         }
     }
 }
@@ -142,7 +173,7 @@ fn is_refused(alloc: Global, told: Result<Vec<u8>, DrawFault>) -> Result<bool, A
 #[test]
 fn too_many_events(rt: HostRuntime) {
     let alloc = rt.alloc();
-    let script = gets(alloc, 2000).expect(&rt, "memory for a script");
+    let script = gets(alloc, 2001).expect(&rt, "memory for a script");
     let told = drawn(&rt, alloc, &script, &Part::all());
     assert!(rt; is_refused(alloc, told) == Ok(true));
 }

@@ -20,14 +20,24 @@ fn drawn(rt: &impl Abort, alloc: Global, text: &[u8]) -> Vec<u8> {
 #[test]
 fn a_chain(rt: HostRuntime) {
     let alloc = rt.alloc();
-    let script = b"replicas 3\npropose 0 1 put x 1\nflush\nflush\nflush\npropose 0 1 put x 2\nflush\nflush\nflush\npropose 0 1 put x 3\nflush\nflush\nflush\n";
+    let script =
+        b"replicas 3\npropose 0 1 put x 1\nflush\nflush\nflush\npropose 0 1 put x 2\nflush\nflush\nflush\npropose 0 1 put x 3\nflush\nflush\nflush\n";
     let text = drawn(&rt, alloc, script);
     let marks: [(&[u8], usize); 8] = [
-        (b"<rect class='alone' x='24' y='120' width='147' height='34' rx='6'/>", 1),
+        (
+            b"<rect class='alone' x='24' y='120' width='147' height='34' rx='6'/>",
+            1,
+        ),
         (b"<rect class='", 3),
         (b"<line class='needs'", 2),
-        (b"<line class='needs' x1='97' y1='206' x2='97' y2='154'/>", 1),
-        (b"<line class='needs' x1='97' y1='292' x2='97' y2='240'/>", 1),
+        (
+            b"<line class='needs' x1='97' y1='206' x2='97' y2='154'/>",
+            1,
+        ),
+        (
+            b"<line class='needs' x1='97' y1='292' x2='97' y2='240'/>",
+            1,
+        ),
         (b">0.1 put x 1 seq 1</text>", 1),
         (b">0.2 put x 2 seq 2</text>", 1),
         (b">0.3 put x 3 seq 3</text>", 1),
@@ -39,7 +49,8 @@ fn a_chain(rt: HostRuntime) {
 #[test]
 fn a_cycle(rt: HostRuntime) {
     let alloc = rt.alloc();
-    let script = b"replicas 3\npropose 0 1 put x 1\npropose 1 2 put x 2\npropose 2 3 put x 3\nflush\nflush\nflush\n";
+    let script =
+        b"replicas 3\npropose 0 1 put x 1\npropose 1 2 put x 2\npropose 2 3 put x 3\nflush\nflush\nflush\n";
     let text = drawn(&rt, alloc, script);
     let marks: [(&[u8], usize); 3] = [
         (b"<rect class='together'", 1),
