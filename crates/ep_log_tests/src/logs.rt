@@ -159,6 +159,44 @@ fn records_with_their_checksums(rt: HostRuntime) {
     assert_refused_with(&rt, alloc, 104, part(7, 104), LogFault::NotNext(104));
 }
 
+/// The second record with another byte at this place, and this checksum.
+fn second_with(place: usize, byte: u8, sum: u64) -> [u8; 165] {
+    let mut record = [0; 165];
+    record.copy_from_slice(&LOG[104..269]);
+    if 104 <= place && place < 261 {
+        record[place - 104] = byte;
+    }
+    record[157..].copy_from_slice(&sum.to_be_bytes());
+    record
+}
+
+/// Entries that handle a frame: the second record with one byte changed, and the checksum of that.
+const HANDLED: [(usize, u8, u64, LogFault); 8] = [
+    // an event of another kind
+    (112, 3, 0x639e_0e94_8310_df95, LogFault::BadEntry(104)),
+    // no stamp, and one that doesn't rise
+    (120, 0, 0xe34e_f71a_1383_1b7c, LogFault::BadEntry(104)),
+    (120, 1, 0x5f16_3bdd_ece6_853b, LogFault::NotNext(104)),
+    // a frame that is too short, and one that takes a byte of what stands behind it
+    (124, 39, 0x34ac_a6b0_2359_1cbe, LogFault::BadEntry(104)),
+    (124, 41, 0x8518_bfda_7823_03ba, LogFault::BadEntry(104)),
+    // what is handled is no frame
+    (125, 0x46, 0x55cc_2987_f7f2_a64f, LogFault::NotNext(104)),
+    // another value is sent
+    (212, b'2', 0x96a9_489a_3d72_4341, LogFault::NotNext(104)),
+    // an execution is told and isn't there
+    (260, 1, 0x2305_48dd_d53a_6681, LogFault::BadEntry(104)),
+];
+
+#[test]
+fn handled_frames(rt: HostRuntime) {
+    let alloc = rt.alloc();
+    for (place, byte, sum, wanted) in HANDLED {
+        let record = second_with(place, byte, sum);
+        assert_refused_with(&rt, alloc, 104, &record, wanted);
+    }
+}
+
 #[test]
 fn headers(rt: HostRuntime) {
     let alloc = rt.alloc();
