@@ -1,0 +1,49 @@
+-- What is told of bytes, by what is read of them and which faults are found.
+use Rattle.std.proofs.Common.{◌≡◌, ℕ, ◌+◌, ◌<◌, List, [], ◌∷◌, ◌++◌, length, take, get_or, append-nil, append_assoc, Option, Result, Ok, Err, IfOk, sym, ap, subst, ◌∙◌}
+use Rattle.std.proofs.lemmas.List.{take_more}
+use Rattle.ep_bundle.specs.Contents.{contents_of}
+use Rattle.ep_bundle.specs.Journals.{Contents, Finds, ReadsBundle}
+use Rattle.ep_bundle.specs.declared.bundle.Bundle.{Bundle}
+use Rattle.ep_bundle.specs.declared.bundle_fault.BundleFault.{BundleFault}
+use Rattle.ep_bundle.specs.declared.bundle_fault.BundleFault.TheVariants.{Memory, ReadFailed, BadBundle, NotARun}
+use Rattle.ep_report.specs.Reports.{text_of}
+use Rattle.ep_report.specs.declared.audit_fault.AuditFault.{AuditFault}
+use Rattle.ep_explain.specs.Explained.{IsNoBundle, IsRefusalTold, IsJudged, IsExplained, unreadable, read, unread}
+use Rattle.ep_explain.specs.Sections.{AreTold, none, more, fault_section}
+use Rattle.ep_explain.specs.declared.explained.Explained.{Explained}
+
+-- what is read of the bytes
+abbrev pub IsRead : List ℕ → Option (List ℕ) → Result Contents BundleFault → Type 0
+IsRead zs left o = (end : ℕ) × Finds (ReadsBundle (unread zs)) o end left
+
+-- bytes that are no bundle
+pub refused_if :
+    {E : Type 0} (left : Option (List ℕ)) (zs : List ℕ) (e : BundleFault) (r : Result Explained E) → IsRead zs left (Err e) →
+    IfOk r (λ told. IsRefusalTold e told.finding told.text.items) → IfOk r (λ _. IsNoBundle e) → IfOk r (λ told. IsExplained zs told.finding told.text.items)
+refused_if left zs e (Err x) q told named = tt
+refused_if left zs Memory (Ok t) q told named = absurd named
+refused_if left zs ReadFailed (Ok t) q told named = absurd named
+refused_if left zs (BadBundle at) (Ok t) q told named = unreadable (BadBundle at) q.1 told
+refused_if left zs (NotARun replica entry) (Ok t) q told named = unreadable (NotARun replica entry) q.1 told
+
+-- bytes that are a bundle
+pub judged_if :
+    {E : Type 0} (left : Option (List ℕ)) (zs : List ℕ) (b : Bundle) (r : Result Explained E) → IsRead zs left (Ok (contents_of b)) →
+    IfOk r (λ told. IsJudged b.journals b.receipts.items told.finding told.text.items) → IfOk r (λ told. IsExplained zs told.finding told.text.items)
+judged_if left zs b (Err x) q told = tt
+judged_if left zs b (Ok t) q told = let f = q.1 in read (contents_of b) (record { at = q.0; bytes = f.0 }) f.2 told
+
+-- The first k faults, after what the text held.
+
+abbrev pub Told : ℕ → List AuditFault → List ℕ → List ℕ → Type 0
+Told k xs old new = (told : List ℕ) × AreTold (take k xs) told × (new ≡ old ++ told)
+
+pub told_none : (xs : List AuditFault) (old : List ℕ) → Told 0 xs old old
+told_none xs old = ([], none, sym (append-nil old))
+
+pub told_more : (k : ℕ) (xs : List AuditFault) (x : AuditFault) (old mid new : List ℕ) → k < length xs → x ≡ get_or xs k x → Told k xs old mid
+    → (reasons : List (List ℕ)) × (new ≡ mid ++ text_of (fault_section x reasons)) → Told (k + 1) xs old new
+told_more k xs x old mid new lt is p w =
+    let next : take (k + 1) xs ≡ take k xs ++ x ∷ [] = take_more xs k x lt ∙ ap (λ y. take k xs ++ y ∷ []) (sym is) in
+    let added : List ℕ = text_of (fault_section x w.0) in
+    (p.0 ++ added, subst (λ ys. AreTold ys (p.0 ++ added)) (sym next) (more (take k xs) p.0 x w.0 p.1), w.1 ∙ ap (λ m. m ++ added) p.2 ∙ append_assoc old p.0 added)

@@ -1,0 +1,48 @@
+-- What is told of bytes that are to be a bundle.
+use Rattle.std.specs.Prelude.{◌≡◌, ℕ, List, [], ◌∷◌, ◌++◌, Ok, Err, codes}
+use Rattle.ep_bundle.specs.Journals.{Contents, ReadsBundle}
+use Rattle.ep_bundle.specs.Reading.{Left}
+use Rattle.ep_bundle.specs.Texts.{fault_text as refusal_text}
+use Rattle.ep_bundle.specs.declared.bundle_fault.BundleFault.{BundleFault}
+use Rattle.ep_bundle.specs.declared.bundle_fault.BundleFault.TheVariants.{Memory, ReadFailed, BadBundle, NotARun}
+use Rattle.ep_journal.specs.Entries.{Collected, journals_of}
+use Rattle.ep_report.specs.Reports.{text_of}
+use Rattle.ep_report.specs.declared.audit_fault.AuditFault.{AuditFault}
+use Rattle.ep_rules.specs.declared.receipt.Receipt.{Receipt}
+use Rattle.ep_explain.specs.Faults.{all_faults, IsFirst}
+use Rattle.ep_explain.specs.Sections.{section, AreTold}
+use Rattle.ep_explain.specs.declared.finding.Finding.{Finding}
+use Rattle.ep_explain.specs.declared.finding.Finding.TheVariants.{Accepted, Refused, Unreadable}
+
+-- a fault of the bytes themselves
+abbrev pub IsNoBundle : BundleFault → Type 0
+IsNoBundle Memory = ⊥
+IsNoBundle ReadFailed = ⊥
+IsNoBundle (BadBundle at) = Unit {0}
+IsNoBundle (NotARun replica entry) = Unit {0}
+
+-- the reader's fault, with its reasons
+pub record IsRefusalTold (e : BundleFault) (finding : Finding) (text : List ℕ) : Type 0 where
+  pub found : finding ≡ Unreadable
+  pub reasons : List (List ℕ)
+  pub told : text ≡ text_of (section (refusal_text e) reasons)
+
+-- the verdict of these faults, which are all that there are, and then each of them
+abbrev pub IsVerdictTold : List AuditFault → Finding → List ℕ → Type 0
+IsVerdictTold [] finding text = (finding ≡ Accepted) × (text ≡ text_of (codes "verdict accepted" ∷ []))
+IsVerdictTold (x ∷ xs) finding text = (finding ≡ Refused) × (told : List ℕ) × AreTold (x ∷ xs) told × (text ≡ text_of (codes "verdict refused" ∷ []) ++ told)
+
+-- all faults of the journals and the receipts are told, of which the first is the audit's; where there are none, it accepts
+pub record IsJudged (c : Collected) (ts : List Receipt) (finding : Finding) (text : List ℕ) : Type 0 where
+  pub first : IsFirst c.faults (journals_of c) ts (all_faults c ts)
+  pub told : IsVerdictTold (all_faults c ts) finding text
+
+-- the bytes, none of which is read yet
+abbrev pub unread : List ℕ → Left
+unread bytes = record { at = 0; bytes = bytes }
+
+pub data IsExplained (bytes : List ℕ) (finding : Finding) (text : List ℕ) : Type 0 where
+  -- they are no bundle
+  unreadable : (e : BundleFault) → ReadsBundle (unread bytes) (Err e) → IsRefusalTold e finding text → IsExplained bytes finding text
+  -- they are a bundle
+  read : (c : Contents) (rest : Left) → ReadsBundle (unread bytes) (Ok (c, rest)) → IsJudged c.0 c.1 finding text → IsExplained bytes finding text

@@ -1,0 +1,10 @@
+//! What is told of bytes.
+
+use crate::finding::Finding;
+
+/// What is found of bytes that are to be a bundle, and why, in words.
+#[derive(Drop)]
+pub struct Explained {
+    pub finding: Finding,
+    pub text: Vec<u8>,
+}

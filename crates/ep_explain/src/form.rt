@@ -1,0 +1,14 @@
+//! The forms of fields.
+
+/// What a field's bytes are.
+#[derive(Clone, Copy)]
+pub(crate) enum Form {
+    /// A number, the highest byte first.
+    Number,
+    /// The code of a kind of message.
+    Kind,
+    /// A key or a value.
+    Word,
+    /// An instance: its replica, and its number of two bytes.
+    Instance,
+}

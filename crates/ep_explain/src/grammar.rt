@@ -1,0 +1,236 @@
+//! Why a field of a bundle isn't allowed: the grammar of docs/FORMATS.md, section 2, once more, for the names of its fields.
+
+use crate::allowed::Allowed;
+use crate::field::Field;
+use crate::reasons::Reasons;
+use crate::region::Region;
+use crate::spot::Spot;
+use crate::stop::Stop;
+use crate::walk::{Walk, number_of};
+use ep_report::push_number;
+use ep_script::push_word;
+use std::alloc::{AllocError, Global};
+
+/// The version of a bundle, and how many replicas it has.
+#[derive(Clone, Copy)]
+struct Terms {
+    version: u64,
+    replicas: u64,
+}
+
+/// Why the reader refuses the field that begins at this place.
+pub(crate) fn field_reasons(
+    alloc: Global,
+    bytes: &[u8],
+    place: u64,
+) -> Result<Reasons, AllocError> {
+    let mut reasons = Reasons::new(alloc);
+    let mut walk = Walk::new(bytes, place);
+    match pass_bundle(&mut walk) {
+        Err(Stop::At(spot)) => add_spot(alloc, spot, walk.rest(), &mut reasons)?,
+        Err(Stop::Past) | Ok(()) => add_left(alloc, walk.rest(), &mut reasons)?,
+    }
+    Ok(reasons)
+}
+
+fn pass_bundle(walk: &mut Walk<'_>) -> Result<(), Stop> {
+    walk.number(Field::Magic, 4, Allowed::Magic)?;
+    let version = walk.number(Field::Version, 1, Allowed::Range(1, 2))?;
+    let replicas = walk.number(Field::Replicas, 1, Allowed::ClusterSize)?;
+    let receipts = walk.number(Field::ReceiptCount, 4, Allowed::Any)?;
+    let terms = Terms { version, replicas };
+    for replica in 0..replicas {
+        walk.enter(Region::Journal(replica));
+        pass_journal(walk, terms, replica)?;
+    }
+    for receipt in 0..receipts {
+        walk.enter(Region::Receipt(receipt.saturating_add(1)));
+        pass_receipt(walk, terms)?;
+    }
+    Ok(())
+}
+
+fn pass_journal(walk: &mut Walk<'_>, terms: Terms, replica: u64) -> Result<(), Stop> {
+    walk.number(Field::JournalReplica, 1, Allowed::One(replica))?;
+    let entries = walk.number(Field::EntryCount, 4, Allowed::Any)?;
+    for entry in 0..entries {
+        walk.enter(Region::Entry(replica, entry.saturating_add(1)));
+        pass_entry(walk, terms)?;
+    }
+    Ok(())
+}
+
+fn pass_entry(walk: &mut Walk<'_>, terms: Terms) -> Result<(), Stop> {
+    let kind = walk.number(Field::EventKind, 1, Allowed::Range(1, 5))?;
+    walk.number(Field::Stamp, 8, Allowed::Range(1, 281_474_976_710_655))?;
+    pass_body(walk, terms, kind)?;
+    let frames = walk.number(Field::FrameCount, 2, Allowed::Any)?;
+    for _ in 0..frames {
+        pass_frame(walk)?;
+    }
+    let executions = walk.number(Field::ExecutionCount, 2, Allowed::Any)?;
+    for _ in 0..executions {
+        pass_instance(walk, terms)?;
+        pass_answer(walk)?;
+    }
+    Ok(())
+}
+
+fn pass_body(walk: &mut Walk<'_>, terms: Terms, kind: u64) -> Result<(), Stop> {
+    match kind {
+        1 => pass_proposal(walk, terms),
+        2 => pass_frame(walk),
+        _ => pass_instance(walk, terms),
+    }
+}
+
+fn pass_request(walk: &mut Walk<'_>) -> Result<(), Stop> {
+    walk.number(Field::Client, 4, Allowed::Range(1, 4_294_967_295))?;
+    walk.number(Field::Request, 4, Allowed::Range(1, 4_294_967_295))?;
+    Ok(())
+}
+
+fn pass_proposal(walk: &mut Walk<'_>, terms: Terms) -> Result<(), Stop> {
+    pass_request(walk)?;
+    walk.number(Field::SeenStamp, 8, Allowed::Any)?;
+    pass_command(walk, terms)
+}
+
+/// The highest op: version 1 has no swap.
+fn highest_op(terms: Terms) -> u64 {
+    if terms.version == 1 { 4 } else { 5 }
+}
+
+/// What the length of the op's value or second key may be.
+fn text_lengths(op: u64) -> Allowed {
+    match op {
+        3 => Allowed::Range(0, 1024),
+        5 => Allowed::Range(1, 255),
+        _ => Allowed::One(0),
+    }
+}
+
+fn pass_command(walk: &mut Walk<'_>, terms: Terms) -> Result<(), Stop> {
+    let op = walk.number(Field::Op, 1, Allowed::Range(2, highest_op(terms)))?;
+    let key = walk.number(Field::KeyLength, 1, Allowed::Range(1, 255))?;
+    let text = walk.number(Field::TextLength, 2, text_lengths(op))?;
+    walk.run(Field::Key, key as usize, Allowed::Any)?;
+    let allowed = if op == 5 { Allowed::OtherKey } else { Allowed::Any };
+    walk.run(Field::Text, text as usize, allowed)?;
+    Ok(())
+}
+
+fn pass_frame(walk: &mut Walk<'_>) -> Result<(), Stop> {
+    let len = walk.number(Field::FrameLength, 4, Allowed::Range(40, 65_535))?;
+    walk.run(Field::Frame, len as usize, Allowed::Any)?;
+    Ok(())
+}
+
+/// What a replica's number may be.
+fn replicas_of(terms: Terms) -> Allowed {
+    Allowed::Range(0, terms.replicas.saturating_sub(1))
+}
+
+fn pass_instance(walk: &mut Walk<'_>, terms: Terms) -> Result<(), Stop> {
+    let highest = if terms.version == 1 { 1000 } else { 2000 };
+    walk.number(Field::InstanceReplica, 1, replicas_of(terms))?;
+    walk.number(Field::InstanceNumber, 2, Allowed::Range(1, highest))?;
+    Ok(())
+}
+
+fn pass_answer(walk: &mut Walk<'_>) -> Result<(), Stop> {
+    let code = walk.number(Field::AnswerCode, 1, Allowed::Range(0, 2))?;
+    if code == 1 {
+        let len = walk.number(Field::ValueLength, 2, Allowed::Range(0, 1024))?;
+        walk.run(Field::Value, len as usize, Allowed::Any)?;
+    }
+    Ok(())
+}
+
+fn pass_receipt(walk: &mut Walk<'_>, terms: Terms) -> Result<(), Stop> {
+    pass_request(walk)?;
+    pass_instance(walk, terms)?;
+    walk.number(Field::SeenStamp, 8, Allowed::Any)?;
+    walk.number(Field::ReceiptReplica, 1, replicas_of(terms))?;
+    walk.number(Field::ReceiptEntry, 4, Allowed::Any)?;
+    walk.number(Field::ReceiptStamp, 8, Allowed::Any)?;
+    pass_answer(walk)
+}
+
+/// What to do, what it usually means, and the field: what it may be, and what it is.
+fn add_spot(
+    alloc: Global,
+    spot: Spot,
+    rest: &[u8],
+    reasons: &mut Reasons,
+) -> Result<(), AllocError> {
+    add_cure(reasons)?;
+    if rest.len() < spot.len {
+        reasons.say(b"likely: the bundle was cut, or a length or a count before this place was changed")?;
+        add_field(alloc, spot, reasons)?;
+        return add_cut(alloc, spot.len, rest.len(), reasons);
+    }
+    reasons.say(b"likely: the bundle was changed here, or a length or a count before this place was")?;
+    add_field(alloc, spot, reasons)?;
+    add_allowed(alloc, spot, rest, reasons)
+}
+
+/// What to do.
+fn add_cure(reasons: &mut Reasons) -> Result<(), AllocError> {
+    reasons.say(
+        b"do: copy the bundle again from where it was made, or make it anew from the logs by `epaxos collect`",
+    )
+}
+
+/// The field, and where it is.
+fn add_field(alloc: Global, spot: Spot, reasons: &mut Reasons) -> Result<(), AllocError> {
+    let mut line = Vec::from_slice(alloc, b"field: ")?;
+    spot.field.push_name(&mut line)?;
+    line.extend_from_slice(b", in ")?;
+    spot.region.push(&mut line)?;
+    reasons.add(line)
+}
+
+/// The input ends within the field.
+fn add_cut(
+    alloc: Global,
+    len: usize,
+    left: usize,
+    reasons: &mut Reasons,
+) -> Result<(), AllocError> {
+    reasons.tell(format!(in alloc; "found: {left} of the field's {len} bytes, and then the end")?)
+}
+
+/// What the field may be, and what it is.
+fn add_allowed(
+    alloc: Global,
+    spot: Spot,
+    rest: &[u8],
+    reasons: &mut Reasons,
+) -> Result<(), AllocError> {
+    let mut line = Vec::from_slice(alloc, b"allowed: ")?;
+    spot.allowed.push(&mut line)?;
+    reasons.add(line)?;
+    let mut line = Vec::from_slice(alloc, b"found: ")?;
+    push_found(&mut line, spot, rest)?;
+    reasons.add(line)
+}
+
+/// Appends what the field is.
+fn push_found(line: &mut Vec<u8>, spot: Spot, rest: &[u8]) -> Result<(), AllocError> {
+    let (front, _) = rest.split_at(spot.len.min(rest.len()));
+    match spot.allowed {
+        Allowed::Magic | Allowed::OtherKey => push_word(line, front),
+        _ => push_number(line, number_of(front)),
+    }
+}
+
+/// The bundle is over, and bytes are left.
+fn add_left(alloc: Global, rest: &[u8], reasons: &mut Reasons) -> Result<(), AllocError> {
+    add_cure(reasons)?;
+    reasons.say(
+        b"likely: something was appended to the bundle, or a count before this place was changed",
+    )?;
+    let left = rest.len();
+    reasons.tell(format!(in alloc; "found: {left} bytes after the last receipt, where the bundle is over")?)
+}

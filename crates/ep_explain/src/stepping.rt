@@ -1,0 +1,124 @@
+//! Why an entry isn't its replica's next step: the bundle is read again, up to that entry.
+
+ghost use Rattle.std.specs.Prelude.{◌<◌};
+ghost use Rattle.ep_base.specs.Quorums.{size};
+
+use crate::reasons::Reasons;
+use crate::step::{MOST_ENTRIES, add_draft};
+use ep_base::{Noted, ReplicaId, Source};
+use ep_bundle::{
+    BundleFault, BundleHeader, read_draft, read_entry, read_header, read_journal, read_opening,
+};
+use ep_journal::Journal;
+use std::alloc::{AllocError, Global};
+
+/// Why the replica's entry of this number, in these bytes, isn't its next step.
+pub(crate) fn step_reasons(
+    alloc: Global,
+    bytes: &[u8],
+    replica: ReplicaId,
+    number: u32,
+) -> Result<Reasons, AllocError> {
+    let mut reasons = Reasons::new(alloc);
+    reasons.say(
+        b"do: make the bundle anew from the logs by `epaxos collect`, which names a log that is at fault",
+    )?;
+    reasons.say(b"likely: this entry, or one before it, was changed after it was written, or one before it is missing")?;
+    match add_step(alloc, bytes, replica, number, &mut reasons) {
+        Err(BundleFault::Memory) => Err(AllocError),
+        _ => Ok(reasons),
+    }
+}
+
+/// Reads up to the entry, and tells what is wrong with it.
+fn add_step(
+    alloc: Global,
+    bytes: &[u8],
+    replica: ReplicaId,
+    number: u32,
+    reasons: &mut Reasons,
+) -> Result<(), BundleFault> {
+    let mut source = Noted::new(bytes);
+    let mut place = 0;
+    let mut journal = read_up_to(alloc, &mut source, &mut place, replica, number)?;
+    add_next(alloc, &mut source, &mut place, &mut journal, reasons)
+}
+
+/// Reads the entry, and tells what is wrong with it as the journal's next one.
+fn add_next<S: Source>(
+    alloc: Global,
+    source: &mut S,
+    place: &mut u64,
+    journal: &mut Journal,
+    reasons: &mut Reasons,
+) -> Result<(), BundleFault> {
+    let draft = read_draft(alloc, source, place, journal.version(), journal.size())?;
+    add_draft(alloc, journal, draft, reasons)?;
+    Ok(())
+}
+
+/// Reads a bundle up to the replica's entry of this number, and gives that replica's journal before it.
+fn read_up_to<S: Source>(
+    alloc: Global,
+    source: &mut S,
+    place: &mut u64,
+    replica: ReplicaId,
+    number: u32,
+) -> Result<Journal, BundleFault> {
+    let header = read_header(source, place)?;
+    if replica.index() >= header.cluster.count() {
+        return Err(BundleFault::BadBundle(*place));
+    }
+    for lower in 0..replica.index() {
+        pass_journal(alloc, source, place, &header, lower)?;
+    }
+    read_opening(source, place, replica)?;
+    let mut journal = Journal::new(alloc, header.cluster, header.version, replica);
+    pass_entries(alloc, source, place, &mut journal, number)?;
+    Ok(journal)
+}
+
+/// Reads the journal of the replica of this number.
+fn pass_journal<S: Source>(
+    alloc: Global,
+    source: &mut S,
+    place: &mut u64,
+    header: &BundleHeader,
+    index: u8,
+) -> Result<(), BundleFault>
+    requires { index < size header.now.cluster }
+{
+    let Ok(replica) = ReplicaId::new(index) else {
+        return Err(BundleFault::BadBundle(*place));
+    };
+    let (version, cluster) = (header.version, header.cluster);
+    read_journal(alloc, cluster, version, replica, source, place)?;
+    Ok(())
+}
+
+/// Reads the journal's entries before the one of this number.
+fn pass_entries<S: Source>(
+    alloc: Global,
+    source: &mut S,
+    place: &mut u64,
+    journal: &mut Journal,
+    number: u32,
+) -> Result<(), BundleFault> {
+    for _ in 1..number {
+        pass_entry(alloc, source, place, journal)?;
+    }
+    Ok(())
+}
+
+/// Reads the journal's next entry.
+fn pass_entry<S: Source>(
+    alloc: Global,
+    source: &mut S,
+    place: &mut u64,
+    journal: &mut Journal,
+) -> Result<(), BundleFault> {
+    if journal.entries().len() >= MOST_ENTRIES {
+        return Err(BundleFault::BadBundle(*place));
+    }
+    read_entry(alloc, source, place, journal)
+}
