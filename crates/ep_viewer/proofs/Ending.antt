@@ -1,7 +1,9 @@
 -- What became of what the program was asked for.
-use Rattle.std.proofs.Common.{◌≡◌, ℕ, Bool, true, false, List, Option, Result, Ok, Err, refl, sym, ◌∙◌, ap, subst}
+use Rattle.std.proofs.Common.{◌≡◌, ℕ, Bool, true, false, List, Option, Result, Ok, Err, ◌++◌, append-nil, refl, sym, ◌∙◌, ap, subst}
 use Rattle.std.specs.Prelude.{◌||◌, IsErrAnd}
 use Rattle.ep_base.specs.Devices.{FailsAsTold}
+use Rattle.std.specs.Io.KnownBytes.{IsAtEnd}
+use Rattle.ep_bundle.proofs.Filled.{Consumed}
 use Rattle.ep_bundle.specs.Journals.{ReadsBundle, Finds}
 use Rattle.ep_bundle.specs.Reading.{Left, is_read_failed}
 use Rattle.ep_bundle.specs.declared.bundle_fault.BundleFault.{BundleFault}
@@ -13,17 +15,18 @@ use Rattle.ep_script.specs.declared.script_fault.ScriptFault.TheVariants as scri
 use Rattle.ep_viewer.specs.Faults.{of_bundle, of_script, is_read, is_write}
 use Rattle.ep_rules.specs.declared.receipt.Receipt.{Receipt}
 use Rattle.ep_viewer.specs.Outputs.{Output, Wrote, WroteNothing}
-use Rattle.ep_viewer.specs.Views.{Does, IsView, Views}
+use Rattle.ep_viewer.specs.Views.{Does, IsShort, IsView, Views, Explains}
 use Rattle.ep_view.specs.Shown.{IsShown}
 use Rattle.ep_words.specs.declared.part.Part.{Part}
 use Rattle.ep_viewer.specs.declared.asked.Asked.{Asked}
 use Rattle.ep_viewer.specs.declared.asked.Asked.TheVariants.{Show}
+use Rattle.ep_viewer.specs.declared.status.Status.{Status}
 use Rattle.ep_viewer.specs.declared.fault.Fault.{Fault}
-use Rattle.ep_viewer.specs.declared.fault.Fault.TheVariants.{Memory}
+use Rattle.ep_viewer.specs.declared.fault.Fault.TheVariants.{Script, BadBundle, NotARun, Memory, Read, Write}
 
 -- a bundle that isn't read isn't viewed
 pub not_read :
-    (Tells : Collected → List ℕ → Type 0) (b : BundleFault) (r : Result Unit Fault) (zs : List ℕ) (place : ℕ) (left : Option (List ℕ)) (out : Output) → IsErrAnd r (λ e. e ≡ of_bundle b) →
+    (Tells : Collected → List ℕ → Type 0) (b : BundleFault) (r : Result Status Fault) (zs : List ℕ) (place : ℕ) (left : Option (List ℕ)) (out : Output) → IsErrAnd r (λ e. e ≡ of_bundle b) →
     Finds (ReadsBundle (record { at = 0; bytes = zs })) (Err b) place left → WroteNothing out → Views Tells r zs out
 not_read Tells b (Ok done) zs place left out is found silent = absurd is
 not_read Tells bundle.Memory (Err e) zs place left out is found silent = subst (λ (x : Fault). Views Tells (Err x) zs out) (sym is) silent
@@ -32,7 +35,7 @@ not_read Tells (bundle.BadBundle offset) (Err e) zs place left out is found sile
 not_read Tells (bundle.NotARun replica entry) (Err e) zs place left out is found silent = subst (λ (x : Fault). Views Tells (Err x) zs out) (sym is) (found, silent)
 
 -- want of memory leaves the output as it was
-pub stopped : (Tells : Collected → List ℕ → Type 0) (r : Result Unit Fault) (zs : List ℕ) (out : Output) → IsErrAnd r (λ e. e ≡ Memory) → WroteNothing out → Views Tells r zs out
+pub stopped : (Tells : Collected → List ℕ → Type 0) (r : Result Status Fault) (zs : List ℕ) (out : Output) → IsErrAnd r (λ e. e ≡ Memory) → WroteNothing out → Views Tells r zs out
 stopped Tells (Ok done) zs out is silent = absurd is
 stopped Tells (Err e) zs out is silent = subst (λ (x : Fault). Views Tells (Err x) zs out) (sym is) silent
 
@@ -82,5 +85,22 @@ pub script_not_written : {A : Type 0} (s : ScriptFault) (r : Result A Fault) (ha
 script_not_written s r had is = as_told is_write (of_script s) false had had r is (write_of_script s) refl
 
 pub shown_as_asked :
-    (asked : Asked) (part : Part) (r : Result Unit Fault) (zs : List ℕ) (out : Output) → asked ≡ Show part → Views (λ journals text. IsShown journals part text) r zs out → Does asked r zs out
+    (asked : Asked) (part : Part) (r : Result Status Fault) (zs : List ℕ) (out : Output) → asked ≡ Show part → Views (λ journals text. IsShown journals part text) r zs out → Does asked r zs out
 shown_as_asked asked part r zs out is views = subst (λ (a : Asked). Does a r zs out) (sym is) views
+
+-- what isn't read isn't explained
+stopped_short : (f : Fault) (zs : List ℕ) (out : Output) → IsShort f → WroteNothing out → Explains (Err f) zs out
+stopped_short (Script line) zs out is silent = absurd is
+stopped_short (BadBundle offset) zs out is silent = absurd is
+stopped_short (NotARun replica entry) zs out is silent = absurd is
+stopped_short Memory zs out is silent = silent
+stopped_short Read zs out is silent = silent
+stopped_short Write zs out is silent = absurd is
+
+pub not_explained : (f : Fault) (r : Result Status Fault) (zs : List ℕ) (out : Output) → IsErrAnd r (λ e. e ≡ f) → IsShort f → WroteNothing out → Explains r zs out
+not_explained f (Ok status) zs out is short silent = absurd is
+not_explained f (Err e) zs out is short silent = subst (λ (x : Fault). Explains (Err x) zs out) (sym is) (stopped_short f zs out short silent)
+
+-- a source that is at its end has given all of its bytes
+pub all_given : (zs bs : List ℕ) (left : Option (List ℕ)) → Consumed zs bs left → IsAtEnd left → bs ≡ zs
+all_given zs bs left c end = sym (c.2 ∙ ap (λ (l : List ℕ). bs ++ l) (subst (λ (l : Option (List ℕ)). IsAtEnd l) c.1 end) ∙ append-nil bs)

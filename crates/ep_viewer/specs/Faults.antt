@@ -2,16 +2,19 @@
 use Rattle.std.specs.Prelude.{ℕ, Bool, true, false, List, ◌++◌, codes, decimal}
 use Rattle.ep_bundle.specs.declared.bundle_fault.BundleFault.{BundleFault}
 use Rattle.ep_bundle.specs.declared.bundle_fault.BundleFault.TheVariants as bundle
+use Rattle.ep_explain.specs.declared.finding.Finding.{Finding}
+use Rattle.ep_explain.specs.declared.finding.Finding.TheVariants as finding
 use Rattle.ep_script.specs.declared.script_fault.ScriptFault.{ScriptFault}
 use Rattle.ep_script.specs.declared.script_fault.ScriptFault.TheVariants as script
 use Rattle.ep_viewer.specs.declared.fault.Fault.{Fault}
 use Rattle.ep_viewer.specs.declared.fault.Fault.TheVariants.{Script, BadBundle, NotARun, Memory, Read, Write}
 use Rattle.ep_viewer.specs.declared.status.Status.{Status}
-use Rattle.ep_viewer.specs.declared.status.Status.TheVariants.{Done, Refused, OutOfMemory, Failed}
+use Rattle.ep_viewer.specs.declared.status.Status.TheVariants.{Done, AuditRefused, Refused, OutOfMemory, Failed}
 
 -- the exit status
 abbrev pub code_of : Status → ℕ
 code_of Done = 0
+code_of AuditRefused = 1
 code_of Refused = 2
 code_of OutOfMemory = 3
 code_of Failed = 4
@@ -87,3 +90,9 @@ abbrev pub of_script : ScriptFault → Fault
 of_script (script.Refused line) = Script line
 of_script script.Memory = Memory
 of_script script.ReadFailed = Read
+
+-- how the program ends that has explained a bundle
+abbrev pub status_found : Finding → Status
+status_found finding.Accepted = Done
+status_found finding.Refused = AuditRefused
+status_found finding.Unreadable = Refused

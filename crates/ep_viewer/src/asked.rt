@@ -11,6 +11,8 @@ pub enum Asked {
     Columns(Part),
     /// To trace a script's replay.
     Trace,
+    /// To explain why a bundle is refused.
+    Explain,
     /// The program's name and its version.
     Version,
     /// Help: this text.

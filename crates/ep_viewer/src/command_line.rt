@@ -25,6 +25,22 @@ Exit status:
   3  memory was refused
   4  reading or writing failed";
 
+/// What the help of `explain` says at its end.
+const AFTER_EXPLAIN: &str = "\
+Standard input, to its end, is a bundle, as `replay --emit bundle` writes it. Printed are the lines of the audit or of the reader,
+with all faults and not the first alone, and under each what to do, what usually brings it about, what stands where, and what
+differs. Nothing is printed before the end is read.
+
+Example:
+  epaxos explain < refused.bundle
+
+Exit status:
+  0  the audit accepts the bundle
+  1  the audit refuses it
+  2  the command line is refused, and standard error says where; or it is no bundle, and why is printed
+  3  memory was refused
+  4  reading or writing failed";
+
 /// What the help of `replay` says at its end.
 const AFTER_REPLAY: &str = "\
 Standard input, to its end, is a script: lines as in the example; docs/FORMATS.md, section 4, has all of them.
@@ -65,6 +81,9 @@ fn asked_instead(alloc: Global, error: &Error) -> Result<Asked, Declined> {
 fn asked_by(alloc: Global, matches: &ArgMatches<'_>) -> Result<Asked, Declined> {
     if let Some(options) = matches.subcommand_matches("show") {
         return shown_by(alloc, options);
+    }
+    if matches.subcommand_matches("explain").is_some() {
+        return Ok(Asked::Explain);
     }
     if let Some(options) = matches.subcommand_matches("replay") {
         return traced_by(alloc, options);
@@ -177,11 +196,17 @@ fn stamp_named(word: &[u8]) -> Option<u64> {
 fn program<'a>(alloc: Global) -> Result<Command<'a>, AllocError> {
     let show = show_command(alloc)?;
     let replay = replay_command(alloc)?;
+    let explain = Command::new(alloc, "explain")
+        .about("Reads a bundle on standard input, and prints why it is refused, in words")
+        .after_help(AFTER_EXPLAIN);
     let command = Command::new(alloc, "epaxos")
         .about("A replicated key-value core without a leader")
         .version("0.1.0")
         .subcommand_required(true);
-    command.subcommand(show)?.subcommand(replay)
+    command
+        .subcommand(show)?
+        .subcommand(explain)?
+        .subcommand(replay)
 }
 
 fn replay_command<'a>(alloc: Global) -> Result<Command<'a>, AllocError> {

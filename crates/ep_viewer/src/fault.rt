@@ -2,10 +2,10 @@
 
 ghost use Rattle.std.specs.Prelude.{◌≡◌};
 ghost use Rattle.ep_viewer.specs.Faults.{of_bundle, of_script, status_of};
-ghost use Rattle.ep_viewer.specs.declared.fault.Fault.TheVariants.{Memory, Write};
+ghost use Rattle.ep_viewer.specs.declared.fault.Fault.TheVariants.{Memory, Read, Write};
 
 use crate::status::Status;
-use ep_base::{ReplicaId, WriteFailed};
+use ep_base::{ReadFailed, ReplicaId, WriteFailed};
 use ep_bundle::BundleFault;
 use ep_script::ScriptFault;
 use std::alloc::AllocError;
@@ -62,6 +62,14 @@ impl From<ScriptFault> for Fault {
             ScriptFault::Memory => Fault::Memory,
             ScriptFault::ReadFailed => Fault::Read,
         }
+    }
+}
+
+impl From<ReadFailed> for Fault {
+    ghost from_gives = { λ _ e. e ≡ Read };
+
+    fn from(_fault: ReadFailed) -> Fault {
+        Fault::Read
     }
 }
 

@@ -1,4 +1,4 @@
-use Rattle.std.proofs.Common.{rules}
+use Rattle.std.proofs.Common.{refl, rules}
 use Rattle.ep_viewer.specs.Views.{IsAnyText}
 use Rattle.ep_viewer.proofs.Ending.{not_read, stopped, viewed, bundle_read, bundle_not_written}
 use Rattle.ep_viewer.proofs.showing.print_columns.Goals as goal
@@ -20,4 +20,4 @@ returns-in_err-text-clause-done g c zs known = stopped IsAnyText _ zs _ c.from_r
 pub returns-clause-done : goal.returns-clause-done
 returns-clause-done g c zs known =
     let found = c.in_ok-bundle.ensures.bytes zs known in
-    viewed IsAnyText c.in_ok-bundle.bundle.journals c.in_ok-bundle.bundle.receipts.items (record { at = found.0; bytes = found.1.0 }) zs c.in_ok-text.text.items _ found.1.2 tt (search rules)
+    (refl, viewed IsAnyText c.in_ok-bundle.bundle.journals c.in_ok-bundle.bundle.receipts.items (record { at = found.0; bytes = found.1.0 }) zs c.in_ok-text.text.items _ found.1.2 tt (search rules))

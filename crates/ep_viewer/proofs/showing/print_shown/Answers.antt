@@ -1,4 +1,4 @@
-use Rattle.std.proofs.Common.{rules}
+use Rattle.std.proofs.Common.{refl, rules}
 use Rattle.ep_view.specs.Shown.{IsShown}
 use Rattle.ep_viewer.proofs.Ending.{not_read, stopped, viewed, bundle_read, bundle_not_written}
 use Rattle.ep_viewer.proofs.showing.print_shown.Goals as goal
@@ -20,4 +20,4 @@ returns-in_err-text-clause-done g c zs known = stopped (λ journals text. IsShow
 pub returns-clause-done : goal.returns-clause-done
 returns-clause-done g c zs known =
     let found = c.in_ok-bundle.ensures.bytes zs known in
-    viewed (λ journals text. IsShown journals c.args.part.now text) c.in_ok-bundle.bundle.journals c.in_ok-bundle.bundle.receipts.items (record { at = found.0; bytes = found.1.0 }) zs c.in_ok-text.text.items _ found.1.2 c.in_ok-text.ensures (search rules)
+    (refl, viewed (λ journals text. IsShown journals c.args.part.now text) c.in_ok-bundle.bundle.journals c.in_ok-bundle.bundle.receipts.items (record { at = found.0; bytes = found.1.0 }) zs c.in_ok-text.text.items _ found.1.2 c.in_ok-text.ensures (search rules))
