@@ -216,7 +216,9 @@ fn replay_command<'a>(alloc: Global) -> Result<Command<'a>, AllocError> {
         .help("What to print: report (the default), bundle or trace")
         .action(ArgAction::Set);
     let command = Command::new(alloc, "replay")
-        .about("Reads a script on standard input, plays it in one thread, audits what it leaves, and prints a report, a bundle or a trace")
+        .about(
+            "Reads a script on standard input, plays it in one thread, audits what it leaves, and prints a report, a bundle or a trace",
+        )
         .after_help(AFTER_REPLAY);
     command.arg(emit)
 }

@@ -8,8 +8,8 @@ ghost use Rattle.ep_viewer.specs.Views.{Concludes, Does, Performs, TellsWhy};
 
 use crate::asked::Asked;
 use crate::declined::Declined;
-use crate::fault::Fault;
 use crate::explaining::print_explained;
+use crate::fault::Fault;
 use crate::showing::{print_columns, print_shown};
 use crate::status::Status;
 use crate::telling::{tell, tell_words};
