@@ -3,8 +3,10 @@ use Rattle.std.specs.Prelude.{◌≡◌, ℕ, List, Result, Ok, Err, ◌++◌, c
 use Rattle.ep_bundle.specs.Journals.{ReadsBundle}
 use Rattle.ep_bundle.specs.Reading.{Left}
 use Rattle.ep_bundle.specs.declared.bundle_fault.BundleFault.TheVariants as bundle
+use Rattle.ep_draw.specs.Drawn.{IsDrawn, IsTooMany}
 use Rattle.ep_explain.specs.Explained.{IsExplained}
 use Rattle.ep_explain.specs.declared.finding.Finding.{Finding}
+use Rattle.ep_graph.specs.Graphs.{IsGraphFile}
 use Rattle.ep_journal.specs.Entries.{Collected}
 use Rattle.ep_rules.specs.declared.receipt.Receipt.{Receipt}
 use Rattle.ep_script.specs.Plan.{Plan, script_of}
@@ -15,11 +17,11 @@ use Rattle.ep_base.specs.Devices.{FailsAsTold}
 use Rattle.ep_viewer.specs.Faults.{command_line_refused, out_of_memory, line_of, status_of, status_found, is_read, is_write}
 use Rattle.ep_viewer.specs.Outputs.{Input, Output, Wrote, WroteNothing, Told}
 use Rattle.ep_viewer.specs.declared.asked.Asked.{Asked}
-use Rattle.ep_viewer.specs.declared.asked.Asked.TheVariants.{Show, Columns, Trace, Explain, Version, Help}
+use Rattle.ep_viewer.specs.declared.asked.Asked.TheVariants.{Show, Columns, Trace, Explain, Draw, Graph, Version, Help}
 use Rattle.ep_viewer.specs.declared.declined.Declined.{Declined}
 use Rattle.ep_viewer.specs.declared.declined.Declined.TheVariants as declined
 use Rattle.ep_viewer.specs.declared.fault.Fault.{Fault}
-use Rattle.ep_viewer.specs.declared.fault.Fault.TheVariants.{Script, BadBundle, NotARun, Memory, Read, Write}
+use Rattle.ep_viewer.specs.declared.fault.Fault.TheVariants.{Script, BadBundle, NotARun, TooMany, Memory, Read, Write}
 use Rattle.ep_viewer.specs.declared.status.Status.{Status}
 use Rattle.ep_viewer.specs.declared.status.Status.TheVariants.{Done, Refused, OutOfMemory}
 
@@ -33,15 +35,25 @@ pub record IsView (Tells : Collected → List ℕ → Type 0) (zs : List ℕ) (o
   pub tells : Tells journals text
   pub wrote : Wrote out text
 
+-- The bytes are one bundle, of whose journals so many entries are asked for that nothing was written.
+pub record IsCrowded (Crowds : Collected → Type 0) (zs : List ℕ) (out : Output) : Type 0 where
+  pub journals : Collected
+  pub receipts : List Receipt
+  pub end : Left
+  pub read : ReadsBundle (record { at = 0; bytes = zs }) (Ok ((journals, receipts), end))
+  pub crowds : Crowds journals
+  pub silent : WroteNothing out
+
 -- a bundle is viewed, or is refused, and then nothing is written
-abbrev pub Views : (Collected → List ℕ → Type 0) → Result Status Fault → List ℕ → Output → Type 0
-Views Tells (Ok status) zs out = (status ≡ Done) × IsView Tells zs out
-Views Tells (Err (Script line)) zs out = ⊥
-Views Tells (Err (BadBundle offset)) zs out = ReadsBundle (record { at = 0; bytes = zs }) (Err (bundle.BadBundle offset)) × WroteNothing out
-Views Tells (Err (NotARun replica entry)) zs out = ReadsBundle (record { at = 0; bytes = zs }) (Err (bundle.NotARun replica entry)) × WroteNothing out
-Views Tells (Err Memory) zs out = WroteNothing out
-Views Tells (Err Read) zs out = WroteNothing out
-Views Tells (Err Write) zs out = Unit {0}
+abbrev pub Views : (Collected → List ℕ → Type 0) → (ℕ → Collected → Type 0) → Result Status Fault → List ℕ → Output → Type 0
+Views Tells Crowds (Ok status) zs out = (status ≡ Done) × IsView Tells zs out
+Views Tells Crowds (Err (Script line)) zs out = ⊥
+Views Tells Crowds (Err (BadBundle offset)) zs out = ReadsBundle (record { at = 0; bytes = zs }) (Err (bundle.BadBundle offset)) × WroteNothing out
+Views Tells Crowds (Err (NotARun replica entry)) zs out = ReadsBundle (record { at = 0; bytes = zs }) (Err (bundle.NotARun replica entry)) × WroteNothing out
+Views Tells Crowds (Err (TooMany count)) zs out = IsCrowded (Crowds count) zs out
+Views Tells Crowds (Err Memory) zs out = WroteNothing out
+Views Tells Crowds (Err Read) zs out = WroteNothing out
+Views Tells Crowds (Err Write) zs out = Unit {0}
 
 -- The bytes are a script, and what was written is its trace.
 pub record IsTrace (zs : List ℕ) (out : Output) : Type 0 where
@@ -57,6 +69,7 @@ Traces (Ok status) zs out = (status ≡ Done) × IsTrace zs out
 Traces (Err (Script line)) zs out = (script_of zs ≡ Err line) × WroteNothing out
 Traces (Err (BadBundle offset)) zs out = ⊥
 Traces (Err (NotARun replica entry)) zs out = ⊥
+Traces (Err (TooMany count)) zs out = ⊥
 Traces (Err Memory) zs out = WroteNothing out
 Traces (Err Read) zs out = WroteNothing out
 Traces (Err Write) zs out = Unit {0}
@@ -66,6 +79,7 @@ Prints (Ok status) text out = (status ≡ Done) × Wrote out text
 Prints (Err (Script line)) text out = ⊥
 Prints (Err (BadBundle offset)) text out = ⊥
 Prints (Err (NotARun replica entry)) text out = ⊥
+Prints (Err (TooMany count)) text out = ⊥
 Prints (Err Memory) text out = ⊥
 Prints (Err Read) text out = ⊥
 Prints (Err Write) text out = Unit {0}
@@ -75,6 +89,7 @@ abbrev pub IsShort : Fault → Type 0
 IsShort (Script line) = ⊥
 IsShort (BadBundle offset) = ⊥
 IsShort (NotARun replica entry) = ⊥
+IsShort (TooMany count) = ⊥
 IsShort Memory = Unit {0}
 IsShort Read = Unit {0}
 IsShort Write = ⊥
@@ -93,17 +108,26 @@ Explains (Ok status) zs out = IsExplanation status zs out
 Explains (Err (Script line)) zs out = ⊥
 Explains (Err (BadBundle offset)) zs out = ⊥
 Explains (Err (NotARun replica entry)) zs out = ⊥
+Explains (Err (TooMany count)) zs out = ⊥
 Explains (Err Memory) zs out = WroteNothing out
 Explains (Err Read) zs out = WroteNothing out
 Explains (Err Write) zs out = Unit {0}
+
+abbrev pub IsNever : ℕ → Collected → Type 0
+IsNever count journals = ⊥
+
+abbrev pub IsAnyCount : ℕ → Collected → Type 0
+IsAnyCount count journals = Unit {0}
 
 abbrev pub IsAnyText : Collected → List ℕ → Type 0
 IsAnyText journals text = Unit {0}
 
 abbrev pub Does : Asked → Result Status Fault → List ℕ → Output → Type 0
-Does (Show part) outcome zs out = Views (λ journals text. IsShown journals part text) outcome zs out
-Does (Columns part) outcome zs out = Views IsAnyText outcome zs out
+Does (Show part) outcome zs out = Views (λ journals text. IsShown journals part text) IsNever outcome zs out
+Does (Columns part) outcome zs out = Views IsAnyText IsNever outcome zs out
 Does Explain outcome zs out = Explains outcome zs out
+Does (Draw part) outcome zs out = Views (λ journals text. IsDrawn journals part text) (λ count journals. IsTooMany journals part count) outcome zs out
+Does Graph outcome zs out = Views (λ journals text. IsGraphFile text) IsAnyCount outcome zs out
 Does Trace outcome zs out = Traces outcome zs out
 Does Version outcome zs out = Prints outcome (codes "epaxos 0.1.0\n") out
 Does (Help text) outcome zs out = Prints outcome (string_bytes text) out

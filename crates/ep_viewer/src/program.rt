@@ -8,6 +8,7 @@ ghost use Rattle.ep_viewer.specs.Views.{Concludes, Does, Performs, TellsWhy};
 
 use crate::asked::Asked;
 use crate::declined::Declined;
+use crate::drawing::{print_drawn, print_graph};
 use crate::explaining::print_explained;
 use crate::fault::Fault;
 use crate::showing::{print_columns, print_shown};
@@ -50,6 +51,8 @@ fn attempt<S: Source, W: Sink>(
         Asked::Show(part) => print_shown(alloc, part, reader, writer),
         Asked::Columns(part) => print_columns(alloc, part, reader, writer),
         Asked::Explain => print_explained(alloc, reader, writer),
+        Asked::Draw(part) => print_drawn(alloc, part, reader, writer),
+        Asked::Graph => print_graph(alloc, reader, writer),
         Asked::Trace => print_trace(alloc, reader, writer),
         Asked::Version => {
             writer.put(b"epaxos 0.1.0\n")?;

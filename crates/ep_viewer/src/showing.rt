@@ -5,7 +5,7 @@ ghost use Rattle.ep_view.specs.Shown.{IsShown};
 ghost use Rattle.ep_base.specs.Devices.{FailsAsTold};
 ghost use Rattle.ep_viewer.specs.Faults.{is_read, is_write};
 ghost use Rattle.ep_viewer.specs.Outputs.{output};
-ghost use Rattle.ep_viewer.specs.Views.{IsAnyText, Views};
+ghost use Rattle.ep_viewer.specs.Views.{IsAnyText, IsNever, Views};
 
 use crate::fault::Fault;
 use crate::status::Status;
@@ -23,7 +23,7 @@ pub(crate) fn print_shown<S: Source, W: Sink>(
     reader: &mut S,
     writer: &mut W,
 ) -> Result<Status, Fault>
-    ensures done { (zs : List ℕ) → S.left reader.old ≡ Some zs → Views (λ journals text. IsShown journals part.now text) result zs
+    ensures done { (zs : List ℕ) → S.left reader.old ≡ Some zs → Views (λ journals text. IsShown journals part.now text) IsNever result zs
         (output (W.held writer.old) (W.held writer.new) (W.has_failed writer.old) (W.has_failed writer.new)) }
     ensures read { FailsAsTold is_read result (S.has_failed reader.old) (S.has_failed reader.new) }
     ensures written { FailsAsTold is_write result (W.has_failed writer.old) (W.has_failed writer.new) }
@@ -43,7 +43,7 @@ pub(crate) fn print_columns<S: Source, W: Sink>(
     reader: &mut S,
     writer: &mut W,
 ) -> Result<Status, Fault>
-    ensures done { (zs : List ℕ) → S.left reader.old ≡ Some zs → Views IsAnyText result zs
+    ensures done { (zs : List ℕ) → S.left reader.old ≡ Some zs → Views IsAnyText IsNever result zs
         (output (W.held writer.old) (W.held writer.new) (W.has_failed writer.old) (W.has_failed writer.new)) }
     ensures read { FailsAsTold is_read result (S.has_failed reader.old) (S.has_failed reader.new) }
     ensures written { FailsAsTold is_write result (W.has_failed writer.old) (W.has_failed writer.new) }

@@ -1,0 +1,123 @@
+-- What a space-time diagram has.
+use Rattle.std.specs.Prelude.{◌≡◌, ◌≤◌, ◌<◌, ℕ, suc, Bool, false, cond, length, List, [], ◌∷◌, ◌++◌, Option, Some, None, codes, decimal}
+use Rattle.ep_journal.specs.Entries.{Collected, entries_at}
+use Rattle.ep_journal.specs.declared.entry.Entry.{Entry}
+use Rattle.ep_journal.specs.declared.event.Event.{Event}
+use Rattle.ep_journal.specs.declared.event.Event.TheVariants.{Propose, Handle, GiveUp, Recover, Execute}
+use Rattle.ep_view.specs.Lines.{taken_text, done_text}
+use Rattle.ep_view.specs.Lookups.{entry_at}
+use Rattle.ep_view.specs.Shown.{IsInOrder}
+use Rattle.ep_words.specs.Kept.{keeps}
+use Rattle.ep_words.specs.declared.part.Part.{Part}
+use Rattle.ep_svg.specs.Escaping.{escaped}
+use Rattle.ep_draw.specs.Layout.{column, row}
+use Rattle.ep_svg.specs.Shapes.{attribute, shapes_text, arrows_text}
+use Rattle.ep_draw.specs.declared.style.TheConstants.{KEY, STYLE}
+use Rattle.ep_draw.specs.declared.draw_fault.DrawFault.{DrawFault}
+use Rattle.ep_draw.specs.declared.draw_fault.DrawFault.TheVariants.{Memory, TooMany}
+use Rattle.ep_draw.specs.declared.picture.Picture.{Picture}
+
+abbrev pub keeps_some : Part → ℕ → Option Entry → Bool
+keeps_some part r None = false
+keeps_some part r (Some e) = keeps part r e
+
+-- those of the places, each a replica and the number of an entry, whose entries the part keeps
+abbrev pub kept : Collected → Part → List (ℕ × ℕ) → List (ℕ × ℕ)
+kept c part [] = []
+kept c part (p ∷ ps) = cond (keeps_some part p.0 (entry_at (entries_at c p.0) p.1)) (p ∷ kept c part ps) (kept c part ps)
+
+-- Dots.
+
+-- the kind of event, as a class of the file
+unfoldable pub class_of : Event → List ℕ
+class_of (Propose client request command seen) = codes "propose"
+class_of (Handle b) = codes "handle"
+class_of (GiveUp i) = codes "giveup"
+class_of (Recover i) = codes "recover"
+class_of (Execute i) = codes "execute"
+
+abbrev pub place_text : ℕ → ℕ → List ℕ
+place_text r number = decimal r ++ codes ":" ++ decimal number ++ codes " "
+
+abbrev pub happening_text : Entry → List ℕ
+happening_text e = taken_text e.event e.frames ++ done_text e.done
+
+-- an entry of replica r in words: the replica, its number, what happened, and what was executed with which answers
+abbrev pub told_text : ℕ → Entry → List ℕ
+told_text r e = place_text r e.number ++ happening_text e
+
+abbrev pub classed : Event → List ℕ
+classed event = codes "<circle class='dot " ++ class_of event
+
+abbrev pub spot : ℕ → ℕ → List ℕ
+spot x y = attribute (codes "' cx='") x ++ attribute (codes " cy='") y
+
+abbrev pub titled : ℕ → Entry → List ℕ
+titled r e = codes " r='6'><title>" ++ escaped (told_text r e) ++ codes "</title></circle>\n"
+
+-- the dot of an entry of replica r, here, with the entry in words
+abbrev pub circle_text : ℕ → ℕ → ℕ → Entry → List ℕ
+circle_text x y r e = classed e.event ++ spot x y ++ titled r e
+
+-- the dot of an entry in the row k: on its replica's line
+abbrev pub dot_text : Collected → ℕ → ℕ × ℕ → Option Entry → List ℕ
+dot_text c k p None = []
+dot_text c k p (Some e) = circle_text (column c.faults p.0) (row k) p.0 e
+
+-- the dots of the entries at these places, in rows from k on
+abbrev pub dots_from : Collected → ℕ → List (ℕ × ℕ) → List ℕ
+dots_from c k [] = []
+dots_from c k (p ∷ ps) = dot_text c k p (entry_at (entries_at c p.0) p.1) ++ dots_from c (suc k) ps
+
+-- Files.
+
+abbrev pub measured : ℕ → ℕ → List ℕ
+measured width height = attribute (codes "<svg xmlns='http://www.w3.org/2000/svg' width='") width ++ attribute (codes " height='") height
+
+abbrev pub viewed : ℕ → ℕ → List ℕ
+viewed width height = codes " viewBox='0 0 " ++ decimal width ++ attribute (codes " ") height
+
+-- the title, the styles and the key, which are the same in each file
+unfoldable pub front : List ℕ
+front = STYLE.now ++ KEY.now
+
+abbrev pub opening : Picture → List ℕ
+opening p = measured p.width p.height ++ viewed p.width p.height ++ front
+
+abbrev pub body : Picture → List ℕ
+body p = shapes_text p.shapes.items ++ arrows_text p.arrows.items
+
+-- the picture, and over it a dot for each of these places
+abbrev pub file_text : Collected → List (ℕ × ℕ) → Picture → List ℕ
+file_text c rows p = opening p ++ body p ++ dots_from c 0 rows ++ codes "</svg>\n"
+
+-- a file with a dot for each of these places
+pub record IsFile (c : Collected) (rows : List (ℕ × ℕ)) (svg : List ℕ) : Type 0 where
+  pub picture : Picture
+  pub text : svg ≡ file_text c rows picture
+
+-- these are the entries that the part keeps, of all entries by stamp and then by replica
+pub record AreKept (c : Collected) (part : Part) (rows : List (ℕ × ℕ)) : Type 0 where
+  pub all : List (ℕ × ℕ)
+  pub ordered : IsInOrder c all
+  pub are : rows ≡ kept c part all
+
+-- The file has a dot for each entry that the part keeps, 2,000 at most, in rows by stamp and then by replica. No shape and no arrow of its picture
+-- is a dot, and whatever words they and the dots bear stand there escaped.
+pub record IsDrawn (c : Collected) (part : Part) (svg : List ℕ) : Type 0 where
+  pub rows : List (ℕ × ℕ)
+  pub are_kept : AreKept c part rows
+  pub few : length rows ≤ 2000
+  pub file : IsFile c rows svg
+
+-- the part keeps so many entries, more than 2,000
+pub record IsTooMany (c : Collected) (part : Part) (count : ℕ) : Type 0 where
+  pub rows : List (ℕ × ℕ)
+  pub are_kept : AreKept c part rows
+  pub so_many : length rows ≡ count
+  pub many : 2000 < count
+
+-- why nothing is drawn
+abbrev pub IsRefused : Collected → Part → DrawFault → Type 0
+IsRefused c part Memory = Unit {0}
+IsRefused c part (TooMany n) = IsTooMany c part n

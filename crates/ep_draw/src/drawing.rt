@@ -1,0 +1,206 @@
+//! Space-time diagrams.
+
+ghost use Rattle.std.specs.Prelude.{◌≡◌, ◌≤◌, ◌++◌, IfOk, IfErr, OnOk, length};
+ghost use Rattle.ep_journal.specs.Entries.{AreJournals, entries_at};
+ghost use Rattle.ep_view.specs.Lookups.{entry_at};
+ghost use Rattle.ep_draw.specs.Drawn.{keeps_some, kept, measured, viewed, front, opening, body, file_text, IsFile, AreKept, IsDrawn, IsRefused};
+
+use crate::dots::push_dots;
+use crate::draw_fault::DrawFault;
+use crate::picture::Picture;
+use crate::scene::Scene;
+use crate::style::{KEY, STYLE};
+use ep_base::ReplicaId;
+use ep_journal::Journals;
+use ep_matching::first_fault;
+use ep_report::{AuditFault, push_number};
+use ep_svg::{push_arrows, push_attribute, push_shapes};
+use ep_view::{Handled, entry_at, schedule};
+use ep_words::Part;
+use std::alloc::{AllocError, Global};
+
+/// How many events a diagram shows.
+const MOST: usize = 2000;
+
+/// Whether the part keeps the entry at this place.
+fn is_kept(journals: &Journals, part: &Part, place: &(ReplicaId, u32)) -> bool
+    requires { AreJournals journals.now }
+    ensures { result ≡ keeps_some part.now place.now.0 (entry_at (entries_at journals.now place.now.0) place.now.1) }
+{
+    let (replica, number) = place;
+    match entry_at(journals, *replica, *number) {
+        Some(entry) => part.keeps(*replica, entry),
+        None => false,
+    }
+}
+
+/// Those of the places whose entries the part keeps, in the same order.
+fn kept(
+    alloc: Global,
+    journals: &Journals,
+    part: &Part,
+    places: &[(ReplicaId, u32)],
+) -> Result<Vec<(ReplicaId, u32)>, AllocError>
+    requires { AreJournals journals.now }
+    ensures { IfOk result (λ rows. rows.items ≡ kept journals.now part.now places.now) }
+{
+    let mut rows = Vec::new(alloc);
+    for place in places {
+        if is_kept(journals, part, place) {
+            rows.push(*place)?;
+        }
+    }
+    Ok(rows)
+}
+
+/// The entry that the fault names, if it names one.
+fn place_of(fault: &Option<AuditFault>) -> Option<(ReplicaId, u32)> {
+    match fault.as_ref()? {
+        AuditFault::UnsentFrame(replica, entry)
+        | AuditFault::ChangedFrame(replica, entry)
+        | AuditFault::StampOrder(replica, entry) => Some((*replica, *entry)),
+        AuditFault::UnknownReceipt(_) | AuditFault::CallerOrder(_) => None,
+    }
+}
+
+// Appends how wide and how high the picture is.
+fn push_measured(text: &mut Vec<u8>, width: u64, height: u64) -> Result<(), AllocError>
+    ensures { OnOk result (text.new.items ≡ text.old.items ++ measured width height) }
+{
+    push_attribute(
+        text,
+        b"<svg xmlns='http://www.w3.org/2000/svg' width='",
+        width,
+    )?;
+    push_attribute(text, b" height='", height)
+}
+
+// Appends that all of the picture is seen.
+fn push_viewed(text: &mut Vec<u8>, width: u64, height: u64) -> Result<(), AllocError>
+    ensures { OnOk result (text.new.items ≡ text.old.items ++ viewed width height) }
+{
+    text.extend_from_slice(b" viewBox='0 0 ")?;
+    push_number(text, width)?;
+    push_attribute(text, b" ", height)
+}
+
+// Appends the title, the styles and the key.
+#[tactic(auto, unfolding(crate::specs::Drawn::front))]
+fn push_front(text: &mut Vec<u8>) -> Result<(), AllocError>
+    ensures { OnOk result (text.new.items ≡ text.old.items ++ front) }
+{
+    text.extend_from_slice(STYLE)?;
+    text.extend_from_slice(KEY)
+}
+
+fn push_opening(text: &mut Vec<u8>, picture: &Picture) -> Result<(), AllocError>
+    ensures { OnOk result (text.new.items ≡ text.old.items ++ opening picture.now) }
+{
+    push_measured(text, picture.width, picture.height)?;
+    push_viewed(text, picture.width, picture.height)?;
+    push_front(text)
+}
+
+fn push_body(text: &mut Vec<u8>, picture: &Picture) -> Result<(), AllocError>
+    ensures { OnOk result (text.new.items ≡ text.old.items ++ body picture.now) }
+{
+    push_shapes(text, &picture.shapes)?;
+    push_arrows(text, &picture.arrows)
+}
+
+// Appends the file.
+fn push_file(text: &mut Vec<u8>, scene: &Scene<'_>, picture: &Picture) -> Result<(), AllocError>
+    requires { length scene.now.rows.now ≤ 2000 }
+    ensures { OnOk result (text.new.items ≡ text.old.items ++ file_text scene.now.journals.now scene.now.rows.now picture.now) }
+{
+    push_opening(text, picture)?;
+    push_body(text, picture)?;
+    push_dots(text, scene)?;
+    text.extend_from_slice(b"</svg>\n")
+}
+
+// Draws a scene.
+fn drawn(
+    alloc: Global,
+    scene: &Scene<'_>,
+    fault: &Option<AuditFault>,
+) -> Result<Vec<u8>, AllocError>
+    requires { length scene.now.rows.now ≤ 2000 }
+    ensures { IfOk result (λ text. IsFile scene.now.journals.now scene.now.rows.now text.items) }
+{
+    let picture = Picture::of(alloc, scene, fault)?;
+    let mut text = Vec::new(alloc);
+    push_file(&mut text, scene, &picture)?;
+    Ok(text)
+}
+
+// Draws the entries at these places, in rows.
+fn draw_rows<'a>(
+    alloc: Global,
+    journals: &'a Journals,
+    rows: &'a [(ReplicaId, u32)],
+) -> Result<Vec<u8>, AllocError>
+    requires { length rows.now ≤ 2000 }
+    ensures { IfOk result (λ text. IsFile journals.now rows.now text.items) }
+{
+    let fault = first_fault(alloc, journals, &[])?;
+    let handled = Handled::of(alloc, journals)?;
+    let scene = Scene {
+        journals,
+        rows,
+        handled: &handled,
+        fault: place_of(&fault),
+    };
+    drawn(alloc, &scene, &fault)
+}
+
+// The entries that the part keeps, by stamp and then by replica.
+#[tactic(auto, using(crate::proofs::Drawings::are_kept))]
+fn rows_of(
+    alloc: Global,
+    journals: &Journals,
+    part: &Part,
+) -> Result<Vec<(ReplicaId, u32)>, AllocError>
+    ensures { IfOk result (λ rows. AreKept journals.now part.now rows.items) }
+{
+    journals.are_journals();
+    let places = schedule(alloc, journals)?;
+    kept(alloc, journals, part, &places)
+}
+
+// Draws these entries, if they aren't too many.
+#[tactic(auto, using(crate::proofs::Drawings::is_drawn, crate::proofs::Drawings::is_too_many))]
+fn draw_kept(
+    alloc: Global,
+    journals: &Journals,
+    part: &Part,
+    rows: &[(ReplicaId, u32)],
+) -> Result<Vec<u8>, DrawFault>
+    requires { AreKept journals.now part.now rows.now }
+    ensures drawn { IfOk result (λ svg. IsDrawn journals.now part.now svg.items) }
+    ensures refused { IfErr result (λ fault. IsRefused journals.now part.now fault) }
+{
+    let _part = part;
+    if rows.len() > MOST {
+        return Err(DrawFault::TooMany(rows.len()));
+    }
+    match draw_rows(alloc, journals, rows) {
+        Ok(text) => Ok(text),
+        Err(_) => Err(DrawFault::Memory),
+    }
+}
+
+/// Draws the entries that the part keeps as a space-time diagram (Lamport, 1978), an SVG file: a line a replica, a dot an event, in
+/// rows by stamp and then by replica, an arrow from where a frame was sent to each place where it was handled, a cross where it
+/// never was, executions with their answers, and in red the audit's first fault.
+///
+/// `TooMany` exactly where the part keeps more than 2,000 entries.
+pub fn diagram(alloc: Global, journals: &Journals, part: &Part) -> Result<Vec<u8>, DrawFault>
+    ensures drawn { IfOk result (λ svg. IsDrawn journals.now part.now svg.items) }
+    ensures refused { IfErr result (λ fault. IsRefused journals.now part.now fault) }
+{
+    match rows_of(alloc, journals, part) {
+        Ok(rows) => draw_kept(alloc, journals, part, &rows),
+        Err(_) => Err(DrawFault::Memory),
+    }
+}

@@ -1,0 +1,93 @@
+//! Colours, dashes and ends of lines, and what they mean.
+
+/// How wide the key is.
+pub(crate) const WIDTH: u64 = 900;
+
+/// The end of the first tag, the title, the styles of classes, and the ends of lines.
+pub(crate) const STYLE: &[u8] = b">
+<title>Space-time diagram</title>
+<style>
+text{font:12px ui-monospace,'DejaVu Sans Mono',Menlo,Consolas,monospace;fill:#222;white-space:pre}
+.title{font-size:16px;font-weight:bold}
+.head{font-weight:bold;text-anchor:middle;font-size:13px}
+.stamp{text-anchor:end;fill:#666}
+.life{stroke:#555;stroke-width:1.5}
+.guide{stroke:#ddd;stroke-dasharray:2 4}
+.alarm{fill:#d00000;font-weight:bold;font-size:14px}
+.ring{fill:none;stroke:#d00000;stroke-width:3}
+.dot{stroke:#222;stroke-width:2;fill:#222}
+.handle{fill:#fff}
+.giveup,.recover{fill:#bbb}
+.execute{fill:#fff;stroke-width:4}
+.frame line{stroke:currentColor;stroke-width:1.8;fill:none}
+.frame text{fill:currentColor;font-size:11px;font-weight:bold;text-anchor:middle;paint-order:stroke;stroke:#fff;stroke-width:4px;stroke-linejoin:round}
+.preaccept{color:#0b62a8}
+.preaccept line{marker-end:url(#preaccept)}
+.preacceptok{color:#0b62a8}
+.preacceptok line{stroke-dasharray:7 4;marker-end:url(#preacceptok)}
+.accept{color:#a04a00}
+.accept line{marker-end:url(#accept)}
+.acceptok{color:#a04a00}
+.acceptok line{stroke-dasharray:7 4;marker-end:url(#acceptok)}
+.commit{color:#0a7a4b}
+.commit line{stroke-width:3;marker-end:url(#commit)}
+.prepare{color:#7a2ea0}
+.prepare line{marker-end:url(#prepare)}
+.prepareok{color:#7a2ea0}
+.prepareok line{stroke-dasharray:7 4;marker-end:url(#prepareok)}
+.nack{color:#444}
+.nack line{stroke-dasharray:2 4;marker-end:url(#nack)}
+.preaccept.leaves line{marker-end:url(#preaccept-out)}
+.preacceptok.leaves line{marker-end:url(#preacceptok-out)}
+.accept.leaves line{marker-end:url(#accept-out)}
+.acceptok.leaves line{marker-end:url(#acceptok-out)}
+.commit.leaves line{marker-end:url(#commit-out)}
+.prepare.leaves line{marker-end:url(#prepare-out)}
+.prepareok.leaves line{marker-end:url(#prepareok-out)}
+.nack.leaves line{marker-end:url(#nack-out)}
+.lost line{marker-end:url(#lost)}
+.fault{color:#d00000}
+.fault line{stroke-width:3.5;marker-end:url(#fault)}
+</style>
+<defs>
+<marker id='preaccept' markerUnits='userSpaceOnUse' markerWidth='12' markerHeight='10' refX='18' refY='5' orient='auto'><path d='M0 0L11 5L0 10z' fill='#0b62a8'/></marker>
+<marker id='preaccept-out' markerUnits='userSpaceOnUse' markerWidth='12' markerHeight='10' refX='11' refY='5' orient='auto'><path d='M0 0L11 5L0 10z' fill='#0b62a8'/></marker>
+<marker id='preacceptok' markerUnits='userSpaceOnUse' markerWidth='12' markerHeight='10' refX='18' refY='5' orient='auto'><path d='M0 0L11 5L0 10z' fill='#0b62a8'/></marker>
+<marker id='preacceptok-out' markerUnits='userSpaceOnUse' markerWidth='12' markerHeight='10' refX='11' refY='5' orient='auto'><path d='M0 0L11 5L0 10z' fill='#0b62a8'/></marker>
+<marker id='accept' markerUnits='userSpaceOnUse' markerWidth='12' markerHeight='10' refX='18' refY='5' orient='auto'><path d='M0 0L11 5L0 10z' fill='#a04a00'/></marker>
+<marker id='accept-out' markerUnits='userSpaceOnUse' markerWidth='12' markerHeight='10' refX='11' refY='5' orient='auto'><path d='M0 0L11 5L0 10z' fill='#a04a00'/></marker>
+<marker id='acceptok' markerUnits='userSpaceOnUse' markerWidth='12' markerHeight='10' refX='18' refY='5' orient='auto'><path d='M0 0L11 5L0 10z' fill='#a04a00'/></marker>
+<marker id='acceptok-out' markerUnits='userSpaceOnUse' markerWidth='12' markerHeight='10' refX='11' refY='5' orient='auto'><path d='M0 0L11 5L0 10z' fill='#a04a00'/></marker>
+<marker id='commit' markerUnits='userSpaceOnUse' markerWidth='12' markerHeight='10' refX='18' refY='5' orient='auto'><path d='M0 0L11 5L0 10z' fill='#0a7a4b'/></marker>
+<marker id='commit-out' markerUnits='userSpaceOnUse' markerWidth='12' markerHeight='10' refX='11' refY='5' orient='auto'><path d='M0 0L11 5L0 10z' fill='#0a7a4b'/></marker>
+<marker id='prepare' markerUnits='userSpaceOnUse' markerWidth='12' markerHeight='10' refX='18' refY='5' orient='auto'><path d='M0 0L11 5L0 10z' fill='#7a2ea0'/></marker>
+<marker id='prepare-out' markerUnits='userSpaceOnUse' markerWidth='12' markerHeight='10' refX='11' refY='5' orient='auto'><path d='M0 0L11 5L0 10z' fill='#7a2ea0'/></marker>
+<marker id='prepareok' markerUnits='userSpaceOnUse' markerWidth='12' markerHeight='10' refX='18' refY='5' orient='auto'><path d='M0 0L11 5L0 10z' fill='#7a2ea0'/></marker>
+<marker id='prepareok-out' markerUnits='userSpaceOnUse' markerWidth='12' markerHeight='10' refX='11' refY='5' orient='auto'><path d='M0 0L11 5L0 10z' fill='#7a2ea0'/></marker>
+<marker id='nack' markerUnits='userSpaceOnUse' markerWidth='12' markerHeight='10' refX='18' refY='5' orient='auto'><path d='M0 0L11 5L0 10z' fill='#444'/></marker>
+<marker id='nack-out' markerUnits='userSpaceOnUse' markerWidth='12' markerHeight='10' refX='11' refY='5' orient='auto'><path d='M0 0L11 5L0 10z' fill='#444'/></marker>
+<marker id='fault' markerUnits='userSpaceOnUse' markerWidth='12' markerHeight='10' refX='18' refY='5' orient='auto'><path d='M0 0L11 5L0 10z' fill='#d00000'/></marker>
+<marker id='lost' markerUnits='userSpaceOnUse' markerWidth='14' markerHeight='14' refX='7' refY='7'><path d='M2 2L12 12M12 2L2 12' stroke='#222' stroke-width='2.4' stroke-dasharray='none'/></marker>
+</defs>
+<rect width='100%' height='100%' fill='#fff'/>
+";
+
+/// The key: what lines and dots mean.
+pub(crate) const KEY: &[u8] = b"<g>
+<g class='frame preaccept leaves'><line x1='24' y1='104' x2='98' y2='104'/><text x='54' y='108'>PA</text></g><text x='108' y='108'>PreAccept</text>
+<g class='frame preacceptok leaves'><line x1='236' y1='104' x2='310' y2='104'/><text x='266' y='108'>PAok</text></g><text x='320' y='108'>PreAcceptOK</text>
+<g class='frame accept leaves'><line x1='448' y1='104' x2='522' y2='104'/><text x='478' y='108'>A</text></g><text x='532' y='108'>Accept</text>
+<g class='frame acceptok leaves'><line x1='660' y1='104' x2='734' y2='104'/><text x='690' y='108'>Aok</text></g><text x='744' y='108'>AcceptOK</text>
+<g class='frame commit leaves'><line x1='24' y1='130' x2='98' y2='130'/><text x='54' y='134'>C</text></g><text x='108' y='134'>Commit</text>
+<g class='frame prepare leaves'><line x1='236' y1='130' x2='310' y2='130'/><text x='266' y='134'>P</text></g><text x='320' y='134'>Prepare</text>
+<g class='frame prepareok leaves'><line x1='448' y1='130' x2='522' y2='130'/><text x='478' y='134'>Pok</text></g><text x='532' y='134'>PrepareOK</text>
+<g class='frame nack leaves'><line x1='660' y1='130' x2='734' y2='130'/><text x='690' y='134'>N</text></g><text x='744' y='134'>Nack</text>
+<g class='frame nack lost'><line x1='24' y1='156' x2='88' y2='156' style='stroke-dasharray:none'/></g><text x='108' y='160'>never handled</text>
+<g class='frame nack leaves'><line x1='236' y1='156' x2='276' y2='156' style='stroke-dasharray:none'/></g><text x='320' y='160'>not in this part</text>
+<g class='frame fault'><line x1='448' y1='156' x2='510' y2='156'/></g><circle class='ring' cx='510' cy='156' r='11'/><circle class='dot handle' cx='510' cy='156' r='6'/><text x='532' y='160'>the audit's fault</text>
+<circle class='dot propose' cx='86' cy='182' r='6'/><text x='108' y='186'>propose</text>
+<circle class='dot handle' cx='298' cy='182' r='6'/><text x='320' y='186'>handle a frame</text>
+<circle class='dot recover' cx='510' cy='182' r='6'/><text x='532' y='186'>give up, recover</text>
+<circle class='dot execute' cx='722' cy='182' r='6'/><text x='744' y='186'>execute</text>
+</g>
+";

@@ -1,0 +1,38 @@
+//! Entries in words.
+
+ghost use Rattle.std.specs.Prelude.{◌≡◌, ◌++◌, IfOk, OnOk};
+ghost use Rattle.ep_draw.specs.Drawn.{place_text, happening_text, told_text};
+
+use ep_base::ReplicaId;
+use ep_journal::Entry;
+use ep_report::push_number;
+use ep_view::{push_done, push_taken};
+use std::alloc::{AllocError, Global};
+
+fn push_place(text: &mut Vec<u8>, replica: ReplicaId, number: u32) -> Result<(), AllocError>
+    ensures { OnOk result (text.new.items ≡ text.old.items ++ place_text replica number) }
+{
+    push_number(text, u64::from(replica.index()))?;
+    text.push(b':')?;
+    push_number(text, u64::from(number))?;
+    text.push(b' ')?;
+    Ok(())
+}
+
+// Appends what happened in an entry, and what was executed.
+fn push_happening(text: &mut Vec<u8>, entry: &Entry) -> Result<(), AllocError>
+    ensures { OnOk result (text.new.items ≡ text.old.items ++ happening_text entry.now) }
+{
+    push_taken(text, &entry.event, entry.frames.as_slice())?;
+    push_done(text, entry.done.as_slice())
+}
+
+/// An entry of this replica in words: its replica and number, what happened, and what was executed.
+pub(crate) fn told(alloc: Global, replica: ReplicaId, entry: &Entry) -> Result<Vec<u8>, AllocError>
+    ensures { IfOk result (λ words. words.items ≡ told_text replica entry.now) }
+{
+    let mut words = Vec::new(alloc);
+    push_place(&mut words, replica, entry.number)?;
+    push_happening(&mut words, entry)?;
+    Ok(words)
+}

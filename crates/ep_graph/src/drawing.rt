@@ -1,0 +1,264 @@
+//! Dependency graphs.
+
+ghost use Rattle.std.specs.Prelude.{◌≡◌, ◌++◌, IfOk, OnOk};
+ghost use Rattle.ep_svg.specs.Shapes.{shapes_text};
+ghost use Rattle.ep_graph.specs.Graphs.{measured, viewed, front, opening, IsGraphFile};
+
+use crate::graph_fault::GraphFault;
+use crate::layers::Layers;
+use crate::plan::Plan;
+use crate::reach::Reach;
+use crate::rects::{LINE, Place, place_boxes};
+use crate::style::STYLE;
+use ep_journal::Journals;
+use ep_report::push_number;
+use ep_svg::{Look, Point, Shape, push_attribute, push_shapes};
+use ep_verdict::Verdict;
+use std::alloc::{AllocError, Global};
+
+/// How many instances a graph shows.
+const MOST: usize = 2000;
+/// How wide a graph is at least.
+const WIDTH: u64 = 880;
+
+/// What is drawn.
+#[derive(Drop)]
+pub struct Picture {
+    width: u64,
+    height: u64,
+    shapes: Vec<Shape>,
+}
+
+fn add_words(
+    shapes: &mut Vec<Shape>,
+    look: Look,
+    at: Point,
+    words: Vec<u8>,
+) -> Result<(), AllocError> {
+    shapes.push(Shape::Words { look, at, words })?;
+    Ok(())
+}
+
+fn add_plain(shapes: &mut Vec<Shape>, y: u64, words: &[u8]) -> Result<(), AllocError> {
+    let words = Vec::from_slice(*shapes.allocator(), words)?;
+    add_words(shapes, Look::Plain, Point { x: 24, y }, words)
+}
+
+fn title_of(alloc: Global, count: usize) -> Result<Vec<u8>, AllocError> {
+    let mut words = Vec::new(alloc);
+    push_number(&mut words, count as u64)?;
+    words.extend_from_slice(b" committed instances")?;
+    Ok(words)
+}
+
+// Says what the picture is.
+fn add_heading(shapes: &mut Vec<Shape>, count: usize) -> Result<(), AllocError> {
+    let title = title_of(*shapes.allocator(), count)?;
+    add_words(shapes, Look::Title, Point { x: 24, y: 28 }, title)?;
+    add_plain(
+        shapes,
+        52,
+        b"What stands above is executed first. An arrow leads to what an instance depends on; to what that depends on",
+    )?;
+    add_plain(
+        shapes,
+        70,
+        b"in turn no arrow is drawn. Instances in one box depend on each other: they are executed one after the other,",
+    )?;
+    add_plain(
+        shapes,
+        88,
+        b"from the top, by seq and then by instance. A box of dashes is an instance that isn't committed.",
+    )
+}
+
+/// The box of the component of this first node.
+fn place_of(places: &[Place], node: usize) -> Option<Place> {
+    for place in places {
+        if place.first == node {
+            return Some(*place);
+        }
+    }
+    None
+}
+
+// Draws an arrow from a box to another one above it.
+fn add_arrow(shapes: &mut Vec<Shape>, from: Place, to: Place) -> Result<(), AllocError> {
+    shapes.push(Shape::Line {
+        look: Look::Needs,
+        from: from.top(),
+        to: to.bottom(),
+    })?;
+    Ok(())
+}
+
+fn add_arrows(
+    shapes: &mut Vec<Shape>,
+    edges: &[(usize, usize)],
+    places: &[Place],
+) -> Result<(), AllocError> {
+    for (from, to) in edges {
+        if let Some(from) = place_of(places, *from) {
+            if let Some(to) = place_of(places, *to) {
+                add_arrow(shapes, from, to)?;
+            }
+        }
+    }
+    Ok(())
+}
+
+/// What kind of box it is.
+fn look_of(plan: &Plan<'_>, members: &[usize]) -> Look {
+    match members {
+        [one] => {
+            if plan.decree(*one).is_some() {
+                Look::Alone
+            } else {
+                Look::Missing
+            }
+        }
+        _ => Look::Together,
+    }
+}
+
+// Writes the lines of a box.
+fn add_lines(
+    shapes: &mut Vec<Shape>,
+    plan: &Plan<'_>,
+    members: &[usize],
+    corner: Point,
+) -> Result<(), AllocError> {
+    for (line, node) in members.iter().enumerate() {
+        let words = plan.shown(*shapes.allocator(), *node, members.len())?;
+        let down = LINE.saturating_mul(line as u64).saturating_add(20);
+        let at = Point {
+            x: corner.x.saturating_add(12),
+            y: corner.y.saturating_add(down),
+        };
+        add_words(shapes, Look::Plain, at, words)?;
+    }
+    Ok(())
+}
+
+// Draws a box.
+fn add_box(shapes: &mut Vec<Shape>, plan: &Plan<'_>, place: Place) -> Result<(), AllocError> {
+    let members = plan.members(*shapes.allocator(), place.first)?;
+    shapes.push(Shape::Rect {
+        look: look_of(plan, &members),
+        at: place.at,
+        extent: place.extent,
+    })?;
+    add_lines(shapes, plan, &members, place.at)
+}
+
+// How wide the boxes reach.
+fn width_of(places: &[Place]) -> u64 {
+    let mut width = WIDTH;
+    for place in places {
+        let right = place.at.x.saturating_add(place.extent.x);
+        width = right.saturating_add(24).max(width);
+    }
+    width
+}
+
+fn add_graph(shapes: &mut Vec<Shape>, plan: &Plan<'_>, places: &[Place]) -> Result<(), AllocError> {
+    add_heading(shapes, plan.committed.len())?;
+    add_arrows(shapes, &plan.layers.edges, places)?;
+    for place in places {
+        add_box(shapes, plan, *place)?;
+    }
+    Ok(())
+}
+
+fn picture_of(alloc: Global, plan: &Plan<'_>) -> Result<Picture, AllocError> {
+    let mut places = Vec::new(alloc);
+    let height = place_boxes(alloc, plan, &mut places)?;
+    let mut shapes = Vec::new(alloc);
+    add_graph(&mut shapes, plan, &places)?;
+    Ok(Picture {
+        width: width_of(&places),
+        height,
+        shapes,
+    })
+}
+
+// Appends how wide and how high the picture is.
+fn push_measured(text: &mut Vec<u8>, width: u64, height: u64) -> Result<(), AllocError>
+    ensures { OnOk result (text.new.items ≡ text.old.items ++ measured width height) }
+{
+    push_attribute(
+        text,
+        b"<svg xmlns='http://www.w3.org/2000/svg' width='",
+        width,
+    )?;
+    push_attribute(text, b" height='", height)
+}
+
+// Appends that all of the picture is seen.
+fn push_viewed(text: &mut Vec<u8>, width: u64, height: u64) -> Result<(), AllocError>
+    ensures { OnOk result (text.new.items ≡ text.old.items ++ viewed width height) }
+{
+    text.extend_from_slice(b" viewBox='0 0 ")?;
+    push_number(text, width)?;
+    push_attribute(text, b" ", height)
+}
+
+// Appends the title and the styles.
+#[tactic(auto, unfolding(crate::specs::Graphs::front))]
+fn push_front(text: &mut Vec<u8>) -> Result<(), AllocError>
+    ensures { OnOk result (text.new.items ≡ text.old.items ++ front) }
+{
+    text.extend_from_slice(STYLE)
+}
+
+fn push_opening(text: &mut Vec<u8>, picture: &Picture) -> Result<(), AllocError>
+    ensures { OnOk result (text.new.items ≡ text.old.items ++ opening picture.now) }
+{
+    push_measured(text, picture.width, picture.height)?;
+    push_viewed(text, picture.width, picture.height)?;
+    push_front(text)
+}
+
+fn push_body(text: &mut Vec<u8>, picture: &Picture) -> Result<(), AllocError>
+    ensures { OnOk result (text.new.items ≡ text.old.items ++ shapes_text picture.now.shapes.items) }
+{
+    push_shapes(text, &picture.shapes)
+}
+
+// The file of a picture.
+fn file_of(alloc: Global, picture: &Picture) -> Result<Vec<u8>, AllocError>
+    ensures { IfOk result (λ text. IsGraphFile text.items) }
+{
+    let mut text = Vec::new(alloc);
+    push_opening(&mut text, picture)?;
+    push_body(&mut text, picture)?;
+    text.extend_from_slice(b"</svg>\n")?;
+    Ok(text)
+}
+
+fn drawn(alloc: Global, plan: &Plan<'_>) -> Result<Vec<u8>, AllocError>
+    ensures { IfOk result (λ text. IsGraphFile text.items) }
+{
+    let picture = picture_of(alloc, plan)?;
+    file_of(alloc, &picture)
+}
+
+/// Draws the dependency graph of what the journals commit, an SVG file: a box a component of instances that depend on each
+/// other, in layers by the order of execution, with an arrow to what a component depends on, unless another one that it
+/// depends on lies between. Where several journals commit in an instance, it is as `Verdict::of` has it.
+///
+/// `TooMany` where more than 2,000 are committed or depended on.
+pub fn graph(alloc: Global, journals: &Journals) -> Result<Vec<u8>, GraphFault>
+    ensures { IfOk result (λ text. IsGraphFile text.items) }
+{
+    let verdict = Verdict::of(alloc, journals)?;
+    let reach = Reach::of(alloc, &verdict.committed, MOST)?;
+    let layers = Layers::of(alloc, &reach)?;
+    let plan = Plan {
+        committed: &verdict.committed,
+        reach,
+        layers,
+    };
+    let text = drawn(alloc, &plan)?;
+    Ok(text)
+}

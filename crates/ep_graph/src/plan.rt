@@ -1,0 +1,90 @@
+//! What is drawn of a graph.
+
+use crate::layers::Layers;
+use crate::reach::{Reach, decree_of};
+use ep_base::{Decree, InstanceId};
+use ep_report::{push_command, push_deps, push_instance, push_number};
+use std::alloc::{AllocError, Global};
+
+/// How many bytes of a line in a box are shown.
+const SHOWN: usize = 120;
+
+/// What is drawn of a graph.
+#[derive(Drop)]
+pub(crate) struct Plan<'a> {
+    pub committed: &'a [(InstanceId, Decree)],
+    pub reach: Reach,
+    pub layers: Layers,
+}
+
+impl<'a> Plan<'a> {
+    /// The nodes of the component of this first node, in the order of execution: by seq, and then by instance.
+    pub fn members(&self, alloc: Global, first: usize) -> Result<Vec<usize>, AllocError> {
+        let mut ranks = Vec::new(alloc);
+        for node in 0..self.reach.nodes().len() {
+            if self.reach.are_together(first, node) {
+                ranks.push((self.seq(node), node))?;
+            }
+        }
+        ranks.sort()?;
+        let mut members = Vec::new(alloc);
+        for (_, node) in &ranks {
+            members.push(*node)?;
+        }
+        Ok(members)
+    }
+
+    /// The decree of a node, if it is committed.
+    pub fn decree(&self, node: usize) -> Option<&'a Decree> {
+        let instance = self.reach.nodes().get(node)?;
+        decree_of(self.committed, *instance)
+    }
+
+    fn seq(&self, node: usize) -> u32 {
+        match self.decree(node) {
+            Some(decree) => decree.attrs.seq.number(),
+            None => 0,
+        }
+    }
+
+    /// The line of a node as it is shown in a box of so many nodes: cut where it is long.
+    pub fn shown(&self, alloc: Global, node: usize, count: usize) -> Result<Vec<u8>, AllocError> {
+        let words = self.told(alloc, node, count > 1)?;
+        match words.get(..SHOWN) {
+            None => Ok(words),
+            Some(beginning) => cut(alloc, beginning),
+        }
+    }
+
+    /// The line of a node: its instance, its command and its seq, and what it depends on where it isn't alone.
+    fn told(&self, alloc: Global, node: usize, whole: bool) -> Result<Vec<u8>, AllocError> {
+        let mut words = Vec::new(alloc);
+        let Some(instance) = self.reach.nodes().get(node) else {
+            return Ok(words);
+        };
+        push_instance(&mut words, *instance)?;
+        match self.decree(node) {
+            Some(decree) => push_decree(&mut words, decree, whole)?,
+            None => words.extend_from_slice(b" isn't committed")?,
+        }
+        Ok(words)
+    }
+}
+
+fn cut(alloc: Global, beginning: &[u8]) -> Result<Vec<u8>, AllocError> {
+    let mut words = Vec::from_slice(alloc, beginning)?;
+    words.extend_from_slice(b"...")?;
+    Ok(words)
+}
+
+fn push_decree(words: &mut Vec<u8>, decree: &Decree, whole: bool) -> Result<(), AllocError> {
+    words.push(b' ')?;
+    push_command(words, &decree.command)?;
+    words.extend_from_slice(b" seq ")?;
+    push_number(words, u64::from(decree.attrs.seq.number()))?;
+    if whole {
+        words.extend_from_slice(b" deps ")?;
+        push_deps(words, &decree.attrs.deps)?;
+    }
+    Ok(())
+}

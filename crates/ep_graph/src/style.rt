@@ -1,0 +1,16 @@
+//! Colours and lines of a graph.
+
+/// The end of the first tag, the title, the styles of classes, and the heads of arrows.
+pub(crate) const STYLE: &[u8] = b">
+<title>Dependency graph</title>
+<style>
+text{font:12px ui-monospace,'DejaVu Sans Mono',Menlo,Consolas,monospace;fill:#222;white-space:pre}
+.title{font-size:16px;font-weight:bold}
+rect{fill:#fff;stroke:#222;stroke-width:1.5}
+.together{fill:#eef4fb;stroke-width:3}
+.missing{stroke-dasharray:5 4;stroke:#777}
+.needs{stroke:#555;stroke-width:1.5;marker-end:url(#head)}
+</style>
+<defs><marker id='head' markerUnits='userSpaceOnUse' markerWidth='12' markerHeight='10' refX='11' refY='5' orient='auto'><path d='M0 0L11 5L0 10z' fill='#555'/></marker></defs>
+<path d='M0 0H100000V100000H0z' fill='#fff'/>
+";
