@@ -13,7 +13,8 @@ A row is a folder .ci/rows/NAME with files, each of which may lack:
 PROGRAM is ep_main as it was built; what begins with `node` or `collect` is run by ep_server, and what begins with `show`, `explain`
 or `draw`, and traces, by ep_viewer, which were built as it was. Runs of `epaxos node` on one log, and its bundle, are made here.
 More rows are made of the scripts and reports in docs/FORMATS.md, examples/ and .ci/scripts/ (NAME.script is played, NAME.run is run
-by both hosts, and where there is a NAME.trace, NAME.script is traced), and by .ci/made.py, .ci/words.py and .ci/cases.py.
+by both hosts, and where there is a NAME.trace or a NAME.svg, NAME.script is traced
+or drawn), and by .ci/made.py, .ci/words.py and .ci/cases.py.
 """
 
 import gzip
@@ -177,6 +178,8 @@ def written():
                 yield from played(name, script, report) if kind == ".script" else hosted(name, [], script, [report])
                 if os.path.isfile(f"{TOP}/{folder}/{stem}.trace"):
                     yield Row(f"{name}, traced", ["replay", "--emit", "trace"], script, text(f"{TOP}/{folder}", f"{stem}.trace"))
+                if os.path.isfile(f"{TOP}/{folder}/{stem}.svg"):
+                    yield Row(f"{name}, drawn", ["replay", "--emit", "bundle", "|", "draw"], script, text(f"{TOP}/{folder}", f"{stem}.svg"))
 
 
 def every():
