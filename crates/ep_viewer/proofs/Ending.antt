@@ -1,5 +1,5 @@
 -- What became of what the program was asked for.
-use Rattle.std.proofs.Common.{◌≡◌, ℕ, Bool, true, false, List, Option, Result, Ok, Err, ◌++◌, append-nil, refl, sym, ◌∙◌, ap, subst}
+use Rattle.std.proofs.Common.{◌≡◌, ℕ, Bool, true, false, List, Option, Some, None, Result, Ok, Err, ◌++◌, append-nil, refl, sym, ◌∙◌, ap, subst}
 use Rattle.std.specs.Prelude.{◌||◌, IsErrAnd}
 use Rattle.ep_base.specs.Devices.{FailsAsTold}
 use Rattle.std.specs.Io.KnownBytes.{IsAtEnd}
@@ -14,7 +14,7 @@ use Rattle.ep_script.specs.declared.script_fault.ScriptFault.{ScriptFault}
 use Rattle.ep_script.specs.declared.script_fault.ScriptFault.TheVariants as script
 use Rattle.ep_viewer.specs.Faults.{of_bundle, of_diagram, of_graph, of_script, is_read, is_write}
 use Rattle.ep_rules.specs.declared.receipt.Receipt.{Receipt}
-use Rattle.ep_viewer.specs.Outputs.{Output, Wrote, WroteNothing}
+use Rattle.ep_viewer.specs.Outputs.{Output, output, Wrote, WroteNothing}
 use Rattle.ep_viewer.specs.Views.{Does, IsCrowded, IsNever, IsShort, IsView, Views, Explains}
 use Rattle.ep_view.specs.Shown.{IsShown}
 use Rattle.ep_words.specs.declared.part.Part.{Part}
@@ -98,6 +98,11 @@ pub drawn_as_asked :
     Views (λ journals text. IsDrawn journals part text) (λ count journals. IsTooMany journals part count) r zs out → Does asked r zs out
 drawn_as_asked asked part r zs out is views = subst (λ (a : Asked). Does a r zs out) (sym is) views
 
+-- an output on which nothing was put
+pub nothing_put : (held : Option (List ℕ)) (had has : Bool) → WroteNothing (output held held had has)
+nothing_put None had has = tt
+nothing_put (Some bytes) had has = sym (append-nil bytes)
+
 -- what isn't drawn
 pub crowded :
     (Tells : Collected → List ℕ → Type 0) (part : Part) (d : DrawFault) (r : Result Status Fault) (journals : Collected) (receipts : List Receipt) (end : Left) (zs : List ℕ) (out : Output) →
@@ -117,8 +122,8 @@ write_of_diagram : (d : DrawFault) → is_write (of_diagram d) ≡ false
 write_of_diagram draw.Memory = refl
 write_of_diagram (draw.TooMany n) = refl
 
-pub diagram_not_read : {A : Type 0} (d : DrawFault) (r : Result A Fault) (had : Bool) → IsErrAnd r (λ x. x ≡ of_diagram d) → FailsAsTold is_read r had had
-diagram_not_read d r had is = as_told is_read (of_diagram d) false had had r is (read_of_diagram d) refl
+pub diagram_not_read : {A : Type 0} (d : DrawFault) (r : Result A Fault) (had has : Bool) → IsErrAnd r (λ x. x ≡ of_diagram d) → has ≡ had → FailsAsTold is_read r had has
+diagram_not_read d r had has is flag = as_told is_read (of_diagram d) false had has r is (read_of_diagram d) flag
 
 pub diagram_not_written : {A : Type 0} (d : DrawFault) (r : Result A Fault) (had : Bool) → IsErrAnd r (λ x. x ≡ of_diagram d) → FailsAsTold is_write r had had
 diagram_not_written d r had is = as_told is_write (of_diagram d) false had had r is (write_of_diagram d) refl
@@ -141,8 +146,8 @@ write_of_graph : (d : GraphFault) → is_write (of_graph d) ≡ false
 write_of_graph graph.Memory = refl
 write_of_graph (graph.TooMany n) = refl
 
-pub graph_not_read : {A : Type 0} (d : GraphFault) (r : Result A Fault) (had : Bool) → IsErrAnd r (λ x. x ≡ of_graph d) → FailsAsTold is_read r had had
-graph_not_read d r had is = as_told is_read (of_graph d) false had had r is (read_of_graph d) refl
+pub graph_not_read : {A : Type 0} (d : GraphFault) (r : Result A Fault) (had has : Bool) → IsErrAnd r (λ x. x ≡ of_graph d) → has ≡ had → FailsAsTold is_read r had has
+graph_not_read d r had has is flag = as_told is_read (of_graph d) false had has r is (read_of_graph d) flag
 
 pub graph_not_written : {A : Type 0} (d : GraphFault) (r : Result A Fault) (had : Bool) → IsErrAnd r (λ x. x ≡ of_graph d) → FailsAsTold is_write r had had
 graph_not_written d r had is = as_told is_write (of_graph d) false had had r is (write_of_graph d) refl
