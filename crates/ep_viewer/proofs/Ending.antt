@@ -1,7 +1,9 @@
 -- What became of what the program was asked for.
-use Rattle.std.proofs.Common.{◌≡◌, ℕ, Bool, true, false, List, Option, Result, Ok, Err, refl, sym, ◌∙◌, ap, subst}
+use Rattle.std.proofs.Common.{◌≡◌, ℕ, Bool, true, false, List, Option, Some, None, Result, Ok, Err, ◌++◌, append-nil, refl, sym, ◌∙◌, ap, subst}
 use Rattle.std.specs.Prelude.{◌||◌, IsErrAnd}
 use Rattle.ep_base.specs.Devices.{FailsAsTold}
+use Rattle.std.specs.Io.KnownBytes.{IsAtEnd}
+use Rattle.ep_bundle.proofs.Filled.{Consumed}
 use Rattle.ep_bundle.specs.Journals.{ReadsBundle, Finds}
 use Rattle.ep_bundle.specs.Reading.{Left, is_read_failed}
 use Rattle.ep_bundle.specs.declared.bundle_fault.BundleFault.{BundleFault}
@@ -10,31 +12,37 @@ use Rattle.ep_journal.specs.Entries.{Collected}
 use Rattle.ep_script.specs.Faults.{is_read_failed as is_script_read}
 use Rattle.ep_script.specs.declared.script_fault.ScriptFault.{ScriptFault}
 use Rattle.ep_script.specs.declared.script_fault.ScriptFault.TheVariants as script
-use Rattle.ep_viewer.specs.Faults.{of_bundle, of_script, is_read, is_write}
+use Rattle.ep_viewer.specs.Faults.{of_bundle, of_diagram, of_graph, of_script, is_read, is_write}
 use Rattle.ep_rules.specs.declared.receipt.Receipt.{Receipt}
-use Rattle.ep_viewer.specs.Outputs.{Output, Wrote, WroteNothing}
-use Rattle.ep_viewer.specs.Views.{Does, IsView, Views}
+use Rattle.ep_viewer.specs.Outputs.{Output, output, Wrote, WroteNothing}
+use Rattle.ep_viewer.specs.Views.{Does, IsCrowded, IsNever, IsShort, IsView, Views, Explains}
 use Rattle.ep_view.specs.Shown.{IsShown}
 use Rattle.ep_words.specs.declared.part.Part.{Part}
 use Rattle.ep_viewer.specs.declared.asked.Asked.{Asked}
-use Rattle.ep_viewer.specs.declared.asked.Asked.TheVariants.{Show}
+use Rattle.ep_viewer.specs.declared.asked.Asked.TheVariants.{Show, Draw}
+use Rattle.ep_draw.specs.Drawn.{IsDrawn, IsTooMany, IsRefused}
+use Rattle.ep_draw.specs.declared.draw_fault.DrawFault.{DrawFault}
+use Rattle.ep_draw.specs.declared.draw_fault.DrawFault.TheVariants as draw
+use Rattle.ep_graph.specs.declared.graph_fault.GraphFault.{GraphFault}
+use Rattle.ep_graph.specs.declared.graph_fault.GraphFault.TheVariants as graph
+use Rattle.ep_viewer.specs.declared.status.Status.{Status}
 use Rattle.ep_viewer.specs.declared.fault.Fault.{Fault}
-use Rattle.ep_viewer.specs.declared.fault.Fault.TheVariants.{Memory}
+use Rattle.ep_viewer.specs.declared.fault.Fault.TheVariants.{Script, BadBundle, NotARun, TooMany, Memory, Read, Write}
 
 -- a bundle that isn't read isn't viewed
 pub not_read :
-    (Tells : Collected → List ℕ → Type 0) (b : BundleFault) (r : Result Unit Fault) (zs : List ℕ) (place : ℕ) (left : Option (List ℕ)) (out : Output) → IsErrAnd r (λ e. e ≡ of_bundle b) →
-    Finds (ReadsBundle (record { at = 0; bytes = zs })) (Err b) place left → WroteNothing out → Views Tells r zs out
-not_read Tells b (Ok done) zs place left out is found silent = absurd is
-not_read Tells bundle.Memory (Err e) zs place left out is found silent = subst (λ (x : Fault). Views Tells (Err x) zs out) (sym is) silent
-not_read Tells bundle.ReadFailed (Err e) zs place left out is found silent = subst (λ (x : Fault). Views Tells (Err x) zs out) (sym is) silent
-not_read Tells (bundle.BadBundle offset) (Err e) zs place left out is found silent = subst (λ (x : Fault). Views Tells (Err x) zs out) (sym is) (found, silent)
-not_read Tells (bundle.NotARun replica entry) (Err e) zs place left out is found silent = subst (λ (x : Fault). Views Tells (Err x) zs out) (sym is) (found, silent)
+    (Tells : Collected → List ℕ → Type 0) (Crowds : ℕ → Collected → Type 0) (b : BundleFault) (r : Result Status Fault) (zs : List ℕ) (place : ℕ) (left : Option (List ℕ)) (out : Output) → IsErrAnd r (λ e. e ≡ of_bundle b) →
+    Finds (ReadsBundle (record { at = 0; bytes = zs })) (Err b) place left → WroteNothing out → Views Tells Crowds r zs out
+not_read Tells Crowds b (Ok done) zs place left out is found silent = absurd is
+not_read Tells Crowds bundle.Memory (Err e) zs place left out is found silent = subst (λ (x : Fault). Views Tells Crowds (Err x) zs out) (sym is) silent
+not_read Tells Crowds bundle.ReadFailed (Err e) zs place left out is found silent = subst (λ (x : Fault). Views Tells Crowds (Err x) zs out) (sym is) silent
+not_read Tells Crowds (bundle.BadBundle offset) (Err e) zs place left out is found silent = subst (λ (x : Fault). Views Tells Crowds (Err x) zs out) (sym is) (found, silent)
+not_read Tells Crowds (bundle.NotARun replica entry) (Err e) zs place left out is found silent = subst (λ (x : Fault). Views Tells Crowds (Err x) zs out) (sym is) (found, silent)
 
 -- want of memory leaves the output as it was
-pub stopped : (Tells : Collected → List ℕ → Type 0) (r : Result Unit Fault) (zs : List ℕ) (out : Output) → IsErrAnd r (λ e. e ≡ Memory) → WroteNothing out → Views Tells r zs out
-stopped Tells (Ok done) zs out is silent = absurd is
-stopped Tells (Err e) zs out is silent = subst (λ (x : Fault). Views Tells (Err x) zs out) (sym is) silent
+pub stopped : (Tells : Collected → List ℕ → Type 0) (Crowds : ℕ → Collected → Type 0) (r : Result Status Fault) (zs : List ℕ) (out : Output) → IsErrAnd r (λ e. e ≡ Memory) → WroteNothing out → Views Tells Crowds r zs out
+stopped Tells Crowds (Ok done) zs out is silent = absurd is
+stopped Tells Crowds (Err e) zs out is silent = subst (λ (x : Fault). Views Tells Crowds (Err x) zs out) (sym is) silent
 
 pub viewed :
     (Tells : Collected → List ℕ → Type 0) (journals : Collected) (receipts : List Receipt) (end : Left) (zs text : List ℕ) (out : Output) →
@@ -82,5 +90,82 @@ pub script_not_written : {A : Type 0} (s : ScriptFault) (r : Result A Fault) (ha
 script_not_written s r had is = as_told is_write (of_script s) false had had r is (write_of_script s) refl
 
 pub shown_as_asked :
-    (asked : Asked) (part : Part) (r : Result Unit Fault) (zs : List ℕ) (out : Output) → asked ≡ Show part → Views (λ journals text. IsShown journals part text) r zs out → Does asked r zs out
+    (asked : Asked) (part : Part) (r : Result Status Fault) (zs : List ℕ) (out : Output) → asked ≡ Show part → Views (λ journals text. IsShown journals part text) IsNever r zs out → Does asked r zs out
 shown_as_asked asked part r zs out is views = subst (λ (a : Asked). Does a r zs out) (sym is) views
+
+pub drawn_as_asked :
+    (asked : Asked) (part : Part) (r : Result Status Fault) (zs : List ℕ) (out : Output) → asked ≡ Draw part →
+    Views (λ journals text. IsDrawn journals part text) (λ count journals. IsTooMany journals part count) r zs out → Does asked r zs out
+drawn_as_asked asked part r zs out is views = subst (λ (a : Asked). Does a r zs out) (sym is) views
+
+-- an output on which nothing was put
+pub nothing_put : (held : Option (List ℕ)) (had has : Bool) → WroteNothing (output held held had has)
+nothing_put None had has = tt
+nothing_put (Some bytes) had has = sym (append-nil bytes)
+
+-- what isn't drawn
+pub crowded :
+    (Tells : Collected → List ℕ → Type 0) (part : Part) (d : DrawFault) (r : Result Status Fault) (journals : Collected) (receipts : List Receipt) (end : Left) (zs : List ℕ) (out : Output) →
+    IsErrAnd r (λ e. e ≡ of_diagram d) → ReadsBundle (record { at = 0; bytes = zs }) (Ok ((journals, receipts), end)) → IsRefused journals part d → WroteNothing out →
+    Views Tells (λ count js. IsTooMany js part count) r zs out
+crowded Tells part d (Ok status) journals receipts end zs out is read why silent = absurd is
+crowded Tells part draw.Memory (Err e) journals receipts end zs out is read why silent = subst (λ (x : Fault). Views Tells (λ count js. IsTooMany js part count) (Err x) zs out) (sym is) silent
+crowded Tells part (draw.TooMany n) (Err e) journals receipts end zs out is read why silent =
+    subst (λ (x : Fault). Views Tells (λ count js. IsTooMany js part count) (Err x) zs out) (sym is)
+    (record { journals = journals; receipts = receipts; end = end; read = read; crowds = why; silent = silent })
+
+read_of_diagram : (d : DrawFault) → is_read (of_diagram d) ≡ false
+read_of_diagram draw.Memory = refl
+read_of_diagram (draw.TooMany n) = refl
+
+write_of_diagram : (d : DrawFault) → is_write (of_diagram d) ≡ false
+write_of_diagram draw.Memory = refl
+write_of_diagram (draw.TooMany n) = refl
+
+pub diagram_not_read : {A : Type 0} (d : DrawFault) (r : Result A Fault) (had has : Bool) → IsErrAnd r (λ x. x ≡ of_diagram d) → has ≡ had → FailsAsTold is_read r had has
+diagram_not_read d r had has is flag = as_told is_read (of_diagram d) false had has r is (read_of_diagram d) flag
+
+pub diagram_not_written : {A : Type 0} (d : DrawFault) (r : Result A Fault) (had : Bool) → IsErrAnd r (λ x. x ≡ of_diagram d) → FailsAsTold is_write r had had
+diagram_not_written d r had is = as_told is_write (of_diagram d) false had had r is (write_of_diagram d) refl
+
+-- a graph that isn't drawn
+pub graph_crowded :
+    (Tells : Collected → List ℕ → Type 0) (d : GraphFault) (r : Result Status Fault) (journals : Collected) (receipts : List Receipt) (end : Left) (zs : List ℕ) (out : Output) →
+    IsErrAnd r (λ e. e ≡ of_graph d) → ReadsBundle (record { at = 0; bytes = zs }) (Ok ((journals, receipts), end)) → WroteNothing out → Views Tells (λ count js. Unit {0}) r zs out
+graph_crowded Tells d (Ok status) journals receipts end zs out is read silent = absurd is
+graph_crowded Tells graph.Memory (Err e) journals receipts end zs out is read silent = subst (λ (x : Fault). Views Tells (λ count js. Unit {0}) (Err x) zs out) (sym is) silent
+graph_crowded Tells (graph.TooMany n) (Err e) journals receipts end zs out is read silent =
+    subst (λ (x : Fault). Views Tells (λ count js. Unit {0}) (Err x) zs out) (sym is)
+    (record { journals = journals; receipts = receipts; end = end; read = read; crowds = tt; silent = silent })
+
+read_of_graph : (d : GraphFault) → is_read (of_graph d) ≡ false
+read_of_graph graph.Memory = refl
+read_of_graph (graph.TooMany n) = refl
+
+write_of_graph : (d : GraphFault) → is_write (of_graph d) ≡ false
+write_of_graph graph.Memory = refl
+write_of_graph (graph.TooMany n) = refl
+
+pub graph_not_read : {A : Type 0} (d : GraphFault) (r : Result A Fault) (had has : Bool) → IsErrAnd r (λ x. x ≡ of_graph d) → has ≡ had → FailsAsTold is_read r had has
+graph_not_read d r had has is flag = as_told is_read (of_graph d) false had has r is (read_of_graph d) flag
+
+pub graph_not_written : {A : Type 0} (d : GraphFault) (r : Result A Fault) (had : Bool) → IsErrAnd r (λ x. x ≡ of_graph d) → FailsAsTold is_write r had had
+graph_not_written d r had is = as_told is_write (of_graph d) false had had r is (write_of_graph d) refl
+
+-- what isn't read isn't explained
+stopped_short : (f : Fault) (zs : List ℕ) (out : Output) → IsShort f → WroteNothing out → Explains (Err f) zs out
+stopped_short (Script line) zs out is silent = absurd is
+stopped_short (BadBundle offset) zs out is silent = absurd is
+stopped_short (NotARun replica entry) zs out is silent = absurd is
+stopped_short (TooMany count) zs out is silent = absurd is
+stopped_short Memory zs out is silent = silent
+stopped_short Read zs out is silent = silent
+stopped_short Write zs out is silent = absurd is
+
+pub not_explained : (f : Fault) (r : Result Status Fault) (zs : List ℕ) (out : Output) → IsErrAnd r (λ e. e ≡ f) → IsShort f → WroteNothing out → Explains r zs out
+not_explained f (Ok status) zs out is short silent = absurd is
+not_explained f (Err e) zs out is short silent = subst (λ (x : Fault). Explains (Err x) zs out) (sym is) (stopped_short f zs out short silent)
+
+-- a source that is at its end has given all of its bytes
+pub all_given : (zs bs : List ℕ) (left : Option (List ℕ)) → Consumed zs bs left → IsAtEnd left → bs ≡ zs
+all_given zs bs left c end = sym (c.2 ∙ ap (λ (l : List ℕ). bs ++ l) (subst (λ (l : Option (List ℕ)). IsAtEnd l) c.1 end) ∙ append-nil bs)

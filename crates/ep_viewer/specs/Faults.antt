@@ -2,16 +2,23 @@
 use Rattle.std.specs.Prelude.{ℕ, Bool, true, false, List, ◌++◌, codes, decimal}
 use Rattle.ep_bundle.specs.declared.bundle_fault.BundleFault.{BundleFault}
 use Rattle.ep_bundle.specs.declared.bundle_fault.BundleFault.TheVariants as bundle
+use Rattle.ep_draw.specs.declared.draw_fault.DrawFault.{DrawFault}
+use Rattle.ep_draw.specs.declared.draw_fault.DrawFault.TheVariants as draw
+use Rattle.ep_graph.specs.declared.graph_fault.GraphFault.{GraphFault}
+use Rattle.ep_graph.specs.declared.graph_fault.GraphFault.TheVariants as graph
+use Rattle.ep_explain.specs.declared.finding.Finding.{Finding}
+use Rattle.ep_explain.specs.declared.finding.Finding.TheVariants as finding
 use Rattle.ep_script.specs.declared.script_fault.ScriptFault.{ScriptFault}
 use Rattle.ep_script.specs.declared.script_fault.ScriptFault.TheVariants as script
 use Rattle.ep_viewer.specs.declared.fault.Fault.{Fault}
-use Rattle.ep_viewer.specs.declared.fault.Fault.TheVariants.{Script, BadBundle, NotARun, Memory, Read, Write}
+use Rattle.ep_viewer.specs.declared.fault.Fault.TheVariants.{Script, BadBundle, NotARun, TooMany, Memory, Read, Write}
 use Rattle.ep_viewer.specs.declared.status.Status.{Status}
-use Rattle.ep_viewer.specs.declared.status.Status.TheVariants.{Done, Refused, OutOfMemory, Failed}
+use Rattle.ep_viewer.specs.declared.status.Status.TheVariants.{Done, AuditRefused, Refused, OutOfMemory, Failed}
 
 -- the exit status
 abbrev pub code_of : Status → ℕ
 code_of Done = 0
+code_of AuditRefused = 1
 code_of Refused = 2
 code_of OutOfMemory = 3
 code_of Failed = 4
@@ -32,6 +39,10 @@ bad_bundle offset = codes "bundle refused E12 at byte " ++ decimal offset ++ cod
 abbrev pub not_a_run : ℕ → ℕ → List ℕ
 not_a_run replica entry = codes "bundle refused E11 at replica " ++ decimal replica ++ codes " entry " ++ decimal entry ++ codes "\n"
 
+-- so many entries are asked for, or so many instances are there, more than a picture shows
+abbrev pub too_many : ℕ → List ℕ
+too_many count = codes "too many to draw: " ++ decimal count ++ codes ", and 2000 at most; --from and --to keep a part of a diagram\n"
+
 abbrev pub out_of_memory : List ℕ
 out_of_memory = codes "out of memory\n"
 
@@ -45,6 +56,7 @@ abbrev pub line_of : Fault → List ℕ
 line_of (Script line) = script_refused line
 line_of (BadBundle offset) = bad_bundle offset
 line_of (NotARun replica entry) = not_a_run replica entry
+line_of (TooMany count) = too_many count
 line_of Memory = out_of_memory
 line_of Read = reading_failed
 line_of Write = writing_failed
@@ -53,6 +65,7 @@ abbrev pub status_of : Fault → Status
 status_of (Script line) = Refused
 status_of (BadBundle offset) = Refused
 status_of (NotARun replica entry) = Refused
+status_of (TooMany count) = Refused
 status_of Memory = OutOfMemory
 status_of Read = Failed
 status_of Write = Failed
@@ -62,6 +75,7 @@ abbrev pub is_read : Fault → Bool
 is_read (Script line) = false
 is_read (BadBundle offset) = false
 is_read (NotARun replica entry) = false
+is_read (TooMany count) = false
 is_read Memory = false
 is_read Read = true
 is_read Write = false
@@ -71,6 +85,7 @@ abbrev pub is_write : Fault → Bool
 is_write (Script line) = false
 is_write (BadBundle offset) = false
 is_write (NotARun replica entry) = false
+is_write (TooMany count) = false
 is_write Memory = false
 is_write Read = false
 is_write Write = true
@@ -87,3 +102,19 @@ abbrev pub of_script : ScriptFault → Fault
 of_script (script.Refused line) = Script line
 of_script script.Memory = Memory
 of_script script.ReadFailed = Read
+
+-- a diagram's fault as the program's
+abbrev pub of_diagram : DrawFault → Fault
+of_diagram draw.Memory = Memory
+of_diagram (draw.TooMany count) = TooMany count
+
+-- a graph's fault as the program's
+abbrev pub of_graph : GraphFault → Fault
+of_graph graph.Memory = Memory
+of_graph (graph.TooMany count) = TooMany count
+
+-- how the program ends that has explained a bundle
+abbrev pub status_found : Finding → Status
+status_found finding.Accepted = Done
+status_found finding.Refused = AuditRefused
+status_found finding.Unreadable = Refused

@@ -3,6 +3,10 @@ use Rattle.std.specs.Prelude.{◌≡◌, ℕ, List, Result, Ok, Err, ◌++◌, c
 use Rattle.ep_bundle.specs.Journals.{ReadsBundle}
 use Rattle.ep_bundle.specs.Reading.{Left}
 use Rattle.ep_bundle.specs.declared.bundle_fault.BundleFault.TheVariants as bundle
+use Rattle.ep_draw.specs.Drawn.{IsDrawn, IsTooMany}
+use Rattle.ep_explain.specs.Explained.{IsExplained}
+use Rattle.ep_explain.specs.declared.finding.Finding.{Finding}
+use Rattle.ep_graph.specs.Graphs.{IsGraphFile}
 use Rattle.ep_journal.specs.Entries.{Collected}
 use Rattle.ep_rules.specs.declared.receipt.Receipt.{Receipt}
 use Rattle.ep_script.specs.Plan.{Plan, script_of}
@@ -10,14 +14,14 @@ use Rattle.ep_trace.specs.Traced.{IsTraced}
 use Rattle.ep_view.specs.Shown.{IsShown}
 use Rattle.ep_words.specs.declared.part.Part.{Part}
 use Rattle.ep_base.specs.Devices.{FailsAsTold}
-use Rattle.ep_viewer.specs.Faults.{command_line_refused, out_of_memory, line_of, status_of, is_read, is_write}
+use Rattle.ep_viewer.specs.Faults.{command_line_refused, out_of_memory, line_of, status_of, status_found, is_read, is_write}
 use Rattle.ep_viewer.specs.Outputs.{Input, Output, Wrote, WroteNothing, Told}
 use Rattle.ep_viewer.specs.declared.asked.Asked.{Asked}
-use Rattle.ep_viewer.specs.declared.asked.Asked.TheVariants.{Show, Columns, Trace, Version, Help}
+use Rattle.ep_viewer.specs.declared.asked.Asked.TheVariants.{Show, Columns, Trace, Explain, Draw, Graph, Version, Help}
 use Rattle.ep_viewer.specs.declared.declined.Declined.{Declined}
 use Rattle.ep_viewer.specs.declared.declined.Declined.TheVariants as declined
 use Rattle.ep_viewer.specs.declared.fault.Fault.{Fault}
-use Rattle.ep_viewer.specs.declared.fault.Fault.TheVariants.{Script, BadBundle, NotARun, Memory, Read, Write}
+use Rattle.ep_viewer.specs.declared.fault.Fault.TheVariants.{Script, BadBundle, NotARun, TooMany, Memory, Read, Write}
 use Rattle.ep_viewer.specs.declared.status.Status.{Status}
 use Rattle.ep_viewer.specs.declared.status.Status.TheVariants.{Done, Refused, OutOfMemory}
 
@@ -31,15 +35,25 @@ pub record IsView (Tells : Collected → List ℕ → Type 0) (zs : List ℕ) (o
   pub tells : Tells journals text
   pub wrote : Wrote out text
 
+-- The bytes are one bundle, of whose journals so many entries are asked for that nothing was written.
+pub record IsCrowded (Crowds : Collected → Type 0) (zs : List ℕ) (out : Output) : Type 0 where
+  pub journals : Collected
+  pub receipts : List Receipt
+  pub end : Left
+  pub read : ReadsBundle (record { at = 0; bytes = zs }) (Ok ((journals, receipts), end))
+  pub crowds : Crowds journals
+  pub silent : WroteNothing out
+
 -- a bundle is viewed, or is refused, and then nothing is written
-abbrev pub Views : (Collected → List ℕ → Type 0) → Result Unit Fault → List ℕ → Output → Type 0
-Views Tells (Ok done) zs out = IsView Tells zs out
-Views Tells (Err (Script line)) zs out = ⊥
-Views Tells (Err (BadBundle offset)) zs out = ReadsBundle (record { at = 0; bytes = zs }) (Err (bundle.BadBundle offset)) × WroteNothing out
-Views Tells (Err (NotARun replica entry)) zs out = ReadsBundle (record { at = 0; bytes = zs }) (Err (bundle.NotARun replica entry)) × WroteNothing out
-Views Tells (Err Memory) zs out = WroteNothing out
-Views Tells (Err Read) zs out = WroteNothing out
-Views Tells (Err Write) zs out = Unit {0}
+abbrev pub Views : (Collected → List ℕ → Type 0) → (ℕ → Collected → Type 0) → Result Status Fault → List ℕ → Output → Type 0
+Views Tells Crowds (Ok status) zs out = (status ≡ Done) × IsView Tells zs out
+Views Tells Crowds (Err (Script line)) zs out = ⊥
+Views Tells Crowds (Err (BadBundle offset)) zs out = ReadsBundle (record { at = 0; bytes = zs }) (Err (bundle.BadBundle offset)) × WroteNothing out
+Views Tells Crowds (Err (NotARun replica entry)) zs out = ReadsBundle (record { at = 0; bytes = zs }) (Err (bundle.NotARun replica entry)) × WroteNothing out
+Views Tells Crowds (Err (TooMany count)) zs out = IsCrowded (Crowds count) zs out
+Views Tells Crowds (Err Memory) zs out = WroteNothing out
+Views Tells Crowds (Err Read) zs out = WroteNothing out
+Views Tells Crowds (Err Write) zs out = Unit {0}
 
 -- The bytes are a script, and what was written is its trace.
 pub record IsTrace (zs : List ℕ) (out : Output) : Type 0 where
@@ -50,30 +64,70 @@ pub record IsTrace (zs : List ℕ) (out : Output) : Type 0 where
   pub wrote : Wrote out text
 
 -- a script is traced, or is refused, and then nothing is written
-abbrev pub Traces : Result Unit Fault → List ℕ → Output → Type 0
-Traces (Ok done) zs out = IsTrace zs out
+abbrev pub Traces : Result Status Fault → List ℕ → Output → Type 0
+Traces (Ok status) zs out = (status ≡ Done) × IsTrace zs out
 Traces (Err (Script line)) zs out = (script_of zs ≡ Err line) × WroteNothing out
 Traces (Err (BadBundle offset)) zs out = ⊥
 Traces (Err (NotARun replica entry)) zs out = ⊥
+Traces (Err (TooMany count)) zs out = ⊥
 Traces (Err Memory) zs out = WroteNothing out
 Traces (Err Read) zs out = WroteNothing out
 Traces (Err Write) zs out = Unit {0}
 
-abbrev pub Prints : Result Unit Fault → List ℕ → Output → Type 0
-Prints (Ok done) text out = Wrote out text
+abbrev pub Prints : Result Status Fault → List ℕ → Output → Type 0
+Prints (Ok status) text out = (status ≡ Done) × Wrote out text
 Prints (Err (Script line)) text out = ⊥
 Prints (Err (BadBundle offset)) text out = ⊥
 Prints (Err (NotARun replica entry)) text out = ⊥
+Prints (Err (TooMany count)) text out = ⊥
 Prints (Err Memory) text out = ⊥
 Prints (Err Read) text out = ⊥
 Prints (Err Write) text out = Unit {0}
 
+-- the input wasn't read to its end: reading failed, or memory was refused
+abbrev pub IsShort : Fault → Type 0
+IsShort (Script line) = ⊥
+IsShort (BadBundle offset) = ⊥
+IsShort (NotARun replica entry) = ⊥
+IsShort (TooMany count) = ⊥
+IsShort Memory = Unit {0}
+IsShort Read = Unit {0}
+IsShort Write = ⊥
+
+-- What was written says why the bytes are no bundle, or what an audit finds of the bundle that they are; the status says which.
+pub record IsExplanation (status : Status) (zs : List ℕ) (out : Output) : Type 0 where
+  pub finding : Finding
+  pub text : List ℕ
+  pub explained : IsExplained zs finding text
+  pub is : status ≡ status_found finding
+  pub wrote : Wrote out text
+
+-- the bytes are explained
+abbrev pub Explains : Result Status Fault → List ℕ → Output → Type 0
+Explains (Ok status) zs out = IsExplanation status zs out
+Explains (Err (Script line)) zs out = ⊥
+Explains (Err (BadBundle offset)) zs out = ⊥
+Explains (Err (NotARun replica entry)) zs out = ⊥
+Explains (Err (TooMany count)) zs out = ⊥
+Explains (Err Memory) zs out = WroteNothing out
+Explains (Err Read) zs out = WroteNothing out
+Explains (Err Write) zs out = Unit {0}
+
+abbrev pub IsNever : ℕ → Collected → Type 0
+IsNever count journals = ⊥
+
+abbrev pub IsAnyCount : ℕ → Collected → Type 0
+IsAnyCount count journals = Unit {0}
+
 abbrev pub IsAnyText : Collected → List ℕ → Type 0
 IsAnyText journals text = Unit {0}
 
-abbrev pub Does : Asked → Result Unit Fault → List ℕ → Output → Type 0
-Does (Show part) outcome zs out = Views (λ journals text. IsShown journals part text) outcome zs out
-Does (Columns part) outcome zs out = Views IsAnyText outcome zs out
+abbrev pub Does : Asked → Result Status Fault → List ℕ → Output → Type 0
+Does (Show part) outcome zs out = Views (λ journals text. IsShown journals part text) IsNever outcome zs out
+Does (Columns part) outcome zs out = Views IsAnyText IsNever outcome zs out
+Does Explain outcome zs out = Explains outcome zs out
+Does (Draw part) outcome zs out = Views (λ journals text. IsDrawn journals part text) (λ count journals. IsTooMany journals part count) outcome zs out
+Does Graph outcome zs out = Views (λ journals text. IsGraphFile text) IsAnyCount outcome zs out
 Does Trace outcome zs out = Traces outcome zs out
 Does Version outcome zs out = Prints outcome (codes "epaxos 0.1.0\n") out
 Does (Help text) outcome zs out = Prints outcome (string_bytes text) out
@@ -84,13 +138,13 @@ TellsWhy (declined.Words why) status fault = (status ≡ Refused) × Told fault 
 TellsWhy declined.Memory status fault = (status ≡ OutOfMemory) × Told fault out_of_memory
 
 -- a fault is told, and decides on the status
-abbrev pub Concludes : Result Unit Fault → Status → Output → Type 0
-Concludes (Ok done) status fault = (status ≡ Done) × WroteNothing fault
+abbrev pub Concludes : Result Status Fault → Status → Output → Type 0
+Concludes (Ok found) status fault = (status ≡ found) × WroteNothing fault
 Concludes (Err e) status fault = (status ≡ status_of e) × Told fault (line_of e)
 
 -- what was asked for was done, or why it wasn't is told; the input and the output failed where the outcome says so, and nowhere else
 pub record Performs (asked : Asked) (status : Status) (zs : List ℕ) (reader : Input) (out fault : Output) : Type 0 where
-  pub outcome : Result Unit Fault
+  pub outcome : Result Status Fault
   pub does : Does asked outcome zs out
   pub concludes : Concludes outcome status fault
   pub read : FailsAsTold is_read outcome reader.had_failed reader.failed

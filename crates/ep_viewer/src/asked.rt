@@ -11,6 +11,12 @@ pub enum Asked {
     Columns(Part),
     /// To trace a script's replay.
     Trace,
+    /// To explain why a bundle is refused.
+    Explain,
+    /// To draw this part of a bundle's journals.
+    Draw(Part),
+    /// To draw the dependency graph of what a bundle's journals commit.
+    Graph,
     /// The program's name and its version.
     Version,
     /// Help: this text.

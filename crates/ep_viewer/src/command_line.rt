@@ -25,6 +25,38 @@ Exit status:
   3  memory was refused
   4  reading or writing failed";
 
+/// What the help of `explain` says at its end.
+const AFTER_EXPLAIN: &str = "\
+Standard input, to its end, is a bundle, as `replay --emit bundle` writes it. Printed are the lines of the audit or of the reader,
+with all faults and not the first alone, and under each what to do, what usually brings it about, what stands where, and what
+differs. Nothing is printed before the end is read.
+
+Example:
+  epaxos explain < refused.bundle
+
+Exit status:
+  0  the audit accepts the bundle
+  1  the audit refuses it
+  2  the command line is refused, and standard error says where; or it is no bundle, and why is printed
+  3  memory was refused
+  4  reading or writing failed";
+
+/// What the help of `draw` says at its end.
+const AFTER_DRAW: &str = "\
+Standard input, to its end, is a bundle, as `replay --emit bundle` writes it. Printed is one SVG file: a line a replica, a dot an
+event, an arrow from where a frame was sent to where it was handled, a cross where it never was, and in red what the audit finds
+at fault. With --graph: the dependency graph of what is committed, components boxed, without what is implied. More than 2,000
+events or instances are refused: keep a part of the events. Nothing is printed before the end is read.
+
+Example:
+  epaxos replay --emit bundle < examples/one_put.script | epaxos draw > one_put.svg
+
+Exit status:
+  0  the picture is printed
+  2  the command line or the bundle is refused, or too many events are asked for; standard error says where
+  3  memory was refused
+  4  reading or writing failed";
+
 /// What the help of `replay` says at its end.
 const AFTER_REPLAY: &str = "\
 Standard input, to its end, is a script: lines as in the example; docs/FORMATS.md, section 4, has all of them.
@@ -66,10 +98,33 @@ fn asked_by(alloc: Global, matches: &ArgMatches<'_>) -> Result<Asked, Declined> 
     if let Some(options) = matches.subcommand_matches("show") {
         return shown_by(alloc, options);
     }
+    if matches.subcommand_matches("explain").is_some() {
+        return Ok(Asked::Explain);
+    }
+    if let Some(options) = matches.subcommand_matches("draw") {
+        return drawn_by(alloc, options);
+    }
     if let Some(options) = matches.subcommand_matches("replay") {
         return traced_by(alloc, options);
     }
     Err(Declined::Words(String::new(alloc)))
+}
+
+/// A graph is of all that is committed, so no part of it is kept.
+fn drawn_by(alloc: Global, options: &ArgMatches<'_>) -> Result<Asked, Declined> {
+    if !options.get_flag("graph") {
+        return Ok(Asked::Draw(part_of(alloc, options)?));
+    }
+    if ["instance", "replica", "from", "to"]
+        .iter()
+        .any(|name| options.get_str(name).is_some())
+    {
+        return Err(Declined::Words(String::from_str(
+            alloc,
+            "error: with '--graph' no part is kept\n\nFor more information, try '--help'.\n",
+        )?));
+    }
+    Ok(Asked::Graph)
 }
 
 /// Of a replay only its trace is asked for here.
@@ -177,11 +232,19 @@ fn stamp_named(word: &[u8]) -> Option<u64> {
 fn program<'a>(alloc: Global) -> Result<Command<'a>, AllocError> {
     let show = show_command(alloc)?;
     let replay = replay_command(alloc)?;
+    let explain = Command::new(alloc, "explain")
+        .about("Reads a bundle on standard input, and prints why it is refused, in words")
+        .after_help(AFTER_EXPLAIN);
+    let draw = draw_command(alloc)?;
     let command = Command::new(alloc, "epaxos")
         .about("A replicated key-value core without a leader")
         .version("0.1.0")
         .subcommand_required(true);
-    command.subcommand(show)?.subcommand(replay)
+    command
+        .subcommand(show)?
+        .subcommand(explain)?
+        .subcommand(draw)?
+        .subcommand(replay)
 }
 
 fn replay_command<'a>(alloc: Global) -> Result<Command<'a>, AllocError> {
@@ -191,9 +254,26 @@ fn replay_command<'a>(alloc: Global) -> Result<Command<'a>, AllocError> {
         .help("What to print: report (the default), bundle or trace")
         .action(ArgAction::Set);
     let command = Command::new(alloc, "replay")
-        .about("Reads a script on standard input, plays it in one thread, audits what it leaves, and prints a report, a bundle or a trace")
+        .about(
+            "Reads a script on standard input, plays it in one thread, audits what it leaves, and prints a report, a bundle or a trace",
+        )
         .after_help(AFTER_REPLAY);
     command.arg(emit)
+}
+
+fn draw_command<'a>(alloc: Global) -> Result<Command<'a>, AllocError> {
+    let graph = Arg::new(alloc, "graph")
+        .long("graph")
+        .help(
+            "Draws the dependency graph of what is committed, of all journals, in place of the diagram",
+        )
+        .action(ArgAction::SetTrue);
+    let command = Command::new(alloc, "draw")
+        .about(
+            "Reads a bundle on standard input, and prints the space-time diagram of its journals, an SVG file",
+        )
+        .after_help(AFTER_DRAW);
+    parted(alloc, command.arg(graph)?)
 }
 
 fn show_command<'a>(alloc: Global) -> Result<Command<'a>, AllocError> {

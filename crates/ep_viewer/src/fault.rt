@@ -1,12 +1,14 @@
 //! Why the program ends before its work is done.
 
 ghost use Rattle.std.specs.Prelude.{◌≡◌};
-ghost use Rattle.ep_viewer.specs.Faults.{of_bundle, of_script, status_of};
-ghost use Rattle.ep_viewer.specs.declared.fault.Fault.TheVariants.{Memory, Write};
+ghost use Rattle.ep_viewer.specs.Faults.{of_bundle, of_diagram, of_graph, of_script, status_of};
+ghost use Rattle.ep_viewer.specs.declared.fault.Fault.TheVariants.{Memory, Read, Write};
 
 use crate::status::Status;
-use ep_base::{ReplicaId, WriteFailed};
+use ep_base::{ReadFailed, ReplicaId, WriteFailed};
 use ep_bundle::BundleFault;
+use ep_draw::DrawFault;
+use ep_graph::GraphFault;
 use ep_script::ScriptFault;
 use std::alloc::AllocError;
 
@@ -19,6 +21,8 @@ pub enum Fault {
     BadBundle(u64),
     /// The bundle is refused; this entry of this replica, counted from 1, is the first that isn't its replica's next step.
     NotARun(ReplicaId, u32),
+    /// So many entries are asked for, or so many instances are there, more than a picture shows.
+    TooMany(usize),
     /// Memory was refused.
     Memory,
     /// Reading failed.
@@ -33,7 +37,8 @@ impl Fault {
         ensures { result ≡ status_of self.now }
     {
         match self {
-            Fault::Script(_) | Fault::BadBundle(_) | Fault::NotARun(_, _) => Status::Refused,
+            Fault::Script(_) | Fault::BadBundle(_) | Fault::NotARun(_, _) | Fault::TooMany(_) =>
+                Status::Refused,
             Fault::Memory => Status::OutOfMemory,
             Fault::Read | Fault::Write => Status::Failed,
         }
@@ -62,6 +67,36 @@ impl From<ScriptFault> for Fault {
             ScriptFault::Memory => Fault::Memory,
             ScriptFault::ReadFailed => Fault::Read,
         }
+    }
+}
+
+impl From<DrawFault> for Fault {
+    ghost from_gives = { λ d e. e ≡ of_diagram d };
+
+    fn from(fault: DrawFault) -> Fault {
+        match fault {
+            DrawFault::Memory => Fault::Memory,
+            DrawFault::TooMany(count) => Fault::TooMany(count),
+        }
+    }
+}
+
+impl From<GraphFault> for Fault {
+    ghost from_gives = { λ d e. e ≡ of_graph d };
+
+    fn from(fault: GraphFault) -> Fault {
+        match fault {
+            GraphFault::Memory => Fault::Memory,
+            GraphFault::TooMany(count) => Fault::TooMany(count),
+        }
+    }
+}
+
+impl From<ReadFailed> for Fault {
+    ghost from_gives = { λ _ e. e ≡ Read };
+
+    fn from(_fault: ReadFailed) -> Fault {
+        Fault::Read
     }
 }
 

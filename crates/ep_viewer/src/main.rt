@@ -1,9 +1,9 @@
-//! `epaxos show` and `epaxos replay --emit trace`: runs in words, for people who look at them.
+//! `epaxos show`, `explain`, `draw` and `replay --emit trace`: runs in words and pictures, for people who look at them.
 //!
 //! `main` hands the words to `read_words`, in `command_line.rt`, and what they ask for with the standard streams to `perform`, in
 //! `program.rt`, which is all of the program: over any source and sinks, so that its contract can say what the bytes and the
-//! status mean. It does no more than read a bundle and call `ep_view`, or read a
-//! script and call `ep_trace`.
+//! status mean. It does no more than read a bundle and call `ep_view`,
+//! `ep_explain`, `ep_draw` or `ep_graph`, or read a script and call `ep_trace`.
 //!
 //! Start with `program.rt` and specs/Views.antt. A fault has one line on the fault output and one status (`fault.rt`,
 //! `telling.rt`, `status.rt`), as docs/FORMATS.md, section 6, lists them.
@@ -13,6 +13,8 @@ mod ahead;
 mod asked;
 mod command_line;
 mod declined;
+mod drawing;
+mod explaining;
 mod fault;
 mod program;
 mod showing;

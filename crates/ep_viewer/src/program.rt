@@ -8,6 +8,8 @@ ghost use Rattle.ep_viewer.specs.Views.{Concludes, Does, Performs, TellsWhy};
 
 use crate::asked::Asked;
 use crate::declined::Declined;
+use crate::drawing::{print_drawn, print_graph};
+use crate::explaining::print_explained;
 use crate::fault::Fault;
 use crate::showing::{print_columns, print_shown};
 use crate::status::Status;
@@ -39,7 +41,7 @@ fn attempt<S: Source, W: Sink>(
     asked: &Asked,
     reader: &mut S,
     writer: &mut W,
-) -> Result<(), Fault>
+) -> Result<Status, Fault>
     ensures done { (zs : List ℕ) → S.left reader.old ≡ Some zs → Does asked.now result zs
         (output (W.held writer.old) (W.held writer.new) (W.has_failed writer.old) (W.has_failed writer.new)) }
     ensures read { FailsAsTold is_read result (S.has_failed reader.old) (S.has_failed reader.new) }
@@ -48,24 +50,27 @@ fn attempt<S: Source, W: Sink>(
     match asked {
         Asked::Show(part) => print_shown(alloc, part, reader, writer),
         Asked::Columns(part) => print_columns(alloc, part, reader, writer),
+        Asked::Explain => print_explained(alloc, reader, writer),
+        Asked::Draw(part) => print_drawn(alloc, part, reader, writer),
+        Asked::Graph => print_graph(alloc, reader, writer),
         Asked::Trace => print_trace(alloc, reader, writer),
         Asked::Version => {
             writer.put(b"epaxos 0.1.0\n")?;
-            Ok(())
+            Ok(Status::Done)
         }
         Asked::Help(text) => {
             writer.put(text.as_bytes())?;
-            Ok(())
+            Ok(Status::Done)
         }
     }
 }
 
 /// How the program ends. A fault is told on the fault output; where that fails, the status stays.
-fn concluded<F: Sink>(outcome: Result<(), Fault>, fault_writer: &mut F) -> Status
+fn concluded<F: Sink>(outcome: Result<Status, Fault>, fault_writer: &mut F) -> Status
     ensures { Concludes outcome result (output (F.held fault_writer.old) (F.held fault_writer.new) (F.has_failed fault_writer.old) (F.has_failed fault_writer.new)) }
 {
     match outcome {
-        Ok(()) => Status::Done,
+        Ok(status) => status,
         Err(fault) => {
             let status = fault.status();
             let _ = tell(fault, fault_writer);

@@ -5,9 +5,10 @@ ghost use Rattle.ep_view.specs.Shown.{IsShown};
 ghost use Rattle.ep_base.specs.Devices.{FailsAsTold};
 ghost use Rattle.ep_viewer.specs.Faults.{is_read, is_write};
 ghost use Rattle.ep_viewer.specs.Outputs.{output};
-ghost use Rattle.ep_viewer.specs.Views.{IsAnyText, Views};
+ghost use Rattle.ep_viewer.specs.Views.{IsAnyText, IsNever, Views};
 
 use crate::fault::Fault;
+use crate::status::Status;
 use ep_base::{Sink, Source};
 use ep_bundle::read_bundle;
 use ep_view::{columns, show};
@@ -21,8 +22,8 @@ pub(crate) fn print_shown<S: Source, W: Sink>(
     part: &Part,
     reader: &mut S,
     writer: &mut W,
-) -> Result<(), Fault>
-    ensures done { (zs : List ℕ) → S.left reader.old ≡ Some zs → Views (λ journals text. IsShown journals part.now text) result zs
+) -> Result<Status, Fault>
+    ensures done { (zs : List ℕ) → S.left reader.old ≡ Some zs → Views (λ journals text. IsShown journals part.now text) IsNever result zs
         (output (W.held writer.old) (W.held writer.new) (W.has_failed writer.old) (W.has_failed writer.new)) }
     ensures read { FailsAsTold is_read result (S.has_failed reader.old) (S.has_failed reader.new) }
     ensures written { FailsAsTold is_write result (W.has_failed writer.old) (W.has_failed writer.new) }
@@ -32,7 +33,7 @@ pub(crate) fn print_shown<S: Source, W: Sink>(
     writer.put(text.as_slice())?;
     // The system takes memory back at the process's end, all at once.
     forget(bundle);
-    Ok(())
+    Ok(Status::Done)
 }
 
 /// Reads a bundle to its end, and prints this part of its journals, in a column a replica.
@@ -41,8 +42,8 @@ pub(crate) fn print_columns<S: Source, W: Sink>(
     part: &Part,
     reader: &mut S,
     writer: &mut W,
-) -> Result<(), Fault>
-    ensures done { (zs : List ℕ) → S.left reader.old ≡ Some zs → Views IsAnyText result zs
+) -> Result<Status, Fault>
+    ensures done { (zs : List ℕ) → S.left reader.old ≡ Some zs → Views IsAnyText IsNever result zs
         (output (W.held writer.old) (W.held writer.new) (W.has_failed writer.old) (W.has_failed writer.new)) }
     ensures read { FailsAsTold is_read result (S.has_failed reader.old) (S.has_failed reader.new) }
     ensures written { FailsAsTold is_write result (W.has_failed writer.old) (W.has_failed writer.new) }
@@ -51,5 +52,5 @@ pub(crate) fn print_columns<S: Source, W: Sink>(
     let text = columns(alloc, &bundle.journals, part)?;
     writer.put(text.as_slice())?;
     forget(bundle);
-    Ok(())
+    Ok(Status::Done)
 }

@@ -8,7 +8,9 @@ ghost use Rattle.ep_viewer.specs.Faults.{code_of};
 pub enum Status {
     /// What was asked for is printed.
     Done,
-    /// The command line or the bundle is refused.
+    /// The same, and an audit refuses the bundle.
+    AuditRefused,
+    /// The command line, the script or the bundle is refused.
     Refused,
     /// Memory was refused.
     OutOfMemory,
@@ -23,6 +25,7 @@ impl Status {
     {
         match self {
             Status::Done => 0,
+            Status::AuditRefused => 1,
             Status::Refused => 2,
             Status::OutOfMemory => 3,
             Status::Failed => 4,

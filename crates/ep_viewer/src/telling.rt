@@ -2,7 +2,7 @@
 
 ghost use Rattle.std.specs.Prelude.{◌++◌, decimal};
 ghost use Rattle.ep_base.specs.Devices.{Puts};
-ghost use Rattle.ep_viewer.specs.Faults.{command_line_refused, line_of, script_refused, bad_bundle, not_a_run};
+ghost use Rattle.ep_viewer.specs.Faults.{command_line_refused, line_of, script_refused, bad_bundle, not_a_run, too_many};
 
 use crate::fault::Fault;
 use ep_base::{ReplicaId, Sink, WriteFailed};
@@ -16,6 +16,7 @@ pub(crate) fn tell<F: Sink>(fault: Fault, sink: &mut F) -> Result<(), WriteFaile
         Fault::Script(line) => tell_script(line, sink),
         Fault::BadBundle(offset) => tell_bad_bundle(offset, sink),
         Fault::NotARun(replica, entry) => tell_not_a_run(replica, entry, sink),
+        Fault::TooMany(count) => tell_too_many(count, sink),
         Fault::Memory => sink.put(b"out of memory\n"),
         Fault::Read => sink.put(b"reading failed\n"),
         Fault::Write => sink.put(b"writing failed\n"),
@@ -58,6 +59,15 @@ fn tell_not_a_run<F: Sink>(replica: ReplicaId, entry: u32, sink: &mut F) -> Resu
     )?;
     tell_place(b" entry ", entry, sink)?;
     sink.put(b"\n")
+}
+
+fn tell_too_many<F: Sink>(count: usize, sink: &mut F) -> Result<(), WriteFailed>
+    ensures { Puts (F.held sink.old) (F.held sink.new) (F.has_failed sink.old) (F.has_failed sink.new) result (too_many count) }
+{
+    let mut digits = Buffer::new();
+    sink.put(b"too many to draw: ")?;
+    sink.put(digits.format(count).as_bytes())?;
+    sink.put(b", and 2000 at most; --from and --to keep a part of a diagram\n")
 }
 
 /// Writes a name and the number after it.

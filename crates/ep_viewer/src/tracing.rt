@@ -7,6 +7,7 @@ ghost use Rattle.ep_viewer.specs.Outputs.{output};
 ghost use Rattle.ep_viewer.specs.Views.{Traces};
 
 use crate::fault::Fault;
+use crate::status::Status;
 use ep_base::{Sink, Source};
 use ep_script::read_script;
 use ep_trace::trace;
@@ -18,7 +19,7 @@ pub(crate) fn print_trace<S: Source, W: Sink>(
     alloc: Global,
     reader: &mut S,
     writer: &mut W,
-) -> Result<(), Fault>
+) -> Result<Status, Fault>
     ensures done { (zs : List ℕ) → S.left reader.old ≡ Some zs → Traces result zs
         (output (W.held writer.old) (W.held writer.new) (W.has_failed writer.old) (W.has_failed writer.new)) }
     ensures read { FailsAsTold is_read result (S.has_failed reader.old) (S.has_failed reader.new) }
@@ -29,5 +30,5 @@ pub(crate) fn print_trace<S: Source, W: Sink>(
     writer.put(text.as_slice())?;
     // The system takes memory back at the process's end, all at once.
     forget(script);
-    Ok(())
+    Ok(Status::Done)
 }

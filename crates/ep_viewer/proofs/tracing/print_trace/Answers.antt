@@ -1,4 +1,4 @@
-use Rattle.std.proofs.Common.{rules}
+use Rattle.std.proofs.Common.{refl, rules}
 use Rattle.ep_viewer.proofs.Ending.{script_read, script_not_written}
 use Rattle.ep_viewer.proofs.tracing.print_trace.Goals as goal
 
@@ -10,4 +10,4 @@ returns-in_err-script-clause-written g c = script_not_written c.in_err-script.fi
 
 pub returns-clause-done : goal.returns-clause-done
 returns-clause-done g c zs known =
-    record { plan = c.in_ok-script.script; script = c.in_ok-script.ensures.bytes zs known; text = c.in_ok-text.text.items; trace = c.in_ok-text.ensures; wrote = search rules }
+    (refl, record { plan = c.in_ok-script.script; script = c.in_ok-script.ensures.bytes zs known; text = c.in_ok-text.text.items; trace = c.in_ok-text.ensures; wrote = search rules })
