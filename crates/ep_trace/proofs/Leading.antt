@@ -2,7 +2,6 @@
 use Rattle.std.proofs.Common.{◌≡◌, ◌≢◌, inl, inr, ℕ, suc, ◌+◌, ◌<◌, ◌≤◌, Bool, true, false, cond, List, [], ◌∷◌, ◌++◌, length, get_or, drop, refl, sym, ap, subst, ◌∙◌, arith, append-nil, append_assoc}
 use Rattle.std.proofs.Math.Seq.{drop-cons}
 use Rattle.std.proofs.lemmas.List.{drop_all}
-use Rattle.ep_base.specs.Quorums.{size}
 use Rattle.ep_base.specs.declared.command.Command.{Command}
 use Rattle.ep_rules.specs.declared.receipt.Receipt.{Receipt}
 use Rattle.ep_journal.specs.Entries.{entry_of}
@@ -26,7 +25,7 @@ use Rattle.ep_replay.specs.declared.clients.Clients.{Clients}
 use Rattle.ep_report.specs.declared.cause.Cause.{Cause}
 use Rattle.ep_trace.specs.Left.{IsLeft, AddsLeft, ungiven_lines}
 use Rattle.ep_trace.specs.Lines.{made_line, asked_text, refusal_line, refused_line}
-use Rattle.ep_trace.specs.Tables.{AreFlagged, Behind, Led, Leads, Tells, nothing, told}
+use Rattle.ep_trace.specs.Tables.{AreFlagged, Leads, Tells, nothing, told}
 use Rattle.ep_trace.specs.Traced.{given_by, TellsTry, TellsGives, TellsLine, TellsAll, TellsRun, IsTraced}
 use Rattle.ep_trace.specs.declared.given.Given.{Given}
 use Rattle.ep_trace.specs.declared.numbers.Numbers.{Numbers}

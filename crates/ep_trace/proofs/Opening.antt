@@ -1,5 +1,5 @@
 -- How far the instances are listed that a replica knows of and hasn't committed: those before the next one.
-use Rattle.std.proofs.Common.{◌≡◌, ◌≢◌, ◌↔◌, inl, inr, ℕ, suc, ◌+◌, ◌-◌, ◌<◌, ◌≤◌, Bool, true, false, eqb, ltb, List, [], ◌∷◌, ◌++◌, Option, Some, None, refl, sym, ap, subst, ◌∙◌, arith, append-nil, append_assoc}
+use Rattle.std.proofs.Common.{◌≡◌, ◌≢◌, ◌↔◌, inl, inr, ℕ, suc, ◌-◌, ◌<◌, ◌≤◌, Bool, true, false, eqb, ltb, List, [], ◌∷◌, ◌++◌, Option, Some, None, refl, sym, ap, subst, ◌∙◌, arith, append-nil, append_assoc}
 use Rattle.std.proofs.lemmas.Bool.{eqb-true, eqb-false, ltb-true, ltb-false}
 use Rattle.ep_base.specs.Deps.{IsRising}
 use Rattle.ep_phase.specs.Progress.{progress_in}
@@ -9,7 +9,7 @@ use Rattle.ep_rules.specs.Maps.{get}
 use Rattle.ep_rules.specs.Worlds.{In}
 use Rattle.ep_rules.proofs.Merged.{in_left, in_right, in_split}
 use Rattle.ep_space.specs.Open.{IsOpen, IsNextOpen}
-use Rattle.ep_trace.specs.Left.{open_line, open_lines, AreOpen, AddsOpen, OpenBelow}
+use Rattle.ep_trace.specs.Left.{open_line, open_lines, AddsOpen, OpenBelow}
 use Rattle.ep_world.specs.Played.{Played, replica_in}
 
 open_in : Kept → ℕ → Type 0

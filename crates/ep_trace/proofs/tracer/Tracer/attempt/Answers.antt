@@ -1,7 +1,4 @@
-use Rattle.std.proofs.Common.{◌≡◌, ◌∙◌, List, ℕ, ◌++◌, ap, refl}
-use Rattle.ep_report.specs.declared.cause.Cause.{Cause}
-use Rattle.ep_replay.specs.Causes.{cause_of}
-use Rattle.ep_trace.specs.Lines.{asked_text, refused_line}
+use Rattle.std.proofs.Common.{◌∙◌, refl}
 use Rattle.ep_trace.proofs.Leading.{took, listed, refusal_told}
 use Rattle.ep_trace.proofs.tracer.Tracer.attempt.Goals as goal
 
