@@ -20,6 +20,7 @@ TOP = os.path.dirname(os.path.dirname(os.path.abspath(__file__)))
 sys.path.insert(0, f"{TOP}/.ci")
 
 import clock
+import lanes
 import rows
 import store
 
@@ -169,6 +170,7 @@ def main(words):
         return 2
     os.chdir(TOP)
     signal.signal(signal.SIGTERM, lambda *_: sys.exit(143))
+    lanes.one_processor_a_check()
     with clock.Clock() as spent:
         passed = failed = 0
         fits = bool(words) or looks()
