@@ -50,10 +50,10 @@ impl<'a> Plan<'a> {
     /// The line of a node as it is shown in a box of so many nodes: cut where it is long.
     pub fn shown(&self, alloc: Global, node: usize, count: usize) -> Result<Vec<u8>, AllocError> {
         let words = self.told(alloc, node, count > 1)?;
-        match words.get(..SHOWN) {
-            None => Ok(words),
-            Some(beginning) => cut(alloc, beginning),
+        if words.len() <= SHOWN {
+            return Ok(words);
         }
+        cut(alloc, &words[..SHOWN])
     }
 
     /// The line of a node: its instance, its command and its seq, and what it depends on where it isn't alone.
