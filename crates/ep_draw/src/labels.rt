@@ -108,13 +108,12 @@ fn add_lives(shapes: &mut Vec<Shape>, scene: &Scene<'_>, bottom: u64) -> Result<
 
 // The words that are shown: all, or where they are long their beginning.
 fn shown(alloc: Global, replica: ReplicaId, entry: &Entry) -> Result<Vec<u8>, AllocError> {
-    let words = told(alloc, replica, entry)?;
-    if words.len() <= SHOWN {
-        return Ok(words);
+    let mut words = told(alloc, replica, entry)?;
+    if words.len() > SHOWN {
+        words.truncate(SHOWN);
+        words.extend_from_slice(b"...")?;
     }
-    let mut cut = Vec::from_slice(alloc, &words[..SHOWN])?;
-    cut.extend_from_slice(b"...")?;
-    Ok(cut)
+    Ok(words)
 }
 
 // Draws the stamp of a row.
