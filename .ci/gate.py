@@ -2,8 +2,9 @@
 
   .ci/run             first looks whether the copies that tools write are up to date, and whether the edits of wrong/ still fit. Then
                       runs the test command of README.md, `rt ci`, and the tests in tests/ (tools/tests); and then what was built: the rows of .ci/rows.py by both compilers,
-                      some of them with each allocation refused in turn (tools/refused-memory), and runs of the program with each read
-                      and each write failed in turn (tools/failing-devices); and last the host in hosts/store, where cargo is (.ci/store.py)
+                      some of them, and runs of ep_viewer, with each allocation refused in turn (tools/refused-memory), and runs of both
+                      programs with each read and each write failed in turn (tools/failing-devices); bundles with one byte turned
+                      (tools/turned-bundles); and last the host in hosts/store, where cargo is (.ci/store.py)
   .ci/run --built     runs only what an earlier `rt ci` built
 
 At its end it says what processor time it took, and its last line is 'N passed, M failed'. The status is 0 where M is 0.
@@ -48,8 +49,14 @@ ROWS = (
 # what is run on devices that fail, all but audits and upgrades: the words, and the script
 DEVICES = (("replay",), ("replay", "--emit", "bundle"), ("run",), ("run", "--host", "ring"), ("run", "--emit", "bundle"))
 PUT = b"replicas 3\npropose 0 1 put x 1\n"
-# a script whose bundle has over 16 KiB, so that it takes several reads, and is audited and upgraded on devices that fail
+# a script whose bundle has over 16 KiB, so that it takes several reads, and is audited and upgraded, shown and drawn on devices that fail
 LONG = b"replicas 3\n" + b"propose 0 1 put x 1\nflush\nflush\n" * 40
+# how ep_viewer looks at a bundle
+VIEWS = (["show"], ["show", "--columns"], ["explain"], ["draw"], ["draw", "--graph"])
+TRACE = ["replay", "--emit", "trace"]
+# the script that is traced, and whose bundle is looked at, with allocations refused; and rows of bundles that an audit refuses, or doesn't read
+VIEWED = "examples/crossing_puts.script"
+ROWS_VIEWED = ("audit-of-another-value", "audit-of-another-entry", "audit-cut", "audit-not-a-run")
 
 
 def looks():
@@ -111,6 +118,14 @@ def last_run(row):
     return runs[-1], bytes(given)
 
 
+def rows_named(name):
+    """The stored rows whose names begin so; none is told."""
+    named = [row for row in (*rows.stored(), *rows.written()) if row.name.startswith(name)]
+    if not named:
+        print(f"there is no row {name}", flush=True)
+    return named
+
+
 def refused_memory():
     """Refuses allocations, and says of each of these sweeps whether it passed."""
     for crate, word in TESTS:
@@ -120,16 +135,30 @@ def refused_memory():
         print(f"{name}, with each allocation refused:", flush=True)
         for words, given in ((["replay"], script), (["replay", "--emit", "bundle"], script), (["audit"], bundle_of(script))):
             yield swept("refused-memory", ["ep_main", "--", *words], given)
-    every = [*rows.stored(), *rows.written()]
     for name in ROWS:
-        named = [row for row in every if row.name.startswith(name)]
+        named = rows_named(name)
         if not named:
-            print(f"there is no row {name}", flush=True)
             yield False
         for row in named:
             words, given = last_run(row)
             print(f"row {row.name}, with each allocation refused:", flush=True)
             yield swept("refused-memory", ["ep_main", "--", *words], given)
+
+
+def refused_views():
+    """Refuses allocations where runs are shown, and says of each of these sweeps whether it passed."""
+    script = read(VIEWED)
+    print(f"{VIEWED}, shown, explained, drawn and traced with each allocation refused:", flush=True)
+    for words, given in (*((it, bundle_of(script)) for it in VIEWS), (TRACE, script)):
+        yield swept("refused-memory", ["ep_viewer", MOST, "--", *words], given)
+    for name in ROWS_VIEWED:
+        named = rows_named(name)
+        if not named:
+            yield False
+        for row in named:
+            print(f"row {row.name}, explained and drawn with each allocation refused:", flush=True)
+            for words in (["explain"], ["draw"]):
+                yield swept("refused-memory", ["ep_viewer", MOST, "--", *words], last_run(row)[1])
 
 
 def failing_devices():
@@ -141,6 +170,14 @@ def failing_devices():
         yield swept("failing-devices", ["ep_main", "--", *words], bundle_of(LONG))
     # (a script that is refused, so that the fault output is written on)
     yield swept("failing-devices", ["ep_main", "--", "replay"], b"replicas 4\n")
+    bundle = bundle_of(LONG)
+    for words in VIEWS:
+        yield swept("failing-devices", ["ep_viewer", "--", *words], bundle)
+    # (and a bundle that isn't read, which `show` tells on the fault output, `explain` on standard output)
+    for words in (["show"], ["explain"]):
+        yield swept("failing-devices", ["ep_viewer", "--", *words], bundle[:-1])
+    yield swept("failing-devices", ["ep_viewer", "--", *TRACE], LONG + b"#\n" * 8192)
+    yield swept("failing-devices", ["ep_viewer", "--", *TRACE], b"replicas 4\n")
 
 
 def built():
@@ -155,7 +192,7 @@ def built():
         counts = rows.tried(program, by=by)
         passed, failed = passed + counts[0], failed + counts[1]
     if os.path.isfile(PROGRAM):
-        well = [*refused_memory(), *failing_devices()]
+        well = [*refused_memory(), *refused_views(), *failing_devices(), swept("turned-bundles", [])]
         passed, failed = passed + well.count(True), failed + well.count(False)
     counts = store.tried()
     return passed + counts[0], failed + counts[1]

@@ -14,7 +14,7 @@ PROGRAM is ep_main as it was built; what begins with `node` or `collect` is run 
 or `draw`, and traces, by ep_viewer, which were built as it was. Runs of `epaxos node` on one log, and its bundle, are made here.
 More rows are made of the scripts and reports in docs/FORMATS.md, examples/ and .ci/scripts/ (NAME.script is played, NAME.run is run
 by both hosts, and where there is a NAME.trace or a NAME.svg, NAME.script is traced
-or drawn), and by .ci/made.py, .ci/words.py and .ci/cases.py.
+or drawn), and by .ci/made.py, .ci/words.py, .ci/cases.py and .ci/odd.py.
 """
 
 import gzip
@@ -24,10 +24,14 @@ import subprocess
 import sys
 import tempfile
 from dataclasses import dataclass, field
+from xml.dom import minidom
+from xml.parsers.expat import ExpatError
 
 sys.dont_write_bytecode = True
 TOP = os.path.dirname(os.path.dirname(os.path.abspath(__file__)))
 SECONDS = 120
+# what there is in a picture
+TAGS = {"svg", "title", "style", "defs", "marker", "path", "rect", "g", "line", "circle", "text"}
 
 
 def program_of(program, words):
@@ -64,6 +68,9 @@ class Row:
     # whether the output has only to begin so, and how the fault output has to end behind what is told, where it may say more
     is_begun: bool = False
     rest: bytes | None = None
+    # what printed lines have to have in them too; of a picture, what has to stand in one of its texts each, and no other bytes are wanted
+    says: list = field(default_factory=list)
+    is_picture: bool = False
 
     def run(self, program):
         """Returns what is wrong with a run of the program, or nothing."""
@@ -91,9 +98,24 @@ class Row:
         is_told = told == self.told if self.rest is None else told.startswith(self.told) and told.endswith(self.rest)
         if not is_told:
             return f"standard error has {told[:200]!r} and not {self.told[:200]!r}"
+        unsaid = self.unsaid(wrote)
+        if unsaid or self.is_picture:
+            return unsaid
         if wrote != self.wanted and wrote not in self.others and not (self.is_begun and wrote.startswith(self.wanted)):
             at = next((place for place, (a, b) in enumerate(zip(wrote, self.wanted)) if a != b), min(len(wrote), len(self.wanted)))
             return f"standard output has {len(wrote)} bytes and not {len(self.wanted)}, or differs first in line {wrote[:at].count(10) + 1}: {wrote[at : at + 80]!r} and not {self.wanted[at : at + 80]!r}"
+        return ""
+
+    def unsaid(self, wrote):
+        """Returns what the output has to say and doesn't, or nothing."""
+        if self.says and not re.fullmatch(rb"[ -~\n]*\n", wrote):
+            return "standard output has bytes that aren't printed, or doesn't end its last line"
+        texts = texts_in(wrote) if self.is_picture else [wrote.decode(errors="replace")]
+        if not texts:
+            return f"standard output is no picture: {wrote[:80]!r} .. {wrote[-80:]!r}"
+        for words in self.says:
+            if not any(words in it for it in texts):
+                return f"standard output doesn't say {words[:200]!r}"
         return ""
 
     def one(self, program, words, given, redirect, folder=None):
@@ -105,6 +127,17 @@ class Row:
         except subprocess.TimeoutExpired:
             return None, b"", b"it had not ended after %d seconds" % SECONDS
         return ran.returncode, ran.stdout, ran.stderr
+
+
+def texts_in(wrote):
+    """The texts in a picture, as a reader of XML has them; none where it isn't one."""
+    try:
+        elements = minidom.parseString(wrote).getElementsByTagName("*")
+    except ExpatError:
+        return []
+    if elements[0].tagName != "svg" or not {it.tagName for it in elements} <= TAGS:
+        return []
+    return ["".join(part.data for part in it.childNodes if part.nodeType == part.TEXT_NODE) for it in elements if it.tagName in ("title", "text")]
 
 
 def text(folder, name):
@@ -187,10 +220,11 @@ def every():
     sys.path.insert(0, f"{TOP}/.ci")
     import cases
     import made
+    import odd
     import words
 
     yield from stored()
-    yield from (Row(**it) for it in (*words.every(), *cases.every()))
+    yield from (Row(**it) for it in (*words.every(), *cases.every(), *odd.every()))
     yield from written()
     for name, script, report in (*made.every(), *cases.played()):
         yield from played(name, script, report)

@@ -108,15 +108,12 @@ fn add_lives(shapes: &mut Vec<Shape>, scene: &Scene<'_>, bottom: u64) -> Result<
 
 // The words that are shown: all, or where they are long their beginning.
 fn shown(alloc: Global, replica: ReplicaId, entry: &Entry) -> Result<Vec<u8>, AllocError> {
-    let words = told(alloc, replica, entry)?;
-    match words.get(..SHOWN) {
-        None => Ok(words),
-        Some(beginning) => {
-            let mut cut = Vec::from_slice(alloc, beginning)?;
-            cut.extend_from_slice(b"...")?;
-            Ok(cut)
-        }
+    let mut words = told(alloc, replica, entry)?;
+    if words.len() > SHOWN {
+        words.truncate(SHOWN);
+        words.extend_from_slice(b"...")?;
     }
+    Ok(words)
 }
 
 // Draws the stamp of a row.

@@ -49,11 +49,12 @@ impl<'a> Plan<'a> {
 
     /// The line of a node as it is shown in a box of so many nodes: cut where it is long.
     pub fn shown(&self, alloc: Global, node: usize, count: usize) -> Result<Vec<u8>, AllocError> {
-        let words = self.told(alloc, node, count > 1)?;
-        match words.get(..SHOWN) {
-            None => Ok(words),
-            Some(beginning) => cut(alloc, beginning),
+        let mut words = self.told(alloc, node, count > 1)?;
+        if words.len() > SHOWN {
+            words.truncate(SHOWN);
+            words.extend_from_slice(b"...")?;
         }
+        Ok(words)
     }
 
     /// The line of a node: its instance, its command and its seq, and what it depends on where it isn't alone.
@@ -69,12 +70,6 @@ impl<'a> Plan<'a> {
         }
         Ok(words)
     }
-}
-
-fn cut(alloc: Global, beginning: &[u8]) -> Result<Vec<u8>, AllocError> {
-    let mut words = Vec::from_slice(alloc, beginning)?;
-    words.extend_from_slice(b"...")?;
-    Ok(words)
 }
 
 fn push_decree(words: &mut Vec<u8>, decree: &Decree, whole: bool) -> Result<(), AllocError> {
