@@ -1,8 +1,8 @@
 //! Dependency graphs.
 
-ghost use Rattle.std.specs.Prelude.{◌≡◌, ◌++◌, IfOk, OnOk};
+ghost use Rattle.std.specs.Prelude.{◌≡◌, ◌++◌, IfOk, IfErr, OnOk};
 ghost use Rattle.ep_svg.specs.Shapes.{shapes_text};
-ghost use Rattle.ep_graph.specs.Graphs.{measured, viewed, front, opening, IsGraphFile};
+ghost use Rattle.ep_graph.specs.Graphs.{measured, viewed, front, opening, IsGraphFile, IsMore};
 
 use crate::graph_fault::GraphFault;
 use crate::layers::Layers;
@@ -272,7 +272,8 @@ fn drawn(alloc: Global, plan: &Plan<'_>) -> Result<Vec<u8>, AllocError>
 ///
 /// `TooMany` where more than 2,000 are committed or depended on.
 pub fn graph(alloc: Global, journals: &Journals) -> Result<Vec<u8>, GraphFault>
-    ensures { IfOk result (λ text. IsGraphFile text.items) }
+    ensures drawn { IfOk result (λ text. IsGraphFile text.items) }
+    ensures refused { IfErr result (λ fault. IsMore 2000 fault) }
 {
     let verdict = Verdict::of(alloc, journals)?;
     let reach = Reach::of(alloc, &verdict.committed, MOST)?;
