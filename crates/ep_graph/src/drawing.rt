@@ -19,7 +19,7 @@ use std::alloc::{AllocError, Global};
 /// How many instances a graph shows.
 const MOST: usize = 2000;
 /// How wide a graph is at least.
-const WIDTH: u64 = 880;
+const WIDTH: u64 = 940;
 
 /// What is drawn.
 #[derive(Drop)]
