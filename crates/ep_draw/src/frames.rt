@@ -1,6 +1,7 @@
 //! The frames of a diagram: an arrow from the entry that sent a frame to each entry that handled it, a cross where none did.
 
 use crate::scene::{Scene, handles};
+use crate::way::Way;
 use ep_base::ReplicaId;
 use ep_frame::Frame;
 use ep_journal::{Entry, Event};
@@ -9,19 +10,16 @@ use ep_svg::{Arrow, Fate, Kind, Point};
 use ep_words::{push_message, push_origin};
 use std::alloc::{AllocError, Global};
 
-/// The way of a frame, from its sender's place towards its receiver's.
-#[derive(Clone, Copy)]
-struct Way {
-    from: Point,
-    to: Point,
-    fate: Fate,
-    is_fault: bool,
-}
-
-// How far beside a replica's line, and how far below its sender, a frame ends that isn't handled in the picture.
+// How far beside a replica's line a frame ends, or begins, that isn't handled, or sent, in the picture.
 const BESIDE: u64 = 26;
 
-const BELOW: u64 = 14;
+// How far such a frame falls on its way to the next replica. To one farther away it falls less, so that no two lie on each other.
+const FALL: u64 = 20;
+
+fn fall_of(frame: &Frame) -> u64 {
+    let columns = u64::from(frame.from().index()).abs_diff(u64::from(frame.origin().to.index()));
+    FALL / columns.max(1)
+}
 
 // Which frame it is, what it says, and what became of it.
 fn push_told(text: &mut Vec<u8>, frame: &Frame, fate: Fate) -> Result<(), AllocError> {
@@ -72,7 +70,12 @@ fn label_at(way: Way, label: &[u8]) -> Point {
     }
 }
 
-fn arrow_of(alloc: Global, frame: &Frame, way: Way) -> Result<Arrow, AllocError> {
+fn arrow_of(
+    alloc: Global,
+    scene: &Scene<'_>,
+    frame: &Frame,
+    way: Way,
+) -> Result<Arrow, AllocError> {
     let label = label_of(alloc, frame)?;
     let words = words_of(alloc, frame, way.fate)?;
     Ok(Arrow {
@@ -81,14 +84,20 @@ fn arrow_of(alloc: Global, frame: &Frame, way: Way) -> Result<Arrow, AllocError>
         is_fault: way.is_fault,
         from: way.from,
         to: way.to,
+        via: way.via(scene),
         at: label_at(way, &label),
         label,
         words,
     })
 }
 
-fn add_way(arrows: &mut Vec<Arrow>, frame: &Frame, way: Way) -> Result<(), AllocError> {
-    let arrow = arrow_of(*arrows.allocator(), frame, way)?;
+fn add_way(
+    arrows: &mut Vec<Arrow>,
+    scene: &Scene<'_>,
+    frame: &Frame,
+    way: Way,
+) -> Result<(), AllocError> {
+    let arrow = arrow_of(*arrows.allocator(), scene, frame, way)?;
     arrows.push(arrow)?;
     Ok(())
 }
@@ -119,7 +128,7 @@ fn way_out(scene: &Scene<'_>, frame: &Frame) -> Option<Way> {
     };
     let receiver = Point {
         x: scene.layout().column(frame.origin().to),
-        y: from.y.saturating_add(BELOW),
+        y: from.y.saturating_add(fall_of(frame)),
     };
     Some(Way {
         from,
@@ -134,7 +143,7 @@ fn add_sent(arrows: &mut Vec<Arrow>, scene: &Scene<'_>, frame: &Frame) -> Result
     let mut met = false;
     for row in 0..scene.rows.len() {
         if let Some(way) = way_to(scene, row, frame) {
-            add_way(arrows, frame, way)?;
+            add_way(arrows, scene, frame, way)?;
             met = true;
         }
     }
@@ -142,7 +151,7 @@ fn add_sent(arrows: &mut Vec<Arrow>, scene: &Scene<'_>, frame: &Frame) -> Result
         return Ok(());
     }
     match way_out(scene, frame) {
-        Some(way) => add_way(arrows, frame, way),
+        Some(way) => add_way(arrows, scene, frame, way),
         None => Ok(()),
     }
 }
@@ -165,7 +174,7 @@ fn way_in(scene: &Scene<'_>, row: usize, place: &(ReplicaId, u32), frame: &Frame
     };
     let (from, fate) = match scene.sender(frame) {
         Some(sender) => (sender, Fate::Changed),
-        None => (line.short_of(to, BESIDE, BELOW), Fate::Enters),
+        None => (line.short_of(to, BESIDE, fall_of(frame)), Fate::Enters),
     };
     Way {
         from,
@@ -186,7 +195,7 @@ fn add_met(
         return Ok(());
     }
     match scene.rows.get(row) {
-        Some(place) => add_way(arrows, frame, way_in(scene, row, place, frame)),
+        Some(place) => add_way(arrows, scene, frame, way_in(scene, row, place, frame)),
         None => Ok(()),
     }
 }

@@ -31,11 +31,34 @@ fn add_plain(shapes: &mut Vec<Shape>, y: u64, words: &[u8]) -> Result<(), AllocE
     add_words(shapes, Look::Plain, Point { x: 24, y }, words)
 }
 
-// How many events of how many replicas there are.
+// How many entries the journals have.
+fn count_of(scene: &Scene<'_>) -> usize {
+    let mut count = 0usize;
+    for index in 0..scene.journals.size().count() {
+        if let Ok(replica) = ReplicaId::new(index) {
+            if let Some(journal) = scene.journals.get(replica) {
+                count = count.saturating_add(journal.entries().len());
+            }
+        }
+    }
+    count
+}
+
+// How many events of how many replicas there are, and of a part, of how many.
 fn title_of(alloc: Global, scene: &Scene<'_>) -> Result<Vec<u8>, AllocError> {
     let mut words = Vec::new(alloc);
+    let count = count_of(scene);
     push_number(&mut words, scene.rows.len() as u64)?;
-    words.extend_from_slice(b" events of ")?;
+    if count > scene.rows.len() {
+        words.extend_from_slice(b" of ")?;
+        push_number(&mut words, count as u64)?;
+    }
+    let events = if count == 1 {
+        b" event of ".as_slice()
+    } else {
+        b" events of ".as_slice()
+    };
+    words.extend_from_slice(events)?;
     push_number(&mut words, u64::from(scene.journals.size().count()))?;
     words.extend_from_slice(b" replicas")?;
     Ok(words)
@@ -51,7 +74,7 @@ fn alarm_of(alloc: Global, fault: &AuditFault) -> Result<Vec<u8>, AllocError> {
 
 fn add_alarm(shapes: &mut Vec<Shape>, fault: &AuditFault) -> Result<(), AllocError> {
     let words = alarm_of(*shapes.allocator(), fault)?;
-    add_words(shapes, Look::Alarm, Point { x: 300, y: 28 }, words)
+    add_words(shapes, Look::Alarm, Point { x: 360, y: 28 }, words)
 }
 
 // Says what the picture is, and the audit's first fault.
@@ -65,12 +88,12 @@ fn add_heading(
     add_plain(
         shapes,
         52,
-        b"Time runs downwards, an event a row, in the order of the stamps at the left. At the right stands what happened:",
+        b"Time runs downwards, one event to a row, in the order of the stamps on the left. On the right stands what happened:",
     )?;
     add_plain(
         shapes,
         70,
-        b"0:2 is replica 0's entry 2, and 0:2:1 the frame 1, from 0, that it sent. A dot or an arrow tells all of it where the pointer rests.",
+        b"0:2 is entry 2 of replica 0, 0:2:0 the first frame that it sent, and 0:2:1 the second. Point at a dot or an arrow to read all of it.",
     )?;
     match fault {
         Some(fault) => add_alarm(shapes, fault),

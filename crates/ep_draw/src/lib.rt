@@ -13,6 +13,7 @@ mod layout;
 mod picture;
 mod scene;
 mod style;
+mod way;
 mod words;
 
 pub use draw_fault::DrawFault;

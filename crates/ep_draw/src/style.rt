@@ -19,35 +19,35 @@ text{font:12px ui-monospace,'DejaVu Sans Mono',Menlo,Consolas,monospace;fill:#22
 .handle{fill:#fff}
 .giveup,.recover{fill:#bbb}
 .execute{fill:#fff;stroke-width:4}
-.frame line{stroke:currentColor;stroke-width:1.8;fill:none}
-.frame text{fill:currentColor;font-size:11px;font-weight:bold;text-anchor:middle;paint-order:stroke;stroke:#fff;stroke-width:4px;stroke-linejoin:round}
+.frame path{stroke:currentColor;stroke-width:1.8;fill:none}
+.label text{fill:currentColor;font-size:11px;font-weight:bold;text-anchor:middle;paint-order:stroke;stroke:#fff;stroke-width:9px;stroke-linejoin:round}
 .preaccept{color:#0b62a8}
-.preaccept line{marker-end:url(#preaccept)}
+.preaccept path{marker-end:url(#preaccept)}
 .preacceptok{color:#0b62a8}
-.preacceptok line{stroke-dasharray:7 4;marker-end:url(#preacceptok)}
+.preacceptok path{stroke-dasharray:7 4;marker-end:url(#preacceptok)}
 .accept{color:#a04a00}
-.accept line{marker-end:url(#accept)}
+.accept path{marker-end:url(#accept)}
 .acceptok{color:#a04a00}
-.acceptok line{stroke-dasharray:7 4;marker-end:url(#acceptok)}
+.acceptok path{stroke-dasharray:7 4;marker-end:url(#acceptok)}
 .commit{color:#0a7a4b}
-.commit line{stroke-width:3;marker-end:url(#commit)}
+.commit path{stroke-width:3;marker-end:url(#commit)}
 .prepare{color:#7a2ea0}
-.prepare line{marker-end:url(#prepare)}
+.prepare path{marker-end:url(#prepare)}
 .prepareok{color:#7a2ea0}
-.prepareok line{stroke-dasharray:7 4;marker-end:url(#prepareok)}
+.prepareok path{stroke-dasharray:7 4;marker-end:url(#prepareok)}
 .nack{color:#444}
-.nack line{stroke-dasharray:2 4;marker-end:url(#nack)}
-.preaccept.leaves line{marker-end:url(#preaccept-out)}
-.preacceptok.leaves line{marker-end:url(#preacceptok-out)}
-.accept.leaves line{marker-end:url(#accept-out)}
-.acceptok.leaves line{marker-end:url(#acceptok-out)}
-.commit.leaves line{marker-end:url(#commit-out)}
-.prepare.leaves line{marker-end:url(#prepare-out)}
-.prepareok.leaves line{marker-end:url(#prepareok-out)}
-.nack.leaves line{marker-end:url(#nack-out)}
-.lost line{marker-end:url(#lost)}
+.nack path{stroke-dasharray:2 4;marker-end:url(#nack)}
+.preaccept.leaves path{marker-end:url(#preaccept-out)}
+.preacceptok.leaves path{marker-end:url(#preacceptok-out)}
+.accept.leaves path{marker-end:url(#accept-out)}
+.acceptok.leaves path{marker-end:url(#acceptok-out)}
+.commit.leaves path{marker-end:url(#commit-out)}
+.prepare.leaves path{marker-end:url(#prepare-out)}
+.prepareok.leaves path{marker-end:url(#prepareok-out)}
+.nack.leaves path{marker-end:url(#nack-out)}
+.lost path{marker-end:url(#lost)}
 .fault{color:#d00000}
-.fault line{stroke-width:3.5;marker-end:url(#fault)}
+.fault path{stroke-width:3.5;marker-end:url(#fault)}
 </style>
 <defs>
 <marker id='preaccept' markerUnits='userSpaceOnUse' markerWidth='12' markerHeight='10' refX='18' refY='5' orient='auto'><path d='M0 0L11 5L0 10z' fill='#0b62a8'/></marker>
@@ -74,17 +74,17 @@ text{font:12px ui-monospace,'DejaVu Sans Mono',Menlo,Consolas,monospace;fill:#22
 
 /// The key: what lines and dots mean.
 pub(crate) const KEY: &[u8] = b"<g>
-<g class='frame preaccept leaves'><line x1='24' y1='104' x2='98' y2='104'/><text x='54' y='108'>PA</text></g><text x='108' y='108'>PreAccept</text>
-<g class='frame preacceptok leaves'><line x1='236' y1='104' x2='310' y2='104'/><text x='266' y='108'>PAok</text></g><text x='320' y='108'>PreAcceptOK</text>
-<g class='frame accept leaves'><line x1='448' y1='104' x2='522' y2='104'/><text x='478' y='108'>A</text></g><text x='532' y='108'>Accept</text>
-<g class='frame acceptok leaves'><line x1='660' y1='104' x2='734' y2='104'/><text x='690' y='108'>Aok</text></g><text x='744' y='108'>AcceptOK</text>
-<g class='frame commit leaves'><line x1='24' y1='130' x2='98' y2='130'/><text x='54' y='134'>C</text></g><text x='108' y='134'>Commit</text>
-<g class='frame prepare leaves'><line x1='236' y1='130' x2='310' y2='130'/><text x='266' y='134'>P</text></g><text x='320' y='134'>Prepare</text>
-<g class='frame prepareok leaves'><line x1='448' y1='130' x2='522' y2='130'/><text x='478' y='134'>Pok</text></g><text x='532' y='134'>PrepareOK</text>
-<g class='frame nack leaves'><line x1='660' y1='130' x2='734' y2='130'/><text x='690' y='134'>N</text></g><text x='744' y='134'>Nack</text>
-<g class='frame nack lost'><line x1='24' y1='156' x2='88' y2='156' style='stroke-dasharray:none'/></g><text x='108' y='160'>never handled</text>
-<g class='frame nack leaves'><line x1='236' y1='156' x2='276' y2='156' style='stroke-dasharray:none'/></g><text x='320' y='160'>not in this part</text>
-<g class='frame fault'><line x1='448' y1='156' x2='510' y2='156'/></g><circle class='ring' cx='510' cy='156' r='11'/><circle class='dot handle' cx='510' cy='156' r='6'/><text x='532' y='160'>the audit's fault</text>
+<g class='frame preaccept leaves'><path d='M24 104H98'/></g><g class='label preaccept'><text x='54' y='108'>PA</text></g><text x='108' y='108'>PreAccept</text>
+<g class='frame preacceptok leaves'><path d='M236 104H310'/></g><g class='label preacceptok'><text x='266' y='108'>PAok</text></g><text x='320' y='108'>PreAcceptOK</text>
+<g class='frame accept leaves'><path d='M448 104H522'/></g><g class='label accept'><text x='478' y='108'>A</text></g><text x='532' y='108'>Accept</text>
+<g class='frame acceptok leaves'><path d='M660 104H734'/></g><g class='label acceptok'><text x='690' y='108'>Aok</text></g><text x='744' y='108'>AcceptOK</text>
+<g class='frame commit leaves'><path d='M24 130H98'/></g><g class='label commit'><text x='54' y='134'>C</text></g><text x='108' y='134'>Commit</text>
+<g class='frame prepare leaves'><path d='M236 130H310'/></g><g class='label prepare'><text x='266' y='134'>P</text></g><text x='320' y='134'>Prepare</text>
+<g class='frame prepareok leaves'><path d='M448 130H522'/></g><g class='label prepareok'><text x='478' y='134'>Pok</text></g><text x='532' y='134'>PrepareOK</text>
+<g class='frame nack leaves'><path d='M660 130H734'/></g><g class='label nack'><text x='690' y='134'>N</text></g><text x='744' y='134'>Nack</text>
+<g class='frame nack lost'><path d='M24 156H88' style='stroke-dasharray:none'/></g><text x='108' y='160'>never handled</text>
+<g class='frame nack leaves'><path d='M236 156H276' style='stroke-dasharray:none'/></g><text x='320' y='160'>not in this part</text>
+<g class='frame fault'><path d='M448 156H510'/></g><circle class='ring' cx='510' cy='156' r='11'/><circle class='dot handle' cx='510' cy='156' r='6'/><text x='532' y='160'>the audit's fault</text>
 <circle class='dot propose' cx='86' cy='182' r='6'/><text x='108' y='186'>propose</text>
 <circle class='dot handle' cx='298' cy='182' r='6'/><text x='320' y='186'>handle a frame</text>
 <circle class='dot recover' cx='510' cy='182' r='6'/><text x='532' y='186'>give up, recover</text>

@@ -1,7 +1,9 @@
--- What the file of a graph has.
-use Rattle.std.specs.Prelude.{◌≡◌, ℕ, List, ◌++◌, codes, decimal}
+-- What the file of a graph has, and when there is none.
+use Rattle.std.specs.Prelude.{◌≡◌, ◌<◌, ℕ, List, ◌++◌, codes, decimal}
 use Rattle.ep_svg.specs.Shapes.{attribute, shapes_text}
 use Rattle.ep_graph.specs.declared.drawing.Picture.{Picture}
+use Rattle.ep_graph.specs.declared.graph_fault.GraphFault.{GraphFault}
+use Rattle.ep_graph.specs.declared.graph_fault.GraphFault.TheVariants.{Memory, TooMany}
 use Rattle.ep_graph.specs.declared.style.TheConstants.{STYLE}
 
 abbrev pub measured : ℕ → ℕ → List ℕ
@@ -21,3 +23,8 @@ opening p = measured p.width p.height ++ viewed p.width p.height ++ front
 pub record IsGraphFile (svg : List ℕ) : Type 0 where
   pub picture : Picture
   pub text : svg ≡ opening picture ++ shapes_text picture.shapes.items ++ codes "</svg>\n"
+
+-- why nothing is drawn: the number told is more than the most that are shown
+abbrev pub IsMore : ℕ → GraphFault → Type 0
+IsMore most Memory = Unit {0}
+IsMore most (TooMany n) = most < n

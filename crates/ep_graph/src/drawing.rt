@@ -1,8 +1,8 @@
 //! Dependency graphs.
 
-ghost use Rattle.std.specs.Prelude.{◌≡◌, ◌++◌, IfOk, OnOk};
+ghost use Rattle.std.specs.Prelude.{◌≡◌, ◌++◌, IfOk, IfErr, OnOk};
 ghost use Rattle.ep_svg.specs.Shapes.{shapes_text};
-ghost use Rattle.ep_graph.specs.Graphs.{measured, viewed, front, opening, IsGraphFile};
+ghost use Rattle.ep_graph.specs.Graphs.{measured, viewed, front, opening, IsGraphFile, IsMore};
 
 use crate::graph_fault::GraphFault;
 use crate::layers::Layers;
@@ -19,7 +19,7 @@ use std::alloc::{AllocError, Global};
 /// How many instances a graph shows.
 const MOST: usize = 2000;
 /// How wide a graph is at least.
-const WIDTH: u64 = 880;
+const WIDTH: u64 = 940;
 
 /// What is drawn.
 #[derive(Drop)]
@@ -47,7 +47,12 @@ fn add_plain(shapes: &mut Vec<Shape>, y: u64, words: &[u8]) -> Result<(), AllocE
 fn title_of(alloc: Global, count: usize) -> Result<Vec<u8>, AllocError> {
     let mut words = Vec::new(alloc);
     push_number(&mut words, count as u64)?;
-    words.extend_from_slice(b" committed instances")?;
+    let instances = if count == 1 {
+        b" committed instance".as_slice()
+    } else {
+        b" committed instances".as_slice()
+    };
+    words.extend_from_slice(instances)?;
     Ok(words)
 }
 
@@ -58,17 +63,17 @@ fn add_heading(shapes: &mut Vec<Shape>, count: usize) -> Result<(), AllocError> 
     add_plain(
         shapes,
         52,
-        b"What stands above is executed first. An arrow leads to what an instance depends on; to what that depends on",
+        b"Execution goes from the top down. An arrow points to what an instance depends on; an arrow that others imply is left out.",
     )?;
     add_plain(
         shapes,
         70,
-        b"in turn no arrow is drawn. Instances in one box depend on each other: they are executed one after the other,",
+        b"Instances in one box depend on each other, and are executed in this order: by seq, and then by instance.",
     )?;
     add_plain(
         shapes,
         88,
-        b"from the top, by seq and then by instance. A box of dashes is an instance that isn't committed.",
+        b"A dashed box is an instance that isn't committed: what points to it can't be executed yet.",
     )
 }
 
@@ -140,7 +145,7 @@ fn add_lines(
     Ok(())
 }
 
-// Draws a box.
+// Draws a box, without its lines.
 fn add_box(shapes: &mut Vec<Shape>, plan: &Plan<'_>, place: Place) -> Result<(), AllocError> {
     let members = plan.members(*shapes.allocator(), place.first)?;
     shapes.push(Shape::Rect {
@@ -148,7 +153,26 @@ fn add_box(shapes: &mut Vec<Shape>, plan: &Plan<'_>, place: Place) -> Result<(),
         at: place.at,
         extent: place.extent,
     })?;
-    add_lines(shapes, plan, &members, place.at)
+    Ok(())
+}
+
+fn add_boxes(shapes: &mut Vec<Shape>, plan: &Plan<'_>, places: &[Place]) -> Result<(), AllocError> {
+    for place in places {
+        add_box(shapes, plan, *place)?;
+    }
+    Ok(())
+}
+
+fn add_all_lines(
+    shapes: &mut Vec<Shape>,
+    plan: &Plan<'_>,
+    places: &[Place],
+) -> Result<(), AllocError> {
+    for place in places {
+        let members = plan.members(*shapes.allocator(), place.first)?;
+        add_lines(shapes, plan, &members, place.at)?;
+    }
+    Ok(())
 }
 
 // How wide the boxes reach.
@@ -163,11 +187,10 @@ fn width_of(places: &[Place]) -> u64 {
 
 fn add_graph(shapes: &mut Vec<Shape>, plan: &Plan<'_>, places: &[Place]) -> Result<(), AllocError> {
     add_heading(shapes, plan.committed.len())?;
+    add_boxes(shapes, plan, places)?;
+    // An arrow goes over the boxes between, so that it doesn't seem to begin at one of them.
     add_arrows(shapes, &plan.layers.edges, places)?;
-    for place in places {
-        add_box(shapes, plan, *place)?;
-    }
-    Ok(())
+    add_all_lines(shapes, plan, places)
 }
 
 fn picture_of(alloc: Global, plan: &Plan<'_>) -> Result<Picture, AllocError> {
@@ -249,7 +272,8 @@ fn drawn(alloc: Global, plan: &Plan<'_>) -> Result<Vec<u8>, AllocError>
 ///
 /// `TooMany` where more than 2,000 are committed or depended on.
 pub fn graph(alloc: Global, journals: &Journals) -> Result<Vec<u8>, GraphFault>
-    ensures { IfOk result (λ text. IsGraphFile text.items) }
+    ensures drawn { IfOk result (λ text. IsGraphFile text.items) }
+    ensures refused { IfErr result (λ fault. IsMore 2000 fault) }
 {
     let verdict = Verdict::of(alloc, journals)?;
     let reach = Reach::of(alloc, &verdict.committed, MOST)?;

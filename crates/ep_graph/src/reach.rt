@@ -1,5 +1,8 @@
 //! What reaches what.
 
+ghost use Rattle.std.specs.Prelude.{IfErr};
+ghost use Rattle.ep_graph.specs.Graphs.{IsMore};
+
 use crate::graph_fault::GraphFault;
 use crate::marks::Marks;
 use ep_base::{Decree, Deps, InstanceId};
@@ -42,7 +45,9 @@ impl Reach {
         alloc: Global,
         committed: &[(InstanceId, Decree)],
         most: usize,
-    ) -> Result<Reach, GraphFault> {
+    ) -> Result<Reach, GraphFault>
+        ensures { IfErr result (λ fault. IsMore most fault) }
+    {
         let nodes = named(alloc, committed)?;
         if nodes.len() > most {
             return Err(GraphFault::TooMany(nodes.len()));

@@ -4,7 +4,7 @@
 pub(crate) const STYLE: &[u8] = b">
 <title>Dependency graph</title>
 <style>
-text{font:12px ui-monospace,'DejaVu Sans Mono',Menlo,Consolas,monospace;fill:#222;white-space:pre}
+text{font:12px ui-monospace,'DejaVu Sans Mono',Menlo,Consolas,monospace;fill:#222;white-space:pre;paint-order:stroke;stroke:#fff;stroke-opacity:.7;stroke-width:3px;stroke-linejoin:round}
 .title{font-size:16px;font-weight:bold}
 rect{fill:#fff;stroke:#222;stroke-width:1.5}
 .together{fill:#eef4fb;stroke-width:3}

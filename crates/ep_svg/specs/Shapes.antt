@@ -22,6 +22,13 @@ ends from to = attribute (codes " x1='") from.x ++ attribute (codes " y1='") fro
 abbrev pub corner : Point → List ℕ
 corner at = attribute (codes " x='") at.x ++ attribute (codes " y='") at.y
 
+abbrev pub point_text : List ℕ → Point → List ℕ
+point_text start p = start ++ decimal p.x ++ codes " " ++ decimal p.y
+
+-- the way from a point to another one, which bends towards the one between
+abbrev pub curve : Point → Point → Point → List ℕ
+curve from via to = point_text (codes " d='M") from ++ point_text (codes "Q") via ++ point_text (codes " ") to ++ codes "'"
+
 -- how wide and how high
 abbrev pub measures : Point → List ℕ
 measures extent = attribute (codes " width='") extent.x ++ attribute (codes " height='") extent.y
@@ -88,14 +95,36 @@ abbrev pub arrow_class : Arrow → List ℕ
 arrow_class a = codes "<g class='frame " ++ kind_class a.kind ++ end_class a
 
 abbrev pub arrow_title : Arrow → List ℕ
-arrow_title a = codes "'><title>" ++ escaped a.words.items ++ codes "</title><line"
+arrow_title a = codes "'><title>" ++ escaped a.words.items ++ codes "</title>"
 
-abbrev pub arrow_label : Arrow → List ℕ
-arrow_label a = codes "/><text" ++ standing a.at ++ escaped a.label.items ++ codes "</text></g>\n"
+abbrev pub arrow_path : Arrow → List ℕ
+arrow_path a = codes "<path" ++ curve a.from a.via a.to ++ codes "/></g>\n"
 
-abbrev pub arrow_text : Arrow → List ℕ
-arrow_text a = arrow_class a ++ arrow_title a ++ ends a.from a.to ++ arrow_label a
+-- the line of an arrow
+abbrev pub way_text : Arrow → List ℕ
+way_text a = arrow_class a ++ arrow_title a ++ arrow_path a
 
-abbrev pub arrows_text : List Arrow → List ℕ
-arrows_text [] = []
-arrows_text (a ∷ more) = arrow_text a ++ arrows_text more
+abbrev pub ways_text : List Arrow → List ℕ
+ways_text [] = []
+ways_text (a ∷ more) = way_text a ++ ways_text more
+
+abbrev pub label_kind : Arrow → List ℕ
+label_kind a = kind_class a.kind ++ alarm_class a.is_fault
+
+abbrev pub label_class : Arrow → List ℕ
+label_class a = codes "<g class='label " ++ label_kind a
+
+abbrev pub label_words : Arrow → List ℕ
+label_words a = codes "<text" ++ standing a.at ++ escaped a.label.items ++ codes "</text></g>\n"
+
+-- the label of an arrow
+abbrev pub label_text : Arrow → List ℕ
+label_text a = label_class a ++ arrow_title a ++ label_words a
+
+abbrev pub labels_text : List Arrow → List ℕ
+labels_text [] = []
+labels_text (a ∷ more) = label_text a ++ labels_text more
+
+-- all lines, and above them all labels
+unfoldable pub arrows_text : List Arrow → List ℕ
+arrows_text arrows = ways_text arrows ++ labels_text arrows

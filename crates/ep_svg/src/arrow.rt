@@ -1,9 +1,9 @@
 //! Arrows.
 
 ghost use Rattle.std.specs.Prelude.{◌≡◌, ◌++◌, OnOk};
-ghost use Rattle.ep_svg.specs.Shapes.{kind_class, fate_class, alarm_class, end_class, arrow_class, arrow_title, arrow_label, arrow_text, arrows_text};
+ghost use Rattle.ep_svg.specs.Shapes.{kind_class, fate_class, alarm_class, end_class, arrow_class, arrow_title, arrow_path, way_text, ways_text, label_kind, label_class, label_words, label_text, labels_text, arrows_text};
 
-use crate::attributes::{push_ends, push_standing};
+use crate::attributes::{push_curve, push_standing};
 use crate::escaping::push_escaped;
 use crate::fate::Fate;
 use crate::kind::Kind;
@@ -19,6 +19,8 @@ pub struct Arrow {
     pub is_fault: bool,
     pub from: Point,
     pub to: Point,
+    /// What its line bends towards on the way: a point halfway, where it is straight.
+    pub via: Point,
     /// Where its label stands.
     pub at: Point,
     /// Its kind and its instance.
@@ -83,33 +85,82 @@ fn push_title(text: &mut Vec<u8>, arrow: &Arrow) -> Result<(), AllocError>
 {
     text.extend_from_slice(b"'><title>")?;
     push_escaped(text, &arrow.words)?;
-    text.extend_from_slice(b"</title><line")
+    text.extend_from_slice(b"</title>")
 }
 
-fn push_label(text: &mut Vec<u8>, arrow: &Arrow) -> Result<(), AllocError>
-    ensures { OnOk result (text.new.items ≡ text.old.items ++ arrow_label arrow.now) }
+fn push_path(text: &mut Vec<u8>, arrow: &Arrow) -> Result<(), AllocError>
+    ensures { OnOk result (text.new.items ≡ text.old.items ++ arrow_path arrow.now) }
 {
-    text.extend_from_slice(b"/><text")?;
+    text.extend_from_slice(b"<path")?;
+    push_curve(text, arrow.from, arrow.via, arrow.to)?;
+    text.extend_from_slice(b"/></g>\n")
+}
+
+// Appends its line.
+fn push_way(text: &mut Vec<u8>, arrow: &Arrow) -> Result<(), AllocError>
+    ensures { OnOk result (text.new.items ≡ text.old.items ++ way_text arrow.now) }
+{
+    push_class(text, arrow)?;
+    push_title(text, arrow)?;
+    push_path(text, arrow)
+}
+
+fn push_ways(text: &mut Vec<u8>, arrows: &[Arrow]) -> Result<(), AllocError>
+    ensures { OnOk result (text.new.items ≡ text.old.items ++ ways_text arrows.now) }
+{
+    for arrow in arrows {
+        push_way(text, arrow)?;
+    }
+    Ok(())
+}
+
+// Appends the classes of its label, by which it has its colour.
+fn push_label_kind(text: &mut Vec<u8>, arrow: &Arrow) -> Result<(), AllocError>
+    ensures { OnOk result (text.new.items ≡ text.old.items ++ label_kind arrow.now) }
+{
+    text.extend_from_slice(kind_class(arrow.kind))?;
+    text.extend_from_slice(alarm_class(arrow.is_fault))
+}
+
+fn push_label_class(text: &mut Vec<u8>, arrow: &Arrow) -> Result<(), AllocError>
+    ensures { OnOk result (text.new.items ≡ text.old.items ++ label_class arrow.now) }
+{
+    text.extend_from_slice(b"<g class='label ")?;
+    push_label_kind(text, arrow)
+}
+
+fn push_label_words(text: &mut Vec<u8>, arrow: &Arrow) -> Result<(), AllocError>
+    ensures { OnOk result (text.new.items ≡ text.old.items ++ label_words arrow.now) }
+{
+    text.extend_from_slice(b"<text")?;
     push_standing(text, arrow.at)?;
     push_escaped(text, &arrow.label)?;
     text.extend_from_slice(b"</text></g>\n")
 }
 
-fn push_arrow(text: &mut Vec<u8>, arrow: &Arrow) -> Result<(), AllocError>
-    ensures { OnOk result (text.new.items ≡ text.old.items ++ arrow_text arrow.now) }
+// Appends its label.
+fn push_label(text: &mut Vec<u8>, arrow: &Arrow) -> Result<(), AllocError>
+    ensures { OnOk result (text.new.items ≡ text.old.items ++ label_text arrow.now) }
 {
-    push_class(text, arrow)?;
+    push_label_class(text, arrow)?;
     push_title(text, arrow)?;
-    push_ends(text, arrow.from, arrow.to)?;
-    push_label(text, arrow)
+    push_label_words(text, arrow)
 }
 
-/// Appends arrows, one after the other.
+fn push_labels(text: &mut Vec<u8>, arrows: &[Arrow]) -> Result<(), AllocError>
+    ensures { OnOk result (text.new.items ≡ text.old.items ++ labels_text arrows.now) }
+{
+    for arrow in arrows {
+        push_label(text, arrow)?;
+    }
+    Ok(())
+}
+
+/// Appends arrows: the lines of all, one after the other, and then their labels, so that no line crosses a label.
+#[tactic(auto, unfolding(crate::specs::Shapes::arrows_text))]
 pub fn push_arrows(text: &mut Vec<u8>, arrows: &[Arrow]) -> Result<(), AllocError>
     ensures { OnOk result (text.new.items ≡ text.old.items ++ arrows_text arrows.now) }
 {
-    for arrow in arrows {
-        push_arrow(text, arrow)?;
-    }
-    Ok(())
+    push_ways(text, arrows)?;
+    push_labels(text, arrows)
 }

@@ -1,7 +1,7 @@
 //! Numbers in the attributes of tags.
 
 ghost use Rattle.std.specs.Prelude.{◌≡◌, ◌++◌, OnOk};
-ghost use Rattle.ep_svg.specs.Shapes.{attribute, ends, corner, measures, standing};
+ghost use Rattle.ep_svg.specs.Shapes.{attribute, ends, corner, curve, measures, point_text, standing};
 
 use crate::point::Point;
 use ep_report::push_number;
@@ -25,6 +25,32 @@ pub(crate) fn push_ends(text: &mut Vec<u8>, from: Point, to: Point) -> Result<()
     push_attribute(text, b" y1='", from.y)?;
     push_attribute(text, b" x2='", to.x)?;
     push_attribute(text, b" y2='", to.y)
+}
+
+// Appends a point of a path.
+fn push_point(text: &mut Vec<u8>, start: &[u8], point: Point) -> Result<(), AllocError>
+    ensures { OnOk result (text.new.items ≡ text.old.items ++ point_text start.now point) }
+{
+    text.extend_from_slice(start)?;
+    push_number(text, point.x)?;
+    text.push(b' ')?;
+    push_number(text, point.y)
+}
+
+/// Appends the way from a point to another one, which bends towards the one between.
+pub(crate) fn push_curve(
+    text: &mut Vec<u8>,
+    from: Point,
+    via: Point,
+    to: Point,
+) -> Result<(), AllocError>
+    ensures { OnOk result (text.new.items ≡ text.old.items ++ curve from via to) }
+{
+    push_point(text, b" d='M", from)?;
+    push_point(text, b"Q", via)?;
+    push_point(text, b" ", to)?;
+    text.push(b'\'')?;
+    Ok(())
 }
 
 /// Appends a place.

@@ -15,7 +15,7 @@ use Rattle.ep_script.specs.declared.script_fault.ScriptFault.TheVariants as scri
 use Rattle.ep_viewer.specs.Faults.{of_bundle, of_diagram, of_graph, of_script, is_read, is_write}
 use Rattle.ep_rules.specs.declared.receipt.Receipt.{Receipt}
 use Rattle.ep_viewer.specs.Outputs.{Output, output, Wrote, WroteNothing}
-use Rattle.ep_viewer.specs.Views.{Does, IsCrowded, IsNever, IsShort, IsView, Views, Explains}
+use Rattle.ep_viewer.specs.Views.{Does, IsCrowded, IsMany, IsNever, IsShort, IsView, Views, Explains}
 use Rattle.ep_view.specs.Shown.{IsShown}
 use Rattle.ep_words.specs.declared.part.Part.{Part}
 use Rattle.ep_viewer.specs.declared.asked.Asked.{Asked}
@@ -23,6 +23,7 @@ use Rattle.ep_viewer.specs.declared.asked.Asked.TheVariants.{Show, Draw}
 use Rattle.ep_draw.specs.Drawn.{IsDrawn, IsTooMany, IsRefused}
 use Rattle.ep_draw.specs.declared.draw_fault.DrawFault.{DrawFault}
 use Rattle.ep_draw.specs.declared.draw_fault.DrawFault.TheVariants as draw
+use Rattle.ep_graph.specs.Graphs.{IsMore}
 use Rattle.ep_graph.specs.declared.graph_fault.GraphFault.{GraphFault}
 use Rattle.ep_graph.specs.declared.graph_fault.GraphFault.TheVariants as graph
 use Rattle.ep_viewer.specs.declared.status.Status.{Status}
@@ -131,12 +132,12 @@ diagram_not_written d r had is = as_told is_write (of_diagram d) false had had r
 -- a graph that isn't drawn
 pub graph_crowded :
     (Tells : Collected → List ℕ → Type 0) (d : GraphFault) (r : Result Status Fault) (journals : Collected) (receipts : List Receipt) (end : Left) (zs : List ℕ) (out : Output) →
-    IsErrAnd r (λ e. e ≡ of_graph d) → ReadsBundle (record { at = 0; bytes = zs }) (Ok ((journals, receipts), end)) → WroteNothing out → Views Tells (λ count js. Unit {0}) r zs out
-graph_crowded Tells d (Ok status) journals receipts end zs out is read silent = absurd is
-graph_crowded Tells graph.Memory (Err e) journals receipts end zs out is read silent = subst (λ (x : Fault). Views Tells (λ count js. Unit {0}) (Err x) zs out) (sym is) silent
-graph_crowded Tells (graph.TooMany n) (Err e) journals receipts end zs out is read silent =
-    subst (λ (x : Fault). Views Tells (λ count js. Unit {0}) (Err x) zs out) (sym is)
-    (record { journals = journals; receipts = receipts; end = end; read = read; crowds = tt; silent = silent })
+    IsErrAnd r (λ e. e ≡ of_graph d) → ReadsBundle (record { at = 0; bytes = zs }) (Ok ((journals, receipts), end)) → IsMore 2000 d → WroteNothing out → Views Tells IsMany r zs out
+graph_crowded Tells d (Ok status) journals receipts end zs out is read why silent = absurd is
+graph_crowded Tells graph.Memory (Err e) journals receipts end zs out is read why silent = subst (λ (x : Fault). Views Tells IsMany (Err x) zs out) (sym is) silent
+graph_crowded Tells (graph.TooMany n) (Err e) journals receipts end zs out is read why silent =
+    subst (λ (x : Fault). Views Tells IsMany (Err x) zs out) (sym is)
+    (record { journals = journals; receipts = receipts; end = end; read = read; crowds = why; silent = silent })
 
 read_of_graph : (d : GraphFault) → is_read (of_graph d) ≡ false
 read_of_graph graph.Memory = refl

@@ -1,5 +1,5 @@
 -- What the program does, of the bytes zs that it reads, its output and its fault output.
-use Rattle.std.specs.Prelude.{◌≡◌, ℕ, List, Result, Ok, Err, ◌++◌, codes, string_bytes}
+use Rattle.std.specs.Prelude.{◌≡◌, ◌<◌, ℕ, List, Result, Ok, Err, ◌++◌, codes, string_bytes}
 use Rattle.ep_bundle.specs.Journals.{ReadsBundle}
 use Rattle.ep_bundle.specs.Reading.{Left}
 use Rattle.ep_bundle.specs.declared.bundle_fault.BundleFault.TheVariants as bundle
@@ -116,8 +116,8 @@ Explains (Err Write) zs out = Unit {0}
 abbrev pub IsNever : ℕ → Collected → Type 0
 IsNever count journals = ⊥
 
-abbrev pub IsAnyCount : ℕ → Collected → Type 0
-IsAnyCount count journals = Unit {0}
+abbrev pub IsMany : ℕ → Collected → Type 0
+IsMany count journals = 2000 < count
 
 abbrev pub IsAnyText : Collected → List ℕ → Type 0
 IsAnyText journals text = Unit {0}
@@ -127,7 +127,7 @@ Does (Show part) outcome zs out = Views (λ journals text. IsShown journals part
 Does (Columns part) outcome zs out = Views IsAnyText IsNever outcome zs out
 Does Explain outcome zs out = Explains outcome zs out
 Does (Draw part) outcome zs out = Views (λ journals text. IsDrawn journals part text) (λ count journals. IsTooMany journals part count) outcome zs out
-Does Graph outcome zs out = Views (λ journals text. IsGraphFile text) IsAnyCount outcome zs out
+Does Graph outcome zs out = Views (λ journals text. IsGraphFile text) IsMany outcome zs out
 Does Trace outcome zs out = Traces outcome zs out
 Does Version outcome zs out = Prints outcome (codes "epaxos 0.1.0\n") out
 Does (Help text) outcome zs out = Prints outcome (string_bytes text) out

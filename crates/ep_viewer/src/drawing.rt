@@ -6,7 +6,7 @@ ghost use Rattle.ep_draw.specs.Drawn.{IsDrawn, IsTooMany};
 ghost use Rattle.ep_graph.specs.Graphs.{IsGraphFile};
 ghost use Rattle.ep_viewer.specs.Faults.{is_read, is_write};
 ghost use Rattle.ep_viewer.specs.Outputs.{output};
-ghost use Rattle.ep_viewer.specs.Views.{IsAnyCount, Views};
+ghost use Rattle.ep_viewer.specs.Views.{IsMany, Views};
 
 use crate::fault::Fault;
 use crate::status::Status;
@@ -43,7 +43,7 @@ pub(crate) fn print_graph<S: Source, W: Sink>(
     reader: &mut S,
     writer: &mut W,
 ) -> Result<Status, Fault>
-    ensures done { (zs : List ℕ) → S.left reader.old ≡ Some zs → Views (λ journals text. IsGraphFile text) IsAnyCount result zs
+    ensures done { (zs : List ℕ) → S.left reader.old ≡ Some zs → Views (λ journals text. IsGraphFile text) IsMany result zs
         (output (W.held writer.old) (W.held writer.new) (W.has_failed writer.old) (W.has_failed writer.new)) }
     ensures read { FailsAsTold is_read result (S.has_failed reader.old) (S.has_failed reader.new) }
     ensures written { FailsAsTold is_write result (W.has_failed writer.old) (W.has_failed writer.new) }
