@@ -82,6 +82,20 @@ pub fn read_run<S: Source>(
     Ok(bytes)
 }
 
+/// Takes a run of this many bytes in place of what the list had.
+pub(crate) fn read_over<S: Source>(
+    source: &mut S,
+    place: &mut u64,
+    len: usize,
+    bytes: &mut Vec<u8>,
+) -> Result<(), BundleFault>
+    ensures bytes { (zs : List ℕ) → S.left source.old ≡ Some zs → Reads (run len (record { at = place.old; bytes = zs })) (map_ok (λ _. bytes.new.items) result) place.new (S.left source.new) }
+    ensures told { FailsAsTold is_read_failed result (S.has_failed source.old) (S.has_failed source.new) }
+{
+    bytes.resize(len, 0)?;
+    take(source, place, bytes)
+}
+
 pub(crate) fn read_u8<S: Source>(source: &mut S, place: &mut u64) -> Result<u8, BundleFault>
     ensures bytes { (zs : List ℕ) → S.left source.old ≡ Some zs → Reads (number 1 (record { at = place.old; bytes = zs })) result place.new (S.left source.new) }
     ensures told { FailsAsTold is_read_failed result (S.has_failed source.old) (S.has_failed source.new) }
