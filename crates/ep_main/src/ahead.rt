@@ -9,8 +9,7 @@ use ep_base::{ReadFailed, Source};
 use std::alloc::Global;
 use std::io::{BufRead, BufReader, Read};
 
-/// A reader that is read 8 KiB at a time, however little is pulled at once. Where such a read fails, the pull that it was made
-/// for fails.
+/// A reader that is read ahead, and whether it has failed.
 #[derive(Drop)]
 pub struct Ahead<R> {
     reader: BufReader<R>,
@@ -18,11 +17,11 @@ pub struct Ahead<R> {
 }
 
 impl<R: Read> Ahead<R> {
-    ghost use Rattle.std.specs.Prelude.{length, true};
+    ghost use Rattle.std.specs.Prelude.{◌≤◌, length};
     ghost use Rattle.std.specs.Io.Buffered.{reader_remaining};
     ghost use Rattle.ep_base.specs.Devices.{Pulls};
 
-    /// Reads, where what was read before isn't enough.
+    /// Pulls where what was read ahead isn't enough.
     #[cold]
     #[inline(never)]
     fn read(&mut self, buf: &mut [u8]) -> Result<usize, ReadFailed>
