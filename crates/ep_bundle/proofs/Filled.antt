@@ -4,17 +4,13 @@ use Rattle.std.proofs.lemmas.Slice.{take-put_mid_below}
 use Rattle.std.specs.Io.KnownBytes.{Consumes, IsAtEnd}
 use borrow.Rule.Slice.PartMut.{put_mid, post_of}
 use lib.Seq.{take-add, take-append-le}
-use Rattle.ep_bundle.specs.Filling.{Fills}
-
--- of the bytes zs these came first, and the rest is left
-abbrev pub Consumed : List ℕ → List ℕ → Option (List ℕ) → Type 0
-Consumed zs bs left = (ys : List ℕ) × (left ≡ Some ys) × (zs ≡ bs ++ ys)
+use Rattle.ep_bundle.specs.Filling.{Begun, Fills}
 
 -- what a pull gave comes after
-pub more : (zs bs cs : List ℕ) (left left' : Option (List ℕ)) → Consumed zs bs left → Consumes left left' cs → Consumed zs (bs ++ cs) left'
+pub more : (zs bs cs : List ℕ) (left left' : Option (List ℕ)) → Begun zs bs left → Consumes left left' cs → Begun zs (bs ++ cs) left'
 more zs bs cs left left' h k = go left' (subst (λ l. Consumes l left' cs) h.1 k)
   where
-    go : (l : Option (List ℕ)) → Consumes (Some h.0) l cs → Consumed zs (bs ++ cs) l
+    go : (l : Option (List ℕ)) → Consumes (Some h.0) l cs → Begun zs (bs ++ cs) l
     go None k = absurd k
     go (Some ys) k = (ys, refl, h.2 ∙ ap (λ l. bs ++ l) k ∙ sym (append_assoc bs cs ys))
 
@@ -36,11 +32,11 @@ front a k n xs ys within fits =
     ∙ take_split a (a + n) xs (put_mid a k xs ys) (omega arith) (take-put_mid_below _ _ _ _ _ (le_refl _) within)
 
 -- the buffer is full
-pub full : (zs buf : List ℕ) (at : ℕ) (left : Option (List ℕ)) → length buf ≤ at → Consumed zs (take at buf) left → Fills true zs buf left
+pub full : (zs buf : List ℕ) (at : ℕ) (left : Option (List ℕ)) → length buf ≤ at → Begun zs (take at buf) left → Fills true zs buf left
 full zs buf at left h c = (c.0, c.1, c.2 ∙ ap (λ l. l ++ c.0) (take_all at buf h))
 
 -- the source is at its end before
-pub short : (zs buf : List ℕ) (at n : ℕ) (left left' : Option (List ℕ)) (cs : List ℕ) → at < length buf → Consumed zs (take at buf) left → IsAtEnd left → Consumes left left' cs → Fills false zs buf left'
+pub short : (zs buf : List ℕ) (at n : ℕ) (left left' : Option (List ℕ)) (cs : List ℕ) → at < length buf → Begun zs (take at buf) left → IsAtEnd left → Consumes left left' cs → Fills false zs buf left'
 short zs buf at n left left' cs h c end k = go left' (subst (λ l. Consumes l left' cs) c.1 k)
   where
     none : c.0 ≡ []

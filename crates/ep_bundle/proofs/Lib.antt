@@ -6,6 +6,7 @@ pub mod Next
 pub mod Comparing
 pub mod Following
 pub mod Journeys
+pub mod Stepped
 pub mod Bundles
 pub mod Puts
 pub mod WrittenStages

@@ -5,3 +5,7 @@ use Rattle.std.specs.Prelude.{◌≡◌, ℕ, ◌<◌, Bool, true, false, List, 
 abbrev pub Fills : Bool → List ℕ → List ℕ → Option (List ℕ) → Type 0
 Fills true zs buf left = (ys : List ℕ) × (left ≡ Some ys) × (zs ≡ buf ++ ys)
 Fills false zs buf left = (length zs < length buf) × (left ≡ Some [])
+
+-- of the bytes zs these came first, and the source has the rest
+abbrev pub Begun : List ℕ → List ℕ → Option (List ℕ) → Type 0
+Begun zs bs left = (ys : List ℕ) × (left ≡ Some ys) × (zs ≡ bs ++ ys)

@@ -4,6 +4,7 @@ pub mod Filling
 pub mod Drafts
 pub mod Stages
 pub mod Journals
+pub mod Openings
 pub mod Texts
 pub mod Writing
 pub mod Contents

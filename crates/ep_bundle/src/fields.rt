@@ -1,9 +1,9 @@
 //! The fields that all else is read by: numbers, the highest byte first, and runs of bytes.
 
-ghost use Rattle.std.specs.Prelude.{◌≡◌, ℕ, List, Some, length, IfOk, true};
+ghost use Rattle.std.specs.Prelude.{◌≡◌, ◌≤◌, ℕ, List, Some, length, take, IfOk, true};
 ghost use Rattle.ep_base.specs.Devices.{FailsAsTold};
 ghost use Rattle.ep_bundle.specs.Reading.{map_ok, field, number, run, is_read_failed, Reads};
-ghost use Rattle.ep_bundle.specs.Filling.{Fills};
+ghost use Rattle.ep_bundle.specs.Filling.{Begun, Fills};
 
 use crate::bundle_fault::BundleFault;
 use byteorder::{BigEndian, ByteOrder};
@@ -11,12 +11,34 @@ use ep_base::{ReadFailed, Source};
 use std::alloc::Global;
 
 /// Fills the buffer with the next bytes of the source; false where the input ends before it is full.
+#[inline(always)]
 pub(crate) fn fill<S: Source>(source: &mut S, buf: &mut [u8]) -> Result<bool, ReadFailed>
     ensures bytes { (zs : List ℕ) → S.left source.old ≡ Some zs → IfOk result (λ full. Fills full zs buf.new (S.left source.new)) }
     ensures long { length buf.new ≡ length buf.old }
     ensures told { FailsAsTold (λ _. true) result (S.has_failed source.old) (S.has_failed source.new) }
 {
-    let mut at = 0;
+    if buf.is_empty() {
+        return Ok(true);
+    }
+    let count = source.pull(buf)?;
+    if count == 0 {
+        return Ok(false);
+    }
+    if count < buf.len() {
+        return fill_from(source, buf, count);
+    }
+    Ok(true)
+}
+
+/// Fills the rest of a buffer, of which so many bytes were taken.
+#[cold]
+fn fill_from<S: Source>(source: &mut S, buf: &mut [u8], from: usize) -> Result<bool, ReadFailed>
+    requires { from ≤ length buf.old }
+    ensures bytes { (zs : List ℕ) → Begun zs (take from buf.old) (S.left source.old) → IfOk result (λ full. Fills full zs buf.new (S.left source.new)) }
+    ensures long { length buf.new ≡ length buf.old }
+    ensures told { FailsAsTold (λ _. true) result (S.has_failed source.old) (S.has_failed source.new) }
+{
+    let mut at = from;
     while at < buf.len() {
         let count = source.pull(&mut buf[at..])?;
         if count == 0 {
@@ -28,6 +50,7 @@ pub(crate) fn fill<S: Source>(source: &mut S, buf: &mut [u8]) -> Result<bool, Re
 }
 
 /// Takes as many bytes as the buffer is long.
+#[inline(always)]
 pub(crate) fn take<S: Source>(
     source: &mut S,
     place: &mut u64,
@@ -57,6 +80,20 @@ pub fn read_run<S: Source>(
     let mut bytes = vec![in alloc; 0; len]?;
     take(source, place, &mut bytes)?;
     Ok(bytes)
+}
+
+/// Takes a run of this many bytes in place of what the list had.
+pub(crate) fn read_over<S: Source>(
+    source: &mut S,
+    place: &mut u64,
+    len: usize,
+    bytes: &mut Vec<u8>,
+) -> Result<(), BundleFault>
+    ensures bytes { (zs : List ℕ) → S.left source.old ≡ Some zs → Reads (run len (record { at = place.old; bytes = zs })) (map_ok (λ _. bytes.new.items) result) place.new (S.left source.new) }
+    ensures told { FailsAsTold is_read_failed result (S.has_failed source.old) (S.has_failed source.new) }
+{
+    bytes.resize(len, 0)?;
+    take(source, place, bytes)
 }
 
 pub(crate) fn read_u8<S: Source>(source: &mut S, place: &mut u64) -> Result<u8, BundleFault>

@@ -22,6 +22,7 @@ mod entries;
 mod events;
 mod fields;
 mod journal;
+mod opened;
 mod parts;
 mod putting;
 mod read_laws;

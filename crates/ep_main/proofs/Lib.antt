@@ -7,3 +7,4 @@ mod Puts
 mod Rewriting
 mod Verdicts
 pub mod Literals
+pub mod Pulling
