@@ -3,7 +3,7 @@ use Rattle.std.proofs.Common.{◌≡◌, ℕ, Bool, true, false, List, Option, S
 use Rattle.std.specs.Prelude.{◌||◌, IsErrAnd}
 use Rattle.ep_base.specs.Devices.{FailsAsTold}
 use Rattle.std.specs.Io.KnownBytes.{IsAtEnd}
-use Rattle.ep_bundle.proofs.Filled.{Consumed}
+use Rattle.ep_bundle.specs.Filling.{Begun}
 use Rattle.ep_bundle.specs.Journals.{ReadsBundle, Finds}
 use Rattle.ep_bundle.specs.Reading.{Left, is_read_failed}
 use Rattle.ep_bundle.specs.declared.bundle_fault.BundleFault.{BundleFault}
@@ -168,5 +168,5 @@ not_explained f (Ok status) zs out is short silent = absurd is
 not_explained f (Err e) zs out is short silent = subst (λ (x : Fault). Explains (Err x) zs out) (sym is) (stopped_short f zs out short silent)
 
 -- a source that is at its end has given all of its bytes
-pub all_given : (zs bs : List ℕ) (left : Option (List ℕ)) → Consumed zs bs left → IsAtEnd left → bs ≡ zs
+pub all_given : (zs bs : List ℕ) (left : Option (List ℕ)) → Begun zs bs left → IsAtEnd left → bs ≡ zs
 all_given zs bs left c end = sym (c.2 ∙ ap (λ (l : List ℕ). bs ++ l) (subst (λ (l : Option (List ℕ)). IsAtEnd l) c.1 end) ∙ append-nil bs)

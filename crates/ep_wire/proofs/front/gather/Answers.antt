@@ -1,5 +1,6 @@
 use Rattle.std.proofs.Common.{rules, ◌-◌, length, subst, ◌∙◌}
-use Rattle.ep_bundle.proofs.Filled.{Consumed, more, front}
+use Rattle.ep_bundle.specs.Filling.{Begun}
+use Rattle.ep_bundle.proofs.Filled.{more, front}
 use Rattle.ep_wire.proofs.front.gather.Goals as goal
 
 pub loop-at-preserved : goal.loop-at-preserved
@@ -9,7 +10,7 @@ loop-at-preserved g c =
       long = search rules;
       within = search rules;
       bytes = λ zs h.
-          subst (λ bs. Consumed zs bs (g.S.Source.left c.pull.new.self)) (front c.loop-at.at (length c.loop-at.buf - c.loop-at.at) c.in_ok-count.count c.loop-at.buf c.pull.new.buf c.loop-at.invariant.within step.bound)
+          subst (λ bs. Begun zs bs (g.S.Source.left c.pull.new.self)) (front c.loop-at.at (length c.loop-at.buf - c.loop-at.at) c.in_ok-count.count c.loop-at.buf c.pull.new.buf c.loop-at.invariant.within step.bound)
           (more zs _ _ _ _ (c.loop-at.invariant.bytes zs h) step.bytes.0);
       told = step.bytes.2 ∙ c.loop-at.invariant.told;
     }

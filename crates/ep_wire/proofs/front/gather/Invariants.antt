@@ -1,12 +1,12 @@
 use Rattle.std.proofs.Common.{◌≡◌, ℕ, ◌-◌, ◌≤◌, List, length, take, Some}
-use Rattle.ep_bundle.proofs.Filled.{Consumed}
+use Rattle.ep_bundle.specs.Filling.{Begun}
 use Rattle.ep_wire.proofs.front.gather.Given as goal
 
 abbrev pub invariant-loop-at : goal.invariant-loop-at
 invariant-loop-at g l = record {
   long : length l.buf ≡ length l.initial.buf;
   within : l.at ≤ length l.buf;
-  bytes : (zs : List ℕ) → g.S.Source.left l.initial.source ≡ Some zs → Consumed zs (take l.at l.buf) (g.S.Source.left l.source);
+  bytes : (zs : List ℕ) → g.S.Source.left l.initial.source ≡ Some zs → Begun zs (take l.at l.buf) (g.S.Source.left l.source);
   told : g.S.Source.has_failed l.source ≡ g.S.Source.has_failed l.initial.source;
 }
 
