@@ -1,5 +1,5 @@
-use Rattle.std.proofs.Common.{rules, arith, ◌≡◌, ℕ, ◌-◌, ◌+◌, ◌<◌, length, take, subst, ◌∙◌}
-use Rattle.ep_bundle.specs.Filling.{Begun, Fills}
+use Rattle.std.proofs.Common.{rules, arith, ◌≡◌, ◌-◌, ◌+◌, ◌<◌, length, take, subst, ◌∙◌}
+use Rattle.ep_bundle.specs.Filling.{Begun}
 use Rattle.ep_bundle.proofs.Filled.{more, front, full, short}
 use borrow.Rule.Slice.PartMut.{put_mid}
 use Rattle.ep_bundle.proofs.fields.fill_from.Goals as goal
