@@ -44,7 +44,7 @@ def memory():
 
 
 def one_processor_a_check():
-    """Where memory holds as many checks as there are processors, has `rt ci` make each check on one: a check on several takes some 8 % more processor time.
+    """Where memory holds as many checks as there are processors, has `rt ci` make each check on one: a check on several takes more processor time.
     Where it doesn't, or the caller has named a number, `rt ci` goes by its own measure or by that."""
     lanes = processors()
     if memory() >= lanes * CHECK:
