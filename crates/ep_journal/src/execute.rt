@@ -1,8 +1,8 @@
 //! Executing an instance, and all that it waits for.
 
-ghost use Rattle.std.specs.Prelude.{◌≡◌, ◌≤◌, ◌++◌, IfOk, IfErr, OnErr, OnOk, length};
+ghost use Rattle.std.specs.Prelude.{◌≡◌, ◌≤◌, ◌++◌, ◌∷◌, [], IfOk, IfErr, OnErr, OnOk, length};
 ghost use Rattle.ep_exec.specs.Tries.{tried};
-ghost use Rattle.ep_rules.specs.OneMap.{answer, after_all};
+ghost use Rattle.ep_rules.specs.OneMap.{answer, after, after_all};
 ghost use Rattle.ep_rules.specs.Order.{IsClosed};
 ghost use Rattle.ep_rules.specs.States.{command_in, graph_in};
 ghost use Rattle.ep_journal.specs.Executing.{done_by, AreFresh, IsExecuted, IsUnexecuted};
@@ -46,8 +46,8 @@ fn try_all(
     Ok(Executions::new(done))
 }
 
-/// Does all of the instances' commands on the map, or none.
-fn do_all(
+/// Does all of several instances' commands on the map, or none.
+fn do_several(
     alloc: Global,
     space: &Space,
     store: &mut Store,
@@ -67,6 +67,56 @@ fn do_all(
             *store = trial.take_back();
             Err(fault)
         }
+    }
+}
+
+/// Does the command on the map: a no-op answers lost. At want of memory the map stays as it was.
+fn do_command(store: &mut Store, command: &Command) -> Result<Answer, AllocError>
+    ensures answer { IfOk result (λ a. a ≡ answer store.old command.now) }
+    ensures ok { OnOk result (store.new ≡ after store.old command.now) }
+    ensures err { OnErr result (store.new ≡ store.old) }
+{
+    match command {
+        Command::Noop => Ok(Answer::Lost),
+        _ => Ok(Answer::Told(store.apply(command)?)),
+    }
+}
+
+/// Does what is committed in one instance on the map, or nothing. Nothing is noted to be taken back, since no command follows that could
+/// be refused memory.
+fn do_one(
+    alloc: Global,
+    space: &Space,
+    store: &mut Store,
+    id: InstanceId,
+) -> Result<Executions, AllocError>
+    ensures done { IfOk result (λ d. d ≡ done_by (command_in space.now.records) store.old (id ∷ [])) }
+    ensures ok { OnOk result (store.new ≡ after_all (command_in space.now.records) store.old (id ∷ [])) }
+    ensures err { OnErr result (store.new ≡ store.old) }
+{
+    let mut done = Vec::with_capacity(alloc, 1)?;
+    let answer = match space.committed(id) {
+        None => Answer::Lost,
+        Some(decree) => do_command(store, &decree.command)?,
+    };
+    done.push_reserved((id, answer));
+    Ok(Executions::new(done))
+}
+
+/// Does all of the instances' commands on the map, or none.
+fn do_all(
+    alloc: Global,
+    space: &Space,
+    store: &mut Store,
+    order: &[InstanceId],
+) -> Result<Executions, AllocError>
+    ensures done { IfOk result (λ d. d ≡ done_by (command_in space.now.records) store.old order.now) }
+    ensures ok { OnOk result (store.new ≡ after_all (command_in space.now.records) store.old order.now) }
+    ensures err { OnErr result (store.new ≡ store.old) }
+{
+    match order {
+        [id] => do_one(alloc, space, store, *id),
+        _ => do_several(alloc, space, store, order),
     }
 }
 
