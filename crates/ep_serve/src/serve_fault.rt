@@ -8,7 +8,7 @@ use crate::no_room::NoRoom;
 use ep_base::WriteFailed;
 use ep_node::NodeFault;
 use ep_wire::RequestFault;
-use std::alloc::AllocFailed;
+use std::alloc::{AllocError, AllocFailed};
 use thiserror::Error;
 
 /// Why a node no longer serves.
@@ -20,7 +20,8 @@ pub enum ServeFault {
     /// The source failed.
     #[error("reading failed")]
     ReadFailed,
-    /// The request whose first byte stands at this offset is none. All that was taken before is on the disk, and answered.
+    /// The request whose first byte stands at this offset is cut by the end of the input, or its length is out of range. All that
+    /// was taken before is on the disk, and answered.
     #[error("request refused at byte {0}")]
     BadRequest(u64),
     /// The sink failed.
@@ -58,6 +59,14 @@ impl From<NoRoom> for ServeFault {
     ghost from_gives = { λ _ e. e ≡ NoMemory };
 
     fn from(_fault: NoRoom) -> ServeFault {
+        ServeFault::Memory
+    }
+}
+
+impl From<AllocError> for ServeFault {
+    ghost from_gives = { λ _ e. e ≡ NoMemory };
+
+    fn from(_fault: AllocError) -> ServeFault {
         ServeFault::Memory
     }
 }
