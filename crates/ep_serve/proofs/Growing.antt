@@ -1,6 +1,7 @@
 -- What a replica takes, it has behind what it had.
 use Rattle.std.proofs.Common.{◌≡◌, ℕ, zero, suc, ◌≤◌, Bool, true, false, length, take, List, [], ◌∷◌, ◌++◌, append-nil, append_assoc, take_all, Option, Some, None, Result, Ok, Err, refl, sym, ap, ◌∙◌, subst, arith}
 use Rattle.std.specs.Prelude.{MatchResult}
+use Rattle.std.proofs.lemmas.List.{take-append-le}
 use Rattle.ep_frame.specs.Faults.{fault_of}
 use Rattle.ep_bundle.specs.Reading.{Left}
 use Rattle.ep_journal.specs.declared.entry.Entry.{Entry}
@@ -80,10 +81,5 @@ served_more_entries zero mode n w k k' l l' out h = extends_same k k' h.1
 served_more_entries (suc b) mode n w k k' l l' out h = extends_more k h.2 k' (batch_more mode n k h.2 l h.3 h.0 h.4) (served_more_entries b mode n w h.2 k' h.3 l' h.1 h.6)
 
 -- The first entries of what was extended are those that there were.
-take_front : {A : Type 0} (n : ℕ) (xs ys : List A) → n ≤ length xs → take n (xs ++ ys) ≡ take n xs
-take_front zero xs ys le = refl
-take_front (suc n) [] ys le = absurd (omega (arith, le))
-take_front (suc n) (x ∷ xs) ys le = ap (λ zs. x ∷ zs) (take_front n xs ys (omega (arith, le)))
-
 pub first_of : (k k' : Kept) (n : ℕ) → n ≤ length k.entries → Extends k k' → take n k'.entries ≡ take n k.entries
-first_of k k' n le h = subst (λ (x : Kept). take n x.entries ≡ take n k.entries) (sym h.1) (take_front n k.entries h.0 le)
+first_of k k' n le h = subst (λ (x : Kept). take n x.entries ≡ take n k.entries) (sym h.1) (take-append-le n k.entries h.0 le)

@@ -1,11 +1,13 @@
 -- What is on the disk.
-use Rattle.std.proofs.Common.{◌≡◌, ◌⊎◌, inl, inr, ℕ, ◌≤◌, ◌<◌, length, take, take_all, List, [], ◌∷◌, ◌++◌, append_assoc, Option, Some, refl, sym, ap, ◌∙◌, subst, arith}
-use Rattle.std.specs.List.{flat_map}
-use Rattle.std.proofs.lemmas.Grind.{flat_map-append}
+use Rattle.std.proofs.Common.{◌≡◌, ◌⊎◌, inl, inr, ℕ, zero, suc, ◌+◌, ◌≤◌, ◌<◌, length, take, take_all, drop, List, [], ◌∷◌, ◌++◌, append_assoc, Option, Some, refl, sym, ap, ◌∙◌, subst, arith}
+use Rattle.std.proofs.Math.Seq.{take-append_seam}
+use Rattle.std.proofs.lemmas.List.{take-append-drop, take-map}
 use Rattle.ep_journal.specs.declared.entry.Entry.{Entry}
-use Rattle.ep_log.specs.Bytes.{header_bytes, log_bytes, record_bytes}
-use Rattle.ep_log.specs.Crashing.{IsCutLog}
+use Rattle.ep_log.specs.Bytes.{LogRecord, entries_in, header_bytes, log_bytes, record_in, records_in}
 use Rattle.ep_log.specs.Reading.{IsBeginning}
+use Rattle.ep_log.specs.declared.log_version.LogVersion.{LogVersion}
+use Rattle.ep_log.specs.declared.log_version.LogVersion.TheVariants.{Three}
+use Rattle.ep_node.proofs.Growing.{records-append}
 use Rattle.ep_node.specs.Nodes.{IsCut, IsQuiet, Logged}
 use Rattle.ep_device.specs.Device.{LeavesOnly}
 use Rattle.ep_replica.specs.Kept.{Kept}
@@ -14,24 +16,26 @@ use Rattle.ep_serve.proofs.Growing.{Extends, first_of}
 
 -- Of logs.
 
-pub cut_keeps : (f me n : ℕ) (es : List Entry) (c : List ℕ) → IsCutLog f me es n c → Keeps f me (take n es) c
-cut_keeps f me n es c h = elim h.kept [
-  | inl none ↦ inl (ap (λ (k : ℕ). take k es) none)
-  | inr begins ↦ inr begins
-]
+-- a log begins with the log of its first records
+begins_less : (f me : ℕ) (rs more : List LogRecord) (c : List ℕ) → IsBeginning (log_bytes f me (rs ++ more)) c → IsBeginning (log_bytes f me rs) c
+begins_less f me rs more c h =
+    let at : ℕ = length (header_bytes f me) in
+    let later : List ℕ = records_in Three (at + length (records_in Three at rs)) more in
+    let whole : log_bytes f me (rs ++ more) ≡ log_bytes f me rs ++ later =
+    ap (λ (x : List ℕ). header_bytes f me ++ x) (records-append Three at rs more) ∙ sym (append_assoc (header_bytes f me) (records_in Three at rs) later) in
+    (later ++ h.0, h.1 ∙ ap (λ (x : List ℕ). x ++ h.0) whole ∙ append_assoc (log_bytes f me rs) later h.0)
 
-none_before : (es more : List Entry) → es ++ more ≡ [] → es ≡ []
-none_before [] more h = refl
-none_before (e ∷ es) more h = absurd (cc)
+entries_of_first : (n : ℕ) (rs : List LogRecord) → entries_in (take n rs) ≡ take n (entries_in rs)
+entries_of_first n rs = sym (take-map (λ (r : LogRecord). r.entry) n rs)
 
 pub keeps_less : (f me : ℕ) (es more : List Entry) (c : List ℕ) → Keeps f me (es ++ more) c → Keeps f me es c
-keeps_less f me es more c h = elim h [
-  | inl none ↦ inl (none_before es more none)
-  | inr begins ↦
-      let split : log_bytes f me (es ++ more) ≡ log_bytes f me es ++ flat_map record_bytes more =
-      ap (λ (x : List ℕ). header_bytes f me ++ x) (flat_map-append record_bytes es more) ∙ sym (append_assoc (header_bytes f me) (flat_map record_bytes es) (flat_map record_bytes more)) in
-      inr (flat_map record_bytes more ++ begins.0, begins.1 ∙ ap (λ (x : List ℕ). x ++ begins.0) split ∙ append_assoc (log_bytes f me es) (flat_map record_bytes more) begins.0)
-]
+keeps_less f me es more c h =
+    let n : ℕ = length es in
+    let begins : IsBeginning (log_bytes f me (take n h.0 ++ drop n h.0)) c = subst (λ (x : List LogRecord). IsBeginning (log_bytes f me x) c) (sym (take-append-drop n h.0)) h.2 in
+    (take n h.0, entries_of_first n h.0 ∙ ap (λ (x : List Entry). take n x) h.1 ∙ take-append_seam es more, begins_less f me (take n h.0) (drop n h.0) c begins)
+
+pub cut_keeps : {D : Type 0} (node : Logged D) (n : ℕ) (c : List ℕ) → IsCut node n c → Keeps node.replica.faults node.replica.me (take n node.replica.entries) c
+cut_keeps node n c h = (take n h.records, entries_of_first n h.records ∙ ap (λ (x : List Entry). take n x) h.entries, h.cut.kept)
 
 -- Of replicas.
 
@@ -49,7 +53,7 @@ rests seen moment left_since n old k same quiet known at_rest = λ bytes was c l
     let after = known bytes was in
     let cut : IsCut n n.synced c = (at_rest after.0 after.1).each c left in
     subst (λ (x : Kept). Keeps x.faults x.me x.entries c) same
-    (subst (λ (es : List Entry). Keeps n.replica.faults n.replica.me es c) (all_first n.synced n.replica.entries quiet.synced) (cut_keeps n.replica.faults n.replica.me n.synced n.replica.entries c cut))
+    (subst (λ (es : List Entry). Keeps n.replica.faults n.replica.me es c) (all_first n.synced n.replica.entries quiet.synced) (cut_keeps n n.synced c cut))
 
 pub leaves_on : {D : Type 0} (seen : D → Option (List ℕ)) (moment : D → ℕ) (left_since : D → ℕ → List ℕ → Type 0) (n : Logged D) (new : D)
     → ((bytes : List ℕ) → seen n.device ≡ Some bytes → LeavesOnly moment left_since n.device new (IsCut n n.synced)) → GoesOn seen moment left_since n.device new n.replica n.synced
@@ -57,7 +61,7 @@ leaves_on seen moment left_since n new leaves = λ bytes was. record {
   later = (leaves bytes was).later;
   keeps = λ t c le left. elim ((leaves bytes was).before t c le left) [
     | inl before ↦ inl before
-    | inr cut ↦ inr (cut_keeps n.replica.faults n.replica.me n.synced n.replica.entries c cut)
+    | inr cut ↦ inr (cut_keeps n n.synced c cut)
   ];
 }
 

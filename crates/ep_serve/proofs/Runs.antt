@@ -133,7 +133,7 @@ short mode n w k k' m l l' old held new ds Memory s is lasts = inl (s.replica, s
 short mode n w k k' m l l' old held new ds ReadFailed s is lasts = absurd is
 short mode n w k k' m l l' old held new ds (BadRequest at) s is lasts = absurd is
 short mode n w k k' m l l' old held new ds WriteFailed s is lasts = (s.replica, s.from, held, s.served, lasts refl)
-short mode n w k k' m l l' old held new ds LogFailed s is lasts = (s.replica, s.from, subst (λ (x : Option (List ℕ)). Serves mode n w k l old x s.replica s.from) (sym is) s.served)
+short mode n w k k' m l l' old held new ds (LogFailed cause) s is lasts = (s.replica, s.from, subst (λ (x : Option (List ℕ)). Serves mode n w k l old x s.replica s.from) (sym is) s.served)
 
 pub cut_short : (mode : Mode) (n : ℕ) (w : Crashes) (k k' m : Kept) (l l' : Left) (old held new : Option (List ℕ)) (ds : List Due) (r : Result Unit ServeFault) (e : ServeFault) → InService mode n w k l old held k' l' ds → IsSilent e held new → (e ≡ WriteFailed → Lasts w m) → IsErrAnd r (λ x. x ≡ e)
     → Ends mode n w k l old new r m

@@ -1,13 +1,13 @@
 -- What is on the disk from a moment on.
-use Rattle.std.specs.Prelude.{◌≡◌, ◌⊎◌, ℕ, ◌≤◌, List, [], take, Option, Some}
+use Rattle.std.specs.Prelude.{◌≡◌, ◌⊎◌, ℕ, ◌≤◌, List, take, Option, Some}
 use Rattle.ep_journal.specs.declared.entry.Entry.{Entry}
-use Rattle.ep_log.specs.Bytes.{log_bytes}
+use Rattle.ep_log.specs.Bytes.{LogRecord, entries_in, log_bytes}
 use Rattle.ep_log.specs.Reading.{IsBeginning}
 use Rattle.ep_replica.specs.Kept.{Kept}
 
 -- c begins with the log of these entries, whatever stands behind them
 abbrev pub Keeps : ℕ → ℕ → List Entry → List ℕ → Type 0
-Keeps f me es c = (es ≡ []) ⊎ IsBeginning (log_bytes f me es) c
+Keeps f me es c = (records : List LogRecord) × (entries_in records ≡ es) × IsBeginning (log_bytes f me records) c
 
 -- What crashes of a device may leave: whether its bytes were known at first, the moment then and the one now, and what a crash from a moment on might have left.
 pub record Crashes : Type 1 where

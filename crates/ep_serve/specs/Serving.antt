@@ -110,7 +110,7 @@ Ends mode n w k l old new (Err Memory) k' = ((m : Kept) × (l' : Left) × Serves
 Ends mode n w k l old new (Err ReadFailed) k' = (l' : Left) × ServesAll mode n w k l old new k' l'
 Ends mode n w k l old new (Err (BadRequest at)) k' = (l' : Left) × ServesAll mode n w k l old new k' l' × (at ≡ l'.at) × IsErr (next_request n l')
 Ends mode n w k l old new (Err WriteFailed) k' = (m : Kept) × (l' : Left) × (held : Option (List ℕ)) × Serves mode n w k l old held m l' × Lasts w k'
-Ends mode n w k l old new (Err LogFailed) k' = (m : Kept) × (l' : Left) × Serves mode n w k l old new m l'
+Ends mode n w k l old new (Err (LogFailed cause)) k' = (m : Kept) × (l' : Left) × Serves mode n w k l old new m l'
 
 -- Where all was answered, as far as the sink took it.
 abbrev pub IfSettled : Result Unit ServeFault → Type 0 → Type 0
@@ -119,7 +119,7 @@ IfSettled (Err Memory) P = Unit {0}
 IfSettled (Err ReadFailed) P = P
 IfSettled (Err (BadRequest at)) P = P
 IfSettled (Err WriteFailed) P = P
-IfSettled (Err LogFailed) P = Unit {0}
+IfSettled (Err (LogFailed cause)) P = Unit {0}
 
 -- One request more.
 
@@ -137,7 +137,7 @@ IfUnwritten (Err Memory) P = Unit {0}
 IfUnwritten (Err ReadFailed) P = Unit {0}
 IfUnwritten (Err (BadRequest at)) P = Unit {0}
 IfUnwritten (Err WriteFailed) P = P
-IfUnwritten (Err LogFailed) P = Unit {0}
+IfUnwritten (Err (LogFailed cause)) P = Unit {0}
 
 -- a fault before anything is written
 abbrev pub IsEarly : ServeFault → Type 0
@@ -145,7 +145,7 @@ IsEarly Memory = Unit {0}
 IsEarly ReadFailed = ⊥
 IsEarly (BadRequest at) = ⊥
 IsEarly WriteFailed = ⊥
-IsEarly LogFailed = Unit {0}
+IsEarly (LogFailed cause) = Unit {0}
 
 -- a fault of what a request does, or of writing its answer, and what the sink holds then: as before, unless it failed
 abbrev pub IsSilent : ServeFault → Option (List ℕ) → Option (List ℕ) → Type 0
@@ -153,7 +153,7 @@ IsSilent Memory old new = new ≡ old
 IsSilent ReadFailed old new = ⊥
 IsSilent (BadRequest at) old new = ⊥
 IsSilent WriteFailed old new = Unit {0}
-IsSilent LogFailed old new = new ≡ old
+IsSilent (LogFailed cause) old new = new ≡ old
 
 -- the sink's own fault, and the log's
 abbrev pub is_write_failed : ServeFault → Bool
@@ -161,14 +161,14 @@ is_write_failed Memory = false
 is_write_failed ReadFailed = false
 is_write_failed (BadRequest at) = false
 is_write_failed WriteFailed = true
-is_write_failed LogFailed = false
+is_write_failed (LogFailed cause) = false
 
 abbrev pub is_log_failed : ServeFault → Bool
 is_log_failed Memory = false
 is_log_failed ReadFailed = false
 is_log_failed (BadRequest at) = false
 is_log_failed WriteFailed = false
-is_log_failed LogFailed = true
+is_log_failed (LogFailed cause) = true
 
 -- Whether the source had failed before, and has after: it fails where that is told, and not where all was read; where a device fails in settling, that is told.
 abbrev pub IsReadTo : Result Unit ServeFault → Bool → Bool → Type 0
@@ -177,4 +177,4 @@ IsReadTo (Err Memory) had has = Unit {0}
 IsReadTo (Err ReadFailed) had has = has ≡ true
 IsReadTo (Err (BadRequest at)) had has = has ≡ had
 IsReadTo (Err WriteFailed) had has = Unit {0}
-IsReadTo (Err LogFailed) had has = Unit {0}
+IsReadTo (Err (LogFailed cause)) had has = Unit {0}

@@ -18,7 +18,7 @@ pub(crate) fn put_on_disk<D: Device>(node: &mut Node<D>) -> Result<(), ServeFaul
     ensures kept { OnOk result (IsKept D.seen D.moment D.left_since node.old.device node.new.device node.old.replica) }
     ensures known { OnOk result (StaysKnown D.seen node.old.device node.new.device) }
     ensures onward { GoesOn D.seen D.moment D.left_since node.old.device node.new.device node.old.replica node.old.synced }
-    ensures err { IfErr result (λ fault. IsEarly fault) }
+    ensures err { IfErr result IsEarly }
     ensures log_cause { FailsAsTold is_log_failed result (D.has_failed node.old.device) (D.has_failed node.new.device) }
 {
     node.sync()?;

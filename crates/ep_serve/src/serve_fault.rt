@@ -6,6 +6,7 @@ ghost use Rattle.ep_serve.specs.declared.serve_fault.ServeFault.TheVariants.{Mem
 
 use crate::no_room::NoRoom;
 use ep_base::WriteFailed;
+use ep_device::Cause;
 use ep_node::NodeFault;
 use ep_wire::RequestFault;
 use std::alloc::{AllocError, AllocFailed};
@@ -27,9 +28,9 @@ pub enum ServeFault {
     /// The sink failed.
     #[error("writing failed")]
     WriteFailed,
-    /// The log's device failed. Nothing that waited was handed out.
-    #[error("log failed")]
-    LogFailed,
+    /// The log's device failed, and why. Nothing that waited was handed out.
+    #[error("log failed: {0}")]
+    LogFailed(Cause),
 }
 
 impl From<RequestFault> for ServeFault {
@@ -49,8 +50,9 @@ impl From<NodeFault> for ServeFault {
 
     fn from(fault: NodeFault) -> ServeFault {
         match fault {
-            NodeFault::Memory => ServeFault::Memory,
-            NodeFault::Refused(_) | NodeFault::Failed | NodeFault::Closed => ServeFault::LogFailed,
+            NodeFault::Failed(cause) => ServeFault::LogFailed(cause),
+            // A node whose device works refuses a sync for want of memory alone.
+            NodeFault::Memory | NodeFault::Refused(_) | NodeFault::Closed => ServeFault::Memory,
         }
     }
 }
