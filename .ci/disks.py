@@ -1,5 +1,6 @@
 """What `epaxos node` does with its disk: it is run under .ci/shim.c, which fails its calls one by one, and a model of a disk (.ci/disk.py)
-tells what a power loss at any moment would leave. Runs alone too: python3 .ci/disks.py [NODE PROGRAM [WORD]], the rows whose names have the word.
+tells what a power loss at any moment would leave; and then 500 images of disks (tools/disk-images). Runs alone too: python3 .ci/disks.py
+[NODE PROGRAM [WORD]], with a word the rows alone whose names have it.
 
 After each call of each run, whatever was answered has to be on the disk for sure, in whole records at the beginning of the log that the
 log's name is found under. So no answer comes before its sync, no file gets the log's name before it is on the disk, and none is taken
@@ -8,6 +9,7 @@ for there whose folder wasn't synced.
 
 import os
 import random
+import subprocess
 import sys
 import tempfile
 
@@ -208,6 +210,9 @@ def tried(node=NODE, word=""):
                 print(f"disks, {name}: {fault}", flush=True)
             passed, failed = passed + (not case.faults), failed + bool(case.faults)
     print(f"disks: {passed + failed} rows of a node whose calls are traced and failed, {failed} failed", flush=True)
+    if not word:
+        is_well = not subprocess.run([f"{TOP}/tools/disk-images", node], stdin=subprocess.DEVNULL).returncode
+        passed, failed = passed + is_well, failed + (not is_well)
     return passed, failed
 
 
