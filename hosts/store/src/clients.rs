@@ -144,9 +144,7 @@ impl Connection {
             Asked::Answered(reply) => Ok(reply),
             // (these are answered before)
             Asked::Quit | Asked::Http => Ok(Reply::Simple("OK")),
-            Asked::Multi | Asked::Watch | Asked::Exec | Asked::Discard | Asked::Unwatch => {
-                Err("ERR transactions aren't supported".into())
-            }
+            Asked::Multi | Asked::Exec | Asked::Discard => Err("ERR transactions aren't supported".into()),
         }
     }
 

@@ -1,4 +1,4 @@
-//! What stands behind a refused MULTI or WATCH isn't done.
+//! What stands behind a refused MULTI isn't done.
 mod common;
 use common::{Places, SYNCED, ask, script};
 use store::client::Reply;
@@ -19,11 +19,15 @@ fn nothing_of_a_transaction_is_done() {
         ("multi", "ERR MULTI isn't supported"),
         ("DEL x", "ERR it wasn't done"),
         ("DISCARD", "OK"),
-        ("WATCH x", "ERR WATCH isn't supported"),
-        ("SET x 1", "ERR it wasn't done"),
-        ("UNWATCH", "OK"),
         ("PING", "PONG"),
         ("EXEC", "ERR EXEC without MULTI"),
+        // What stands behind a WATCH is done at once where there are transactions, too.
+        ("WATCH x", "ERR WATCH isn't supported"),
+        ("PING", "PONG"),
+        ("MULTI", "ERR MULTI isn't supported"),
+        ("SET x 1", "ERR it wasn't done"),
+        ("EXEC", "EXECABORT nothing was done"),
+        ("UNWATCH", "OK"),
     ] {
         let told = match ask(&mut client, line) {
             Reply::Simple(text) | Reply::Error(text) => text,
