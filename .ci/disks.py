@@ -27,6 +27,8 @@ IO, SPACE, READ_ONLY = CAUSES
 ERRORS = {"open": (READ_ONLY,), "write": (IO, SPACE), "fsync": (IO, SPACE), "fdatasync": (IO, SPACE), "folder": (IO,), "rename": (IO, SPACE), "cut": (IO,), "read": (IO,)}
 # how many disks that chance leaves are looked at for each fault
 CHANCES = 4
+# so many faults of a row are told
+MOST_TOLD = 3
 
 
 def puts(first, count):
@@ -206,7 +208,7 @@ def tried(node=NODE, word=""):
                 continue
             case = make()
             row(case)
-            for fault in case.faults:
+            for fault in dict.fromkeys(case.faults[:MOST_TOLD]):
                 print(f"disks, {name}: {fault}", flush=True)
             passed, failed = passed + (not case.faults), failed + bool(case.faults)
     print(f"disks: {passed + failed} rows of a node whose calls are traced and failed, {failed} failed", flush=True)
