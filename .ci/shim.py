@@ -157,7 +157,11 @@ class Case:
             elif kind == "unused":
                 self.faults.append(f"no call met the rule {rest[0]}")
             elif kind not in ("err", "end", "read", "lock", "out"):
-                self.disk.feed(line)
+                try:
+                    self.disk.feed(line)
+                except ValueError as fault:
+                    self.faults.append(str(fault))
+                    break
             self.look(line)
         if read != len(out):
             self.faults.append("an answer is cut")
