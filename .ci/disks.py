@@ -207,7 +207,10 @@ def tried(node=NODE, word=""):
             if word not in name:
                 continue
             case = make()
-            row(case)
+            try:
+                row(case)
+            except (subprocess.TimeoutExpired, LookupError) as fault:
+                case.faults.append(repr(fault)[:200])
             for fault in dict.fromkeys(case.faults[:MOST_TOLD]):
                 print(f"disks, {name}: {fault}", flush=True)
             passed, failed = passed + (not case.faults), failed + bool(case.faults)
