@@ -1,13 +1,15 @@
 //! The folder of a replica: where its files are, a lock, and whether they are whole.
 use crate::identities;
 use std::fs::{self, File, OpenOptions, TryLockError};
-use std::io;
+use std::io::{self, Seek, Write};
 use std::path::{Path, PathBuf};
 use std::thread;
 use std::time::{Duration, Instant};
 
 /// How long to wait for a node that still ends.
 const PATIENCE: Duration = Duration::from_secs(10);
+/// So many bytes of the file for the node's standard error are there before it writes, so that it can tell that the disk is full.
+const ROOM_FOR_ERRORS: usize = 4_096;
 /// A log that is shorter has no header: the node would begin it anew.
 const SHORTEST_LOG: u64 = 7;
 const NEVER: &str = "This replica must not come back: it may have promised what it doesn't know any more";
@@ -25,9 +27,13 @@ impl Directory {
         let told = |error: io::Error| format!("the folder {} can't be used: {error}", path.display());
         create(path).map_err(told)?;
         let errors_path = path.join("node-errors");
-        let errors = OpenOptions::new().append(true).create(true).open(&errors_path).map_err(told)?;
+        let mut errors =
+            OpenOptions::new().write(true).create(true).truncate(false).open(&errors_path).map_err(told)?;
         lock(&errors, path)?;
         errors.set_len(0).map_err(told)?;
+        // (where there is no room already, the node's log tells so soon)
+        let _ = errors.write_all(&[b' '; ROOM_FOR_ERRORS]);
+        errors.rewind().map_err(told)?;
         Ok(Directory { path: path.to_path_buf(), errors })
     }
 

@@ -97,8 +97,10 @@ fn start(options: Options) -> Result<Driver, String> {
         receipts,
         timers: Timers::new(place.replica, Instant::now(), Random::new()),
         events,
-        commits: Commits::default(),
+        commits: Commits::at_start(place.replica, place.replicas as u8),
         plant: options.plant,
+        held: Vec::new(),
+        alone_since: None,
         waiting: HashMap::new(),
         refused_frames: 0,
     })
@@ -130,7 +132,9 @@ fn start_node(
         on_end: Box::new(move || _ = events.send(Event::NodeEnded)),
     };
     let mut node = Node::start(start).map_err(|fault| fault.to_string())?;
-    match node.ask(&[Request::Sync]).map_err(|fault| Stop::Node(fault).to_string())?[..] {
+    let answers = node.ask(&[Request::Sync]).map_err(|fault| Stop::Node(fault).to_string())?;
+    node.told().iter().for_each(|line| say(&format!("the node tells: {line}")));
+    match answers[..] {
         [Answer::Synced(entries)] => Ok((node, entries)),
         _ => Err("the node's first answer isn't of the protocol".into()),
     }

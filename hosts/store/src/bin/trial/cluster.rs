@@ -11,9 +11,9 @@ use std::sync::{Arc, Mutex};
 use std::thread;
 use std::time::{Duration, Instant};
 
-/// A log's header, and what stands around the bytes of an entry: two lengths and a checksum.
-const LOG_HEADER: usize = 7;
-const RECORD_FRAME: usize = 16;
+/// A log's header, and what stands around the bytes of an entry: two lengths, what was on the disk, and a checksum.
+const LOG_HEADER: usize = 43;
+const RECORD_FRAME: usize = 24;
 /// So many are cut off, where records are.
 const LAST_RECORDS: usize = 4;
 
