@@ -6,7 +6,7 @@ pub mod CrashPlayed
 pub mod CrashOrders
 pub mod CallMoves
 mod Growing
-mod Mending
+mod Renewing
 mod Moments
 mod Syncing
 mod Opened
