@@ -5,7 +5,7 @@ pub mod CrashTraces
 pub mod CrashPlayed
 pub mod CrashOrders
 pub mod CallMoves
-mod Growing
+pub mod Growing
 mod Renewing
 mod Moments
 mod Syncing
