@@ -9,8 +9,11 @@ use crate::device_fault::DeviceFault;
 use std::io;
 use std::io::ErrorKind;
 
-#[tactic(auto, unfolding(crate::specs::Files::cause_in))]
+/// The number of the error that there is no such file, on Linux.
+pub(crate) const NO_SUCH_FILE: i32 = 2;
+
 /// What an error of this number is, as Linux has it on x86-64 and aarch64.
+#[tactic(auto, unfolding(crate::specs::Files::cause_in))]
 fn cause_in(number: u32) -> Cause
     ensures { result ≡ cause_in number }
 {
