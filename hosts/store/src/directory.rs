@@ -10,7 +10,7 @@ use std::time::{Duration, Instant};
 const PATIENCE: Duration = Duration::from_secs(10);
 /// So many bytes of the file for the node's standard error are there before it writes, so that it can tell that the disk is full.
 const ROOM_FOR_ERRORS: usize = 4_096;
-/// A log that is shorter has no header: the node would begin it anew.
+/// A log that is shorter has no header.
 const SHORTEST_LOG: u64 = 7;
 const NEVER: &str = "This replica must not come back: it may have promised what it doesn't know any more";
 
@@ -64,14 +64,8 @@ impl Directory {
         if !self.has_identities() {
             return Ok(());
         }
-        let log = self.log();
-        let length = match fs::metadata(&log) {
-            Ok(found) => found.len(),
-            Err(error) if error.kind() == io::ErrorKind::NotFound => 0,
-            Err(error) => return Err(format!("{}: {error}", log.display())),
-        };
-        if length < SHORTEST_LOG {
-            return Err(format!("{} was lost. {NEVER}", log.display()));
+        if self.log_length()? < SHORTEST_LOG {
+            return Err(format!("{} was lost. {NEVER}", self.log().display()));
         }
         let receipts = self.receipts();
         if !receipts.exists() {
@@ -79,6 +73,32 @@ impl Directory {
             return Err(format!("{path} was lost: what clients were told can't be audited, nor compared with the log"));
         }
         Ok(())
+    }
+
+    /// How many bytes the log has, 0 where there is none.
+    fn log_length(&self) -> Result<u64, String> {
+        let log = self.log();
+        match fs::metadata(&log) {
+            Ok(found) => Ok(found.len()),
+            Err(error) if error.kind() == io::ErrorKind::NotFound => Ok(0),
+            Err(error) => Err(format!("{}: {error}", log.display())),
+        }
+    }
+
+    /// A replica is begun where its user says so, and never twice: a folder without one may be another folder, or one whose disk
+    /// isn't there.
+    pub fn check_begin(&self, is_new: bool) -> Result<(), String> {
+        let path = self.path.display();
+        let is_begun = self.log_length()? > 0 || self.has_identities();
+        match (is_new, is_begun) {
+            (true, true) => {
+                Err(format!("the folder {path} has a replica already: --new is for its first start alone"))
+            }
+            (false, false) => Err(format!(
+                "the folder {path} has no replica: --new begins one, where there never was one"
+            )),
+            _ => Ok(()),
+        }
     }
 
     /// Before the folder gets its identities, where it has none. `entries` are the log's, `told` is the last one that a client
@@ -140,8 +160,12 @@ mod tests {
         let directory = Directory::open(&path).unwrap();
         // A first start, before and after its log was made.
         directory.check_files().unwrap();
+        directory.check_begin(true).unwrap();
+        assert!(directory.check_begin(false).unwrap_err().contains("has no replica"));
         fs::write(directory.log(), [0; 7]).unwrap();
         directory.check_files().unwrap();
+        directory.check_begin(false).unwrap();
+        assert!(directory.check_begin(true).unwrap_err().contains("has a replica already"));
         directory.check_entries(0, 0).unwrap();
         // Entries, and no identities.
         assert!(directory.check_entries(1, 0).unwrap_err().contains("isn't whole"));

@@ -448,7 +448,7 @@ mod tests {
         let errors = std::fs::File::create(&errors_path).unwrap();
         let (program, log) = (Path::new("true"), folder.join("log"));
         let on_end = Box::new(|| ());
-        let start = Start { program, replicas: 3, replica: 0, log: &log, errors, errors_path, on_end };
+        let start = Start { program, replicas: 3, replica: 0, log: &log, is_new: true, errors, errors_path, on_end };
         Driver {
             place,
             node: Node::start(start).unwrap(),

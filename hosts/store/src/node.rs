@@ -14,6 +14,8 @@ pub struct Start<'a> {
     pub replicas: usize,
     pub replica: u8,
     pub log: &'a Path,
+    /// Whether the log is to be begun.
+    pub is_new: bool,
     /// Takes the child's standard error. The lock on it is held until both the child and this process have ended.
     pub errors: File,
     /// Where `errors` can be read.
@@ -71,6 +73,7 @@ impl Node {
             .args(["--replica", &start.replica.to_string()])
             .arg("--log")
             .arg(start.log)
+            .args(start.is_new.then_some("--new"))
             .stdin(Stdio::piped())
             .stdout(Stdio::piped())
             .stderr(start.errors)

@@ -53,7 +53,11 @@ impl Places {
         let mut command = Command::new(env!("CARGO_BIN_EXE_store"));
         command.args(["--replica", &replica.to_string(), "--peers", &self.peers.join(",")]);
         command.args(["--listen", &self.clients[replica], "--patience", "3"]);
-        command.arg("--dir").arg(self.folder.join(replica.to_string())).arg("--node").arg(node);
+        let directory = self.folder.join(replica.to_string());
+        if !directory.join("log").exists() {
+            command.arg("--new");
+        }
+        command.arg("--dir").arg(directory).arg("--node").arg(node);
         command
     }
 

@@ -113,6 +113,9 @@ impl Cluster {
         command.args(["--replica", &replica.to_string(), "--peers", &self.peers(replica)]);
         command.args(["--listen", &self.client_ports[replica].to_string(), "--patience", "3"]);
         command.arg("--dir").arg(self.folder(replica)).arg("--node").arg(&self.options.node);
+        if !self.log(replica).exists() {
+            command.arg("--new");
+        }
         match self.options.plant {
             Some(Plant::Early) => _ = command.args(["--plant", "early"]),
             Some(Plant::Changed) => _ = command.args(["--plant", "changed"]),
