@@ -85,11 +85,15 @@ impl Directory {
         }
     }
 
+    pub fn has_log(&self) -> Result<bool, String> {
+        Ok(self.log_length()? > 0)
+    }
+
     /// A replica is begun where its user says so, and never twice: a folder without one may be another folder, or one whose disk
     /// isn't there.
     pub fn check_begin(&self, is_new: bool) -> Result<(), String> {
         let path = self.path.display();
-        let is_begun = self.log_length()? > 0 || self.has_identities();
+        let is_begun = self.has_log()? || self.has_identities();
         match (is_new, is_begun) {
             (true, true) => {
                 Err(format!("the folder {path} has a replica already: --new is for its first start alone"))

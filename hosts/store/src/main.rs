@@ -68,7 +68,7 @@ fn start(options: Options) -> Result<Driver, String> {
         directory.check_begin(options.is_new)?;
     }
     // (a planted store begins a log that was emptied)
-    let is_new = directory.check_begin(true).is_ok();
+    let is_new = if is_forgetful { !directory.has_log()? } else { options.is_new };
     let receipts_path = directory.receipts();
     let receipts = Receipts::open(&receipts_path)
         .map_err(|error| format!("the receipts {} can't be used: {error}", receipts_path.display()))?;
