@@ -1,5 +1,5 @@
-"""The host in hosts/store, where cargo is there: builds it and runs its tests, and then plays a trial of 20 seconds with 3 kills over the programs that
-`rt ci` built, which the audit judges too. Runs alone too: python3 .ci/store.py [NODE PROGRAM], of other builds.
+"""The host in hosts/store, where cargo is there: builds it and runs its tests, some of them over the programs that `rt ci` built, and then plays a
+trial of 20 seconds with 3 kills over these, which the audit judges too. Runs alone too: python3 .ci/store.py [NODE PROGRAM], of other builds.
 
 It is built without optimisation and without what debuggers need: with its tests that takes half of the processor time of a release build alone.
 """
@@ -28,13 +28,13 @@ def is_well(words, **how):
     return not subprocess.run(words, stdin=subprocess.DEVNULL, **how).returncode
 
 
-def trial(scratch, node, program):
-    """Whether the trial of three replicas found no fault."""
+def joined(scratch, node, program):
+    """Both programs as one."""
     epaxos = f"{scratch}/epaxos"
     with open(epaxos, "w", encoding="utf-8") as file:
         file.write(EPAXOS.format(node, program))
     os.chmod(epaxos, 0o755)
-    return is_well([f"{scratch}/target/debug/trial", "--short", "--audit", "--node", epaxos, "--dir", f"{scratch}/trial"])
+    return epaxos
 
 
 def tried(node=BUILT[0], program=BUILT[1]):
@@ -43,13 +43,18 @@ def tried(node=BUILT[0], program=BUILT[1]):
         print("hosts/store is not tried: there is no cargo", flush=True)
         return 0, 0
     with tempfile.TemporaryDirectory(prefix="epaxos-store-") as scratch:
-        how = {"cwd": STORE, "env": {**os.environ, **CHEAP, "CARGO_TARGET_DIR": f"{scratch}/target"}}
+        environment = {**os.environ, **CHEAP, "CARGO_TARGET_DIR": f"{scratch}/target"}
+        epaxos = joined(scratch, node, program) if os.path.isfile(node) and os.path.isfile(program) else None
+        if epaxos:
+            # (of it the tests start clusters)
+            environment["EPAXOS"] = epaxos
+        else:
+            print("no cluster of hosts/store is tried: `rt ci` has not built both programs", flush=True)
         # (the tests run the programs, so that this builds them too)
-        well = [is_well(["cargo", "test", "--offline", "--quiet"], **how)]
-        if not os.path.isfile(node) or not os.path.isfile(program):
-            print("no trial of hosts/store is played: `rt ci` has not built both programs", flush=True)
-        elif all(well):
-            well.append(trial(scratch, node, program))
+        well = [is_well(["cargo", "test", "--offline", "--quiet"], cwd=STORE, env=environment)]
+        if epaxos and all(well):
+            trial = f"{scratch}/target/debug/trial"
+            well.append(is_well([trial, "--short", "--audit", "--node", epaxos, "--dir", f"{scratch}/trial"]))
     return well.count(True), well.count(False)
 
 

@@ -1,38 +1,53 @@
 //! The call at which a device in memory fails.
 
-ghost use Rattle.std.specs.Prelude.{◌≡◌, ◌-◌, ◌==◌, ◌||◌, ◌↔◌, IsOk, is_err};
+ghost use Rattle.std.specs.Prelude.{◌≡◌, ◌-◌, ◌==◌, ◌||◌, ◌↔◌, None, Some, IsOk, IfErr, IfSome, MatchResult, is_err, is_some};
 
+use crate::cause::Cause;
 use crate::device_failed::DeviceFailed;
 use crate::device_fault::DeviceFault;
 
-/// How many calls on the one that fails is (1 is the next one, 0 means none), and whether one has failed.
+/// How many calls on the one that fails is (1 is the next one, 0 means none), and why one has failed first.
 #[derive(Drop)]
 pub(crate) struct Countdown {
     pub(crate) call: u64,
-    pub(crate) failed: bool,
+    pub(crate) failed: Option<Cause>,
 }
 
 impl Countdown {
-    /// Counts a call, and tells whether it fails: the one that is told to, and each one after it.
-    pub(crate) fn fails(&mut self) -> bool
-        ensures told { result ≡ self.new.failed }
-        ensures failed { self.new.failed ≡ (self.old.call == 1 || self.old.failed) }
+    /// Counts a call. `Err` where it fails: the one that is told to, and each one after it.
+    pub(crate) fn count(&mut self) -> Result<(), DeviceFailed>
+        ensures failed { is_some self.new.failed ≡ (self.old.call == 1 || is_some self.old.failed) }
+        ensures told { MatchResult result (λ _. self.new.failed ≡ None) (λ e. self.new.failed ≡ Some e.cause) }
+        ensures first { IfSome self.old.failed (λ cause. self.new.failed ≡ Some cause) }
         ensures call { self.new.call ≡ self.old.call - 1 }
     {
-        self.failed = self.call == 1 || self.failed;
+        let is_last = self.call == 1;
         self.call = self.call.saturating_sub(1);
-        self.failed
+        match self.failed {
+            Some(cause) => Err(DeviceFailed { cause }),
+            None if is_last => {
+                let cause = Cause::InputOutput;
+                self.failed = Some(cause);
+                Err(DeviceFailed { cause })
+            }
+            None => Ok(()),
+        }
     }
 
-    /// Notes a fault, want of memory too.
+    /// Notes a fault, want of memory too, and tells the first one.
     pub(crate) fn told(&mut self, answer: Result<(), DeviceFault>) -> Result<(), DeviceFailed>
         ensures result { IsOk result ↔ IsOk answer }
-        ensures cause { self.new.failed ≡ (is_err result || self.old.failed) }
+        ensures failed { is_some self.new.failed ≡ (is_err result || is_some self.old.failed) }
+        ensures told { IfErr result (λ e. self.new.failed ≡ Some e.cause) }
+        ensures first { IfSome self.old.failed (λ cause. self.new.failed ≡ Some cause) }
     {
-        if answer.is_err() {
-            self.failed = true;
-            return Err(DeviceFailed);
-        }
-        Ok(())
+        let why = match answer {
+            Ok(()) => return Ok(()),
+            Err(DeviceFault::Memory) => Cause::NoMemory,
+            Err(DeviceFault::Failed(cause)) => cause,
+        };
+        let cause = self.failed.unwrap_or(why);
+        self.failed = Some(cause);
+        Err(DeviceFailed { cause })
     }
 }

@@ -1,8 +1,12 @@
 //! A device that failed.
 
+use crate::cause::Cause;
 use thiserror::Error;
 
 /// The device has failed, now or before. What was asked may have been done in part.
 #[derive(Clone, Copy, Debug, PartialEq, Eq, Error)]
-#[error("the device failed")]
-pub struct DeviceFailed;
+#[error("{cause}")]
+pub struct DeviceFailed {
+    /// Why it failed first.
+    pub cause: Cause,
+}

@@ -3,6 +3,7 @@
 ghost use Rattle.std.specs.Prelude.{◌≡◌};
 ghost use Rattle.ep_device.specs.declared.device_fault.DeviceFault.TheVariants.{Failed, Memory};
 
+use crate::cause::Cause;
 use crate::device_failed::DeviceFailed;
 use std::alloc::AllocError;
 use thiserror::Error;
@@ -10,11 +11,12 @@ use thiserror::Error;
 /// Why a device gave no bytes.
 #[derive(Clone, Copy, Debug, PartialEq, Eq, Error)]
 pub enum DeviceFault {
+    /// Memory was refused to the caller.
     #[error("E1 memory")]
     Memory,
-    /// The device has failed, now or before.
-    #[error("the device failed")]
-    Failed,
+    /// The device has failed, now or before; why it failed first.
+    #[error("{0}")]
+    Failed(Cause),
 }
 
 impl From<AllocError> for DeviceFault {
@@ -26,9 +28,9 @@ impl From<AllocError> for DeviceFault {
 }
 
 impl From<DeviceFailed> for DeviceFault {
-    ghost from_gives = { λ _ e. e ≡ Failed };
+    ghost from_gives = { λ failed e. e ≡ Failed failed.cause };
 
-    fn from(_fault: DeviceFailed) -> DeviceFault {
-        DeviceFault::Failed
+    fn from(failed: DeviceFailed) -> DeviceFault {
+        DeviceFault::Failed(failed.cause)
     }
 }

@@ -1,4 +1,4 @@
-//! Files that only grow: what a read returns, and what a crash may leave.
+//! Files that grow at their end and are written anew: what a read returns, and what a crash may leave.
 //!
 //! `Device` is what a log is kept on, with what is assumed of it. `FileDevice` is one over a file of the operating system, for
 //! which the assumptions are taken on trust; `MemoryDevice` is one in memory, for tests, which meets them and can crash.
@@ -6,6 +6,7 @@
 //! Start with `device.rt` and specs/Device.antt.
 #![tactic(auto)]
 
+mod cause;
 mod countdown;
 mod device;
 mod device_failed;
@@ -13,12 +14,14 @@ mod device_fault;
 mod file_device;
 mod history;
 mod memory_device;
-mod outcomes;
+mod outcome;
 mod synced;
+mod system;
 
+pub use cause::Cause;
 pub use device::Device;
 pub use device_failed::DeviceFailed;
 pub use device_fault::DeviceFault;
 pub use file_device::FileDevice;
 pub use memory_device::MemoryDevice;
-pub use synced::{append_and_sync, cut_and_sync};
+pub use synced::append_and_sync;

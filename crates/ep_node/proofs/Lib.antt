@@ -5,8 +5,8 @@ pub mod CrashTraces
 pub mod CrashPlayed
 pub mod CrashOrders
 pub mod CallMoves
-mod Growing
-mod Mending
+pub mod Growing
+mod Renewing
 mod Moments
 mod Syncing
 mod Opened

@@ -4,20 +4,26 @@
 //! `opening.rt`; what a crash may take, and what holds all the same, is in specs/Crashes.antt.
 #![tactic(auto)]
 
+mod begin;
 mod crash_law;
+mod cut;
+mod extent;
 mod node;
 mod node_fault;
 mod open_fault;
 mod open_laws;
 mod opening;
 mod records;
+mod started;
 mod taking;
 
+pub use begin::Begin;
 pub use crash_law::{
     calls_are_moves, crashes_keep_agreement, crashes_keep_receipts, crashes_leave_no_trace,
     crashing_runs_are_linearizable, crashing_runs_are_runs, handed_out_stays,
     played_runs_are_moves,
 };
+pub use cut::Cut;
 pub use node::Node;
 pub use node_fault::NodeFault;
 pub use open_fault::OpenFault;

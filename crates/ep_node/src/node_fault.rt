@@ -3,7 +3,7 @@
 ghost use Rattle.std.specs.Prelude.{◌≡◌};
 ghost use Rattle.ep_node.specs.declared.node_fault.NodeFault.TheVariants.{Failed as DeviceFault, Memory as NoMemory, Refused as Untaken};
 
-use ep_device::DeviceFailed;
+use ep_device::{Cause, DeviceFailed};
 use ep_journal::StepFault;
 use std::alloc::AllocError;
 use thiserror::Error;
@@ -17,9 +17,9 @@ pub enum NodeFault {
     /// Memory was refused to a sync. What was taken isn't on the disk yet: sync again.
     #[error("E1 memory")]
     Memory,
-    /// The device failed. The node takes nothing more, and hands nothing out, until it is opened again.
-    #[error("the device failed")]
-    Failed,
+    /// The device failed, and why. The node takes nothing more, and hands nothing out, until it is opened again.
+    #[error("{0}")]
+    Failed(Cause),
     /// The device failed before.
     #[error("the node is closed")]
     Closed,
@@ -42,9 +42,9 @@ impl From<AllocError> for NodeFault {
 }
 
 impl From<DeviceFailed> for NodeFault {
-    ghost from_gives = { λ _ e. e ≡ DeviceFault };
+    ghost from_gives = { λ failed e. e ≡ DeviceFault failed.cause };
 
-    fn from(_fault: DeviceFailed) -> NodeFault {
-        NodeFault::Failed
+    fn from(failed: DeviceFailed) -> NodeFault {
+        NodeFault::Failed(failed.cause)
     }
 }

@@ -5,13 +5,13 @@ ghost use Rattle.ep_node.specs.OpenFaults.{of_device, of_log, of_resume};
 ghost use Rattle.ep_node.specs.declared.open_fault.OpenFault.TheVariants.{Failed as DeviceFailure, Memory as NoMemory, OutOfRange as NoReplica};
 
 use ep_base::OutOfRange;
-use ep_device::{DeviceFailed, DeviceFault};
+use ep_device::{Cause, DeviceFailed, DeviceFault};
 use ep_log::LogFault;
 use ep_replica::ResumeFault;
 use std::alloc::AllocError;
 use thiserror::Error;
 
-/// Why no node was opened. But for `Failed`, the device has what it had, or less of a torn end.
+/// Why no node was opened. But for `Failed`, the device has what it had.
 #[derive(Clone, Copy, Debug, PartialEq, Eq, Error)]
 pub enum OpenFault {
     /// The replica's number is not below the cluster's size. The device was not touched.
@@ -19,9 +19,15 @@ pub enum OpenFault {
     OutOfRange,
     #[error("E1 memory")]
     Memory,
-    /// The device failed.
-    #[error("the device failed")]
-    Failed,
+    /// The device failed, and why.
+    #[error("{0}")]
+    Failed(Cause),
+    /// `Existing` was asked for, and the device is empty.
+    #[error("there is none")]
+    NoLog,
+    /// `New` was asked for, and the device isn't empty.
+    #[error("there is one already")]
+    LogExists,
     /// The log is that of another replica, or of a cluster of another size.
     #[error("the log is of another replica or cluster")]
     OtherLog,
@@ -50,10 +56,10 @@ impl From<AllocError> for OpenFault {
 }
 
 impl From<DeviceFailed> for OpenFault {
-    ghost from_gives = { λ _ e. e ≡ DeviceFailure };
+    ghost from_gives = { λ failed e. e ≡ DeviceFailure failed.cause };
 
-    fn from(_fault: DeviceFailed) -> OpenFault {
-        OpenFault::Failed
+    fn from(failed: DeviceFailed) -> OpenFault {
+        OpenFault::Failed(failed.cause)
     }
 }
 
@@ -63,7 +69,7 @@ impl From<DeviceFault> for OpenFault {
     fn from(fault: DeviceFault) -> OpenFault {
         match fault {
             DeviceFault::Memory => OpenFault::Memory,
-            DeviceFault::Failed => OpenFault::Failed,
+            DeviceFault::Failed(cause) => OpenFault::Failed(cause),
         }
     }
 }
@@ -76,10 +82,12 @@ impl From<LogFault> for OpenFault {
             LogFault::Memory => OpenFault::Memory,
             LogFault::NoHeader
             | LogFault::OtherVersion
+            | LogFault::OtherGeneration
             | LogFault::BadLength(_)
             | LogFault::BadChecksum(_)
             | LogFault::BadEntry(_)
-            | LogFault::NotNext(_) => OpenFault::Log(fault),
+            | LogFault::NotNext(_)
+            | LogFault::Turned(_, _) => OpenFault::Log(fault),
         }
     }
 }
@@ -90,7 +98,7 @@ impl From<ResumeFault> for OpenFault {
     fn from(fault: ResumeFault) -> OpenFault {
         match fault {
             ResumeFault::Memory => OpenFault::Memory,
-            // Logs are of version 2.
+            // The entries of logs are of version 2.
             ResumeFault::OtherVersion => OpenFault::OtherLog,
             ResumeFault::NotClocked(number) => OpenFault::NotClocked(number),
         }

@@ -1,3 +1,5 @@
 pub mod Lists
 pub mod Advancing
+pub mod Growing
+pub mod Keeping
 pub mod Runs

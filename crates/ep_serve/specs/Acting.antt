@@ -1,14 +1,17 @@
 -- What a request does to a node's replica, and the answer that is due for it.
-use Rattle.std.specs.Prelude.{◌≡◌, ℕ, zero, suc, ◌-◌, true, false, List, length, MatchResult}
+use Rattle.std.specs.Prelude.{◌≡◌, ◌⊎◌, ℕ, zero, suc, ◌+◌, ◌-◌, ◌<◌, ◌^◌, true, false, List, length, MatchResult}
 use Rattle.ep_frame.specs.Faults.{fault_of}
+use Rattle.ep_journal.specs.Entries.{entries_of}
 use Rattle.ep_journal.specs.declared.event.Event.{Event as Happening}
 use Rattle.ep_journal.specs.declared.event.Event.TheVariants as event
+use Rattle.ep_journal.specs.declared.step_fault.StepFault.TheVariants.{StampFull}
 use Rattle.ep_node.specs.Nodes.{Takes}
 use Rattle.ep_replica.specs.Applied.{IsDeclined}
 use Rattle.ep_replica.specs.Kept.{Kept}
 use Rattle.ep_replica.specs.Pending.{ExecutesNext}
+use Rattle.ep_rules.specs.Journals.{last_stamp}
 use Rattle.ep_serve.specs.declared.due.Due.{Due}
-use Rattle.ep_serve.specs.declared.due.Due.TheVariants.{Taken, Refused, Value, Open, Leads, Synced}
+use Rattle.ep_serve.specs.declared.due.Due.TheVariants.{Taken, Refused, Value, Open, Leads, Synced, Malformed}
 use Rattle.ep_wire.specs.declared.refusal.Refusal.{Refusal}
 use Rattle.ep_wire.specs.declared.refusal.Refusal.TheVariants.{BadFrame, Step}
 use Rattle.ep_wire.specs.declared.request.Request.{Request}
@@ -27,6 +30,15 @@ TakesOrRefuses k happening (Value key) k' = ⊥
 TakesOrRefuses k happening (Open after) k' = ⊥
 TakesOrRefuses k happening (Leads i) k' = ⊥
 TakesOrRefuses k happening Synced k' = ⊥
+TakesOrRefuses k happening (Malformed m) k' = ⊥
+
+-- the stamp that a client has seen is more than 2^40 above that of the replica's last entry
+abbrev pub IsFarAhead : Kept → ℕ → Type 0
+IsFarAhead k seen = last_stamp (entries_of k.entries) + 2 ^ 40 < seen
+
+-- a proposal whose client has seen so high a stamp is refused as one for which no stamp is left, and nothing changes; any other is taken, or refused
+abbrev pub Proposes : Kept → ℕ → Happening → Due → Kept → Type 0
+Proposes k seen happening due k' = (IsFarAhead k seen × (due ≡ Refused (Step StampFull)) × (k' ≡ k)) ⊎ ((¬ IsFarAhead k seen) × TakesOrRefuses k happening due k')
 
 -- bytes that are no frame are refused; a frame is handled
 abbrev pub Handles : Kept → List ℕ → Due → Kept → Type 0
@@ -45,7 +57,7 @@ abbrev pub Asks : Kept → Due → Due → Kept → Type 0
 Asks k asked due k' = (due ≡ asked) × (k' ≡ k)
 
 abbrev pub Acts : Kept → Request → Due → Kept → Type 0
-Acts k (request.Propose client number seen command) due k' = TakesOrRefuses k (event.Propose client number command seen) due k'
+Acts k (request.Propose client number seen command) due k' = Proposes k seen (event.Propose client number command seen) due k'
 Acts k (request.Frame bytes) due k' = Handles k bytes due k'
 Acts k (request.GiveUp i) due k' = TakesOrRefuses k (event.GiveUp i) due k'
 Acts k (request.Recover i) due k' = TakesOrRefuses k (event.Recover i) due k'
@@ -55,3 +67,4 @@ Acts k (request.Get key) due k' = Asks k (Value key) due k'
 Acts k (request.NextOpen after) due k' = Asks k (Open after) due k'
 Acts k (request.Leads i) due k' = Asks k (Leads i) due k'
 Acts k request.Sync due k' = Asks k Synced due k'
+Acts k (request.Malformed m) due k' = Asks k (Malformed m) due k'

@@ -16,8 +16,8 @@ use Rattle.ep_rules.specs.Maps.{get}
 use Rattle.ep_rules.specs.OneMap.{value_at}
 use Rattle.ep_space.specs.Open.{IsNextOpen}
 use Rattle.ep_serve.specs.declared.due.Due.{Due}
-use Rattle.ep_serve.specs.declared.due.Due.TheVariants.{Taken, Refused, Value, Open, Leads, Synced}
-use Rattle.ep_wire.specs.Answers.{entry_bytes, instance_bytes, leading_bytes, refused_bytes, synced_bytes, taken_bytes, value_bytes}
+use Rattle.ep_serve.specs.declared.due.Due.TheVariants.{Taken, Refused, Value, Open, Leads, Synced, Malformed}
+use Rattle.ep_wire.specs.Answers.{entry_bytes, instance_bytes, leading_bytes, malformed_bytes, refused_bytes, synced_bytes, taken_bytes, value_bytes}
 use Rattle.ep_wire.specs.declared.leading.Leading.{Leading}
 use Rattle.ep_wire.specs.declared.leading.Leading.TheVariants.{Proposing, Accepting, Preparing}
 
@@ -42,6 +42,7 @@ IsTold k (Value key) bytes = bytes ≡ value_bytes (value_at (state_of k).store 
 IsTold k (Open after) bytes = (found : Option ℕ) × IsNextOpen (state_of k).records after found × (bytes ≡ instance_bytes found)
 IsTold k (Leads i) bytes = bytes ≡ leading_bytes (option_map leading_of (progress_in k.faults k.me (get (state_of k).leads i)))
 IsTold k Synced bytes = bytes ≡ synced_bytes (length k.entries)
+IsTold k (Malformed m) bytes = bytes ≡ malformed_bytes m
 
 -- each of the answers, one after the other
 abbrev pub AllTold : Kept → List Due → List ℕ → Type 0

@@ -11,8 +11,9 @@ of_request request.Memory = Memory
 of_request request.ReadFailed = ReadFailed
 of_request (request.BadRequest at) = BadRequest at
 
+-- a node whose device works refuses a sync for want of memory alone
 abbrev pub of_node : NodeFault → ServeFault
-of_node (node.Refused fault) = LogFailed
+of_node (node.Refused fault) = Memory
 of_node node.Memory = Memory
-of_node node.Failed = LogFailed
-of_node node.Closed = LogFailed
+of_node (node.Failed cause) = LogFailed cause
+of_node node.Closed = Memory

@@ -1,86 +1,180 @@
 -- What a node serves: requests that are read in order, each of which acts on its replica, and their answers, in the same order. Answers are
 -- written in batches, each when all that the node took is on its disk, as the node then is.
-use Rattle.std.specs.Prelude.{◌≡◌, ◌⊎◌, ℕ, zero, suc, List, [], ◌∷◌, ◌++◌, Option, Some, None, Result, Ok, Err, IsErr}
+use Rattle.std.specs.Prelude.{◌≡◌, ◌⊎◌, ℕ, zero, suc, ◌≤◌, ◌<◌, Bool, true, false, List, [], ◌∷◌, ◌++◌, length, Option, Some, None, Result, Ok, Err, IsErr}
 use Rattle.std.specs.Io.KnownBytes.{Appends}
 use Rattle.ep_bundle.specs.Reading.{Left}
+use Rattle.ep_node.specs.Nodes.{IsQuiet, Logged}
 use Rattle.ep_replica.specs.Kept.{Kept}
 use Rattle.ep_serve.specs.Acting.{Acts}
 use Rattle.ep_serve.specs.Answering.{AllTold, Tell}
+use Rattle.ep_serve.specs.Lasting.{Crashes, Lasts, LastsFrom}
 use Rattle.ep_serve.specs.declared.due.Due.{Due}
+use Rattle.ep_serve.specs.declared.mode.Mode.{Mode}
+use Rattle.ep_serve.specs.declared.mode.Mode.TheVariants.{Asked}
 use Rattle.ep_serve.specs.declared.serve_fault.ServeFault.{ServeFault}
 use Rattle.ep_serve.specs.declared.serve_fault.ServeFault.TheVariants.{Memory, ReadFailed, BadRequest, WriteFailed, LogFailed}
 use Rattle.ep_wire.specs.Requests.{next_request}
 use Rattle.ep_wire.specs.declared.request.Request.{Request}
+use Rattle.ep_wire.specs.declared.request.Request.TheVariants as request
 
 -- the requests stand there, one after the other, in a cluster of n
 abbrev pub AreRead : ℕ → Left → List Request → Left → Type 0
 AreRead n l [] l' = l' ≡ l
 AreRead n l (r ∷ rs) l' = (m : Left) × (next_request n l ≡ Ok (Some r, m)) × AreRead n m rs l'
 
--- each acts, and these answers are due
-abbrev pub AllAct : Kept → List Request → List Due → Kept → Type 0
-AllAct k [] ds k' = (ds ≡ []) × (k' ≡ k)
-AllAct k (r ∷ rs) ds k' = (d : Due) × (more : List Due) × (m : Kept) × Acts k r d m × AllAct m rs more k' × (ds ≡ d ∷ more)
+-- Which answers may wait.
 
--- requests whose answers are written together: these are told by the replica that they leave, which is on the disk
-pub record IsBatch (n : ℕ) (k : Kept) (l : Left) (out : List ℕ) (k' : Kept) (l' : Left) : Type 0 where
+abbrev pub is_sync : Request → Bool
+is_sync (request.Propose client number seen command) = false
+is_sync (request.Frame bytes) = false
+is_sync (request.GiveUp i) = false
+is_sync (request.Recover i) = false
+is_sync (request.Execute i) = false
+is_sync request.Advance = false
+is_sync (request.Get key) = false
+is_sync (request.NextOpen after) = false
+is_sync (request.Leads i) = false
+is_sync request.Sync = true
+is_sync (request.Malformed m) = false
+
+-- At a node with so many entries on the disk, which the request leaves so: its answer may wait. It isn't that of each request that is wanted, no sync is
+-- asked for, and something that was taken isn't on the disk.
+pub record MayWait (mode : Mode) (synced : ℕ) (r : Request) (k : Kept) : Type 0 where
+  pub asked : mode ≡ Asked
+  pub other : is_sync r ≡ false
+  pub unsynced : synced < length k.entries
+
+-- each acts, these answers are due, and all of them may wait
+abbrev pub AllWait : Mode → ℕ → Kept → List Request → List Due → Kept → Type 0
+AllWait mode synced k [] ds k' = (ds ≡ []) × (k' ≡ k)
+AllWait mode synced k (r ∷ rs) ds k' = (d : Due) × (more : List Due) × (m : Kept) × Acts k r d m × MayWait mode synced r m × AllWait mode synced m rs more k' × (ds ≡ d ∷ more)
+
+-- Requests whose answers wait, of a replica all of whose entries are on the disk.
+pub record Waiting (mode : Mode) (n : ℕ) (k : Kept) (l : Left) (ds : List Due) (k' : Kept) (l' : Left) : Type 0 where
   pub requests : List Request
-  pub dues : List Due
   pub read : AreRead n l requests l'
-  pub acted : AllAct k requests dues k'
-  pub told : AllTold k' dues out
+  pub acted : AllWait mode (length k.entries) k requests ds k'
 
--- so many batches, one after the other
-abbrev pub AreServed : ℕ → ℕ → Kept → Left → List ℕ → Kept → Left → Type 0
-AreServed zero n k l out k' l' = (out ≡ []) × (k' ≡ k) × (l' ≡ l)
-AreServed (suc b) n k l out k' l' = (first rest : List ℕ) × (m : Kept) × (l1 : Left) × IsBatch n k l first m l1 × AreServed b n m l1 rest k' l' × (out ≡ first ++ rest)
+-- Requests whose answers are written together: those that wait, and the first one whose answer may not. They are told by the replica that they leave.
+pub record IsBatch (mode : Mode) (n : ℕ) (k : Kept) (l : Left) (out : List ℕ) (k' : Kept) (l' : Left) : Type 0 where
+  pub dues : List Due
+  pub before : Kept
+  pub from : Left
+  pub waiting : Waiting mode n k l dues before from
+  pub last : Request
+  pub read : next_request n from ≡ Ok (Some last, l')
+  pub due : Due
+  pub acted : Acts before last due k'
+  pub written : ¬ MayWait mode (length k.entries) last k'
+  pub told : AllTold k' (dues ++ due ∷ []) out
 
--- all requests were answered, and nothing but these answers was written
-pub record Serves (n : ℕ) (k : Kept) (l : Left) (old new : Option (List ℕ)) (k' : Kept) (l' : Left) : Type 0 where
+-- So many batches, one after the other. Of each the entries of the replica that told it are on the disk from a moment on, which isn't after this one.
+abbrev pub AreServed : ℕ → Mode → ℕ → Crashes → Kept → Left → List ℕ → Kept → Left → Type 0
+AreServed zero mode n w k l out k' l' = (out ≡ []) × (k' ≡ k) × (l' ≡ l)
+AreServed (suc b) mode n w k l out k' l' =
+    (first rest : List ℕ) × (m : Kept) × (l1 : Left) × IsBatch mode n k l first m l1 × Lasts w m × AreServed b mode n w m l1 rest k' l' × (out ≡ first ++ rest)
+
+-- In batches requests were answered, and nothing but these answers was written. What was on the disk at first is there at each moment.
+pub record Serves (mode : Mode) (n : ℕ) (w : Crashes) (k : Kept) (l : Left) (old new : Option (List ℕ)) (k' : Kept) (l' : Left) : Type 0 where
+  pub begun : LastsFrom w w.start k
   pub batches : ℕ
   pub out : List ℕ
-  pub served : AreServed batches n k l out k' l'
+  pub served : AreServed batches mode n w k l out k' l'
   pub appended : Appends old new out
 
--- requests are served up to m and l1, and those since then wait for their answers
-pub record InService (n : ℕ) (k : Kept) (l : Left) (old new : Option (List ℕ)) (k' : Kept) (l' : Left) (dues : List Due) : Type 0 where
+-- requests are served up to `replica` and `from`, and those since then wait for their answers
+pub record InService (mode : Mode) (n : ℕ) (w : Crashes) (k : Kept) (l : Left) (old new : Option (List ℕ)) (k' : Kept) (l' : Left) (dues : List Due) : Type 0 where
   pub replica : Kept
   pub from : Left
-  pub served : Serves n k l old new replica from
-  pub requests : List Request
-  pub read : AreRead n from requests l'
-  pub acted : AllAct replica requests dues k'
+  pub served : Serves mode n w k l old new replica from
+  pub waiting : Waiting mode n replica from dues k' l'
 
--- one request more was handled: its answer waits; or all that waited was written, with it
-abbrev pub Waits : Kept → Request → List Due → Option (List ℕ) → Kept → List Due → Option (List ℕ) → Type 0
-Waits k r before old k' after new = (d : Due) × Acts k r d k' × (((after ≡ before ++ d ∷ []) × (new ≡ old)) ⊎ (Tell k' (before ++ d ∷ []) old new × (after ≡ [])))
-
--- a fault of what a request does
-abbrev pub IsActing : ServeFault → Type 0
-IsActing Memory = Unit {0}
-IsActing ReadFailed = ⊥
-IsActing (BadRequest at) = ⊥
-IsActing WriteFailed = ⊥
-IsActing LogFailed = Unit {0}
-
--- a fault but that of writing leaves what is written as it was
-abbrev pub IsSilent : ServeFault → Option (List ℕ) → Option (List ℕ) → Type 0
-IsSilent Memory old new = new ≡ old
-IsSilent ReadFailed old new = ⊥
-IsSilent (BadRequest at) old new = ⊥
-IsSilent WriteFailed old new = Unit {0}
-IsSilent LogFailed old new = new ≡ old
+-- all requests were answered, those too that waited at the end, which are told in the same way
+pub record ServesAll (mode : Mode) (n : ℕ) (w : Crashes) (k : Kept) (l : Left) (old new : Option (List ℕ)) (k' : Kept) (l' : Left) : Type 0 where
+  pub dues : List Due
+  pub held : Option (List ℕ)
+  pub before : InService mode n w k l old held k' l' dues
+  pub lasts : Lasts w k'
+  pub told : Tell k' dues held new
 
 -- no request follows
 abbrev pub IsOver : ℕ → Left → Type 0
 IsOver n l = (m : Left) × (next_request n l ≡ Ok (None, m))
 
--- What is written when a node no longer serves, of its replica k' then: at the end of the input, and where a request is none, all requests before
--- were answered; after another fault a beginning of them; after one of writing nothing is known of what is written.
-abbrev pub Ends : ℕ → Kept → Left → Option (List ℕ) → Option (List ℕ) → Result Unit ServeFault → Kept → Type 0
-Ends n k l old new (Ok x) k' = (l' : Left) × Serves n k l old new k' l' × IsOver n l'
-Ends n k l old new (Err Memory) k' = (m : Kept) × (l' : Left) × Serves n k l old new m l'
-Ends n k l old new (Err ReadFailed) k' = (m : Kept) × (l' : Left) × Serves n k l old new m l'
-Ends n k l old new (Err (BadRequest at)) k' = (l' : Left) × Serves n k l old new k' l' × (at ≡ l'.at) × IsErr (next_request n l')
-Ends n k l old new (Err WriteFailed) k' = Unit {0}
-Ends n k l old new (Err LogFailed) k' = (m : Kept) × (l' : Left) × Serves n k l old new m l'
+-- What is written when a node no longer serves, of its replica k' then: at the end of the input, where it can't be read, and where its bytes are no request,
+-- all requests before were answered; for want of memory all, or some batches of them; where the log failed, some batches; where writing failed, these and what the sink made of one
+-- more, of which nothing is known but that what it tells is on the disk.
+abbrev pub Ends : Mode → ℕ → Crashes → Kept → Left → Option (List ℕ) → Option (List ℕ) → Result Unit ServeFault → Kept → Type 0
+Ends mode n w k l old new (Ok x) k' = (l' : Left) × ServesAll mode n w k l old new k' l' × IsOver n l'
+Ends mode n w k l old new (Err Memory) k' = ((m : Kept) × (l' : Left) × Serves mode n w k l old new m l') ⊎ ((l' : Left) × ServesAll mode n w k l old new k' l')
+Ends mode n w k l old new (Err ReadFailed) k' = (l' : Left) × ServesAll mode n w k l old new k' l'
+Ends mode n w k l old new (Err (BadRequest at)) k' = (l' : Left) × ServesAll mode n w k l old new k' l' × (at ≡ l'.at) × IsErr (next_request n l')
+Ends mode n w k l old new (Err WriteFailed) k' = (m : Kept) × (l' : Left) × (held : Option (List ℕ)) × Serves mode n w k l old held m l' × Lasts w k'
+Ends mode n w k l old new (Err (LogFailed cause)) k' = (m : Kept) × (l' : Left) × Serves mode n w k l old new m l'
+
+-- Where all was answered, as far as the sink took it.
+abbrev pub IfSettled : Result Unit ServeFault → Type 0 → Type 0
+IfSettled (Ok x) P = P
+IfSettled (Err Memory) P = Unit {0}
+IfSettled (Err ReadFailed) P = P
+IfSettled (Err (BadRequest at)) P = P
+IfSettled (Err WriteFailed) P = P
+IfSettled (Err (LogFailed cause)) P = Unit {0}
+
+-- One request more.
+
+-- it was handled: its answer waits, and only the replica changed; or all that waited was written, with it, once all was on the disk, as P says
+abbrev pub Waits : {D : Type 0} → Mode → Logged D → Request → List Due → Option (List ℕ) → Logged D → List Due → Option (List ℕ) → Type 0 → Type 0
+Waits mode node r before old node' after new P =
+    (d : Due) × Acts node.replica r d node'.replica
+    × ((MayWait mode node.synced r node'.replica × (after ≡ before ++ d ∷ []) × (new ≡ old) × (node' ≡ record node { replica = node'.replica }))
+    ⊎ ((¬ MayWait mode node.synced r node'.replica) × (after ≡ []) × Tell node'.replica (before ++ d ∷ []) old new × IsQuiet node' × P))
+
+-- what holds where the sink failed
+abbrev pub IfUnwritten : Result Unit ServeFault → Type 0 → Type 0
+IfUnwritten (Ok x) P = Unit {0}
+IfUnwritten (Err Memory) P = Unit {0}
+IfUnwritten (Err ReadFailed) P = Unit {0}
+IfUnwritten (Err (BadRequest at)) P = Unit {0}
+IfUnwritten (Err WriteFailed) P = P
+IfUnwritten (Err (LogFailed cause)) P = Unit {0}
+
+-- a fault before anything is written
+abbrev pub IsEarly : ServeFault → Type 0
+IsEarly Memory = Unit {0}
+IsEarly ReadFailed = ⊥
+IsEarly (BadRequest at) = ⊥
+IsEarly WriteFailed = ⊥
+IsEarly (LogFailed cause) = Unit {0}
+
+-- a fault of what a request does, or of writing its answer, and what the sink holds then: as before, unless it failed
+abbrev pub IsSilent : ServeFault → Option (List ℕ) → Option (List ℕ) → Type 0
+IsSilent Memory old new = new ≡ old
+IsSilent ReadFailed old new = ⊥
+IsSilent (BadRequest at) old new = ⊥
+IsSilent WriteFailed old new = Unit {0}
+IsSilent (LogFailed cause) old new = new ≡ old
+
+-- the sink's own fault, and the log's
+abbrev pub is_write_failed : ServeFault → Bool
+is_write_failed Memory = false
+is_write_failed ReadFailed = false
+is_write_failed (BadRequest at) = false
+is_write_failed WriteFailed = true
+is_write_failed (LogFailed cause) = false
+
+abbrev pub is_log_failed : ServeFault → Bool
+is_log_failed Memory = false
+is_log_failed ReadFailed = false
+is_log_failed (BadRequest at) = false
+is_log_failed WriteFailed = false
+is_log_failed (LogFailed cause) = true
+
+-- Whether the source had failed before, and has after: it fails where that is told, and not where all was read; where a device fails in settling, that is told.
+abbrev pub IsReadTo : Result Unit ServeFault → Bool → Bool → Type 0
+IsReadTo (Ok x) had has = has ≡ had
+IsReadTo (Err Memory) had has = Unit {0}
+IsReadTo (Err ReadFailed) had has = has ≡ true
+IsReadTo (Err (BadRequest at)) had has = has ≡ had
+IsReadTo (Err WriteFailed) had has = Unit {0}
+IsReadTo (Err (LogFailed cause)) had has = Unit {0}

@@ -1,20 +1,25 @@
 //! What a request does to a node.
 
-ghost use Rattle.std.specs.Prelude.{◌≡◌, ℕ, IfOk};
+ghost use Rattle.std.specs.Prelude.{◌≡◌, ◌↔◌, ℕ, IsTrue, IfOk};
 ghost use Rattle.ep_node.specs.Nodes.{Logged};
 ghost use Rattle.ep_replica.specs.Kept.{Kept};
-ghost use Rattle.ep_serve.specs.Acting.{Acts, AdvancesAll, Handles, TakesOrRefuses};
+ghost use Rattle.ep_serve.specs.Acting.{Acts, AdvancesAll, Handles, IsFarAhead, Proposes, TakesOrRefuses};
 
 use crate::due::Due;
 use bytes::Bytes;
 use ep_device::Device;
 use ep_frame::Frame;
-use ep_journal::Event;
+use ep_journal::{Event, StepFault};
 use ep_node::{Node, NodeFault};
 use ep_wire::{Refusal, Request};
+use std::alloc::AllocError;
+
+/// How far above the stamp of the replica's last entry a stamp may be that a client has seen: 2^40. Stamps are below 2^48, and
+/// a replica goes on from the greatest that it is told; so that one wrong word doesn't use them up.
+const REACH: u64 = 1_099_511_627_776;
 
 /// The node takes an event, or refuses it.
-fn take<D: Device>(node: &mut Node<D>, event: Event) -> Result<Due, NodeFault>
+fn take<D: Device>(node: &mut Node<D>, event: Event) -> Result<Due, AllocError>
     ensures ok { IfOk result (λ due. TakesOrRefuses node.old.replica event due node.new.replica) }
     ensures same { node.new ≡ record node.old { replica = node.new.replica } }
 {
@@ -22,12 +27,33 @@ fn take<D: Device>(node: &mut Node<D>, event: Event) -> Result<Due, NodeFault>
     match node.step(event) {
         Ok(()) => Ok(Due::Taken { from, count: 1 }),
         Err(NodeFault::Refused(fault)) => Ok(Due::Refused(Refusal::Step(fault))),
-        Err(fault) => Err(fault),
+        // No other fault comes of a node whose device works.
+        Err(_) => Err(AllocError),
     }
 }
 
+/// Whether a client has seen a stamp that is too far ahead of the replica's.
+fn is_far_ahead<D: Device>(node: &Node<D>, seen: u64) -> bool
+    ensures { IsTrue result ↔ IsFarAhead node.now.replica seen }
+{
+    let last = node.last_stamp();
+    last < seen && REACH < seen - last
+}
+
+/// The node takes a proposal whose client has seen this stamp, or refuses it.
+fn propose<D: Device>(node: &mut Node<D>, seen: u64, event: Event) -> Result<Due, AllocError>
+    ensures ok { IfOk result (λ due. Proposes node.old.replica seen event due node.new.replica) }
+    ensures same { node.new ≡ record node.old { replica = node.new.replica } }
+{
+    if is_far_ahead(node, seen) {
+        drop(event);
+        return Ok(Due::Refused(Refusal::Step(StepFault::StampFull)));
+    }
+    take(node, event)
+}
+
 /// The node handles bytes, if they are a frame.
-fn handle<D: Device>(node: &mut Node<D>, bytes: Bytes) -> Result<Due, NodeFault>
+fn handle<D: Device>(node: &mut Node<D>, bytes: Bytes) -> Result<Due, AllocError>
     ensures ok { IfOk result (λ due. Handles node.old.replica bytes due node.new.replica) }
     ensures same { node.new ≡ record node.old { replica = node.new.replica } }
 {
@@ -38,23 +64,26 @@ fn handle<D: Device>(node: &mut Node<D>, bytes: Bytes) -> Result<Due, NodeFault>
 }
 
 /// The node executes all own instances that are ready, in rising order, until none is.
-fn advance<D: Device>(node: &mut Node<D>) -> Result<Due, NodeFault>
+fn advance<D: Device>(node: &mut Node<D>) -> Result<Due, AllocError>
     ensures ok { IfOk result (λ due. AdvancesAll node.old.replica due node.new.replica) }
     ensures same { node.new ≡ record node.old { replica = node.new.replica } }
 {
     let from = node.taken();
     for _ in 0..u64::MAX {
-        if !node.execute_next()? {
+        let Ok(executed) = node.execute_next() else {
+            return Err(AllocError);
+        };
+        if !executed {
             let count = node.taken().saturating_sub(from);
             return Ok(Due::Taken { from, count });
         }
     }
     // No replica has so many instances.
-    Err(NodeFault::Closed)
+    Err(AllocError)
 }
 
 /// What the request does, and the answer that is due for it.
-pub(crate) fn act<D: Device>(node: &mut Node<D>, request: Request) -> Result<Due, NodeFault>
+pub(crate) fn act<D: Device>(node: &mut Node<D>, request: Request) -> Result<Due, AllocError>
     ensures ok { IfOk result (λ due. Acts node.old.replica request due node.new.replica) }
     ensures same { node.new ≡ record node.old { replica = node.new.replica } }
 {
@@ -64,8 +93,9 @@ pub(crate) fn act<D: Device>(node: &mut Node<D>, request: Request) -> Result<Due
             request,
             seen,
             command,
-        } => take(
+        } => propose(
             node,
+            seen,
             Event::Propose {
                 client,
                 request,
@@ -82,5 +112,6 @@ pub(crate) fn act<D: Device>(node: &mut Node<D>, request: Request) -> Result<Due
         Request::NextOpen(after) => Ok(Due::Open(after)),
         Request::Leads(instance) => Ok(Due::Leads(instance)),
         Request::Sync => Ok(Due::Synced),
+        Request::Malformed(malformed) => Ok(Due::Malformed(malformed)),
     }
 }

@@ -12,7 +12,7 @@ use crate::no_room::NoRoom;
 use ep_base::{Noted, Sink};
 use ep_bundle::{learn_entry, put_u32};
 use ep_replica::Replica;
-use ep_wire::{put_entry, write_refused, write_synced, write_taken};
+use ep_wire::{put_entry, write_malformed, write_refused, write_synced, write_taken};
 use std::alloc::Global;
 
 /// Answers are begun with room for so many bytes, as most have fewer, so that they needn't grow.
@@ -115,6 +115,7 @@ fn put_due<K: Sink>(alloc: Global, sink: &mut K, replica: &Replica, due: &Due) -
         Due::Open(after) => put_asked_open(sink, replica, *after),
         Due::Leads(instance) => put_asked_lead(sink, replica, *instance),
         Due::Synced => put_synced(sink, replica),
+        Due::Malformed(malformed) => Ok(write_malformed(sink, *malformed)?),
     }
 }
 

@@ -1,7 +1,7 @@
 //! Answers that wait.
 
 use ep_base::{InstanceId, Key};
-use ep_wire::Refusal;
+use ep_wire::{Malformed, Refusal};
 
 /// An answer that waits until all that its node took is on the disk.
 #[derive(Drop)]
@@ -18,4 +18,6 @@ pub enum Due {
     Leads(InstanceId),
     /// How many entries are on the disk is asked.
     Synced,
+    /// The request is malformed.
+    Malformed(Malformed),
 }

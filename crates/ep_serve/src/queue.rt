@@ -1,8 +1,12 @@
 //! The answers that wait.
 
+ghost use Rattle.std.specs.Prelude.{◌≡◌};
+ghost use Rattle.ep_serve.specs.Serving.{is_sync};
+
 use crate::acting::act;
 use crate::answering::answers_of;
 use crate::due::Due;
+use crate::durable::put_on_disk;
 use crate::mode::Mode;
 use crate::serve_fault::ServeFault;
 use ep_base::Sink;
@@ -12,7 +16,9 @@ use ep_wire::Request;
 use std::alloc::Global;
 
 /// Whether the request asks for a sync.
-fn is_sync(request: &Request) -> bool {
+fn is_sync(request: &Request) -> bool
+    ensures { result ≡ is_sync request.now }
+{
     match request {
         Request::Sync => true,
         _ => false,
@@ -28,16 +34,20 @@ pub(crate) struct Queue {
 }
 
 impl Queue {
-    ghost use Rattle.std.specs.Prelude.{◌≡◌, ◌++◌, ◌∷◌, [], OnOk, IfErr};
+    ghost use Rattle.std.specs.Prelude.{◌≡◌, ◌↔◌, ◌≤◌, ◌++◌, ◌∷◌, [], length, false, OnOk, IfErr, IsTrue};
+    ghost use Rattle.ep_base.specs.Devices.{FailsAsTold};
     ghost use Rattle.ep_node.specs.Nodes.{IsQuiet};
     ghost use Rattle.ep_serve.specs.Acting.{Acts};
     ghost use Rattle.ep_serve.specs.Answering.{Tell};
-    ghost use Rattle.ep_serve.specs.Serving.{IsActing, IsSilent, Waits};
+    ghost use Rattle.ep_serve.specs.Lasting.{GoesOn, IsKept, StaysKnown};
+    ghost use Rattle.ep_serve.specs.Serving.{is_log_failed, is_sync, is_write_failed, IfSettled, IfUnwritten, IsSilent, MayWait, Waits};
     ghost use Rattle.ep_serve.specs.declared.due.Due.{Due};
+    ghost use Rattle.ep_wire.specs.declared.request.Request.{Request};
+    ghost use Rattle.ep_serve.specs.declared.serve_fault.ServeFault.TheVariants.{Memory};
 
     /// No answers.
     pub(crate) fn new(alloc: Global, mode: Mode) -> Queue
-        ensures { result.dues.items ≡ [] }
+        ensures { (result.dues.items ≡ []) × (result.mode ≡ mode) }
     {
         Queue {
             dues: Vec::new(alloc),
@@ -49,11 +59,19 @@ impl Queue {
     /// The node does what is asked, and the answer waits.
     fn add<D: Device>(&mut self, node: &mut Node<D>, request: Request) -> Result<(), ServeFault>
         ensures ok { OnOk result ((d : Due) × Acts node.old.replica request d node.new.replica × (self.new.dues.items ≡ self.old.dues.items ++ d ∷ [])) }
-        ensures err { IfErr result (λ fault. IsActing fault) }
+        ensures same { (node.new ≡ record node.old { replica = node.new.replica }) × (self.new.mode ≡ self.old.mode) }
+        ensures err { IfErr result (λ fault. fault ≡ Memory) }
     {
         let due = act(node, request)?;
         self.dues.push(due)?;
         Ok(())
+    }
+
+    /// Whether the answer to a request that was handled may wait; `asks` says whether it asked for a sync.
+    fn may_wait<D: Device>(&self, node: &Node<D>, asks: bool) -> bool
+        ensures { (request : Request) → asks ≡ is_sync request → (IsTrue result ↔ MayWait self.now.mode node.now.synced request node.now.replica) }
+    {
+        !asks && self.mode == Mode::Asked && node.unsynced() > 0
     }
 
     /// Writes what the node took to the disk, and then the answers that wait. A fault but that of writing writes none of them.
@@ -62,14 +80,21 @@ impl Queue {
         node: &mut Node<D>,
         sink: &mut K,
     ) -> Result<(), ServeFault>
+        requires { node.old.closed ≡ false }
         ensures replica { node.new.replica ≡ node.old.replica }
-        ensures quiet { OnOk result (IsQuiet node.new) }
+        ensures mode { self.new.mode ≡ self.old.mode }
         ensures ok { OnOk result (Tell node.old.replica self.old.dues.items (K.held sink.old) (K.held sink.new) × (self.new.dues.items ≡ [])) }
         ensures silent { IfErr result (λ fault. IsSilent fault (K.held sink.old) (K.held sink.new)) }
+        ensures quiet { IfSettled result (IsQuiet node.new) }
+        ensures kept { IfSettled result (IsKept D.seen D.moment D.left_since node.old.device node.new.device node.old.replica) }
+        ensures known { IfSettled result (StaysKnown D.seen node.old.device node.new.device) }
+        ensures onward { GoesOn D.seen D.moment D.left_since node.old.device node.new.device node.old.replica node.old.synced }
+        ensures sink_cause { FailsAsTold is_write_failed result (K.has_failed sink.old) (K.has_failed sink.new) }
+        ensures log_cause { FailsAsTold is_log_failed result (D.has_failed node.old.device) (D.has_failed node.new.device) }
     {
-        node.sync()?;
+        put_on_disk(node)?;
         let Some(replica) = node.replica() else {
-            return Err(ServeFault::LogFailed);
+            return Err(ServeFault::Memory);
         };
         let answers = answers_of(self.alloc, replica, &self.dues)?;
         sink.put(&answers)?;
@@ -85,12 +110,20 @@ impl Queue {
         sink: &mut K,
         request: Request,
     ) -> Result<(), ServeFault>
-        ensures ok { OnOk result (Waits node.old.replica request self.old.dues.items (K.held sink.old) node.new.replica self.new.dues.items (K.held sink.new)) }
+        requires works { node.old.closed ≡ false }
+        requires within { node.old.synced ≤ length node.old.replica.entries }
+        ensures mode { self.new.mode ≡ self.old.mode }
+        ensures ok { OnOk result (Waits self.old.mode node.old request self.old.dues.items (K.held sink.old) node.new self.new.dues.items (K.held sink.new) (IsKept D.seen D.moment D.left_since node.old.device node.new.device node.new.replica)) }
         ensures silent { IfErr result (λ fault. IsSilent fault (K.held sink.old) (K.held sink.new)) }
+        ensures unwritten { IfUnwritten result (IsQuiet node.new × IsKept D.seen D.moment D.left_since node.old.device node.new.device node.new.replica) }
+        ensures known { OnOk result (StaysKnown D.seen node.old.device node.new.device) }
+        ensures onward { GoesOn D.seen D.moment D.left_since node.old.device node.new.device node.old.replica node.old.synced }
+        ensures sink_cause { FailsAsTold is_write_failed result (K.has_failed sink.old) (K.has_failed sink.new) }
+        ensures log_cause { FailsAsTold is_log_failed result (D.has_failed node.old.device) (D.has_failed node.new.device) }
     {
-        let is_sync = is_sync(&request);
+        let asks = is_sync(&request);
         self.add(node, request)?;
-        if is_sync || self.mode == Mode::Each || node.unsynced() == 0 {
+        if !self.may_wait(node, asks) {
             self.settle(node, sink)?;
         }
         Ok(())

@@ -6,9 +6,10 @@ ghost use Rattle.ep_serve.specs.declared.serve_fault.ServeFault.TheVariants.{Mem
 
 use crate::no_room::NoRoom;
 use ep_base::WriteFailed;
+use ep_device::Cause;
 use ep_node::NodeFault;
 use ep_wire::RequestFault;
-use std::alloc::AllocFailed;
+use std::alloc::{AllocError, AllocFailed};
 use thiserror::Error;
 
 /// Why a node no longer serves.
@@ -20,15 +21,16 @@ pub enum ServeFault {
     /// The source failed.
     #[error("reading failed")]
     ReadFailed,
-    /// The request whose first byte stands at this offset is none. All that was taken before is on the disk, and answered.
+    /// The request whose first byte stands at this offset is cut by the end of the input, or its length is out of range. All that
+    /// was taken before is on the disk, and answered.
     #[error("request refused at byte {0}")]
     BadRequest(u64),
     /// The sink failed.
     #[error("writing failed")]
     WriteFailed,
-    /// The log's device failed. Nothing that waited was handed out.
-    #[error("log failed")]
-    LogFailed,
+    /// The log's device failed, and why. Nothing that waited was handed out.
+    #[error("log failed: {0}")]
+    LogFailed(Cause),
 }
 
 impl From<RequestFault> for ServeFault {
@@ -48,8 +50,9 @@ impl From<NodeFault> for ServeFault {
 
     fn from(fault: NodeFault) -> ServeFault {
         match fault {
-            NodeFault::Memory => ServeFault::Memory,
-            NodeFault::Refused(_) | NodeFault::Failed | NodeFault::Closed => ServeFault::LogFailed,
+            NodeFault::Failed(cause) => ServeFault::LogFailed(cause),
+            // A node whose device works refuses a sync for want of memory alone.
+            NodeFault::Memory | NodeFault::Refused(_) | NodeFault::Closed => ServeFault::Memory,
         }
     }
 }
@@ -58,6 +61,14 @@ impl From<NoRoom> for ServeFault {
     ghost from_gives = { λ _ e. e ≡ NoMemory };
 
     fn from(_fault: NoRoom) -> ServeFault {
+        ServeFault::Memory
+    }
+}
+
+impl From<AllocError> for ServeFault {
+    ghost from_gives = { λ _ e. e ≡ NoMemory };
+
+    fn from(_fault: AllocError) -> ServeFault {
         ServeFault::Memory
     }
 }

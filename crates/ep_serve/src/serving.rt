@@ -1,9 +1,11 @@
 //! The loop.
 
-ghost use Rattle.std.specs.Prelude.{◌≡◌, ℕ, List, Some, OnOk};
+ghost use Rattle.std.specs.Prelude.{◌≡◌, ℕ, List, Some};
+ghost use Rattle.ep_base.specs.Devices.{FailsAsTold};
 ghost use Rattle.ep_base.specs.Quorums.{size};
 ghost use Rattle.ep_node.specs.Nodes.{IsQuiet};
-ghost use Rattle.ep_serve.specs.Serving.{Ends};
+ghost use Rattle.ep_serve.specs.Lasting.{crashes};
+ghost use Rattle.ep_serve.specs.Serving.{is_log_failed, is_write_failed, Ends, IfSettled, IsReadTo};
 
 use crate::mode::Mode;
 use crate::queue::Queue;
@@ -15,7 +17,8 @@ use ep_wire::read_request;
 use std::alloc::Global;
 
 /// Reads requests from the source until it is over, and answers each on the sink, in their order. What an answer tells is on
-/// the node's disk before it is written. At the end all that was taken is on the disk, and answered.
+/// the node's disk before it is written, whatever stops the node after it. At the end, and where a request can't be read, all
+/// that was taken is on the disk, and answered. The node begins with all that it took on the disk, as it is opened.
 pub fn serve<D: Device, S: Source, K: Sink>(
     alloc: Global,
     node: &mut Node<D>,
@@ -23,12 +26,22 @@ pub fn serve<D: Device, S: Source, K: Sink>(
     sink: &mut K,
     mode: Mode,
 ) -> Result<(), ServeFault>
-    ensures served { (zs : List ℕ) → S.left source.old ≡ Some zs → Ends (size node.old.replica.faults) node.old.replica (record { at = 0; bytes = zs }) (K.held sink.old) (K.held sink.new) result node.new.replica }
-    ensures quiet { OnOk result (IsQuiet node.new) }
+    requires { IsQuiet node.old }
+
+    // What was read, done and answered. What an answer tells is on the disk when this ends, also by a fault; so it is before the
+    // answer is written, as any later sync may fail. At no moment a crash takes what was there before.
+    ensures served { (zs : List ℕ) → S.left source.old ≡ Some zs → Ends mode (size node.old.replica.faults) (crashes D.seen D.moment D.left_since node.old.device node.new.device) node.old.replica (record { at = 0; bytes = zs }) (K.held sink.old) (K.held sink.new) result node.new.replica }
+    ensures quiet { IfSettled result (IsQuiet node.new) }
+
+    // which device failed, in this call
+    ensures sink_cause { FailsAsTold is_write_failed result (K.has_failed sink.old) (K.has_failed sink.new) }
+    ensures log_cause { FailsAsTold is_log_failed result (D.has_failed node.old.device) (D.has_failed node.new.device) }
+    ensures source_cause { IsReadTo result (S.has_failed source.old) (S.has_failed source.new) }
 {
     let size = node.size();
     let mut queue = Queue::new(alloc, mode);
     let mut place = 0;
+    node.is_at_rest();
     for _ in 0..u64::MAX {
         match read_request(alloc, source, &mut place, size) {
             Ok(Some(request)) => queue.serve(node, sink, request)?,

@@ -1,7 +1,10 @@
 -- How the program ends at a fault, and the line that it then tells.
 use Rattle.std.specs.Prelude.{ℕ, List, ◌++◌, codes, decimal}
+use Rattle.ep_device.specs.declared.cause.Cause.{Cause}
+use Rattle.ep_device.specs.declared.cause.Cause.TheVariants as cause
 use Rattle.ep_log.specs.declared.log_fault.LogFault.{LogFault}
 use Rattle.ep_log.specs.declared.log_fault.LogFault.TheVariants as log
+use Rattle.ep_node.specs.declared.cut.Cut.{Cut}
 use Rattle.ep_node.specs.declared.open_fault.OpenFault.{OpenFault}
 use Rattle.ep_node.specs.declared.open_fault.OpenFault.TheVariants as open_
 use Rattle.ep_serve.specs.declared.serve_fault.ServeFault.{ServeFault}
@@ -28,8 +31,27 @@ out_of_memory = codes "out of memory\n"
 abbrev pub writing_failed : List ℕ
 writing_failed = codes "writing failed\n"
 
-abbrev pub log_failed : List ℕ
-log_failed = codes "log failed\n"
+-- why a device failed
+abbrev pub words_of : Cause → List ℕ
+words_of cause.NotFound = codes "no such file or directory"
+words_of cause.NotAllowed = codes "permission denied"
+words_of cause.NotAFile = codes "not a regular file"
+words_of cause.Locked = codes "another process has it open"
+words_of cause.NoSpace = codes "no space left on device"
+words_of cause.OverQuota = codes "disk quota exceeded"
+words_of cause.TooLarge = codes "file too large"
+words_of cause.ReadOnly = codes "read-only file system"
+words_of cause.InputOutput = codes "input/output error"
+words_of cause.NoMemory = codes "out of memory"
+words_of (cause.System number) = codes "system error " ++ decimal number
+words_of cause.Unknown = codes "unknown error"
+
+abbrev pub log_failed : Cause → List ℕ
+log_failed cause = codes "log failed: " ++ (words_of cause ++ codes "\n")
+
+-- what was cut off a log
+abbrev pub line_of_cut : Cut → List ℕ
+line_of_cut cut = codes "log cut at byte " ++ decimal cut.at ++ codes ": " ++ (decimal cut.behind ++ codes " bytes behind it were no whole record\n")
 
 -- what is wrong, and the first byte of the record
 abbrev pub record_line : List ℕ → ℕ → List ℕ
@@ -39,15 +61,19 @@ abbrev pub line_of_log : LogFault → List ℕ
 line_of_log log.Memory = out_of_memory
 line_of_log log.NoHeader = codes "log refused: no header of a log\n"
 line_of_log log.OtherVersion = codes "log refused: a log of another version\n"
+line_of_log log.OtherGeneration = codes "log refused: a log of a generation\n"
 line_of_log (log.BadLength at) = record_line (codes "log refused: bad length") at
 line_of_log (log.BadChecksum at) = record_line (codes "log refused: bad checksum") at
 line_of_log (log.BadEntry at) = record_line (codes "log refused: no entry") at
 line_of_log (log.NotNext at) = record_line (codes "log refused: not the next entry") at
+line_of_log (log.Turned at by) = codes "log refused: the record at byte " ++ decimal at ++ codes " is damaged, and was on the disk by the record at byte " ++ (decimal by ++ codes "\n")
 
 abbrev pub line_of_open : OpenFault → List ℕ
 line_of_open open_.OutOfRange = codes "log refused: E3 out of range\n"
 line_of_open open_.Memory = out_of_memory
-line_of_open open_.Failed = log_failed
+line_of_open (open_.Failed cause) = log_failed cause
+line_of_open open_.NoLog = codes "log refused: there is none\n"
+line_of_open open_.LogExists = codes "log refused: there is one already\n"
 line_of_open open_.OtherLog = codes "log refused: a log of another cluster or replica\n"
 line_of_open (open_.Log fault) = line_of_log fault
 line_of_open (open_.NotClocked number) = codes "log refused: entry " ++ decimal number ++ codes " is not clocked\n"
@@ -57,7 +83,7 @@ line_of_serve serve.Memory = out_of_memory
 line_of_serve serve.ReadFailed = codes "reading failed\n"
 line_of_serve (serve.BadRequest at) = codes "request refused at byte " ++ decimal at ++ codes "\n"
 line_of_serve serve.WriteFailed = writing_failed
-line_of_serve serve.LogFailed = log_failed
+line_of_serve (serve.LogFailed cause) = log_failed cause
 
 abbrev pub line_of : Fault → List ℕ
 line_of (Open why) = line_of_open why
@@ -68,7 +94,9 @@ line_of Write = writing_failed
 abbrev pub status_of_open : OpenFault → Status
 status_of_open open_.OutOfRange = Refused
 status_of_open open_.Memory = OutOfMemory
-status_of_open open_.Failed = Failed
+status_of_open (open_.Failed cause) = Failed
+status_of_open open_.NoLog = Refused
+status_of_open open_.LogExists = Refused
 status_of_open open_.OtherLog = Refused
 status_of_open (open_.Log fault) = Refused
 status_of_open (open_.NotClocked number) = Refused
@@ -78,7 +106,7 @@ status_of_serve serve.Memory = OutOfMemory
 status_of_serve serve.ReadFailed = Failed
 status_of_serve (serve.BadRequest at) = Refused
 status_of_serve serve.WriteFailed = Failed
-status_of_serve serve.LogFailed = Failed
+status_of_serve (serve.LogFailed cause) = Failed
 
 abbrev pub status_of : Fault → Status
 status_of (Open why) = status_of_open why

@@ -1,11 +1,15 @@
 -- What the program does, by the status that it answers: of the bytes of its log and those that it reads, its output and its fault output.
-use Rattle.std.specs.Prelude.{◌≡◌, ◌++◌, ℕ, List, Result, Ok, Err, string_bytes}
+use Rattle.std.specs.Prelude.{◌≡◌, ◌++◌, ℕ, List, [], Option, Some, None, Result, Ok, Err, string_bytes}
 use Rattle.ep_base.specs.Quorums.{size}
-use Rattle.ep_node.specs.Opening.{IsOpened, IsUnopened}
-use Rattle.ep_replica.specs.Kept.{Kept}
+use Rattle.ep_node.specs.Nodes.{Logged}
+use Rattle.ep_node.specs.Opening.{IsOpened, IsUnopened, IsWrittenAnew}
+use Rattle.ep_node.specs.declared.begin.Begin.{Begin}
+use Rattle.ep_node.specs.declared.cut.Cut.{Cut}
+use Rattle.ep_serve.specs.Lasting.{crashes}
 use Rattle.ep_serve.specs.Serving.{Ends}
+use Rattle.ep_serve.specs.declared.mode.Mode.{Mode}
 use Rattle.ep_serve.specs.declared.serve_fault.ServeFault.{ServeFault}
-use Rattle.ep_server.specs.Faults.{command_line_refused, line_of, status_of}
+use Rattle.ep_server.specs.Faults.{command_line_refused, line_of, line_of_cut, status_of}
 use Rattle.ep_server.specs.Outputs.{Output, Told, WroteNothing}
 use Rattle.ep_server.specs.declared.declined.Declined.{Declined}
 use Rattle.ep_server.specs.declared.declined.Declined.TheVariants as declined
@@ -14,33 +18,67 @@ use Rattle.ep_server.specs.declared.fault.Fault.TheVariants.{Open, Serve, Memory
 use Rattle.ep_server.specs.declared.status.Status.{Status}
 use Rattle.ep_server.specs.declared.status.Status.TheVariants.{Done, Refused}
 
--- The log holds a replica of a cluster with f faults, with the number me, and from there the requests in zs were served, as `serve` tells.
-pub record HasServed (f me : ℕ) (bytes zs : List ℕ) (outcome : Result Unit ServeFault) (out : Output) : Type 0 where
-  pub start : Kept
-  pub cluster : start.faults ≡ f
-  pub replica : start.me ≡ me
-  pub opened : IsOpened f me bytes start.entries
-  pub end : Kept
-  pub ends : Ends (size f) start (record { at = 0; bytes = zs }) out.before out.after outcome end
+-- which node is asked for, when it writes answers, and whether its log is to be begun
+pub record Role : Type 0 where
+  pub begin : Begin
+  pub mode : Mode
+  pub faults : ℕ
+  pub me : ℕ
+
+-- What is known of a type of devices: the bytes that a read returns, the moment, and what a crash from a moment on might have left.
+pub record Shown (D : Type 0) : Type 1 where
+  pub seen : D → Option (List ℕ)
+  pub moment : D → ℕ
+  pub left_since : D → ℕ → List ℕ → Type 0
+
+-- The log holds this replica, and from there the requests in zs were served, as `serve` tells, on a device whose bytes were known when the log had been
+-- written anew.
+pub record HasServed {D : Type 0} (shown : Shown D) (role : Role) (bytes zs : List ℕ) (cut : Option Cut) (outcome : Result Unit ServeFault) (out : Output) : Type 0 where
+  pub start : Logged D
+  pub cluster : start.replica.faults ≡ role.faults
+  pub replica : start.replica.me ≡ role.me
+  pub opened : IsOpened role.begin role.faults role.me bytes start.replica.entries cut
+  pub log : List ℕ
+  pub known : shown.seen start.device ≡ Some log
+  pub anew : IsWrittenAnew role.begin role.faults role.me bytes log
+  pub end : Logged D
+  pub ends : Ends role.mode (size role.faults) (crashes shown.seen shown.moment shown.left_since start.device end.device) start.replica (record { at = 0; bytes = zs }) out.before out.after outcome end.replica
+
+-- how serving ended, as the program has it
+abbrev pub of_serve : Result Unit ServeFault → Result Unit Fault
+of_serve (Ok x) = Ok x
+of_serve (Err why) = Err (Serve why)
+
+-- a node that was opened has served so
+abbrev pub IsOver : {D : Type 0} → Shown D → Mode → Logged D → List ℕ → Result Unit Fault → Output → Type 0
+IsOver {D = D} shown mode start zs outcome out =
+    (end : Logged D) × (ended : Result Unit ServeFault) × (outcome ≡ of_serve ended)
+    × Ends mode (size start.replica.faults) (crashes shown.seen shown.moment shown.left_since start.device end.device) start.replica (record { at = 0; bytes = zs }) out.before out.after ended end.replica
 
 -- before a fault is told: where the log isn't opened, why, and that nothing was written
-abbrev pub Happens : ℕ → ℕ → List ℕ → List ℕ → Result Unit Fault → Output → Type 0
-Happens f me bytes zs (Ok x) out = HasServed f me bytes zs (Ok x) out
-Happens f me bytes zs (Err (Open why)) out = IsUnopened f me bytes why × WroteNothing out
-Happens f me bytes zs (Err (Serve why)) out = HasServed f me bytes zs (Err why) out
-Happens f me bytes zs (Err Memory) out = ⊥
-Happens f me bytes zs (Err Write) out = ⊥
+abbrev pub Happens : {D : Type 0} → Shown D → Role → List ℕ → List ℕ → Option Cut → Result Unit Fault → Output → Type 0
+Happens shown role bytes zs cut (Ok x) out = HasServed shown role bytes zs cut (Ok x) out
+Happens shown role bytes zs cut (Err (Open why)) out = IsUnopened role.begin role.faults role.me bytes why × WroteNothing out × (cut ≡ None)
+Happens shown role bytes zs cut (Err (Serve why)) out = HasServed shown role bytes zs cut (Err why) out
+Happens shown role bytes zs cut (Err Memory) out = ⊥
+Happens shown role bytes zs cut (Err Write) out = ⊥
 
--- a fault is told, and decides on the status
-abbrev pub Concludes : Result Unit Fault → Status → Output → Type 0
-Concludes (Ok x) status fault = (status ≡ Done) × WroteNothing fault
-Concludes (Err e) status fault = (status ≡ status_of e) × Told fault (line_of e)
+-- what was cut off the log is told first
+abbrev pub told_first : Option Cut → List ℕ
+told_first None = []
+told_first (Some cut) = line_of_cut cut
+
+-- then a fault is told, and decides on the status
+abbrev pub Concludes : Option Cut → Result Unit Fault → Status → Output → Type 0
+Concludes cut (Ok x) status fault = (status ≡ Done) × Told fault (told_first cut)
+Concludes cut (Err e) status fault = (status ≡ status_of e) × Told fault (told_first cut ++ line_of e)
 
 -- at the status Done all requests were read and answered; at any other the line says what stopped that
-pub record IsNode (f me : ℕ) (bytes zs : List ℕ) (status : Status) (out fault : Output) : Type 0 where
+pub record IsNode {D : Type 0} (shown : Shown D) (role : Role) (bytes zs : List ℕ) (status : Status) (out fault : Output) : Type 0 where
+  pub cut : Option Cut
   pub outcome : Result Unit Fault
-  pub happens : Happens f me bytes zs outcome out
-  pub concluded : Concludes outcome status fault
+  pub happens : Happens shown role bytes zs cut outcome out
+  pub concluded : Concludes cut outcome status fault
 
 -- why nothing is done is told, and decides on the status
 abbrev pub TellsWhy : Declined → Status → Output → Type 0

@@ -7,6 +7,7 @@ use crate::options::Options;
 use clap::error::ErrorKind;
 use clap::{Arg, ArgAction, ArgMatches, Command, Error};
 use ep_base::{ReplicaId, Size};
+use ep_node::Begin;
 use ep_script::number_in;
 use ep_serve::Mode;
 use std::alloc::{AllocError, Global};
@@ -15,15 +16,16 @@ use std::convert::AsStr;
 /// What the help of `node` says at its end.
 const AFTER_NODE: &str = "\
 Standard input is requests, standard output their answers, one for each, in order; docs/FORMATS.md, section 10, has their bytes.
-A log that is there is gone on with, and one that isn't is made. An answer is written once all that it tells is on the disk.
+A log is gone on with; with --new it is begun. An answer is written once all that it tells is on the disk. A replica whose log is
+lost must never be begun again under its number: it would have forgotten what it told.
 
 Example (client 1 proposes its request 1, to put x = 1, and a sync, by which the answers come):
   printf '\\0\\0\\0\\27\\1\\0\\0\\0\\1\\0\\0\\0\\1\\0\\0\\0\\0\\0\\0\\0\\0\\3\\1\\0\\1x1\\0\\0\\0\\1\\12' |
-    epaxos node --replicas 3 --replica 0 --log zero.log | od -An -tx1
+    epaxos node --replicas 3 --replica 0 --log zero.log --new | od -An -tx1
 
 Exit status:
   0  the input is over, all that was taken is on the disk, and each request is answered
-  2  the command line, the log or a request is refused; standard error says why, or at which byte
+  2  the command line, the log or the length of a request is refused; standard error says why, or at which byte
   3  memory was refused
   4  reading, writing or the log failed";
 
@@ -111,11 +113,13 @@ fn options_of(alloc: Global, options: &ArgMatches<'_>) -> Result<Options, Declin
     let size = size_of(alloc, options)?;
     let me = replica_of(alloc, options, size)?;
     let mode = mode_of(alloc, options)?;
+    let begin = begin_of(options);
     let log = String::from_str(alloc, options.get_str("log").unwrap_or(""))?;
     Ok(Options {
         size,
         me,
         log,
+        begin,
         mode,
     })
 }
@@ -151,6 +155,15 @@ fn replica_of(alloc: Global, options: &ArgMatches<'_>, size: Size) -> Result<Rep
 fn replica_named(word: &str, most: u8) -> Option<ReplicaId> {
     let index = number_in(word.as_bytes(), 0, u64::from(most))?;
     ReplicaId::new(index as u8).ok()
+}
+
+/// Whether the log is to be begun.
+fn begin_of(options: &ArgMatches<'_>) -> Begin {
+    if options.get_flag("new") {
+        Begin::New
+    } else {
+        Begin::Existing
+    }
 }
 
 /// When answers are written.
@@ -213,6 +226,12 @@ fn node_command<'a>(alloc: Global) -> Result<Command<'a>, AllocError> {
     ))?;
     let command = command.arg(required(alloc, "replica", "R", "Which of them this is, from 0 on"))?;
     let command = command.arg(required(alloc, "log", "FILE", "Its log"))?;
+    let command = command.arg(
+        Arg::new(alloc, "new")
+            .long("new")
+            .help("Begins the log: the replica is new, and there is no such file yet")
+            .action(ArgAction::SetTrue),
+    )?;
     command.arg(
         Arg::new(alloc, "sync")
             .long("sync")

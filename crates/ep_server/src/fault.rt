@@ -29,6 +29,8 @@ impl Fault {
         match self {
             Fault::Open(
                 OpenFault::OutOfRange
+                | OpenFault::NoLog
+                | OpenFault::LogExists
                 | OpenFault::OtherLog
                 | OpenFault::Log(_)
                 | OpenFault::NotClocked(_),
@@ -37,8 +39,8 @@ impl Fault {
             Fault::Open(OpenFault::Memory) | Fault::Serve(ServeFault::Memory) | Fault::Memory => {
                 Status::OutOfMemory
             }
-            Fault::Open(OpenFault::Failed)
-            | Fault::Serve(ServeFault::ReadFailed | ServeFault::WriteFailed | ServeFault::LogFailed)
+            Fault::Open(OpenFault::Failed(_))
+            | Fault::Serve(ServeFault::ReadFailed | ServeFault::WriteFailed | ServeFault::LogFailed(_))
             | Fault::Write => Status::Failed,
         }
     }

@@ -33,7 +33,7 @@ use crate::options::Options;
 use crate::program::{decline, serve_log};
 use crate::status::Status;
 use ep_base::{Noted, Sink};
-use ep_device::FileDevice;
+use ep_device::{Cause, FileDevice};
 use ep_node::OpenFault;
 use std::alloc::AllocError;
 use std::fs::{File, Files};
@@ -78,7 +78,10 @@ fn run_node<R: AllocGlobal + Files<File = File>, I: Read + Drop, W: Sink, F: Sin
     let alloc = rt.alloc();
     let mut reader = read_ahead(alloc, input)?;
     let held = hold_streams(rt)?;
-    let device = open_log(rt, options.log.as_str())?;
+    let device = match FileDevice::open(alloc, rt, options.log.as_str()) {
+        Ok(device) => device,
+        Err(fault) => return Err(Declined::Fault(Fault::Open(OpenFault::from(fault)))),
+    };
     let status = serve_log(alloc, options, device, &mut reader, writer, fault_writer);
     drop(held);
     Ok(status)
@@ -94,16 +97,7 @@ fn hold_streams<R: Files<File = File>>(rt: &R) -> Result<(File, File, File), Fau
     );
     match held {
         (Ok(first), Ok(second), Ok(third)) => Ok((first, second, third)),
-        _ => Err(Fault::Open(OpenFault::Failed)),
-    }
-}
-
-/// The log's file, which is made where there is none.
-fn open_log<R: Files<File = File>>(rt: &R, path: &str) -> Result<FileDevice, Fault> {
-    match FileDevice::open(rt, path) {
-        Ok(device) => Ok(device),
-        Err(error) if error.kind() == ErrorKind::OutOfMemory => Err(Fault::Open(OpenFault::Memory)),
-        Err(_) => Err(Fault::Open(OpenFault::Failed)),
+        _ => Err(Fault::Open(OpenFault::Failed(Cause::Unknown))),
     }
 }
 

@@ -1,6 +1,7 @@
 //! What a node is asked to be.
 
 use ep_base::{ReplicaId, Size};
+use ep_node::Begin;
 use ep_serve::Mode;
 
 /// What a node is asked to be.
@@ -12,6 +13,8 @@ pub struct Options {
     pub me: ReplicaId,
     /// The path of its log.
     pub log: String,
+    /// Whether it is to be begun.
+    pub begin: Begin,
     /// When answers are written.
     pub mode: Mode,
 }

@@ -1,23 +1,26 @@
 //! The program, over any device, source and sinks.
 
-ghost use Rattle.std.specs.Prelude.{◌≡◌, ℕ, List, Some, IfOk, IfErr};
-ghost use Rattle.ep_node.specs.Opening.{IsOpened, IsUnopened};
+ghost use Rattle.std.specs.Prelude.{◌≡◌, ℕ, List, None, Some, true, IfOk, IfErr};
+ghost use Rattle.ep_base.specs.Devices.{Puts};
+ghost use Rattle.ep_node.specs.Nodes.{IsQuiet};
+ghost use Rattle.ep_node.specs.Opening.{IsOpened, IsUnopened, IsWrittenAnew};
 ghost use Rattle.ep_server.specs.Outputs.{output};
-ghost use Rattle.ep_server.specs.Served.{Concludes, Happens, IsNode, TellsWhy};
+ghost use Rattle.ep_server.specs.Served.{told_first, Concludes, IsNode, IsOver, TellsWhy};
 
 use crate::declined::Declined;
 use crate::fault::Fault;
 use crate::options::Options;
 use crate::status::Status;
-use crate::telling::{tell, tell_words};
-use ep_base::{Sink, Source};
+use crate::telling::{tell, tell_cut, tell_words};
+use ep_base::{Sink, Source, WriteFailed};
 use ep_device::Device;
-use ep_node::{Node, OpenFault};
+use ep_node::{Cut, Node, OpenFault};
 use ep_serve::{Mode, serve};
 use std::alloc::Global;
 
 /// Serves as the node whose log the device holds, until the source is over or a fault stops it, and answers how the program
-/// ends. What stops it is told by one line on the fault output; where telling fails, the status stays.
+/// ends. What was cut off the log is told by a line on the fault output before anything is answered, and what stops the node by
+/// one more; where telling fails, the status stays.
 pub fn serve_log<D: Device + Drop, S: Source, W: Sink, F: Sink>(
     alloc: Global,
     options: &Options,
@@ -26,45 +29,38 @@ pub fn serve_log<D: Device + Drop, S: Source, W: Sink, F: Sink>(
     writer: &mut W,
     fault_writer: &mut F,
 ) -> Status
-    ensures { (bytes zs : List ℕ) → D.seen device ≡ Some bytes → S.left reader.old ≡ Some zs → IsNode options.now.size options.now.me bytes zs result
+    ensures { (bytes zs : List ℕ) → D.seen device ≡ Some bytes → S.left reader.old ≡ Some zs → IsNode (record { seen = D.seen; moment = D.moment; left_since = D.left_since })
+        (record { begin = options.now.begin; mode = options.now.mode; faults = options.now.size; me = options.now.me }) bytes zs result
         (output (W.held writer.old) (W.held writer.new) (W.has_failed writer.old) (W.has_failed writer.new))
         (output (F.held fault_writer.old) (F.held fault_writer.new) (F.has_failed fault_writer.old) (F.has_failed fault_writer.new)) }
 {
-    let outcome = attempt(alloc, options, device, reader, writer);
-    concluded(outcome, fault_writer)
-}
-
-/// Serves as far as no fault stops it.
-fn attempt<D: Device + Drop, S: Source, W: Sink>(
-    alloc: Global,
-    options: &Options,
-    device: D,
-    reader: &mut S,
-    writer: &mut W,
-) -> Result<(), Fault>
-    ensures { (bytes zs : List ℕ) → D.seen device ≡ Some bytes → S.left reader.old ≡ Some zs → Happens options.now.size options.now.me bytes zs result
-        (output (W.held writer.old) (W.held writer.new) (W.has_failed writer.old) (W.has_failed writer.new)) }
-{
-    let mut node = opened(alloc, options, device)?;
-    let outcome = served(alloc, &mut node, reader, writer, options.mode);
-    drop(node);
-    outcome
+    match opened(alloc, options, device) {
+        Ok(node) => {
+            let _ = tell_first(node.cut(), fault_writer);
+            let outcome = served(alloc, node, reader, writer, options.mode);
+            concluded(outcome, fault_writer)
+        }
+        Err(fault) => concluded(Err(Fault::Open(fault)), fault_writer),
+    }
 }
 
 /// Serves with a node that is opened.
 #[tactic(auto, using(crate::proofs::Serving::has_served))]
-fn served<D: Device, S: Source, W: Sink>(
+fn served<D: Device + Drop, S: Source, W: Sink>(
     alloc: Global,
-    node: &mut Node<D>,
+    node: Node<D>,
     reader: &mut S,
     writer: &mut W,
     mode: Mode,
 ) -> Result<(), Fault>
-    ensures { (f me : ℕ) (bytes zs : List ℕ) → node.old.replica.faults ≡ f → node.old.replica.me ≡ me → IsOpened f me bytes node.old.replica.entries
-        → S.left reader.old ≡ Some zs → Happens f me bytes zs result
+    requires { IsQuiet node }
+    ensures { (zs : List ℕ) → S.left reader.old ≡ Some zs → IsOver (record { seen = D.seen; moment = D.moment; left_since = D.left_since }) mode node zs result
         (output (W.held writer.old) (W.held writer.new) (W.has_failed writer.old) (W.has_failed writer.new)) }
 {
-    match serve(alloc, node, reader, writer, mode) {
+    let mut node = node;
+    let outcome = serve(alloc, &mut node, reader, writer, mode);
+    drop(node);
+    match outcome {
         Ok(()) => Ok(()),
         Err(fault) => Err(Fault::Serve(fault)),
     }
@@ -76,11 +72,13 @@ fn opened<D: Device + Drop>(
     options: &Options,
     device: D,
 ) -> Result<Node<D>, OpenFault>
-    ensures ok { IfOk result (λ node. (node.replica.faults ≡ options.now.size) × (node.replica.me ≡ options.now.me)
-        × ((bytes : List ℕ) → D.seen device ≡ Some bytes → IsOpened options.now.size options.now.me bytes node.replica.entries)) }
-    ensures err { IfErr result (λ fault. (bytes : List ℕ) → D.seen device ≡ Some bytes → IsUnopened options.now.size options.now.me bytes fault) }
+    ensures ok { IfOk result (λ node. IsQuiet node × (node.replica.faults ≡ options.now.size) × (node.replica.me ≡ options.now.me)
+        × ((bytes : List ℕ) → D.seen device ≡ Some bytes → IsOpened options.now.begin options.now.size options.now.me bytes node.replica.entries node.cut)) }
+    ensures written { IfOk result (λ node. (bytes : List ℕ) → D.seen device ≡ Some bytes
+        → (log : List ℕ) × (D.seen node.device ≡ Some log) × IsWrittenAnew options.now.begin options.now.size options.now.me bytes log) }
+    ensures err { IfErr result (λ fault. (bytes : List ℕ) → D.seen device ≡ Some bytes → IsUnopened options.now.begin options.now.size options.now.me bytes fault) }
 {
-    match Node::open(alloc, device, options.size, options.me) {
+    match Node::open(alloc, device, options.size, options.me, options.begin) {
         Ok(node) => Ok(node),
         Err((fault, device)) => {
             drop(device);
@@ -89,9 +87,20 @@ fn opened<D: Device + Drop>(
     }
 }
 
+/// Tells what was cut off the log, if anything was.
+fn tell_first<F: Sink>(cut: Option<Cut>, fault_writer: &mut F) -> Result<(), WriteFailed>
+    ensures { Puts (F.held fault_writer.old) (F.held fault_writer.new) (F.has_failed fault_writer.old) (F.has_failed fault_writer.new) result (told_first cut) }
+{
+    match cut {
+        Some(cut) => tell_cut(cut, fault_writer),
+        None => Ok(()),
+    }
+}
+
 /// How the program ends. A fault is told on the fault output; where that fails, the status stays.
 pub(crate) fn concluded<F: Sink>(outcome: Result<(), Fault>, fault_writer: &mut F) -> Status
-    ensures { Concludes outcome result (output (F.held fault_writer.old) (F.held fault_writer.new) (F.has_failed fault_writer.old) (F.has_failed fault_writer.new)) }
+    ensures concluded { Concludes None outcome result (output (F.held fault_writer.old) (F.held fault_writer.new) (F.has_failed fault_writer.old) (F.has_failed fault_writer.new)) }
+    ensures for_good { F.has_failed fault_writer.old ≡ true → F.has_failed fault_writer.new ≡ true }
 {
     match outcome {
         Ok(()) => Status::Done,

@@ -2,12 +2,13 @@
 
 ghost use Rattle.std.specs.Prelude.{◌++◌, decimal};
 ghost use Rattle.ep_base.specs.Devices.{Puts};
-ghost use Rattle.ep_server.specs.Faults.{command_line_refused, line_of, line_of_log, line_of_open, line_of_serve, record_line};
+ghost use Rattle.ep_server.specs.Faults.{command_line_refused, line_of, line_of_cut, line_of_log, line_of_open, line_of_serve, log_failed, record_line, words_of};
 
 use crate::fault::Fault;
 use ep_base::{Sink, WriteFailed};
+use ep_device::Cause;
 use ep_log::LogFault;
-use ep_node::OpenFault;
+use ep_node::{Cut, OpenFault};
 use ep_serve::ServeFault;
 use itoa::Buffer;
 
@@ -37,7 +38,9 @@ fn tell_unopened<F: Sink>(why: OpenFault, sink: &mut F) -> Result<(), WriteFaile
     match why {
         OpenFault::OutOfRange => sink.put(b"log refused: E3 out of range\n"),
         OpenFault::Memory => sink.put(b"out of memory\n"),
-        OpenFault::Failed => sink.put(b"log failed\n"),
+        OpenFault::Failed(cause) => tell_failed(cause, sink),
+        OpenFault::NoLog => sink.put(b"log refused: there is none\n"),
+        OpenFault::LogExists => sink.put(b"log refused: there is one already\n"),
         OpenFault::OtherLog => sink.put(b"log refused: a log of another cluster or replica\n"),
         OpenFault::Log(fault) => tell_bad_log(fault, sink),
         OpenFault::NotClocked(number) => tell_place(
@@ -56,10 +59,12 @@ fn tell_bad_log<F: Sink>(why: LogFault, sink: &mut F) -> Result<(), WriteFailed>
         LogFault::Memory => sink.put(b"out of memory\n"),
         LogFault::NoHeader => sink.put(b"log refused: no header of a log\n"),
         LogFault::OtherVersion => sink.put(b"log refused: a log of another version\n"),
+        LogFault::OtherGeneration => sink.put(b"log refused: a log of a generation\n"),
         LogFault::BadLength(at) => tell_record(b"log refused: bad length", at, sink),
         LogFault::BadChecksum(at) => tell_record(b"log refused: bad checksum", at, sink),
         LogFault::BadEntry(at) => tell_record(b"log refused: no entry", at, sink),
         LogFault::NotNext(at) => tell_record(b"log refused: not the next entry", at, sink),
+        LogFault::Turned(at, by) => tell_turned(at, by, sink),
     }
 }
 
@@ -71,8 +76,80 @@ fn tell_unserved<F: Sink>(why: ServeFault, sink: &mut F) -> Result<(), WriteFail
         ServeFault::ReadFailed => sink.put(b"reading failed\n"),
         ServeFault::BadRequest(at) => tell_place(b"request refused at byte ", at, b"\n", sink),
         ServeFault::WriteFailed => sink.put(b"writing failed\n"),
-        ServeFault::LogFailed => sink.put(b"log failed\n"),
+        ServeFault::LogFailed(cause) => tell_failed(cause, sink),
     }
+}
+
+/// Writes that the log failed, and why.
+fn tell_failed<F: Sink>(cause: Cause, sink: &mut F) -> Result<(), WriteFailed>
+    ensures { Puts (F.held sink.old) (F.held sink.new) (F.has_failed sink.old) (F.has_failed sink.new) result (log_failed cause) }
+{
+    sink.put(b"log failed: ")?;
+    tell_cause(cause, sink)?;
+    sink.put(b"\n")
+}
+
+/// Writes why a device failed.
+fn tell_cause<F: Sink>(cause: Cause, sink: &mut F) -> Result<(), WriteFailed>
+    ensures { Puts (F.held sink.old) (F.held sink.new) (F.has_failed sink.old) (F.has_failed sink.new) result (words_of cause) }
+{
+    match cause {
+        Cause::NotFound => sink.put(b"no such file or directory"),
+        Cause::NotAllowed => sink.put(b"permission denied"),
+        Cause::NotAFile => sink.put(b"not a regular file"),
+        Cause::Locked => sink.put(b"another process has it open"),
+        Cause::NoSpace => sink.put(b"no space left on device"),
+        Cause::OverQuota => sink.put(b"disk quota exceeded"),
+        Cause::TooLarge => sink.put(b"file too large"),
+        Cause::ReadOnly => sink.put(b"read-only file system"),
+        Cause::InputOutput => sink.put(b"input/output error"),
+        Cause::NoMemory => sink.put(b"out of memory"),
+        Cause::System(number) => tell_number(b"system error ", u64::from(number), sink),
+        Cause::Unknown => sink.put(b"unknown error"),
+    }
+}
+
+/// Writes what was cut off the log.
+pub(crate) fn tell_cut<F: Sink>(cut: Cut, sink: &mut F) -> Result<(), WriteFailed>
+    ensures { Puts (F.held sink.old) (F.held sink.new) (F.has_failed sink.old) (F.has_failed sink.new) result (line_of_cut cut) }
+{
+    tell_place(b"log cut at byte ", cut.at as u64, b": ", sink)?;
+    tell_end(
+        cut.behind as u64,
+        b" bytes behind it were no whole record\n",
+        sink,
+    )
+}
+
+/// Writes that a record is damaged which another one says was on the disk.
+fn tell_turned<F: Sink>(at: u64, by: u64, sink: &mut F) -> Result<(), WriteFailed>
+    ensures { Puts (F.held sink.old) (F.held sink.new) (F.has_failed sink.old) (F.has_failed sink.new) result (line_of_log (LogFault.Turned at by)) }
+{
+    tell_place(
+        b"log refused: the record at byte ",
+        at,
+        b" is damaged, and was on the disk by the record at byte ",
+        sink,
+    )?;
+    tell_end(by, b"\n", sink)
+}
+
+/// Writes a number, and what stands after it.
+fn tell_end<F: Sink>(number: u64, after: &[u8], sink: &mut F) -> Result<(), WriteFailed>
+    ensures { Puts (F.held sink.old) (F.held sink.new) (F.has_failed sink.old) (F.has_failed sink.new) result (decimal number ++ after.now) }
+{
+    let mut digits = Buffer::new();
+    sink.put(digits.format(number).as_bytes())?;
+    sink.put(after)
+}
+
+/// Writes a number, and what stands before it.
+fn tell_number<F: Sink>(before: &[u8], number: u64, sink: &mut F) -> Result<(), WriteFailed>
+    ensures { Puts (F.held sink.old) (F.held sink.new) (F.has_failed sink.old) (F.has_failed sink.new) result (before.now ++ decimal number) }
+{
+    let mut digits = Buffer::new();
+    sink.put(before)?;
+    sink.put(digits.format(number).as_bytes())
 }
 
 /// Writes a line that ends with a record's place.

@@ -11,8 +11,11 @@ use Rattle.ep_journal.specs.declared.event.Event.TheVariants.{Propose, Handle, G
 use Rattle.ep_journal.specs.declared.step_fault.StepFault.{StepFault}
 use Rattle.ep_journal.specs.declared.step_fault.StepFault.TheVariants.{Memory, OtherVersion, OutOfRange, NotMine, StampFull, SpaceFull, SeqExhausted, NotLeading, TooFewAnswers, AlreadyCommitted, BallotsExhausted, NotCommitted}
 use Rattle.ep_rules.specs.declared.receipt.Receipt.{Receipt}
+use Rattle.ep_wire.specs.declared.field.Field.{Field}
+use Rattle.ep_wire.specs.declared.field.Field.TheVariants.{Kind, Client, ClientRequest, Seen, Op, KeyLength, ValueLength, Key, Value, Replica, Number, Rest}
 use Rattle.ep_wire.specs.declared.leading.Leading.{Leading}
 use Rattle.ep_wire.specs.declared.leading.Leading.TheVariants.{Proposing, Accepting, Preparing}
+use Rattle.ep_wire.specs.declared.malformed.Malformed.{Malformed}
 use Rattle.ep_wire.specs.declared.refusal.Refusal.{Refusal}
 use Rattle.ep_wire.specs.declared.refusal.Refusal.TheVariants.{BadFrame, Step}
 
@@ -124,3 +127,21 @@ leading_bytes (Some l) = number_bytes 4 4 ++ number_bytes 1 5 ++ number_bytes 1 
 
 abbrev pub synced_bytes : ℕ → List ℕ
 synced_bytes n = number_bytes 4 5 ++ number_bytes 1 6 ++ number_bytes 4 n
+
+-- the number of a field
+abbrev pub field_code : Field → ℕ
+field_code Kind = 1
+field_code Client = 2
+field_code ClientRequest = 3
+field_code Seen = 4
+field_code Op = 5
+field_code KeyLength = 6
+field_code ValueLength = 7
+field_code Key = 8
+field_code Value = 9
+field_code Replica = 10
+field_code Number = 11
+field_code Rest = 12
+
+abbrev pub malformed_bytes : Malformed → List ℕ
+malformed_bytes m = number_bytes 4 10 ++ number_bytes 1 7 ++ number_bytes 1 (field_code m.field) ++ number_bytes 8 m.at

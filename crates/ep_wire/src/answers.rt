@@ -6,9 +6,11 @@ ghost use Rattle.ep_base.specs.Devices.{Puts};
 ghost use Rattle.ep_bundle.specs.Bytes.{receipt_bytes};
 ghost use Rattle.ep_frame.specs.Fields.{number_bytes};
 ghost use Rattle.ep_bundle.specs.Writing.{All, FrameFits, FramesFit};
-ghost use Rattle.ep_wire.specs.Answers.{answer_count, code_of, entry_bytes, first_about, frames_bytes, head_bytes, instance_bytes, instance_or_none, leading_bytes, names, phase_code, receipts_bytes, refused_bytes, sent_bytes, step_code, synced_bytes, taken_as, taken_bytes, value_bytes, Fits};
+ghost use Rattle.ep_wire.specs.Answers.{answer_count, code_of, entry_bytes, first_about, frames_bytes, head_bytes, instance_bytes, field_code, instance_or_none, leading_bytes, malformed_bytes, names, phase_code, receipts_bytes, refused_bytes, sent_bytes, step_code, synced_bytes, taken_as, taken_bytes, value_bytes, Fits};
 
+use crate::field::Field;
 use crate::leading::Leading;
+use crate::malformed::Malformed;
 use crate::refusal::Refusal;
 use ep_base::{InstanceId, Sink, Value, WriteFailed};
 use ep_bundle::{
@@ -261,4 +263,34 @@ pub fn write_synced<K: Sink>(sink: &mut K, entries: u32) -> Result<(), WriteFail
     put_u32(sink, 5)?;
     put_u8(sink, 6)?;
     put_u32(sink, entries)
+}
+
+/// The field's number.
+fn field_code(field: Field) -> u8
+    ensures { result ≡ field_code field }
+{
+    match field {
+        Field::Kind => 1,
+        Field::Client => 2,
+        Field::ClientRequest => 3,
+        Field::Seen => 4,
+        Field::Op => 5,
+        Field::KeyLength => 6,
+        Field::ValueLength => 7,
+        Field::Key => 8,
+        Field::Value => 9,
+        Field::Replica => 10,
+        Field::Number => 11,
+        Field::Rest => 12,
+    }
+}
+
+/// Writes that a request is malformed, and where.
+pub fn write_malformed<K: Sink>(sink: &mut K, malformed: Malformed) -> Result<(), WriteFailed>
+    ensures { Puts (K.held sink.old) (K.held sink.new) (K.has_failed sink.old) (K.has_failed sink.new) result (malformed_bytes malformed) }
+{
+    put_u32(sink, 10)?;
+    put_u8(sink, 7)?;
+    put_u8(sink, field_code(malformed.field))?;
+    put_u64(sink, malformed.at)
 }

@@ -1,28 +1,33 @@
 //! The bytes of a node's requests and answers.
 //!
 //! `ep_serve` reads requests and writes answers by this crate. It keeps to docs/FORMATS.md, section 10: a request is read
-//! exactly where its bytes are one, and an answer's bytes are those of specs/Answers.antt.
+//! exactly where its bytes are one, a malformed one is told by its first wrong field, and an answer's bytes are those of specs/Answers.antt.
 //!
 //! Start with `request.rt`, `reading.rt` and specs/Requests.antt; then `answers.rt` and specs/Answers.antt.
 //!
-//! A request's length, kind and body are read before the body is judged; then a body is read by `ep_bundle`'s stages, of
-//! which nothing may be left.
+//! A request's length, kind and body are read before kind and body are judged; then a body is read by `ep_bundle`'s stages, of
+//! which nothing may be left. So a malformed request is read to its end, and the next one can be read.
 #![tactic(auto)]
 
 mod answers;
 mod bodies;
+mod field;
 mod front;
 mod leading;
+mod malformed;
+mod places;
 mod reading;
 mod refusal;
 mod request;
 mod request_fault;
 
 pub use answers::{
-    put_entry, write_instance, write_leading, write_no_value, write_refused, write_synced,
-    write_taken, write_value,
+    put_entry, write_instance, write_leading, write_malformed, write_no_value, write_refused,
+    write_synced, write_taken, write_value,
 };
+pub use field::Field;
 pub use leading::Leading;
+pub use malformed::Malformed;
 pub use reading::read_request;
 pub use refusal::Refusal;
 pub use request::Request;

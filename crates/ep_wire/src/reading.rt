@@ -4,7 +4,7 @@ ghost use Rattle.std.specs.Prelude.{◌≡◌, ◌≤◌, ℕ, List, Some, true,
 ghost use Rattle.ep_base.specs.Devices.{FailsAsTold};
 ghost use Rattle.ep_base.specs.Quorums.{size};
 ghost use Rattle.ep_bundle.specs.Reading.{is_read_failed as has_read_failed, Reads};
-ghost use Rattle.ep_wire.specs.Requests.{found, is_length, is_read_failed, next_request, request_of, size_field, sized, unless_over, ReadsRequest};
+ghost use Rattle.ep_wire.specs.Requests.{is_length, is_read_failed, next_request, request_of, size_field, sized, unless_over, ReadsRequest};
 
 use crate::bodies::request_in;
 use crate::front::gather;
@@ -57,12 +57,10 @@ fn read_sized<S: Source>(
     ensures bytes { (zs : List ℕ) → S.left source.old ≡ Some zs → Reads (sized (size cluster) length (record { at = place.old; bytes = zs })) result place.new (S.left source.new) }
     ensures told { FailsAsTold has_read_failed result (S.has_failed source.old) (S.has_failed source.new) }
 {
-    let kind = field_u8(source, place, 1, 10)?;
+    let kind = field_u8(source, place, 0, 255)?;
     let body = read_run(alloc, source, place, length as usize - 1)?;
-    match request_in(alloc, kind, body, cluster)? {
-        Some(request) => Ok(request),
-        None => Err(BundleFault::BadBundle(*place)),
-    }
+    let request = request_in(alloc, kind, body, cluster)?;
+    Ok(request)
 }
 
 /// The next request; none where the input is over. A fault may be told at any byte of it.
@@ -84,7 +82,8 @@ fn read_next<S: Source>(
 }
 
 /// Reads the next request to a node of a cluster of this size; none where the input is over. `place` is the offset of its
-/// first byte, and then of the first byte after it. After a fault the source may have been read on, and is of no use.
+/// first byte, and then of the first byte after it, also where it is malformed. After a fault the source may have been read on,
+/// and is of no use.
 pub fn read_request<S: Source>(
     alloc: Global,
     source: &mut S,

@@ -1,5 +1,6 @@
 //! What a node is asked.
 
+use crate::malformed::Malformed;
 use bytes::Bytes;
 use ep_base::{Command, InstanceId, Key};
 
@@ -32,4 +33,6 @@ pub enum Request {
     Leads(InstanceId),
     /// All that was taken is to be on the disk, and answered.
     Sync,
+    /// None of these: a request whose bytes all came, but of no such kind, or with a body that isn't one of its kind.
+    Malformed(Malformed),
 }

@@ -15,8 +15,8 @@ pub enum RequestFault {
     /// The source failed.
     #[error("reading failed")]
     ReadFailed,
-    /// The request whose first byte stands at this offset is cut by the end of the input, or its length, kind or body is that
-    /// of no request. Offsets are counted from 0 and stop at 2^64 - 1.
+    /// The request whose first byte stands at this offset is cut by the end of the input, or its length is out of range.
+    /// Offsets are counted from 0 and stop at 2^64 - 1.
     #[error("request refused at byte {0}")]
     BadRequest(u64),
 }

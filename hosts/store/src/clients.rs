@@ -5,6 +5,7 @@ use crate::numbers::Numbers;
 use crate::protocol::{self, Command, Fault};
 use crate::resp::{Input, Reply, read_command};
 use crate::say::say;
+use crate::transactions::Transaction;
 use std::io::{self, BufReader, BufWriter, Write};
 use std::net::{TcpListener, TcpStream};
 use std::sync::atomic::{AtomicUsize, Ordering};
@@ -67,11 +68,19 @@ struct Connection {
     /// The greatest stamp of its receipts.
     seen: u64,
     is_read_only: bool,
+    transaction: Transaction,
 }
 
 impl Connection {
     fn new(shared: Arc<Shared>) -> Connection {
-        Connection { shared, client: None, requests: 0, seen: 0, is_read_only: false }
+        Connection {
+            shared,
+            client: None,
+            requests: 0,
+            seen: 0,
+            is_read_only: false,
+            transaction: Transaction::default(),
+        }
     }
 
     fn serve(&mut self, stream: &TcpStream) -> io::Result<()> {
@@ -89,7 +98,7 @@ impl Connection {
                     return writer.flush();
                 }
             };
-            let asked = understand(words);
+            let asked = self.transaction.judge(understand(words)).unwrap_or_else(Asked::Answered);
             let last = match asked {
                 Asked::Quit => Some(Reply::Simple("OK")),
                 Asked::Http => Some(Reply::Error("ERR this is no web server".into())),
@@ -122,7 +131,7 @@ impl Connection {
         }
         match asked {
             Asked::Get(_) => Ok(value_of(replies.pop())),
-            Asked::Set(..) | Asked::Quit | Asked::Http => Ok(Reply::Simple("OK")),
+            Asked::Set(..) => Ok(Reply::Simple("OK")),
             Asked::Del(_) => {
                 let present = replies.iter().filter(|reply| matches!(reply, protocol::Reply::Present(_)));
                 Ok(Reply::Integer(present.count() as i64))
@@ -133,6 +142,9 @@ impl Connection {
                 Ok(Reply::Simple("OK"))
             }
             Asked::Answered(reply) => Ok(reply),
+            // (these are answered before)
+            Asked::Quit | Asked::Http => Ok(Reply::Simple("OK")),
+            Asked::Multi | Asked::Exec | Asked::Discard => Err("ERR transactions aren't supported".into()),
         }
     }
 
@@ -149,6 +161,7 @@ impl Connection {
                     }
                 }
                 Told::Refused(fault) => return Err(refusal(fault)),
+                Told::Alone => return Err("TRYAGAIN the command wasn't done: no majority is reached".into()),
                 Told::Value(_) | Told::Info(_) => {
                     return Err("ERR another answer was expected".into());
                 }

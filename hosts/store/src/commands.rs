@@ -11,6 +11,9 @@ pub enum Asked {
     Info,
     Quit,
     ReadOnly(bool),
+    Multi,
+    Exec,
+    Discard,
     /// A web page's request, in whose body commands may stand that nobody here has asked for.
     Http,
     /// Answered without the node.
@@ -33,6 +36,12 @@ pub fn understand(words: Vec<Vec<u8>>) -> Asked {
         (b"POST" | b"HOST:", _) => Ok(Asked::Http),
         (b"READONLY", 0) => Ok(Asked::ReadOnly(true)),
         (b"READWRITE", 0) => Ok(Asked::ReadOnly(false)),
+        // Whatever words follow: who sends one takes the next commands for a part of it.
+        (b"MULTI", _) => Ok(Asked::Multi),
+        (b"EXEC", _) => Ok(Asked::Exec),
+        (b"DISCARD", _) => Ok(Asked::Discard),
+        (b"WATCH", _) => Err("ERR WATCH isn't supported, nor is MULTI".into()),
+        (b"UNWATCH", 0) => Ok(Asked::Answered(Reply::Simple("OK"))),
         (b"GET" | b"SET" | b"DEL" | b"PING" | b"READONLY" | b"READWRITE", _) => {
             Err(format!("ERR wrong number of arguments for '{}'", printable(&name.to_ascii_lowercase())))
         }

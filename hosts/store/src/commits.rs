@@ -1,8 +1,9 @@
 //! Which instances of others are known to be committed here and may not be executed yet.
 //!
 //! The node executes its own clients' commands, and what they depend on. For local reads the host has it execute the
-//! others too; it learns of them by the Commit frames that come and go.
-use crate::protocol::Instance;
+//! others too; it learns of them by the Commit frames that come and go. What was committed before a start it doesn't know, so then
+//! any instance is tried.
+use crate::protocol::{INSTANCES, Instance};
 use std::collections::{BTreeMap, BTreeSet};
 
 const KIND_AT: usize = 3;
@@ -27,6 +28,14 @@ pub struct Commits {
 }
 
 impl Commits {
+    /// At a start: each instance of the others may be committed and not executed yet. One that isn't committed is put back.
+    pub fn at_start(replica: u8, replicas: u8) -> Commits {
+        let others = (0..replicas).filter(|other| *other != replica);
+        let ready =
+            others.flat_map(|other| (1..=INSTANCES).map(move |number| Instance { replica: other, number })).collect();
+        Commits { ready, waiting: BTreeMap::new() }
+    }
+
     /// The instance is committed, this replica knows.
     pub fn note(&mut self, replica: u8, instance: Instance) {
         if instance.replica != replica {
@@ -67,6 +76,22 @@ mod tests {
         assert_eq!(committed_by(&commit(instance)), Some(instance));
         assert_eq!(committed_by(&[COMMIT; 10]), None);
         assert_eq!(committed_by(&[0; 40]), None);
+    }
+
+    #[test]
+    fn at_a_start_all_of_the_others_are_tried_once() {
+        let mut commits = Commits::at_start(1, 3);
+        let tried = commits.take();
+        assert_eq!(tried.len(), 2 * usize::from(INSTANCES));
+        assert!(tried.iter().all(|instance| instance.replica != 1));
+        assert!(commits.take().is_empty());
+        // One that isn't committed waits for itself.
+        let open = Instance { replica: 2, number: INSTANCES };
+        assert!(tried.contains(&open));
+        commits.put_back(open, Some(open));
+        assert!(commits.take().is_empty());
+        commits.note(1, open);
+        assert_eq!(commits.take(), BTreeSet::from([open]));
     }
 
     #[test]

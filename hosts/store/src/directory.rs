@@ -1,14 +1,16 @@
 //! The folder of a replica: where its files are, a lock, and whether they are whole.
 use crate::identities;
 use std::fs::{self, File, OpenOptions, TryLockError};
-use std::io;
+use std::io::{self, Seek, Write};
 use std::path::{Path, PathBuf};
 use std::thread;
 use std::time::{Duration, Instant};
 
 /// How long to wait for a node that still ends.
 const PATIENCE: Duration = Duration::from_secs(10);
-/// A log that is shorter has no header: the node would begin it anew.
+/// So many bytes of the file for the node's standard error are there before it writes, so that it can tell that the disk is full.
+const ROOM_FOR_ERRORS: usize = 4_096;
+/// A log that is shorter has no header.
 const SHORTEST_LOG: u64 = 7;
 const NEVER: &str = "This replica must not come back: it may have promised what it doesn't know any more";
 
@@ -25,9 +27,13 @@ impl Directory {
         let told = |error: io::Error| format!("the folder {} can't be used: {error}", path.display());
         create(path).map_err(told)?;
         let errors_path = path.join("node-errors");
-        let errors = OpenOptions::new().append(true).create(true).open(&errors_path).map_err(told)?;
+        let mut errors =
+            OpenOptions::new().write(true).create(true).truncate(false).open(&errors_path).map_err(told)?;
         lock(&errors, path)?;
         errors.set_len(0).map_err(told)?;
+        // (where there is no room already, the node's log tells so soon)
+        let _ = errors.write_all(&[b' '; ROOM_FOR_ERRORS]);
+        errors.rewind().map_err(told)?;
         Ok(Directory { path: path.to_path_buf(), errors })
     }
 
@@ -58,14 +64,8 @@ impl Directory {
         if !self.has_identities() {
             return Ok(());
         }
-        let log = self.log();
-        let length = match fs::metadata(&log) {
-            Ok(found) => found.len(),
-            Err(error) if error.kind() == io::ErrorKind::NotFound => 0,
-            Err(error) => return Err(format!("{}: {error}", log.display())),
-        };
-        if length < SHORTEST_LOG {
-            return Err(format!("{} was lost. {NEVER}", log.display()));
+        if self.log_length()? < SHORTEST_LOG {
+            return Err(format!("{} was lost. {NEVER}", self.log().display()));
         }
         let receipts = self.receipts();
         if !receipts.exists() {
@@ -73,6 +73,36 @@ impl Directory {
             return Err(format!("{path} was lost: what clients were told can't be audited, nor compared with the log"));
         }
         Ok(())
+    }
+
+    /// How many bytes the log has, 0 where there is none.
+    fn log_length(&self) -> Result<u64, String> {
+        let log = self.log();
+        match fs::metadata(&log) {
+            Ok(found) => Ok(found.len()),
+            Err(error) if error.kind() == io::ErrorKind::NotFound => Ok(0),
+            Err(error) => Err(format!("{}: {error}", log.display())),
+        }
+    }
+
+    pub fn has_log(&self) -> Result<bool, String> {
+        Ok(self.log_length()? > 0)
+    }
+
+    /// A replica is begun where its user says so, and never twice: a folder without one may be another folder, or one whose disk
+    /// isn't there.
+    pub fn check_begin(&self, is_new: bool) -> Result<(), String> {
+        let path = self.path.display();
+        let is_begun = self.has_log()? || self.has_identities();
+        match (is_new, is_begun) {
+            (true, true) => {
+                Err(format!("the folder {path} has a replica already: --new is for its first start alone"))
+            }
+            (false, false) => Err(format!(
+                "the folder {path} has no replica: --new begins one, where there never was one"
+            )),
+            _ => Ok(()),
+        }
     }
 
     /// Before the folder gets its identities, where it has none. `entries` are the log's, `told` is the last one that a client
@@ -134,8 +164,12 @@ mod tests {
         let directory = Directory::open(&path).unwrap();
         // A first start, before and after its log was made.
         directory.check_files().unwrap();
+        directory.check_begin(true).unwrap();
+        assert!(directory.check_begin(false).unwrap_err().contains("has no replica"));
         fs::write(directory.log(), [0; 7]).unwrap();
         directory.check_files().unwrap();
+        directory.check_begin(false).unwrap();
+        assert!(directory.check_begin(true).unwrap_err().contains("has a replica already"));
         directory.check_entries(0, 0).unwrap();
         // Entries, and no identities.
         assert!(directory.check_entries(1, 0).unwrap_err().contains("isn't whole"));

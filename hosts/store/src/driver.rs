@@ -10,12 +10,14 @@ use std::collections::HashMap;
 use std::fmt::Write;
 use std::io;
 use std::sync::mpsc::{Receiver, RecvTimeoutError, Sender};
-use std::time::Instant;
+use std::time::{Duration, Instant};
 
 /// At most so many events share one sync.
 const MOST_EVENTS: usize = 512;
 /// At most so many requests in one look for open instances.
 const MOST_LOOKS: usize = 64;
+/// Where no majority is reached, what clients propose is held for so long since then: a peer may just be starting.
+const ALONE_PATIENCE: Duration = Duration::from_secs(1);
 
 /// What comes to the driver.
 pub enum Event {
@@ -43,8 +45,13 @@ pub enum What {
 
 /// What a client is told.
 pub enum Told {
-    Done { stamp: u64, reply: Reply },
+    Done {
+        stamp: u64,
+        reply: Reply,
+    },
     Refused(Fault),
+    /// It wasn't proposed, as no majority is reached.
+    Alone,
     Value(Option<Vec<u8>>),
     Info(String),
 }
@@ -125,6 +132,10 @@ pub struct Driver {
     /// Committed instances of others.
     pub commits: Commits,
     pub plant: Option<Plant>,
+    /// What clients propose and the node wasn't asked yet.
+    pub held: Vec<Ask>,
+    /// Since when no majority is known to be reached.
+    pub alone_since: Option<Instant>,
     /// The clients that wait, by client and request.
     pub waiting: HashMap<(u32, u32), Sender<Told>>,
     /// The greatest number of an own instance that is known to be used.
@@ -144,6 +155,7 @@ impl Driver {
 
     fn turn(&mut self) -> Result<(), Stop> {
         let mut batch = self.gather()?;
+        self.release(&mut batch);
         self.look()?;
         self.remedy_late(&mut batch)?;
         self.carry_out(batch)
@@ -166,7 +178,9 @@ impl Driver {
     }
 
     fn wait(&mut self) -> Result<Option<Event>, Stop> {
-        let Some(next) = self.timers.next(self.is_alone()) else {
+        let due = self.timers.next(self.is_alone());
+        let held = self.alone_since.filter(|_| !self.held.is_empty()).map(|since| since + ALONE_PATIENCE);
+        let Some(next) = due.into_iter().chain(held).min() else {
             return self.events.recv().map(Some).map_err(|_| Stop::Alone);
         };
         match self.events.recv_timeout(next.saturating_duration_since(Instant::now())) {
@@ -184,17 +198,33 @@ impl Driver {
             }
             Event::PeerReached => self.timers.hurry(Instant::now()),
             Event::NodeEnded => return Err(Stop::Node(self.node.ended())),
-            Event::Ask(Ask { what: What::Propose { client, request, seen, command }, reply }) => {
-                let is_put = matches!(command, Command::Put { .. });
-                let purpose = Purpose::Proposal { client, request, is_put, reply };
-                batch.push(Request::Propose { client, request, seen, command }, purpose);
-            }
             Event::Ask(Ask { what: What::Read(key), reply }) => batch.reads.push((key, reply)),
             Event::Ask(Ask { what: What::Info, reply }) => {
                 let _ = reply.send(Told::Info(self.info()));
             }
+            Event::Ask(ask) => self.held.push(ask),
         }
         Ok(())
+    }
+
+    /// Has what clients propose proposed. Where no majority is reached it is held for a while and then refused: each proposal uses
+    /// up an instance, and nothing would come of it.
+    fn release(&mut self, batch: &mut Batch) {
+        if !self.is_alone() {
+            self.alone_since = None;
+        } else if self.alone_since.get_or_insert_with(Instant::now).elapsed() < ALONE_PATIENCE {
+            return;
+        }
+        for Ask { what, reply } in std::mem::take(&mut self.held) {
+            match what {
+                What::Propose { client, request, seen, command } if self.alone_since.is_none() => {
+                    let is_put = matches!(command, Command::Put { .. });
+                    let purpose = Purpose::Proposal { client, request, is_put, reply };
+                    batch.push(Request::Propose { client, request, seen, command }, purpose);
+                }
+                _ => _ = reply.send(Told::Alone),
+            }
+        }
     }
 
     fn ask(&mut self, requests: &[Request]) -> Result<Vec<Answer>, Stop> {
@@ -378,7 +408,7 @@ impl Driver {
         line("node_process_id", &self.node.process());
         line("instances_used", &self.used);
         line("instances_total", &INSTANCES);
-        line("commands_waiting", &self.waiting.len());
+        line("commands_waiting", &(self.waiting.len() + self.held.len()));
         line("instances_open", &self.timers.count());
         line("frames_refused", &self.refused_frames);
         line("frames_lost", &self.peers.lost());
@@ -418,7 +448,7 @@ mod tests {
         let errors = std::fs::File::create(&errors_path).unwrap();
         let (program, log) = (Path::new("true"), folder.join("log"));
         let on_end = Box::new(|| ());
-        let start = Start { program, replicas: 3, replica: 0, log: &log, errors, errors_path, on_end };
+        let start = Start { program, replicas: 3, replica: 0, log: &log, is_new: true, errors, errors_path, on_end };
         Driver {
             place,
             node: Node::start(start).unwrap(),
@@ -428,6 +458,8 @@ mod tests {
             events,
             commits: Commits::default(),
             plant: None,
+            held: Vec::new(),
+            alone_since: None,
             waiting: HashMap::new(),
             used: 0,
             refused_frames: 0,

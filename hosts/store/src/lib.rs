@@ -17,3 +17,4 @@ pub mod receipts;
 pub mod resp;
 pub mod say;
 pub mod timers;
+pub mod transactions;

@@ -65,14 +65,17 @@ fn start(options: Options) -> Result<Driver, String> {
     let is_forgetful = options.plant == Some(Plant::Forgetful);
     if !is_forgetful {
         directory.check_files()?;
+        directory.check_begin(options.is_new)?;
     }
+    // (a planted store begins a log that was emptied)
+    let is_new = if is_forgetful { !directory.has_log()? } else { options.is_new };
     let receipts_path = directory.receipts();
     let receipts = Receipts::open(&receipts_path)
         .map_err(|error| format!("the receipts {} can't be used: {error}", receipts_path.display()))?;
     let numbers = Numbers::new(&options.directory, place.replica);
     numbers.check(receipts.named.client)?;
     let (sender, events) = sync_channel(WAITING_EVENTS);
-    let (node, entries) = start_node(&options, place, &directory, &sender)?;
+    let (node, entries) = start_node(&options, place, &directory, is_new, &sender)?;
     if !is_forgetful {
         directory.check_entries(entries, receipts.named.entry)?;
     }
@@ -97,8 +100,10 @@ fn start(options: Options) -> Result<Driver, String> {
         receipts,
         timers: Timers::new(place.replica, Instant::now(), Random::new()),
         events,
-        commits: Commits::default(),
+        commits: Commits::at_start(place.replica, place.replicas as u8),
         plant: options.plant,
+        held: Vec::new(),
+        alone_since: None,
         waiting: HashMap::new(),
         refused_frames: 0,
     })
@@ -117,6 +122,7 @@ fn start_node(
     options: &Options,
     place: Place,
     directory: &Directory,
+    is_new: bool,
     events: &SyncSender<Event>,
 ) -> Result<(Node, u32), String> {
     let events = events.clone();
@@ -125,12 +131,15 @@ fn start_node(
         replicas: place.replicas,
         replica: place.replica,
         log: &directory.log(),
+        is_new,
         errors: directory.errors().map_err(|error| error.to_string())?,
         errors_path: directory.errors_path(),
         on_end: Box::new(move || _ = events.send(Event::NodeEnded)),
     };
     let mut node = Node::start(start).map_err(|fault| fault.to_string())?;
-    match node.ask(&[Request::Sync]).map_err(|fault| Stop::Node(fault).to_string())?[..] {
+    let answers = node.ask(&[Request::Sync]).map_err(|fault| Stop::Node(fault).to_string())?;
+    node.told().iter().for_each(|line| say(&format!("the node tells: {line}")));
+    match answers[..] {
         [Answer::Synced(entries)] => Ok((node, entries)),
         _ => Err("the node's first answer isn't of the protocol".into()),
     }

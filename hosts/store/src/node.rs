@@ -14,6 +14,8 @@ pub struct Start<'a> {
     pub replicas: usize,
     pub replica: u8,
     pub log: &'a Path,
+    /// Whether the log is to be begun.
+    pub is_new: bool,
     /// Takes the child's standard error. The lock on it is held until both the child and this process have ended.
     pub errors: File,
     /// Where `errors` can be read.
@@ -55,6 +57,8 @@ pub struct Node {
     input: ChildStdin,
     answers: Receiver<Result<Answer, String>>,
     errors_path: PathBuf,
+    /// How many bytes of its standard error were read.
+    heard: usize,
     /// Kept for its lock.
     _errors: File,
 }
@@ -69,6 +73,7 @@ impl Node {
             .args(["--replica", &start.replica.to_string()])
             .arg("--log")
             .arg(start.log)
+            .args(start.is_new.then_some("--new"))
             .stdin(Stdio::piped())
             .stdout(Stdio::piped())
             .stderr(start.errors)
@@ -86,7 +91,7 @@ impl Node {
             on_end();
         };
         thread::Builder::new().name("answers".into()).spawn(read).map_err(failed)?;
-        Ok(Node { child, input, answers, errors_path: start.errors_path, _errors: errors })
+        Ok(Node { child, input, answers, errors_path: start.errors_path, heard: 0, _errors: errors })
     }
 
     pub fn process(&self) -> u32 {
@@ -117,8 +122,16 @@ impl Node {
     /// Waits for the end of a node whose answers are over: with what it ended.
     pub fn ended(&mut self) -> NodeFault {
         let status = self.child.wait().ok();
+        NodeFault::Ended(status, self.told().join("; "))
+    }
+
+    /// The lines that the node has written on standard error since this was asked last. The file may end in blanks.
+    pub fn told(&mut self) -> Vec<String> {
         let errors = std::fs::read(&self.errors_path).unwrap_or_default();
-        NodeFault::Ended(status, String::from_utf8_lossy(&errors).trim().replace('\n', "; "))
+        let errors = errors.trim_ascii_end();
+        let new = errors.get(self.heard..).unwrap_or_default();
+        self.heard = self.heard.max(errors.len());
+        String::from_utf8_lossy(new).lines().filter(|line| !line.is_empty()).map(str::to_string).collect()
     }
 }
 

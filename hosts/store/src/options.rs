@@ -5,18 +5,19 @@ use std::time::Duration;
 pub const HELP: &str = "\
 store: one replica of a replicated store, for clients of the Redis protocol
 
-    store --replica R --peers HOST:PORT,HOST:PORT,HOST:PORT --dir DIR [--listen HOST:PORT] [--node PATH] [--patience S]
+    store --replica R --peers HOST:PORT,HOST:PORT,HOST:PORT --dir DIR [--new] [--listen HOST:PORT] [--node PATH] [--patience S]
 
     --replica R            which replica this is, from 0
     --peers A,B,C          where each replica listens for the others, in order, this one too: 3, 5 or 7 of them
     --dir DIR              the folder of this replica: its log, its receipts; created where it isn't there
+    --new                  begins the replica: for the first start of its folder, and for no other
     --listen HOST:PORT     where clients are listened for; default 127.0.0.1:7000; a port alone is one of 127.0.0.1
     --node PATH            the program `epaxos`; default: the one on the PATH
     --patience S           after so many seconds a client is told TRYAGAIN; default 10. Its command may still be done
     --help                 this text
 
 Example, one of three on this machine (start the others with 1 and 2 in the places of 0):
-    store --replica 0 --peers 127.0.0.1:7100,127.0.0.1:7101,127.0.0.1:7102 --listen 7000 --dir /tmp/store/0 --node ./epaxos
+    store --replica 0 --peers 127.0.0.1:7100,127.0.0.1:7101,127.0.0.1:7102 --listen 7000 --dir /tmp/store/0 --node ./epaxos --new
 
 It runs until it is killed; SIGTERM is the way. Status 1: it can't start, or its node has ended. 2: the command line.
 ";
@@ -38,6 +39,8 @@ pub struct Options {
     pub replica: u8,
     pub peers: Vec<String>,
     pub directory: PathBuf,
+    /// Whether the replica is to be begun.
+    pub is_new: bool,
     pub listen: String,
     pub node: PathBuf,
     pub patience: Duration,
@@ -59,9 +62,14 @@ pub fn read(words: impl IntoIterator<Item = String>) -> Result<Words, String> {
     let mut node = PathBuf::from("epaxos");
     let mut patience = Duration::from_secs(10);
     let mut plant = None;
+    let mut is_new = false;
     while let Some(word) = words.next() {
         if word == "--help" || word == "-h" {
             return Ok(Words::Help);
+        }
+        if word == "--new" {
+            is_new = true;
+            continue;
         }
         let mut value = || words.next().ok_or(format!("{word} wants a value"));
         match word.as_str() {
@@ -79,7 +87,7 @@ pub fn read(words: impl IntoIterator<Item = String>) -> Result<Words, String> {
     let peers = read_peers(&peers.ok_or_else(|| missing("--peers"))?)?;
     let replica = read_replica(&replica.ok_or_else(|| missing("--replica"))?, peers.len())?;
     let directory = directory.ok_or_else(|| missing("--dir"))?;
-    Ok(Words::Run(Options { replica, peers, directory, listen, node, patience, plant }))
+    Ok(Words::Run(Options { replica, peers, directory, is_new, listen, node, patience, plant }))
 }
 
 fn with_host(address: String) -> String {
@@ -140,6 +148,9 @@ mod tests {
         assert_eq!(options.peers, ["a:1", "b:2", "c:3"]);
         assert_eq!(options.listen, "127.0.0.1:7001");
         assert_eq!(options.patience, Duration::from_millis(500));
+        assert!(!options.is_new);
+        let Ok(Words::Run(options)) = words(&format!("--new {line}")) else { panic!() };
+        assert!(options.is_new);
         let Ok(Words::Run(options)) = words("--replica 0 --peers a:1,b:2,c:3 --dir d") else { panic!() };
         assert_eq!(options.listen, "127.0.0.1:7000");
         assert_eq!(words("--replica 9 --help"), Ok(Words::Help));

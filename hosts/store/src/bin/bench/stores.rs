@@ -55,7 +55,7 @@ impl Stores {
             let mut command = Command::new(&options.store);
             command.args(["--replica", &replica.to_string(), "--peers", &peers.join(",")]);
             command.args(["--listen", &port.to_string()]).arg("--node").arg(&options.node);
-            command.arg("--dir").arg(folder.join("dir"));
+            command.arg("--dir").arg(folder.join("dir")).arg("--new");
             stores.children.push(spawn(&mut command, &folder)?);
         }
         Ok(stores)

@@ -11,9 +11,9 @@ use std::sync::{Arc, Mutex};
 use std::thread;
 use std::time::{Duration, Instant};
 
-/// A log's header, and what stands around the bytes of an entry: two lengths and a checksum.
-const LOG_HEADER: usize = 7;
-const RECORD_FRAME: usize = 16;
+/// A log's header, and what stands around the bytes of an entry: two lengths, what was on the disk, and a checksum.
+const LOG_HEADER: usize = 43;
+const RECORD_FRAME: usize = 24;
 /// So many are cut off, where records are.
 const LAST_RECORDS: usize = 4;
 
@@ -113,6 +113,9 @@ impl Cluster {
         command.args(["--replica", &replica.to_string(), "--peers", &self.peers(replica)]);
         command.args(["--listen", &self.client_ports[replica].to_string(), "--patience", "3"]);
         command.arg("--dir").arg(self.folder(replica)).arg("--node").arg(&self.options.node);
+        if !self.log(replica).exists() {
+            command.arg("--new");
+        }
         match self.options.plant {
             Some(Plant::Early) => _ = command.args(["--plant", "early"]),
             Some(Plant::Changed) => _ = command.args(["--plant", "changed"]),

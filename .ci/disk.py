@@ -1,0 +1,181 @@
+"""What a disk holds after a power loss, page by page: a model of one under a file system, told what a program did with its files.
+
+It is fed the lines that .ci/shim.c writes, and assumes no more than file systems promise:
+- a write is in the page cache, where each read sees it. Its pages reach the disk in any order, each as it was at some moment since
+  the last sync, or by sectors of several such moments; a page that was never written is zeros there, or anything (a stale block).
+  The file's length may be on the disk before the bytes are;
+- a sync that is done puts the file's dirty pages and its length on the disk. One that fails puts some of them there, and marks all
+  of them clean: the cache goes on to show bytes that the disk hasn't, and later syncs don't write them (as Linux does it);
+- names (a file that is made, a rename) reach the disk in order, and surely by a sync of their folder alone.
+"""
+
+import itertools
+import os
+
+PAGE = 4096
+SECTOR = 512
+
+
+class File:
+    """A file's bytes in the cache and on the disk."""
+
+    def __init__(self, content=b""):
+        self.cache = bytearray(content)
+        self.disk = bytearray(content)
+        # of each page that was written since the last sync: what it has been since then; and the lengths that there were
+        self.dirty = {}
+        self.lengths = set()
+        # pages that were marked clean by a sync that failed
+        self.lost = set()
+
+    def page(self, at):
+        return bytes(self.cache[at * PAGE : (at + 1) * PAGE])
+
+    def on_disk(self, at):
+        return bytes(self.disk[at * PAGE : (at + 1) * PAGE])
+
+    def write(self, place, content):
+        if not content:
+            return
+        end = place + len(content)
+        if end > len(self.cache):
+            self.cache.extend(bytes(end - len(self.cache)))
+            self.lengths.add(end)
+        self.cache[place:end] = content
+        for at in range(place // PAGE, (end - 1) // PAGE + 1):
+            self.dirty.setdefault(at, []).append(self.page(at))
+            self.lost.discard(at)
+
+    def cut(self, length):
+        self.lengths.add(length)
+        if length <= len(self.cache):
+            del self.cache[length:]
+            self.dirty = {at: pages for at, pages in self.dirty.items() if at * PAGE < length}
+        else:
+            self.cache.extend(bytes(length - len(self.cache)))
+
+    def sync(self):
+        if self.lengths:
+            self.disk = self.disk[: len(self.cache)].ljust(len(self.cache), b"\0")
+        for at in self.dirty:
+            content = self.page(at)
+            self.disk = self.disk.ljust(at * PAGE + len(content), b"\0")
+            self.disk[at * PAGE : at * PAGE + len(content)] = content
+        self.dirty.clear()
+        self.lengths.clear()
+
+    def fail_sync(self):
+        self.lost.update(self.dirty)
+        self.dirty.clear()
+        self.lengths.clear()
+
+    def sure(self):
+        """How many bytes of the cache are on the disk for sure, from the first one on."""
+        length = min([len(self.cache), len(self.disk), *self.lengths])
+        for at in range((length + PAGE - 1) // PAGE):
+            if at in self.dirty or at in self.lost:
+                ways = [self.page(at), self.on_disk(at), *self.dirty.get(at, [])]
+                same = len(os.path.commonprefix(ways))
+                if at * PAGE + same < min(length, (at + 1) * PAGE):
+                    return at * PAGE + same
+        return length
+
+    def left(self, chance):
+        """What a power loss may leave of it."""
+        ways = [len(self.disk), *self.lengths, *([len(self.cache)] if self.lengths or self.lost else [])]
+        length = chance.choice([*ways, chance.randint(min(ways), max(ways))])
+        left = bytearray(self.disk[:length].ljust(length, b"\0"))
+        stale = chance.random() < 0.2
+        for at in range((length + PAGE - 1) // PAGE):
+            if at in self.dirty or at in self.lost:
+                self.turn_page(left, at, length, stale, chance)
+        return bytes(left)
+
+    def turn_page(self, left, at, length, stale, chance):
+        """Puts into a page what may be there."""
+        old = self.on_disk(at)
+        old = old + (chance.randbytes(PAGE - len(old)) if stale else bytes(PAGE - len(old)))
+        ways = [old, self.page(at).ljust(PAGE, b"\0"), *(it.ljust(PAGE, b"\0") for it in self.dirty.get(at, []))]
+        if chance.random() < 0.3:
+            picked = b"".join(chance.choice(ways)[sector : sector + SECTOR] for sector in range(0, PAGE, SECTOR))
+        else:
+            picked = chance.choice(ways)
+        end = min(length, (at + 1) * PAGE)
+        left[at * PAGE : end] = picked[: end - at * PAGE]
+
+
+class Disk:
+    """The files at and below a folder."""
+
+    def __init__(self):
+        self.files = {}
+        self.folders = {}
+        # the names on the disk; and each change since then, in order, of some names at once
+        self.names = {}
+        self.changes = []
+
+    def put(self, path):
+        """A file that is there from the beginning, on the disk."""
+        with open(path, "rb") as it:
+            self.files[os.stat(path).st_ino] = self.names[path] = File(it.read())
+
+    def ways(self):
+        """The names that a power loss may leave, those of now last."""
+        return list(itertools.accumulate(self.changes, lambda names, change: {**names, **change}, initial=dict(self.names)))
+
+    def current(self):
+        return self.ways()[-1]
+
+    def sure(self, path):
+        """The bytes of the file of this name that are on the disk for sure: as many as there are whatever name it is found under."""
+        files = {id(it): it for it in (names.get(path) for names in self.ways())}
+        return min((b"" if it is None else bytes(it.cache[: it.sure()]) for it in files.values()), key=len)
+
+    def after_crash(self, chance=None):
+        """The bytes of each file after a power loss, by its name: the least that is on the disk, or what chance leaves."""
+        names = self.names if chance is None else chance.choice(self.ways())
+        return {path: bytes(it.disk) if chance is None else it.left(chance) for path, it in names.items() if it is not None}
+
+    def feed(self, line):
+        """Takes a line of the shim's, of a call that is done."""
+        kind, *words = line.split(" ")
+        done = words[0] == "held" or int(words[0]) >= 0 if words else False
+        if kind == "open" and done:
+            self.opened(int(words[1]), words[2], words[3])
+        elif kind == "write" and done:
+            self.files[int(words[1])].write(int(words[2]), bytes.fromhex(words[3]))
+        elif kind == "cut" and done:
+            self.files[int(words[1])].cut(int(words[2]))
+        elif kind in ("fsync", "fdatasync") and words[0] != "held":
+            file = self.files[int(words[1])]
+            file.sync() if done else file.fail_sync()
+        elif kind == "folder" and words[0] == "0":
+            self.sync_folder(self.folders[int(words[1])])
+        elif kind == "rename" and done:
+            self.changes.append({words[2]: None, words[3]: self.current()[words[2]]})
+        elif kind == "unlink" and done:
+            self.changes.append({words[2]: None})
+        elif kind == "other":
+            raise ValueError(f"a call that the model doesn't know: {line}")
+
+    def opened(self, number, what, path):
+        if what == "folder":
+            self.folders[number] = path.rstrip("/")
+        elif what == "made":
+            self.files[number] = File()
+            self.changes.append({path: self.files[number]})
+        else:
+            file = self.current().get(path)
+            if file is None:
+                raise ValueError(f"{path} is opened, and the model has no such file")
+            self.files[number] = file
+            if what == "emptied":
+                file.cut(0)
+
+    def sync_folder(self, folder):
+        """All changes up to the last one of this folder are on the disk."""
+        own = [at for at, change in enumerate(self.changes) if any(os.path.dirname(path) == folder for path in change)]
+        if own:
+            for change in self.changes[: own[-1] + 1]:
+                self.names.update(change)
+            del self.changes[: own[-1] + 1]

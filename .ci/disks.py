@@ -1,0 +1,227 @@
+"""What `epaxos node` does with its disk: it is run under .ci/shim.c, which fails its calls one by one, and a model of a disk (.ci/disk.py)
+tells what a power loss at any moment would leave; and then 500 images of disks (tools/disk-images). Runs alone too: python3 .ci/disks.py
+[NODE PROGRAM [WORD]], with a word the rows alone whose names have it.
+
+After each call of each run, whatever was answered has to be on the disk for sure, in whole records at the beginning of the log that the
+log's name is found under. So no answer comes before its sync, no file gets the log's name before it is on the disk, and none is taken
+for there whose folder wasn't synced.
+"""
+
+import os
+import random
+import subprocess
+import sys
+import tempfile
+
+sys.dont_write_bytecode = True
+TOP = os.path.dirname(os.path.dirname(os.path.abspath(__file__)))
+
+import shim
+from shim import SYNC, propose
+
+NODE = f"{TOP}/crates/ep_server/out/ep_server"
+# errors of a disk, by their numbers, and the words for them
+CAUSES = {5: "input/output error", 28: "no space left on device", 30: "read-only file system"}
+IO, SPACE, READ_ONLY = CAUSES
+# which errors a call of a kind may have
+ERRORS = {"open": (READ_ONLY,), "write": (IO, SPACE), "fsync": (IO, SPACE), "fdatasync": (IO, SPACE), "folder": (IO,), "rename": (IO, SPACE), "cut": (IO,), "read": (IO,)}
+# how many disks that chance leaves are looked at for each fault
+CHANCES = 4
+# so many faults of a row are told
+MOST_TOLD = 3
+
+
+def puts(first, count):
+    return b"".join(propose(1, number, b"x%d" % number, b"v" * (number * 37 % 500)) for number in range(first, first + count))
+
+
+# what is asked of a first start, and of a second one
+FIRST = puts(1, 3) + SYNC + puts(4, 2) + SYNC
+SECOND = puts(6, 2) + SYNC + puts(8, 1) + SYNC
+
+
+def begun(case):
+    """A case whose first start is over."""
+    case.start(FIRST, is_new=True)
+    case.wants(case.status == 0 and case.told == 5, f"the first start: status {case.status}, {case.told} entries told")
+
+
+def comes_back(case, least=None):
+    """After a power loss all that was told is there."""
+    told = case.told if least is None else least
+    case.start(SYNC)
+    if case.status == 2 and told < 0 and "there is none" in case.errors:
+        # (nothing was ever answered, and nothing is there)
+        return
+    case.wants(case.status == 0, f"the start after it: status {case.status}, {case.errors.strip()}")
+    case.wants(case.told >= told, f"{told} entries were told, and {case.told} came back")
+
+
+def comes_back_always(case, chances=CHANCES):
+    """Whatever a power loss leaves."""
+    disk, place, log, told, entries = case.disk, case.place, case.log, case.told, case.entries
+    for seed in range(chances + 1):
+        case.disk, case.place, case.log, case.told, case.entries = disk, place, log, told, entries
+        case.lose_power(random.Random(seed) if seed else None)
+        comes_back(case, told)
+
+
+def asked(case):
+    """Answers wait for a sync, and all that was asked before it shares one."""
+    case.start(b"", is_new=True)
+    before = case.calls("fsync", "fdatasync")
+    case.wants(case.status == 0, f"a first start without a request: status {case.status}")
+    case.forget()
+    case.start(FIRST + SYNC, is_new=True)
+    case.wants(case.told == 5, f"5 entries were asked for, {case.told} told")
+    syncs = case.calls("fsync", "fdatasync") - before
+    case.wants(syncs == 2, f"2 syncs were wanted, there were {syncs}")
+    case.wants(case.calls("folder") >= 1, "no folder was synced")
+    comes_back_always(case)
+
+
+def each(case):
+    """With `--sync each` each request has a sync of its own."""
+    case.start(b"", is_new=True)
+    before = case.calls("fsync", "fdatasync")
+    case.forget()
+    case.start(puts(1, 5), words=("--sync", "each"), is_new=True)
+    case.wants(case.told == 5, f"5 entries were asked for, {case.told} told")
+    syncs = case.calls("fsync", "fdatasync") - before
+    case.wants(syncs == 5, f"5 syncs were wanted, there were {syncs}")
+    outs = [line for line in case.lines if line.split(" ")[0] in ("out", "fsync", "fdatasync")]
+    case.wants(case.calls("out") >= 5, f"5 answers came in {case.calls('out')} writes")
+    case.wants(outs[-1].startswith("out"), "something was synced that nobody was told of")
+    comes_back_always(case)
+
+
+def short_writes(case):
+    """Writes that write a part are gone on with."""
+    case.start(FIRST, is_new=True)
+    whole = bytes(case.disk.current()[case.log].cache)
+    case.forget()
+    case.start(FIRST, "short=write:1:1000", is_new=True)
+    case.wants(case.status == 0 and case.told == 5, f"status {case.status}, {case.told} of 5 entries told")
+    case.start(SECOND, "short=write:1:1000")
+    case.wants(case.status == 0 and case.told == 8, f"the second start: status {case.status}, {case.told} of 8 entries told")
+    case.wants(bytes(case.disk.current()[case.log].cache).startswith(whole), "the log has other bytes than with whole writes")
+    comes_back_always(case)
+
+
+def full_disk(case):
+    """A write that writes a part, and then no room: what was told before is there, and nothing after it is told."""
+    begun(case)
+    # (the renewal at a start is one write at least)
+    case.start(SYNC)
+    before = case.calls("write")
+    case.start(SECOND, f"short=write:{before + 2}:{before + 2}", f"fail=write:{before + 3}:{before + 3}:{SPACE}")
+    told = case.told
+    case.wants(case.status == 4 and f"log failed: {CAUSES[SPACE]}" in case.errors.lower(), f"status {case.status}, {case.errors.strip()}")
+    comes_back_always(case)
+    case.wants(told == 7, f"7 entries were to be told before the disk was full, {told} were")
+
+
+def failed_sync(case):
+    """A sync fails once, the node ends and is started again, and then the power is lost: all that was ever told is there."""
+    begun(case)
+    case.start(SYNC)
+    before = case.calls("fdatasync")
+    case.start(SECOND, f"fail=fdatasync:{before + 1}:{before + 1}:{IO}")
+    case.wants(case.status == 4 and case.told == 5, f"status {case.status}, {case.told} entries told, 5 of them before the failed sync")
+    # the cache shows entries that the disk hasn't; whatever the node tells of now has to be there after the power loss
+    case.start(SYNC)
+    case.wants(case.status == 0, f"the start after the failed sync: status {case.status}, {case.errors.strip()}")
+    told = case.told
+    case.start(puts(10, 1) + SYNC)
+    case.wants(case.told == told + 1, f"one entry more was to be told after {told}, {case.told} were")
+    comes_back_always(case, 20)
+
+
+def a_disk_that_lies(case):
+    """Of the rows themselves: a sync that says that it was done and wasn't is noticed."""
+    begun(case)
+    case.start(SYNC)
+    before = case.calls("fdatasync")
+    case.start(SECOND, f"held=fdatasync:{before + 1}:{before + 1}")
+    noticed, case.faults = case.faults, []
+    case.wants(any("would outlast" in it for it in noticed), "it wasn't noticed")
+
+
+def failed_call(kind, place, error, is_first):
+    """The place-th call of a kind fails: nothing is told that isn't on the disk, and the cause is."""
+
+    def row(case):
+        if not is_first:
+            begun(case)
+        case.start(FIRST if is_first else SECOND, f"fail={kind}:{place}:{place}:{error}", is_new=is_first)
+        wanted = f"log failed: {CAUSES[error]}"
+        case.wants(case.status == 4, f"status {case.status}, and 4 was wanted")
+        case.wants(case.errors.lower() == f"{wanted}\n", f"{case.errors.strip()!r} in the place of {wanted!r}")
+        comes_back_always(case)
+        # (without a power loss too, and then with one)
+        if case.told >= 0:
+            case.start(SYNC)
+            case.wants(case.status == 0, f"the next start: status {case.status}, {case.errors.strip()}")
+            comes_back_always(case, 1)
+
+    return row
+
+
+def failed_calls(make):
+    """A row for each call of a first start and of a second one, with each error."""
+    for is_first in (True, False):
+        case = make()
+        if not is_first:
+            begun(case)
+        case.start(FIRST if is_first else SECOND, is_new=is_first)
+        which = "first" if is_first else "second"
+        for kind, errors in ERRORS.items():
+            for place in range(1, case.calls(kind) + 1):
+                for error in errors:
+                    yield f"{which} start, {kind} {place}: {CAUSES[error]}", failed_call(kind, place, error, is_first)
+
+
+ROWS = (asked, each, short_writes, full_disk, failed_sync, a_disk_that_lies)
+
+
+def tried(node=NODE, word=""):
+    """How many rows passed, and how many failed."""
+    if not os.path.isfile(node):
+        print("no row of disks is run: `rt ci` has not built ep_server", flush=True)
+        return 0, 0
+    with tempfile.TemporaryDirectory(prefix="epaxos-disks-", dir="/dev/shm" if os.path.isdir("/dev/shm") else None) as folder:
+        built = shim.built(folder)
+        if not built:
+            print("no row of disks is run: there is no cc, or no program can be traced here", flush=True)
+            return 0, 0
+        made = 0
+
+        def make():
+            nonlocal made
+            made += 1
+            return shim.Case(built, node, f"{folder}/{made}")
+
+        rows = [(it.__name__.replace("_", " "), it) for it in ROWS] + list(failed_calls(make))
+        passed = failed = 0
+        for name, row in rows:
+            if word not in name:
+                continue
+            case = make()
+            try:
+                row(case)
+            except (subprocess.TimeoutExpired, LookupError) as fault:
+                case.faults.append(repr(fault)[:200])
+            for fault in dict.fromkeys(case.faults[:MOST_TOLD]):
+                print(f"disks, {name}: {fault}", flush=True)
+            passed, failed = passed + (not case.faults), failed + bool(case.faults)
+    print(f"disks: {passed + failed} rows of a node whose calls are traced and failed, {failed} failed", flush=True)
+    if not word:
+        is_well = not subprocess.run([f"{TOP}/tools/disk-images", node], stdin=subprocess.DEVNULL).returncode
+        passed, failed = passed + is_well, failed + (not is_well)
+    return passed, failed
+
+
+if __name__ == "__main__":
+    counts = tried(*map(os.path.abspath, sys.argv[1:2]), *sys.argv[2:3])
+    print("{} passed, {} failed".format(*counts))
+    sys.exit(1 if counts[1] else 0)

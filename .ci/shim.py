@@ -1,0 +1,209 @@
+"""Runs of `epaxos node` under .ci/shim.c, and what its requests, answers and logs are in bytes (docs/FORMATS.md, sections 9 and 10)."""
+
+import os
+import shutil
+import struct
+import subprocess
+from dataclasses import dataclass
+
+import disk
+
+SOURCE = os.path.join(os.path.dirname(os.path.abspath(__file__)), "shim.c")
+SECONDS = 60
+# the length of a log's header, and of what stands before and behind an entry in its record, by version
+HEADERS = {2: 7, 3: 43}
+BEFORE = {2: 8, 3: 16}
+BEHIND = 8
+
+
+def built(folder):
+    """The shim, built there; None where it can't be built or can't trace."""
+    compiler = shutil.which("cc")
+    if not compiler or os.uname().machine != "x86_64":
+        return None
+    shim = f"{folder}/shim"
+    if subprocess.run([compiler, "-O2", "-Wall", "-Wextra", "-Werror", "-o", shim, SOURCE]).returncode:
+        return None
+    return None if subprocess.run([shim, f"{folder}/none", folder, "--", "true"]).returncode else shim
+
+
+def request(kind, body=b""):
+    return struct.pack(">IB", len(body) + 1, kind) + body
+
+
+def propose(client, number, key, value, seen=0):
+    return request(1, struct.pack(">IIQBBH", client, number, seen, 3, len(key), len(value)) + key + value)
+
+
+def frame(content):
+    return request(2, content)
+
+
+ADVANCE = request(6)
+SYNC = request(10)
+
+
+@dataclass
+class Entry:
+    """An entry that an answer tells of."""
+
+    number: int
+    # each with its receiver
+    frames: list
+
+
+@dataclass
+class Answer:
+    kind: int
+    # of `taken`
+    entries: list
+    # of `synced`
+    synced: int = 0
+
+
+def answers(told):
+    """The answers that stand whole at the beginning of these bytes, and how many bytes they have."""
+    at, whole = 0, []
+    while at + 4 <= len(told) and at + 4 + (size := struct.unpack_from(">I", told, at)[0]) <= len(told):
+        body = told[at + 4 : at + 4 + size]
+        synced = struct.unpack(">I", body[1:])[0] if body[0] == 6 else 0
+        whole.append(Answer(body[0], list(entries_told(body)) if body[0] == 1 else [], synced))
+        at += 4 + size
+    return whole, at
+
+
+def entries_told(body):
+    (count,), at = struct.unpack_from(">I", body, 1), 5
+    for _ in range(count):
+        number, frames, at = struct.unpack_from(">I", body, at)[0], [], at + 15
+        sent, at = struct.unpack_from(">H", body, at)[0], at + 2
+        for _ in range(sent):
+            to, size = struct.unpack_from(">BI", body, at)
+            frames.append((to, body[at + 5 : at + 5 + size]))
+            at += 5 + size
+        receipts, at = struct.unpack_from(">H", body, at)[0], at + 2
+        for _ in range(receipts):
+            at += 32
+            reply, at = body[at], at + 1
+            if reply == 1:
+                at += 2 + struct.unpack_from(">H", body, at)[0]
+        yield Entry(number, frames)
+
+
+@dataclass
+class Record:
+    place: int
+    end: int
+    entry: bytes
+    # up to which byte the log was on the disk when it was written; 0 in version 2
+    synced: int
+
+
+def records(log):
+    """The records that stand whole at the beginning of a log, whatever their checksums are; None where it has no whole header."""
+    if log[:4] != b"EPLG" or len(log) < 5 or log[4] not in HEADERS or len(log) < HEADERS[log[4]]:
+        return None
+    version, found = log[4], []
+    at = HEADERS[version]
+    while at + BEFORE[version] <= len(log):
+        size, complement = struct.unpack_from(">II", log, at)
+        begin = at + BEFORE[version]
+        end = begin + size + BEHIND
+        if size ^ complement != 0xFFFFFFFF or end > len(log):
+            break
+        synced = struct.unpack_from(">Q", log, at + 8)[0] if version == 3 else 0
+        found.append(Record(at, end, log[begin : begin + size], synced))
+        at = end
+    return found
+
+
+class Case:
+    """Starts of a node on one disk. After each call it is looked at whether what was told would outlast a power loss."""
+
+    def __init__(self, shim, node, folder):
+        self.shim, self.node, self.folder = shim, node, folder
+        self.starts = 0
+        self.forget()
+
+    def forget(self):
+        """A new disk with an empty folder."""
+        self.place = f"{self.folder}/{self.starts}"
+        os.makedirs(self.place)
+        self.log = f"{self.place}/log"
+        self.disk = disk.Disk()
+        # how many entries were told of, -1 where nothing was answered; and the entries themselves
+        self.told, self.entries = -1, []
+        self.faults = []
+        self.lines, self.status, self.errors = [], 0, ""
+
+    def start(self, requests, *rules, words=(), is_new=False):
+        """Starts the node, which reads these requests."""
+        self.starts += 1
+        trace = f"{self.folder}/{self.starts}.trace"
+        run = [self.shim, trace, self.place, *rules, "--", self.node, "node", "--replicas", "3", "--replica", "0", "--log", self.log]
+        run += [*words, *(["--new"] if is_new else [])]
+        ended = subprocess.run(run, input=requests, capture_output=True, timeout=SECONDS)
+        self.status, self.errors = ended.returncode, ended.stderr.decode(errors="replace")
+        with open(trace, encoding="ascii") as it:
+            self.lines = it.read().splitlines()
+        out, read = b"", 0
+        for line in self.lines:
+            kind, *rest = line.split(" ")
+            if kind == "out" and int(rest[0]) > 0:
+                out += bytes.fromhex(rest[1])
+                whole, size = answers(out[read:])
+                read += size
+                self.hear(whole)
+            elif kind == "unused":
+                self.faults.append(f"no call met the rule {rest[0]}")
+            elif kind not in ("err", "end", "read", "lock", "out"):
+                try:
+                    self.disk.feed(line)
+                except ValueError as fault:
+                    self.faults.append(str(fault))
+                    break
+            self.look(line)
+        if read != len(out):
+            self.faults.append("an answer is cut")
+        return self.status
+
+    def hear(self, whole):
+        for answer in whole:
+            numbers = [it.number for it in answer.entries]
+            self.told = max([self.told, answer.synced, *numbers])
+        log = self.disk.current().get(self.log)
+        held = [it.entry for it in (records(bytes(log.cache)) if log else None) or []][: max(self.told, 0)]
+        if len(held) < self.told or held[: len(self.entries)] != self.entries:
+            self.faults.append(f"{self.told} entries are told, and the log has not all of them: it has {len(held)}")
+        self.entries = held
+
+    def look(self, line):
+        """Whether a power loss right after this call would take what was told."""
+        if self.told < 0 or self.faults or line.startswith(("read ", "err ", "end ", "lock ", "unused ")):
+            return
+        sure = records(self.disk.sure(self.log))
+        if sure is None or [it.entry for it in sure[: self.told]] != self.entries:
+            count = "no log" if sure is None else f"{len(sure)} entries"
+            self.faults.append(f"{self.told} entries were told, and {count} would outlast a power loss after: {line[:60]}")
+
+    def lose_power(self, chance=None):
+        """From now on there is what a power loss leaves."""
+        left = self.disk.after_crash(chance)
+        self.starts += 1
+        place = f"{self.folder}/{self.starts}"
+        os.makedirs(place)
+        self.disk = disk.Disk()
+        for path, content in left.items():
+            path = f"{place}/{os.path.basename(path)}"
+            with open(path, "wb") as it:
+                it.write(content)
+            self.disk.put(path)
+        self.place, self.log = place, f"{place}/log"
+
+    def wants(self, is_so, what):
+        if not is_so:
+            self.faults.append(what)
+
+    def calls(self, *kinds):
+        """How many calls of these kinds there were in the last start."""
+        return sum(line.split(" ")[0] in kinds for line in self.lines)

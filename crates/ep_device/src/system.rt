@@ -1,0 +1,51 @@
+//! What the operating system's errors are told as.
+
+ghost use Rattle.std.specs.Prelude.{◌≡◌};
+ghost use Rattle.std_io.specs.IoError.{raw_os_error};
+ghost use Rattle.ep_device.specs.Files.{cause_in, cause_of};
+
+use crate::cause::Cause;
+use crate::device_fault::DeviceFault;
+use std::io;
+use std::io::ErrorKind;
+
+/// The number of the error that there is no such file, on Linux.
+pub(crate) const NO_SUCH_FILE: i32 = 2;
+
+/// What an error of this number is, as Linux has it on x86-64 and aarch64.
+#[tactic(auto, unfolding(crate::specs::Files::cause_in))]
+fn cause_in(number: u32) -> Cause
+    ensures { result ≡ cause_in number }
+{
+    match number {
+        1 | 13 => Cause::NotAllowed,
+        2 | 20 => Cause::NotFound,
+        5 => Cause::InputOutput,
+        11 => Cause::Locked,
+        12 => Cause::NoMemory,
+        21 => Cause::NotAFile,
+        27 => Cause::TooLarge,
+        28 => Cause::NoSpace,
+        30 => Cause::ReadOnly,
+        122 => Cause::OverQuota,
+        _ => Cause::System(number),
+    }
+}
+
+/// What the error is.
+pub(crate) fn cause_of(error: &io::Error) -> Cause
+    ensures { result ≡ cause_of (raw_os_error error.now) }
+{
+    match error.raw_os_error() {
+        Some(number) => cause_in(number.unsigned_abs()),
+        None => Cause::Unknown,
+    }
+}
+
+/// What the error is told as: want of memory, or a failure.
+pub(crate) fn fault_of(error: &io::Error) -> DeviceFault {
+    if error.kind() == ErrorKind::OutOfMemory {
+        return DeviceFault::Memory;
+    }
+    DeviceFault::Failed(cause_of(error))
+}

@@ -1,0 +1,85 @@
+-- What a replica takes, it has behind what it had.
+use Rattle.std.proofs.Common.{◌≡◌, ℕ, zero, suc, ◌≤◌, Bool, true, false, length, take, List, [], ◌∷◌, ◌++◌, append-nil, append_assoc, take_all, Option, Some, None, Result, Ok, Err, refl, sym, ap, ◌∙◌, subst, arith}
+use Rattle.std.specs.Prelude.{MatchResult}
+use Rattle.std.proofs.lemmas.List.{take-append-le}
+use Rattle.ep_frame.specs.Faults.{fault_of}
+use Rattle.ep_bundle.specs.Reading.{Left}
+use Rattle.ep_journal.specs.declared.entry.Entry.{Entry}
+use Rattle.ep_journal.specs.declared.event.Event.{Event as Happening}
+use Rattle.ep_journal.specs.declared.event.Event.TheVariants as event
+use Rattle.ep_node.specs.Nodes.{Takes}
+use Rattle.ep_replica.specs.Kept.{Kept}
+use Rattle.ep_replica.specs.Pending.{ExecutesNext}
+use Rattle.ep_serve.specs.Acting.{Acts, Executes, Handles, TakesOrRefuses}
+use Rattle.ep_serve.specs.Serving.{AllWait, AreServed, IsBatch, Waiting}
+use Rattle.ep_serve.specs.Lasting.{Crashes}
+use Rattle.ep_serve.specs.declared.due.Due.{Due}
+use Rattle.ep_serve.specs.declared.due.Due.TheVariants.{Taken, Refused, Value, Open, Leads, Synced, Malformed}
+use Rattle.ep_serve.specs.declared.mode.Mode.{Mode}
+use Rattle.ep_wire.specs.declared.request.Request.{Request}
+use Rattle.ep_wire.specs.declared.request.Request.TheVariants as request
+
+abbrev pub Extends : Kept → Kept → Type 0
+Extends k k' = (more : List Entry) × (k' ≡ record k { entries = k.entries ++ more })
+
+pub extends_same : (k k' : Kept) → k' ≡ k → Extends k k'
+extends_same k k' is = ([], is ∙ (λ t. record k { entries = sym (append-nil k.entries) t }))
+
+pub extends_more : (k m k' : Kept) → Extends k m → Extends m k' → Extends k k'
+extends_more k m k' a b =
+    let from : k' ≡ record k { entries = (k.entries ++ a.0) ++ b.0 } = subst (λ (x : Kept). k' ≡ record x { entries = x.entries ++ b.0 }) a.1 b.1 in
+    (a.0 ++ b.0, from ∙ (λ t. record k { entries = append_assoc k.entries a.0 b.0 t }))
+
+takes_more : (k k' : Kept) (e : Happening) → Takes k e k' → Extends k k'
+takes_more k k' e h = (h.0 ∷ [], h.1.appended)
+
+takes_or_not : (k k' : Kept) (e : Happening) (d : Due) → TakesOrRefuses k e d k' → Extends k k'
+takes_or_not k k' e (Taken from count) h = takes_more k k' e h.2
+takes_or_not k k' e (Refused r) h = extends_same k k' h.1
+takes_or_not k k' e (Value key) h = absurd h
+takes_or_not k k' e (Open after) h = absurd h
+takes_or_not k k' e (Leads i) h = absurd h
+takes_or_not k k' e Synced h = absurd h
+takes_or_not k k' e (Malformed m) h = absurd h
+
+handles : {A B : Type 0} (r : Result A B) (k k' : Kept) (e : Happening) (d d' : Due) → MatchResult r (λ _. TakesOrRefuses k e d k') (λ _. (d ≡ d') × (k' ≡ k)) → Extends k k'
+handles (Ok x) k k' e d d' h = takes_or_not k k' e d h
+handles (Err x) k k' e d d' h = extends_same k k' h.1
+
+executes : (n : ℕ) (k k' : Kept) → Executes n k k' → Extends k k'
+executes zero k k' h = extends_same k k' h.1
+executes (suc n) k k' h = extends_more k h.0 k' (h.1.2.0 ∷ [], h.1.2.1.appended) (executes n h.0 k' h.2)
+
+pub acts_more : (k k' : Kept) (r : Request) (d : Due) → Acts k r d k' → Extends k k'
+acts_more k k' (request.Propose client number seen command) d h = elim h [
+  | inl far ↦ extends_same k k' far.2
+  | inr near ↦ takes_or_not k k' (event.Propose client number command seen) d near.1
+]
+acts_more k k' (request.Frame bytes) d h = handles (fault_of bytes) k k' (event.Handle bytes) d _ h
+acts_more k k' (request.GiveUp i) d h = takes_or_not k k' (event.GiveUp i) d h
+acts_more k k' (request.Recover i) d h = takes_or_not k k' (event.Recover i) d h
+acts_more k k' (request.Execute i) d h = takes_or_not k k' (event.Execute i) d h
+acts_more k k' request.Advance d h = executes h.0 k k' h.1
+acts_more k k' (request.Get key) d h = extends_same k k' h.1
+acts_more k k' (request.NextOpen after) d h = extends_same k k' h.1
+acts_more k k' (request.Leads i) d h = extends_same k k' h.1
+acts_more k k' request.Sync d h = extends_same k k' h.1
+acts_more k k' (request.Malformed m) d h = extends_same k k' h.1
+
+wait_more : (mode : Mode) (n : ℕ) (k k' : Kept) (rs : List Request) (ds : List Due) → AllWait mode n k rs ds k' → Extends k k'
+wait_more mode n k k' [] ds h = extends_same k k' h.1
+wait_more mode n k k' (r ∷ rs) ds h = extends_more k h.2 k' (acts_more k h.2 r h.0 h.3) (wait_more mode n h.2 k' rs h.1 h.5)
+
+pub waiting_more : (mode : Mode) (n : ℕ) (k k' : Kept) (l l' : Left) (ds : List Due) → Waiting mode n k l ds k' l' → Extends k k'
+waiting_more mode n k k' l l' ds w = wait_more mode (length k.entries) k k' w.requests ds w.acted
+
+batch_more : (mode : Mode) (n : ℕ) (k k' : Kept) (l l' : Left) (out : List ℕ) → IsBatch mode n k l out k' l' → Extends k k'
+batch_more mode n k k' l l' out b = extends_more k b.before k' (waiting_more mode n k b.before l b.from b.dues b.waiting) (acts_more b.before k' b.last b.due b.acted)
+
+pub served_more_entries : (b : ℕ) (mode : Mode) (n : ℕ) (w : Crashes) (k k' : Kept) (l l' : Left) (out : List ℕ) → AreServed b mode n w k l out k' l' → Extends k k'
+served_more_entries zero mode n w k k' l l' out h = extends_same k k' h.1
+served_more_entries (suc b) mode n w k k' l l' out h = extends_more k h.2 k' (batch_more mode n k h.2 l h.3 h.0 h.4) (served_more_entries b mode n w h.2 k' h.3 l' h.1 h.6)
+
+-- The first entries of what was extended are those that there were.
+pub first_of : (k k' : Kept) (n : ℕ) → n ≤ length k.entries → Extends k k' → take n k'.entries ≡ take n k.entries
+first_of k k' n le h = subst (λ (x : Kept). take n x.entries ≡ take n k.entries) (sym h.1) (take-append-le n k.entries h.0 le)

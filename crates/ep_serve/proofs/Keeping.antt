@@ -1,0 +1,144 @@
+-- What is on the disk.
+use Rattle.std.proofs.Common.{◌≡◌, ◌⊎◌, inl, inr, ℕ, zero, suc, ◌+◌, ◌≤◌, ◌<◌, length, take, take_all, drop, List, [], ◌∷◌, ◌++◌, append_assoc, Option, Some, refl, sym, ap, ◌∙◌, subst, arith}
+use Rattle.std.proofs.Math.Seq.{take-append_seam}
+use Rattle.std.proofs.lemmas.List.{take-append-drop, take-map}
+use Rattle.ep_journal.specs.declared.entry.Entry.{Entry}
+use Rattle.ep_log.specs.Bytes.{LogRecord, entries_in, header_bytes, log_bytes, record_in, records_in}
+use Rattle.ep_log.specs.Reading.{IsBeginning}
+use Rattle.ep_log.specs.declared.log_version.LogVersion.{LogVersion}
+use Rattle.ep_log.specs.declared.log_version.LogVersion.TheVariants.{Three}
+use Rattle.ep_node.proofs.Growing.{records-append}
+use Rattle.ep_node.specs.Nodes.{IsCut, IsQuiet, Logged}
+use Rattle.ep_device.specs.Device.{LeavesOnly}
+use Rattle.ep_replica.specs.Kept.{Kept}
+use Rattle.ep_serve.specs.Lasting.{crashes, Crashes, GoesOn, IsKept, Keeps, Lasts, LastsFrom, Onward, StaysKnown}
+use Rattle.ep_serve.proofs.Growing.{Extends, first_of}
+
+-- Of logs.
+
+-- a log begins with the log of its first records
+begins_less : (f me : ℕ) (rs more : List LogRecord) (c : List ℕ) → IsBeginning (log_bytes f me (rs ++ more)) c → IsBeginning (log_bytes f me rs) c
+begins_less f me rs more c h =
+    let at : ℕ = length (header_bytes f me) in
+    let later : List ℕ = records_in Three (at + length (records_in Three at rs)) more in
+    let whole : log_bytes f me (rs ++ more) ≡ log_bytes f me rs ++ later =
+    ap (λ (x : List ℕ). header_bytes f me ++ x) (records-append Three at rs more) ∙ sym (append_assoc (header_bytes f me) (records_in Three at rs) later) in
+    (later ++ h.0, h.1 ∙ ap (λ (x : List ℕ). x ++ h.0) whole ∙ append_assoc (log_bytes f me rs) later h.0)
+
+entries_of_first : (n : ℕ) (rs : List LogRecord) → entries_in (take n rs) ≡ take n (entries_in rs)
+entries_of_first n rs = sym (take-map (λ (r : LogRecord). r.entry) n rs)
+
+pub keeps_less : (f me : ℕ) (es more : List Entry) (c : List ℕ) → Keeps f me (es ++ more) c → Keeps f me es c
+keeps_less f me es more c h =
+    let n : ℕ = length es in
+    let begins : IsBeginning (log_bytes f me (take n h.0 ++ drop n h.0)) c = subst (λ (x : List LogRecord). IsBeginning (log_bytes f me x) c) (sym (take-append-drop n h.0)) h.2 in
+    (take n h.0, entries_of_first n h.0 ∙ ap (λ (x : List Entry). take n x) h.1 ∙ take-append_seam es more, begins_less f me (take n h.0) (drop n h.0) c begins)
+
+pub cut_keeps : {D : Type 0} (node : Logged D) (n : ℕ) (c : List ℕ) → IsCut node n c → Keeps node.replica.faults node.replica.me (take n node.replica.entries) c
+cut_keeps node n c h = (take n h.records, entries_of_first n h.records ∙ ap (λ (x : List Entry). take n x) h.entries, h.cut.kept)
+
+-- Of replicas.
+
+pub keeps_earlier : (k k' : Kept) (c : List ℕ) → Extends k k' → Keeps k'.faults k'.me k'.entries c → Keeps k.faults k.me k.entries c
+keeps_earlier k k' c h keeps = keeps_less k.faults k.me k.entries h.0 c (subst (λ (x : Kept). Keeps x.faults x.me x.entries c) h.1 keeps)
+
+-- Of nodes.
+
+all_first : (n : ℕ) (es : List Entry) → n ≡ length es → take n es ≡ es
+all_first n es is = take_all n es (omega (arith, is))
+
+pub rests : {D : Type 0} (seen : D → Option (List ℕ)) (moment : D → ℕ) (left_since : D → ℕ → List ℕ → Type 0) (n : Logged D) (old : D) (k : Kept) → n.replica ≡ k → IsQuiet n → StaysKnown seen old n.device
+    → ((bytes : List ℕ) → seen n.device ≡ Some bytes → LeavesOnly moment left_since n.device n.device (IsCut n n.synced)) → IsKept seen moment left_since old n.device k
+rests seen moment left_since n old k same quiet known at_rest = λ bytes was c left.
+    let after = known bytes was in
+    let cut : IsCut n n.synced c = (at_rest after.0 after.1).each c left in
+    subst (λ (x : Kept). Keeps x.faults x.me x.entries c) same
+    (subst (λ (es : List Entry). Keeps n.replica.faults n.replica.me es c) (all_first n.synced n.replica.entries quiet.synced) (cut_keeps n n.synced c cut))
+
+pub leaves_on : {D : Type 0} (seen : D → Option (List ℕ)) (moment : D → ℕ) (left_since : D → ℕ → List ℕ → Type 0) (n : Logged D) (new : D)
+    → ((bytes : List ℕ) → seen n.device ≡ Some bytes → LeavesOnly moment left_since n.device new (IsCut n n.synced)) → GoesOn seen moment left_since n.device new n.replica n.synced
+leaves_on seen moment left_since n new leaves = λ bytes was. record {
+  later = (leaves bytes was).later;
+  keeps = λ t c le left. elim ((leaves bytes was).before t c le left) [
+    | inl before ↦ inl before
+    | inr cut ↦ inr (cut_keeps n n.synced c cut)
+  ];
+}
+
+-- a call that doesn't touch the device
+pub stays_on : {D : Type 0} (seen : D → Option (List ℕ)) (moment : D → ℕ) (left_since : D → ℕ → List ℕ → Type 0) (old new : D) (k : Kept) (n : ℕ) → new ≡ old → GoesOn seen moment left_since old new k n
+stays_on seen moment left_since old new k n same = subst (λ x. GoesOn seen moment left_since old x k n) (sym same) (λ bytes was. record { later = omega arith; keeps = λ t c le left. inl left })
+
+-- of another replica with the same first entries
+
+fields : (k k' : Kept) (n : ℕ) (c : List ℕ) → Extends k k' → Keeps k'.faults k'.me (take n k'.entries) c → Keeps k.faults k.me (take n k'.entries) c
+fields k k' n c h keeps =
+    subst (λ (f : ℕ). Keeps f k.me (take n k'.entries) c) (ap (λ (x : Kept). x.faults) h.1)
+    (subst (λ (me : ℕ). Keeps k'.faults me (take n k'.entries) c) (ap (λ (x : Kept). x.me) h.1) keeps)
+
+first_kept : (k k' : Kept) (n : ℕ) (c : List ℕ) → n ≤ length k.entries → Extends k k' → Keeps k'.faults k'.me (take n k'.entries) c → Keeps k.faults k.me (take n k.entries) c
+first_kept k k' n c le h keeps = subst (λ (es : List Entry). Keeps k.faults k.me es c) (first_of k k' n le h) (fields k k' n c h keeps)
+
+pub goes_on_as : {D : Type 0} (seen : D → Option (List ℕ)) (moment : D → ℕ) (left_since : D → ℕ → List ℕ → Type 0) (old new : D) (k k' : Kept) (n : ℕ) → n ≤ length k.entries → Extends k k'
+    → GoesOn seen moment left_since old new k' n → GoesOn seen moment left_since old new k n
+goes_on_as seen moment left_since old new k k' n le h goes = λ bytes was. record {
+  later = (goes bytes was).later;
+  keeps = λ t c before left. elim ((goes bytes was).keeps t c before left) [
+    | inl then ↦ inl then
+    | inr keeps ↦ inr (first_kept k k' n c le h keeps)
+  ];
+}
+
+-- Of a whole service: what lasted lasts on.
+
+-- what goes on from a device to the next one, in a service that began with the first one
+pub record Passes (w w' : Crashes) (s : Kept) : Type 0 where
+  pub known : w'.known → w.known
+  pub start : w'.start ≡ w.start
+  pub later : w'.known → w.now ≤ w'.now
+  pub keeps : w'.known → (t : ℕ) (c : List ℕ) → t ≤ w.now → w'.since t c → w.since t c ⊎ Keeps s.faults s.me s.entries c
+
+pub passes : {D : Type 0} (seen : D → Option (List ℕ)) (moment : D → ℕ) (left_since : D → ℕ → List ℕ → Type 0) (start old new : D) (k s : Kept) (n : ℕ) → StaysKnown seen start old → n ≡ length s.entries → Extends s k
+    → GoesOn seen moment left_since old new k n → Passes (crashes seen moment left_since start old) (crashes seen moment left_since start new) s
+passes seen moment left_since start old new k s n known is h goes = record {
+  known = λ p. p;
+  start = refl;
+  later = λ p. let after = known p.0 p.1 in (goes after.0 after.1).later;
+  keeps = λ p t c le left.
+      let after = known p.0 p.1 in
+      elim ((goes after.0 after.1).keeps t c le left) [
+        | inl then ↦ inl then
+        | inr keeps ↦ inr (subst (λ (es : List Entry). Keeps s.faults s.me es c) (all_first n s.entries is) (first_kept s k n c (omega (arith, is)) h keeps))
+      ];
+}
+
+pub lasts_from_on : (w w' : Crashes) (s k : Kept) (t : ℕ) → Passes w w' s → Extends k s → LastsFrom w t k → LastsFrom w' t k
+lasts_from_on w w' s k t p h l = record {
+  by_now = λ known. let le : t ≤ w.now = l.by_now (p.known known) in let on : w.now ≤ w'.now = p.later known in omega arith;
+  keeps = λ known c left. elim (p.keeps known t c (l.by_now (p.known known)) left) [
+    | inl before ↦ l.keeps (p.known known) c before
+    | inr keeps ↦ keeps_earlier k s c h keeps
+  ];
+}
+
+pub lasts_on : (w w' : Crashes) (s k : Kept) → Passes w w' s → Extends k s → Lasts w k → Lasts w' k
+lasts_on w w' s k p h l = (l.0, lasts_from_on w w' s k l.0 p h l.1)
+
+-- all is on the disk, from now on
+pub lasts_now : {D : Type 0} (seen : D → Option (List ℕ)) (moment : D → ℕ) (left_since : D → ℕ → List ℕ → Type 0) (start old new : D) (k : Kept) → StaysKnown seen start old → IsKept seen moment left_since old new k
+    → Lasts (crashes seen moment left_since start new) k
+lasts_now seen moment left_since start old new k known kept = (moment new, record {
+  by_now = λ p. omega arith;
+  keeps = λ p c left. let after = known p.0 p.1 in kept after.0 after.1 c left;
+})
+
+-- it was at the beginning
+pub lasts_first : {D : Type 0} (seen : D → Option (List ℕ)) (moment : D → ℕ) (left_since : D → ℕ → List ℕ → Type 0) (start : D) (k : Kept) → IsKept seen moment left_since start start k
+    → LastsFrom (crashes seen moment left_since start start) (moment start) k
+lasts_first seen moment left_since start k kept = record { by_now = λ p. omega arith; keeps = λ p c left. kept p.0 p.1 c left }
+
+pub known_on : {D : Type 0} (seen : D → Option (List ℕ)) (start old new : D) → StaysKnown seen start old → StaysKnown seen old new → StaysKnown seen start new
+known_on seen start old new a b = λ bytes was. let after = a bytes was in b after.0 after.1
+
+pub known_same : {D : Type 0} (seen : D → Option (List ℕ)) (old new : D) → new ≡ old → StaysKnown seen old new
+known_same seen old new same = λ bytes was. (bytes, ap seen same ∙ was)

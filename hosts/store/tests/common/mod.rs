@@ -1,0 +1,139 @@
+//! Stores that a test starts, and their nodes.
+#![allow(dead_code)] // (each test uses a part)
+use std::fs;
+use std::net::TcpListener;
+use std::os::unix::fs::PermissionsExt;
+use std::path::{Path, PathBuf};
+use std::process::{Child, Command, Stdio};
+use std::thread;
+use std::time::{Duration, Instant};
+use store::client::{Client, Reply};
+
+/// A node that has no entry on the disk, and tells so: the answer to the first request, a sync of 5 bytes.
+pub const SYNCED: &str =
+    "#!/bin/sh\nhead -c 5 >/dev/null; printf 'EPLG\\002\\003\\000' > \"$7\"; printf '\\0\\0\\0\\5\\6\\0\\0\\0\\0'\n";
+const PATIENCE: Duration = Duration::from_secs(20);
+
+/// A node of this script.
+pub fn script(folder: &Path, script: &str) -> PathBuf {
+    let node = folder.join("node");
+    fs::write(&node, script).unwrap();
+    fs::set_permissions(&node, fs::Permissions::from_mode(0o755)).unwrap();
+    node
+}
+
+/// The proved program, which .ci/store.py names. Without it there is nothing to test.
+pub fn real_node() -> Option<PathBuf> {
+    let node = std::env::var_os("EPAXOS").map(PathBuf::from);
+    if node.is_none() {
+        eprintln!("not tried: the variable EPAXOS doesn't name the program");
+    }
+    node
+}
+
+/// Three replicas: a folder, and where they listen for each other and for clients. The folder is removed when the test is over.
+pub struct Places {
+    pub folder: PathBuf,
+    peers: Vec<String>,
+    clients: Vec<String>,
+}
+
+impl Places {
+    pub fn new(name: &str) -> Places {
+        let folder = std::env::temp_dir().join(format!("store-{name}-{}", std::process::id()));
+        fs::create_dir_all(&folder).unwrap();
+        let listeners: Vec<_> = (0..6).map(|_| TcpListener::bind("127.0.0.1:0").unwrap()).collect();
+        let mut peers: Vec<_> = listeners.iter().map(|it| it.local_addr().unwrap().to_string()).collect();
+        let clients = peers.split_off(3);
+        Places { folder, peers, clients }
+    }
+
+    /// The words that start a replica with this node.
+    pub fn command(&self, replica: usize, node: &Path) -> Command {
+        let mut command = Command::new(env!("CARGO_BIN_EXE_store"));
+        command.args(["--replica", &replica.to_string(), "--peers", &self.peers.join(",")]);
+        command.args(["--listen", &self.clients[replica], "--patience", "3"]);
+        let directory = self.folder.join(replica.to_string());
+        if !directory.join("log").exists() {
+            command.arg("--new");
+        }
+        command.arg("--dir").arg(directory).arg("--node").arg(node);
+        command
+    }
+
+    /// Starts a replica, and waits until it takes clients.
+    pub fn start(&self, replica: usize, node: &Path) -> Store {
+        let told = self.folder.join(format!("told-{replica}"));
+        let errors = fs::File::create(&told).unwrap();
+        let child = self.command(replica, node).stdin(Stdio::null()).stderr(errors).spawn().unwrap();
+        let port = self.clients[replica].rsplit_once(':').unwrap().1.parse().unwrap();
+        let store = Store { child, told, port };
+        wait("its start", || store.told().contains("node process"));
+        store
+    }
+}
+
+impl Drop for Places {
+    fn drop(&mut self) {
+        let _ = fs::remove_dir_all(&self.folder);
+    }
+}
+
+/// A running store. It is killed when it is let go.
+pub struct Store {
+    child: Child,
+    told: PathBuf,
+    port: u16,
+}
+
+impl Store {
+    /// What it has told on standard error.
+    pub fn told(&self) -> String {
+        fs::read_to_string(&self.told).unwrap()
+    }
+
+    pub fn client(&self) -> Client {
+        Client::connect(self.port, PATIENCE).unwrap()
+    }
+
+    /// Asks on a new connection.
+    pub fn ask(&self, line: &str) -> Reply {
+        ask(&mut self.client(), line)
+    }
+
+    /// A line of INFO.
+    pub fn info(&self, name: &str) -> String {
+        let Reply::Bulk(Some(text)) = self.ask("INFO") else { panic!("no INFO") };
+        let text = String::from_utf8(text).unwrap();
+        let line = text.lines().find_map(|line| line.strip_prefix(name)?.strip_prefix(':'));
+        line.unwrap_or_else(|| panic!("no {name} in {text}")).to_string()
+    }
+
+    /// The local read of a key.
+    pub fn local(&self, key: &str) -> Reply {
+        let mut client = self.client();
+        ask(&mut client, "READONLY");
+        ask(&mut client, &format!("GET {key}"))
+    }
+}
+
+impl Drop for Store {
+    fn drop(&mut self) {
+        let _ = self.child.kill();
+        let _ = self.child.wait();
+    }
+}
+
+/// Asks these words.
+pub fn ask(client: &mut Client, line: &str) -> Reply {
+    let words: Vec<&[u8]> = line.split(' ').map(str::as_bytes).collect();
+    client.ask(&words).unwrap()
+}
+
+pub fn wait(what: &str, is_so: impl Fn() -> bool) {
+    let start = Instant::now();
+    while !is_so() {
+        assert!(start.elapsed() < PATIENCE, "{what} is waited for too long");
+        thread::sleep(Duration::from_millis(10));
+    }
+}

@@ -1,0 +1,41 @@
+//! What stands behind a refused MULTI isn't done.
+mod common;
+use common::{Places, SYNCED, ask, script};
+use store::client::Reply;
+
+#[test]
+fn nothing_of_a_transaction_is_done() {
+    let places = Places::new("multi");
+    // Whatever it is asked, this node answers nothing more.
+    let node = script(&places.folder, &format!("{SYNCED}exec cat >/dev/null\n"));
+    let store = places.start(0, &node);
+    let mut client = store.client();
+    for (line, wanted) in [
+        ("MULTI", "ERR MULTI isn't supported"),
+        ("SET x 1", "ERR it wasn't done"),
+        ("READONLY", "ERR it wasn't done"),
+        ("EXEC", "EXECABORT nothing was done"),
+        ("PING", "PONG"),
+        ("multi", "ERR MULTI isn't supported"),
+        ("DEL x", "ERR it wasn't done"),
+        ("DISCARD", "OK"),
+        ("PING", "PONG"),
+        ("EXEC", "ERR EXEC without MULTI"),
+        // What stands behind a WATCH is done at once where there are transactions, too.
+        ("WATCH x", "ERR WATCH isn't supported"),
+        ("PING", "PONG"),
+        ("MULTI", "ERR MULTI isn't supported"),
+        ("SET x 1", "ERR it wasn't done"),
+        ("EXEC", "EXECABORT nothing was done"),
+        ("UNWATCH", "OK"),
+    ] {
+        let told = match ask(&mut client, line) {
+            Reply::Simple(text) | Reply::Error(text) => text,
+            other => format!("{other:?}"),
+        };
+        assert!(told.starts_with(wanted), "{line}: {told}");
+    }
+    // Another connection isn't behind it.
+    ask(&mut client, "MULTI");
+    assert_eq!(store.ask("PING"), Reply::Simple("PONG".into()));
+}
