@@ -341,6 +341,15 @@ def hosted():
     yield "five held frames at capacity 1", ["--capacity", "1"], b"replicas 3\n" + lines, [text(**one, lost=4)]
     for turns in ("0010000000", "1"):
         yield f"--turns {turns}", ["--turns", turns], b"replicas 3\npropose 0 1 put x 1\n" + b"section\n" * 8, [text(**ONE_PUT, lost=0)]
+    # in each section a thread gives each replica one pump or turn, and a round gives one more: eight or nine in rounds alone do not end it
+    keys = "abcdefghij"
+    ten = dict(
+        committed=[f"0.{it} seq 1 deps - put {key} 1" for it, key in enumerate(keys, 1)],
+        history=[f"0.{it} put {key} 1 -> absent" for it, key in enumerate(keys, 1)],
+        receipts=[f"client 1 request {it} 0.{it} absent" for it in range(1, 11)],
+    )
+    puts = b"".join(b"propose 0 1 put %c 1\n" % ord(key) for key in keys)
+    yield "ten puts, by the threads too", ["--turns", "1"], b"replicas 3\n" + puts + b"section\n" * 9, [text(**ten, lost=0)]
 
 
 def of_two_replicas():

@@ -6,6 +6,8 @@ use Rattle.std.proofs.lemmas.Bool.{cases_lt}
 use Rattle.std.specs.declared.alloc.AllocError.{AllocError}
 use Rattle.ep_audit.specs.Audited.{IsAudited}
 use Rattle.ep_base.specs.Quorums.{size}
+use Rattle.ep_frame.specs.Meaning.{sender_at}
+use Rattle.rtrb.specs.Ring.{received}
 use Rattle.ep_base.specs.declared.version.Version.{Version}
 use Rattle.ep_base.specs.declared.version.Version.TheVariants.{V2}
 use Rattle.ep_rules.specs.Audits.{IsAccepted}
@@ -27,11 +29,13 @@ use Rattle.ep_replica.specs.Kept.{Kept}
 use Rattle.ep_replica.specs.Receipts.{receipts_after}
 use Rattle.ep_replica.proofs.Own.{receipts_are_own}
 use Rattle.ep_verdict.specs.declared.verdict.Verdict.{Verdict}
-use Rattle.ep_host.specs.Host.{IsHost, Looked, Knows, AllSent}
+use Rattle.ep_host.specs.Host.{IsHost, Looked, Knows, AllBegin, AllSent, AllFrom}
 use Rattle.ep_host.specs.Node.{Node, fresh_node}
 use Rattle.ep_host.specs.Pointwise.{Each}
 use Rattle.ep_host.specs.RingFinishing.{replicas_in, log_of, logs_of, entries_in, their_journals, their_receipts}
-use Rattle.ep_host.specs.Rings.{handled_by, frames_handled}
+use Rattle.ep_host.specs.Rings.{handled_by, frames_handled, place}
+use Rattle.ep_host.specs.declared.link.Link.{Link}
+use Rattle.ep_host.proofs.Hosts.{all_taken}
 use Rattle.ep_host.specs.Sent.{frames_of}
 
 -- From the code's lists.
@@ -115,6 +119,18 @@ module _ (f : ℕ) (nodes : List Node) (host : IsHost f nodes) (know : All Knows
       (λ (ge : length nodes ≤ r). absurd (subst (λ (es : List Entry). In e (entries_of es)) (none_after nodes r ge) stands))
       (cases_lt r (length nodes))
 
+-- each frame handled was taken from the ring of its sender
+pub all_from : (f : ℕ) (nodes : List Node) → IsHost f nodes → All Knows nodes → AllBegin nodes → AllFrom nodes
+all_from f nodes host know begins = λ j d e b low c.
+    let t = all_taken f nodes j d b host know begins low c in
+    let o = sent_in (get_or nodes t.from d).replica.entries b t.out in
+    let run : IsLocalRun f t.from (entries_of (get_or nodes t.from d).replica.entries) =
+    (let j = (know t.from d t.low).journal in
+    (subst (λ (q : ℕ). IsJournal V2 f q (get_or nodes t.from d).replica.entries) (host.me t.from d t.low)
+    (subst (λ (q : ℕ). IsJournal V2 q (get_or nodes t.from d).replica.me (get_or nodes t.from d).replica.entries) (host.faults t.from d t.low) j)).run) in
+    let is : sender_at b ≡ t.from = (frames_were_sent_lem f (λ (r : ℕ). entries_of (get_or nodes t.from d).replica.entries) t.from o.0 (frame_at b) run o.1 o.2).0.sender in
+    subst (λ (n : ℕ). (n < length nodes) × Contains (received (get_or (get_or nodes j d).links (place j n) e).from) b × Contains (frames_of (get_or nodes n d).replica.entries) b) (sym is) (t.low, t.taken e, t.out)
+
 -- the node whose receipt it is
 receipt_at : (nodes : List Node) (t : Receipt) → In t (their_receipts (replicas_in nodes)) → (i : ℕ) × (i < length nodes) × In t (receipts_after (get_or nodes i blank).replica.me 0 (entries_of (get_or nodes i blank).replica.entries))
 receipt_at [] t h = absurd h
@@ -148,7 +164,7 @@ looked_replicas [] [] h = refl
 looked_replicas [] (y ∷ ys) h = let e = h.len in absurd (omega (arith, e))
 looked_replicas (x ∷ xs) [] h = let e = h.len in absurd (omega (arith, e))
 looked_replicas (x ∷ xs) (y ∷ ys) h =
-    let first : y.replica ≡ x.replica = (h.at 0 x (omega arith)).replica in
+    let first : y.replica ≡ x.replica = ap (λ (n : Node). n.replica) (h.at 0 x (omega arith)).is in
     let rest : Each Looked xs ys = record { len = (let e = h.len in omega (arith, e)); at = λ i d low. h.at (suc i) d (omega arith) } in
     ap (λ (k : Kept). k ∷ replicas_in ys) first ∙ ap (λ (ks : List Kept). x.replica ∷ ks) (looked_replicas xs ys rest)
 

@@ -2,11 +2,12 @@
 use Rattle.std.proofs.Common.{◌≡◌, ◌≢◌, ℕ, ◌<◌, ◌≤◌, ◌+◌, ◌-◌, List, [], ◌∷◌, ◌++◌, length, length-append, get_or, set, get_or-set_same, get_or-set_other, refl, sym, ap, ◌∙◌, subst, arith, All, ⊎_elim}
 use Rattle.std.proofs.Math.ListN.{length-set}
 use Rattle.std.proofs.lemmas.List.{append-nil, get_or_append_left, get_or-append_right}
+use Rattle.std.proofs.lemmas.List.Elements.{All-nil, All-push}
 use Rattle.std.proofs.lemmas.Bool.{cases_lt}
 use Rattle.std.proofs.lemmas.Bool.Decides.{eqb_tells}
 use Rattle.ep_base.specs.Quorums.{size}
 use Rattle.ep_replica.specs.Kept.{Kept}
-use Rattle.ep_host.specs.Host.{IsHost, IsFresh, Paired}
+use Rattle.ep_host.specs.Host.{IsHost, IsRoomy, IsFresh, Paired}
 use Rattle.ep_host.specs.Joins.{Joins, CanJoin}
 use Rattle.ep_host.specs.Node.{Node, fresh_node, with_link}
 use Rattle.ep_host.specs.Pointwise.{Each}
@@ -40,32 +41,32 @@ longer_paired :
 longer_paired a b a' b' la lb low low' p = λ d. rw (me_of a a' la, me_of b b' lb, still_at a a' (place a.replica.me b.replica.me) d la low, still_at b b' (place b.replica.me a.replica.me) d lb low') (p d)
 
 -- the nodes so far, each with a link to each other one
-pub record AreLinked (f : ℕ) (nodes : List Node) : Type 0 where
+pub record AreLinked (c f : ℕ) (nodes : List Node) : Type 0 where
   pub faults : (i : ℕ) (d : Node) → i < length nodes → (get_or nodes i d).replica.faults ≡ f
   pub me : (i : ℕ) (d : Node) → i < length nodes → (get_or nodes i d).replica.me ≡ i
   pub links : (i : ℕ) (d : Node) → i < length nodes → length (get_or nodes i d).links + 1 ≡ length nodes
   pub peers : (i : ℕ) (d : Node) → i < length nodes → ArePeers i (get_or nodes i d).links
   pub paired : (i j : ℕ) (d : Node) → j < i → i < length nodes → Paired (get_or nodes j d) (get_or nodes i d) × Paired (get_or nodes i d) (get_or nodes j d)
-  pub fresh : (i : ℕ) (d : Node) → i < length nodes → IsFresh (get_or nodes i d)
+  pub fresh : (i : ℕ) (d : Node) → i < length nodes → IsFresh c (get_or nodes i d)
 
 -- the next node, joined to the first k of them
-pub record AreJoined (f k : ℕ) (nodes : List Node) (node : Node) : Type 0 where
+pub record AreJoined (c f k : ℕ) (nodes : List Node) (node : Node) : Type 0 where
   pub faults : (i : ℕ) (d : Node) → i < length nodes → (get_or nodes i d).replica.faults ≡ f
   pub me : (i : ℕ) (d : Node) → i < length nodes → (get_or nodes i d).replica.me ≡ i
   pub done : (i : ℕ) (d : Node) → i < length nodes → i < k → length (get_or nodes i d).links ≡ length nodes
   pub left : (i : ℕ) (d : Node) → i < length nodes → k ≤ i → length (get_or nodes i d).links + 1 ≡ length nodes
   pub peers : (i : ℕ) (d : Node) → i < length nodes → ArePeers i (get_or nodes i d).links
   pub paired : (i j : ℕ) (d : Node) → j < i → i < length nodes → Paired (get_or nodes j d) (get_or nodes i d) × Paired (get_or nodes i d) (get_or nodes j d)
-  pub fresh : (i : ℕ) (d : Node) → i < length nodes → IsFresh (get_or nodes i d)
+  pub fresh : (i : ℕ) (d : Node) → i < length nodes → IsFresh c (get_or nodes i d)
   pub next_faults : node.replica.faults ≡ f
   pub next_me : node.replica.me ≡ length nodes
   pub next_links : length node.links ≡ k
   pub next_peers : ArePeers (length nodes) node.links
   pub next_paired : (i : ℕ) (d : Node) → i < length nodes → i < k → Paired (get_or nodes i d) node × Paired node (get_or nodes i d)
-  pub next_fresh : IsFresh node
+  pub next_fresh : IsFresh c node
 
-pub linked_none : (f : ℕ) → AreLinked f []
-linked_none f = record {
+pub linked_none : (c f : ℕ) → AreLinked c f []
+linked_none c f = record {
   faults = λ i d low. absurd (omega arith);
   me = λ i d low. absurd (omega arith);
   links = λ i d low. absurd (omega arith);
@@ -74,8 +75,8 @@ linked_none f = record {
   fresh = λ i d low. absurd (omega arith);
 }
 
-pub joined_none : (f : ℕ) (nodes : List Node) (k : Kept) → AreLinked f nodes → k.faults ≡ f → k.me ≡ length nodes → k.entries ≡ [] → AreJoined f 0 nodes (fresh_node k)
-joined_none f nodes k h faults me none = record {
+pub joined_none : (c f : ℕ) (nodes : List Node) (k : Kept) → AreLinked c f nodes → k.faults ≡ f → k.me ≡ length nodes → k.entries ≡ [] → AreJoined c f 0 nodes (fresh_node k)
+joined_none c f nodes k h faults me none = record {
   faults = h.faults;
   me = h.me;
   done = λ i d low below. absurd (omega arith);
@@ -88,7 +89,7 @@ joined_none f nodes k h faults me none = record {
   next_links = refl;
   next_peers = λ i d low. absurd (omega arith);
   next_paired = λ i d low below. absurd (omega arith);
-  next_fresh = record { entries = none; agenda = refl; refused = refl; used = refl; lost = refl };
+  next_fresh = record { rooms = All-nil (IsRoomy c); entries = none; agenda = refl; refused = refl; used = refl; lost = refl };
 }
 
 place_above : (k n : ℕ) → k < n → place n k ≡ k
@@ -103,8 +104,8 @@ peer_above k n less = grind (arith)
 peer_below : (k n l : ℕ) → k < n → l + 1 ≡ n → peer_at k l ≡ n
 peer_below k n l less e = grind (arith)
 
-pub can_join : (f k : ℕ) (nodes : List Node) (node : Node) (d : Node) → AreJoined f k nodes node → k < length nodes → CanJoin (get_or nodes k d) node
-can_join f k nodes node d h low = let n = length nodes in
+pub can_join : (c f k : ℕ) (nodes : List Node) (node : Node) (d : Node) → AreJoined c f k nodes node → k < length nodes → CanJoin (get_or nodes k d) node
+can_join c f k nodes node d h low = let n = length nodes in
     let links = h.left k d low (omega arith) in record {
       before = rw (h.me k d low, h.next_me) low;
       there = rw (h.me k d low, h.next_me) (place_below k n (length (get_or nodes k d).links) low links);
@@ -115,8 +116,8 @@ last_link : (xs : List Link) (y d : Link) (k : ℕ) → k ≡ length xs → get_
 last_link xs y d k is = let none : k - length xs ≡ 0 = omega arith in get_or-append_right xs (y ∷ []) (length xs) k d refl (omega arith) ∙ ap (λ n. get_or (y ∷ []) n d) none
 
 -- the two that were joined
-joins_paired : (a b a' b' : Node) → CanJoin a b → Joins a b a' b' → Paired a' b' × Paired b' a'
-joins_paired a b a' b' can h =
+joins_paired : (c : ℕ) (a b a' b' : Node) → CanJoin a b → Joins c a b a' b' → Paired a' b' × Paired b' a'
+joins_paired c a b a' b' can h =
     let la = longer_with a a' h.there h.a_is in let lb = longer_with b b' h.here h.b_is in
     let there = λ (d : Link). ap (λ (l : List Link). get_or l (place a.replica.me b.replica.me) d) la.links ∙ last_link a.links h.there d (place a.replica.me b.replica.me) can.there in
     let here = λ (d : Link). ap (λ (l : List Link). get_or l (place b.replica.me a.replica.me) d) lb.links ∙ last_link b.links h.here d (place b.replica.me a.replica.me) can.here in (
@@ -124,22 +125,22 @@ joins_paired a b a' b' can h =
       (λ d. rw (me_of a a' la, me_of b b' lb, there d, here d) h.back),
     )
 
-fresh_still : (a b : Node) (l : Link) → b ≡ with_link a l → IsFresh a → IsFresh b
-fresh_still a b l is h = rw is record { entries = h.entries; agenda = h.agenda; refused = h.refused; used = h.used; lost = h.lost }
+fresh_still : (c : ℕ) (a b : Node) (l : Link) → b ≡ with_link a l → IsRoomy c l → IsFresh c a → IsFresh c b
+fresh_still c a b l is room h = rw is record { rooms = All-push (IsRoomy c) a.links l h.rooms room; entries = h.entries; agenda = h.agenda; refused = h.refused; used = h.used; lost = h.lost }
 
 peers_with : (me : ℕ) (a b : Node) (l : Link) → b ≡ with_link a l → l.peer ≡ peer_at me (length a.links) → ArePeers me a.links → ArePeers me b.links
 peers_with me a b l is peer was = subst (λ (n : Node). ArePeers me n.links) (sym is) (peers_more me a.links l peer was)
 
 -- one more of them is joined
 pub joined_more :
-    (f k : ℕ) (nodes : List Node) (node : Node) (e a' b' : Node) → AreJoined f k nodes node → k < length nodes → Joins (get_or nodes k e) node a' b' → AreJoined f (k + 1) (set nodes k a') b'
-joined_more f k nodes node e a' b' h low j =
+    (c f k : ℕ) (nodes : List Node) (node : Node) (e a' b' : Node) → AreJoined c f k nodes node → k < length nodes → Joins c (get_or nodes k e) node a' b' → AreJoined c f (k + 1) (set nodes k a') b'
+joined_more c f k nodes node e a' b' h low j =
     let n = length nodes in let ys = set nodes k a' in
     let len : length ys ≡ n = length-set nodes k a' in
     let a = get_or nodes k e in
     let la : IsLonger a a' = longer_with a a' j.there j.a_is in
     let lb : IsLonger node b' = longer_with node b' j.here j.b_is in
-    let can = can_join f k nodes node e h low in
+    let can = can_join c f k nodes node e h low in
     let all : Each IsLonger nodes ys = each_set IsLonger nodes k a' e longer_self low la in
     let links_a : length a.links + 1 ≡ n = h.left k e low (omega arith) in
     let me_a : a.replica.me ≡ k = h.me k e low in
@@ -170,7 +171,7 @@ joined_more f k nodes node e a' b' h low j =
           let here : place y.replica.me x.replica.me < length y.links = rw (mx, my) (place_low i m n (length y.links) l l' (λ q. absurd (omega (arith, q))) (enough i d l)) in
           (longer_paired x y (get_or ys m d) (get_or ys i d) (all.at m d l') (all.at i d l) there here p.0, longer_paired y x (get_or ys i d) (get_or ys m d) (all.at i d l) (all.at m d l') here there p.1);
       fresh = λ i d b. let l : i < n = omega (arith, len) in ⊎_elim
-          (λ (t : _). let is : i ≡ k = t.1 in rw (is, at d) (fresh_still a a' j.there j.a_is (h.fresh k e low)))
+          (λ (t : _). let is : i ≡ k = t.1 in rw (is, at d) (fresh_still c a a' j.there j.a_is j.there_room (h.fresh k e low)))
           (λ (t : _). let other = t.1 in rw (away i d other) (h.fresh i d l))
           (eqb_tells i k);
       next_faults = ap (λ (q : Kept). q.faults) lb.replica ∙ h.next_faults;
@@ -178,7 +179,7 @@ joined_more f k nodes node e a' b' h low j =
       next_links = (let g = ap (λ (x : Node). length x.links) j.b_is in let was = h.next_links in omega (arith, g, was, length-append node.links (j.here ∷ [])));
       next_peers = rw len (peers_with n node b' j.here j.b_is (j.here_peer ∙ me_a ∙ sym (peer_above k n low) ∙ ap (peer_at n) (sym h.next_links)) h.next_peers);
       next_paired = λ i d b below. let l : i < n = omega (arith, len) in ⊎_elim
-          (λ (t : _). let is : i ≡ k = t.1 in rw (is, at d) (joins_paired a node a' b' can j))
+          (λ (t : _). let is : i ≡ k = t.1 in rw (is, at d) (joins_paired c a node a' b' can j))
           (λ (t : _). let other = t.1 in let below' : i < k = grind (arith, other, below) in
           let p = h.next_paired i d l below' in
           let x = get_or nodes i d in
@@ -188,7 +189,7 @@ joined_more f k nodes node e a' b' h low j =
           let here : place node.replica.me x.replica.me < length node.links = rw (mx, h.next_me, place_above i n l) (omega (arith, own)) in
           (longer_paired x node (get_or ys i d) b' (all.at i d l) lb there here p.0, longer_paired node x b' (get_or ys i d) lb (all.at i d l) here there p.1))
           (eqb_tells i k);
-      next_fresh = fresh_still node b' j.here j.b_is h.next_fresh;
+      next_fresh = fresh_still c node b' j.here j.b_is j.here_room h.next_fresh;
     }
   where
     reaches : (i n l : ℕ) → i < n → l ≡ n → place i n < l
@@ -201,8 +202,8 @@ joined_more f k nodes node e a' b' h low j =
         (cases_lt i k)
 
 -- the nodes with the one that is joined to all of them
-pub linked_more : (f k : ℕ) (nodes : List Node) (node : Node) → AreJoined f k nodes node → k ≡ length nodes → AreLinked f (nodes ++ node ∷ [])
-linked_more f k nodes node h all =
+pub linked_more : (c f k : ℕ) (nodes : List Node) (node : Node) → AreJoined c f k nodes node → k ≡ length nodes → AreLinked c f (nodes ++ node ∷ [])
+linked_more c f k nodes node h all =
     let n = length nodes in let ys = nodes ++ node ∷ [] in
     let len : length ys ≡ n + 1 = length-append nodes (node ∷ []) in
     let first : (i : ℕ) (d : Node) → i < n → get_or ys i d ≡ get_or nodes i d = λ i d l. get_or_append_left nodes (node ∷ []) d i l in
@@ -225,8 +226,8 @@ linked_more f k nodes node h all =
       fresh = λ i d b. ⊎_elim (λ (l : i < n). rw (first i d l) (h.fresh i d l)) (λ (l : n ≤ i). let is : i ≡ n = omega (arith, len) in rw (last i d is) h.next_fresh) (cases_lt i n);
     }
 
-pub linked_host : (f : ℕ) (nodes : List Node) → AreLinked f nodes → length nodes ≡ size f → IsHost f nodes
-linked_host f nodes h count = record { count = count; faults = h.faults; me = h.me; links = h.links; peers = h.peers; paired = h.paired }
+pub linked_host : (c f : ℕ) (nodes : List Node) → AreLinked c f nodes → length nodes ≡ size f → IsHost f nodes
+linked_host c f nodes h count = record { count = count; faults = h.faults; me = h.me; links = h.links; peers = h.peers; paired = h.paired }
 
-pub linked_fresh : (f : ℕ) (nodes : List Node) → AreLinked f nodes → All IsFresh nodes
-linked_fresh f nodes h = λ i d low. h.fresh i d low
+pub linked_fresh : (c f : ℕ) (nodes : List Node) → AreLinked c f nodes → All (IsFresh c) nodes
+linked_fresh c f nodes h = λ i d low. h.fresh i d low

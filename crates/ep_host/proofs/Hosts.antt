@@ -106,25 +106,35 @@ from_to a b f e know has begins c =
     let put : Contains (sent l.to) f = subst (λ (xs : List (List ℕ)). Contains xs f) p.1 (Contains-append_left (received (get_or b.links (place b.replica.me a.replica.me) e).from) p.0 f c) in
     (All-contains (IsOut a.replica.entries l.peer) (sent l.to) f (know.booked.put (place a.replica.me b.replica.me) e has.0) put).0
 
-pub all_sent : (f : ℕ) (nodes : List Node) → IsHost f nodes → All Knows nodes → AllBegin nodes → AllSent nodes
-all_sent f nodes host know begins = λ j d b low c.
+-- the frame was taken from the ring of a node whose journal has it
+pub record IsFrom (nodes : List Node) (j : ℕ) (d : Node) (b : List ℕ) : Type 0 where
+  pub from : ℕ
+  pub low : from < length nodes
+  pub taken : (e : Link) → Contains (received (get_or (get_or nodes j d).links (place j from) e).from) b
+  pub out : Contains (frames_of (get_or nodes from d).replica.entries) b
+
+pub all_taken : (f : ℕ) (nodes : List Node) (j : ℕ) (d : Node) (b : List ℕ) → IsHost f nodes → All Knows nodes → AllBegin nodes → j < length nodes → Contains (frames_handled (get_or nodes j d).replica.entries) b → IsFrom nodes j d b
+all_taken f nodes j d b host know begins low c =
     let me = get_or nodes j d in
     let t = All-contains (IsTaken me.links) (frames_handled me.replica.entries) b (know j d low).booked.taken c in
     let i = peer_at j t.0 in
     let li : i < length nodes = peer_low j t.0 (length nodes) (length me.links) low t.2 (host.links j d low) in
     let a = get_or nodes i d in
-    let e = t.1 in
+    let mine : (e : Link) → Contains (received (get_or me.links t.0 e).from) b = λ e. subst (λ (l : Link). Contains (received l.from) b) (sym t.3 ∙ get_or_default me.links t.0 t.1 e t.2) t.4 in
     let at : place me.replica.me a.replica.me ≡ t.0 = ap (λ n. place n a.replica.me) (host.me j d low) ∙ ap (place j) (host.me i d li) ∙ place_peer j t.0 in
-    let here : Contains (received (get_or me.links (place me.replica.me a.replica.me) e).from) b =
-    subst (λ (l : Link). Contains (received l.from) b) (sym t.3 ∙ ap (λ n. get_or me.links n e) (sym at)) t.4 in
-    let end : HasLink a me.replica.me × Begins a me → Contains (frames_of a.replica.entries) b = λ (p : HasLink a me.replica.me × Begins a me). from_to a me b e (know i d li) p.0 p.1 here in (
-      i,
-      li,
-      ⊎_elim
+    let here : (e : Link) → Contains (received (get_or me.links (place me.replica.me a.replica.me) e).from) b = λ e. subst (λ (n : ℕ). Contains (received (get_or me.links n e).from) b) (sym at) (mine e) in
+    let end : HasLink a me.replica.me × Begins a me → Contains (frames_of a.replica.entries) b = λ (p : HasLink a me.replica.me × Begins a me). from_to a me b t.1 (know i d li) p.0 p.1 (here t.1) in record {
+      from = i;
+      low = li;
+      taken = λ e. subst (λ (n : ℕ). Contains (received (get_or me.links n e).from) b) (sym (place_peer j t.0)) (mine e);
+      out = ⊎_elim
           (λ (less : i < j). end ((host_both f nodes j i d host less low).2, (begins j i d less low).0))
           (λ (more : j ≤ i). let other = peer_other j t.0 in let less : j < i = grind (arith, other, more) in end ((host_both f nodes i j d host less li).3, (begins i j d less li).1))
-          (cases_lt i j),
-    )
+          (cases_lt i j);
+    }
+
+pub all_sent : (f : ℕ) (nodes : List Node) → IsHost f nodes → All Knows nodes → AllBegin nodes → AllSent nodes
+all_sent f nodes host know begins = λ j d b low c. let t = all_taken f nodes j d b host know begins low c in (t.from, t.low, t.out)
 
 pub front_at : (xs front back : List Node) (low high : ℕ) (d e : Node) → xs ≡ front ++ back → length front ≡ high → low < high → get_or front low e ≡ get_or xs low d
 front_at xs front back low high d e is len l = let l' : low < length front = omega arith in get_or_default front low e d l' ∙ sym (get_or_append_left front back d low l') ∙ ap (λ z. get_or z low d) (sym is)

@@ -15,3 +15,4 @@ pub mod Naming
 pub mod Turning
 pub mod Hosting
 pub mod Accepting
+pub mod Looks

@@ -39,7 +39,7 @@ releasing_none a = record { keeps = keeps_self a; out = []; is = refl; len = ref
 pub few_missed : (missed gone : ℕ) (a b : Link) → Releasing missed gone a b → missed ≤ gone
 few_missed missed gone a b h = let c = h.copied.counted in let l = h.len in omega (arith, c, l)
 
-next_out : (xs out held held' : List (List ℕ)) (f : List ℕ) → xs ≡ out ++ held → held ≡ f ∷ held' → xs ≡ (out ++ f ∷ []) ++ held'
+pub next_out : (xs out held held' : List (List ℕ)) (f : List ℕ) → xs ≡ out ++ held → held ≡ f ∷ held' → xs ≡ (out ++ f ∷ []) ++ held'
 next_out xs out held held' f e h = e ∙ ap (λ (l : List (List ℕ)). out ++ l) h ∙ sym (append_assoc out (f ∷ []) held')
 
 -- one more was put

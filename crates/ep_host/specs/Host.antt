@@ -1,11 +1,12 @@
 -- The nodes of one host, and what both ends of their rings say together.
-use Rattle.std.specs.Prelude.{◌≡◌, ℕ, ◌+◌, ◌<◌, List, [], length, slice_index_or, Contains}
+use Rattle.std.specs.Prelude.{◌≡◌, ℕ, ◌+◌, ◌<◌, List, [], length, slice_index_or, Contains, All}
 use mathlib.Core.List.{IsPrefix}
 use Rattle.ep_base.specs.Quorums.{size}
 use Rattle.ep_base.specs.declared.version.Version.TheVariants.{V2}
+use Rattle.ep_frame.specs.Meaning.{sender_at}
 use Rattle.ep_rules.specs.Journals.{AreClocked}
 use Rattle.ep_journal.specs.Entries.{entries_of, IsJournal}
-use Rattle.rtrb.specs.Ring.{sent, received, IsPair}
+use Rattle.rtrb.specs.Ring.{sent, received, known_free, producer_capacity, IsPair}
 use Rattle.ep_host.specs.Node.{Node}
 use Rattle.ep_host.specs.Pointwise.{Each}
 use Rattle.ep_host.specs.Rings.{KeepsLink, ArePeers, IsBooked, place, frames_handled}
@@ -25,8 +26,14 @@ pub record IsHost (f : ℕ) (nodes : List Node) : Type 0 where
   pub peers : (i : ℕ) (d : Node) → i < length nodes → ArePeers i (slice_index_or nodes i d).links
   pub paired : (i j : ℕ) (d : Node) → j < i → i < length nodes → Paired (slice_index_or nodes j d) (slice_index_or nodes i d) × Paired (slice_index_or nodes i d) (slice_index_or nodes j d)
 
--- without entries and tasks
-pub record IsFresh (n : Node) : Type 0 where
+-- a link whose ring to the peer has room for so many frames, all of it free
+pub record IsRoomy (capacity : ℕ) (l : Link) : Type 0 where
+  pub room : producer_capacity l.to ≡ capacity
+  pub free : known_free l.to ≡ capacity
+
+-- without entries and tasks, each of its rings with room for so many frames
+pub record IsFresh (capacity : ℕ) (n : Node) : Type 0 where
+  pub rooms : All (IsRoomy capacity) n.links
   pub entries : n.replica.entries ≡ []
   pub agenda : n.agenda ≡ []
   pub refused : n.refused ≡ []
@@ -45,7 +52,7 @@ pub record Quiet (a b : Link) : Type 0 where
 
 -- looks leave all but what the ends know of one another
 pub record Looked (a b : Node) : Type 0 where
-  pub replica : b.replica ≡ a.replica
+  pub is : b ≡ record a { links = b.links }
   pub links : Each Quiet a.links b.links
 
 -- what b has taken from a is a beginning of what a has put for b
@@ -78,3 +85,8 @@ pub record Knows (n : Node) : Type 0 where
 abbrev pub AllSent : List Node → Type 0
 AllSent nodes = (j : ℕ) (d : Node) (b : List ℕ) → j < length nodes → Contains (frames_handled (slice_index_or nodes j d).replica.entries) b
     → (i : ℕ) × (i < length nodes) × Contains (frames_of (slice_index_or nodes i d).replica.entries) b
+
+-- each frame that a node has handled was taken from the ring of the node that it is from, and is a frame out of that node's journal
+abbrev pub AllFrom : List Node → Type 0
+AllFrom nodes = (j : ℕ) (d : Node) (e : Link) (b : List ℕ) → j < length nodes → Contains (frames_handled (slice_index_or nodes j d).replica.entries) b
+    → (sender_at b < length nodes) × Contains (received (slice_index_or (slice_index_or nodes j d).links (place j (sender_at b)) e).from) b × Contains (frames_of (slice_index_or nodes (sender_at b) d).replica.entries) b

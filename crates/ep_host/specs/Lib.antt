@@ -15,5 +15,6 @@ pub mod Setting
 pub mod Outboxes
 pub mod Follows
 pub mod Host
+pub mod Turned
 pub mod Joins
 pub mod RingFinishing

@@ -4,7 +4,7 @@ ghost use Rattle.std.specs.Prelude.{◌≡◌, ℕ, ◌<◌, List, length, slice
 ghost use mathlib.Core.List.{IsPrefix};
 ghost use Rattle.rtrb.specs.Ring.{sent, received, IsPair};
 ghost use Rattle.ep_host.specs.Pointwise.{Each};
-ghost use Rattle.ep_host.specs.Host.{Quiet, Looked, Paired, Begins, HasLink, PairedBoth, BeginsBoth, IsHost, AllBegin, AllSent, Knows};
+ghost use Rattle.ep_host.specs.Host.{Quiet, Looked, Paired, Begins, HasLink, PairedBoth, BeginsBoth, IsHost, AllBegin, AllSent, AllFrom, Knows};
 ghost use Rattle.ep_host.specs.Node.{Node};
 ghost use Rattle.ep_host.specs.RingFinishing.{replicas_in, their_journals, their_receipts};
 ghost use Rattle.ep_rules.specs.Audits.{IsAccepted};
@@ -89,15 +89,28 @@ fn know_all(nodes: &[RingNode])
     }
 }
 
-/// Each frame that a node has handled is a frame out of a node's journal.
+/// Each frame that a node has handled was taken from the ring of the node that it is from, and is a frame out of that node's journal; of each ring, what
+/// was taken is a beginning of what was put.
 pub fn taken_was_sent(nodes: &mut [RingNode])
     requires { (f : ℕ) × IsHost f nodes.old }
     ensures looked { Each Looked nodes.old nodes.new }
     ensures knows { All Knows nodes.old }
     ensures sent { AllSent nodes.old }
+    ensures begins { AllBegin nodes.old }
+    ensures from { AllFrom nodes.old }
 {
     know_all(nodes);
     account(nodes);
+}
+
+/// The same of the nodes as they are after the look.
+pub(crate) fn look_at_all(nodes: &mut [RingNode])
+    requires { (f : ℕ) × IsHost f nodes.old }
+    ensures looked { Each Looked nodes.old nodes.new }
+    ensures begins { AllBegin nodes.new }
+    ensures from { AllFrom nodes.new }
+{
+    taken_was_sent(nodes);
 }
 
 /// The journals of the nodes of one host are accepted by the audit, with any receipts of which each is some node's own, as all that the nodes give

@@ -19,8 +19,8 @@ pub struct Link {
 }
 
 impl Link {
-    ghost use Rattle.std.specs.Prelude.{◌≡◌, ◌∷◌, ◌++◌, [], cond, option_to_list, None, Some, IfSome};
-    ghost use Rattle.rtrb.specs.Ring.{sent, received};
+    ghost use Rattle.std.specs.Prelude.{◌≡◌, ◌∷◌, ◌++◌, [], cond, option_to_list, None, Some, IfSome, IsFalse};
+    ghost use Rattle.rtrb.specs.Ring.{sent, received, known_free};
     ghost use Rattle.ep_host.specs.Fates.{Delivers, Releases};
     ghost use Rattle.ep_host.specs.HostFrames.{IsHostFrame};
     ghost use Rattle.ep_host.specs.Rings.{KeepsLink};
@@ -31,6 +31,7 @@ impl Link {
         ensures keeps { KeepsLink self.old self.new }
         ensures put { sent self.new.to ≡ sent self.old.to ++ cond result (frame ∷ []) [] }
         ensures same { (received self.new.from ≡ received self.old.from) × (self.new.count ≡ self.old.count) × (self.new.held ≡ self.old.held) }
+        ensures full { IsFalse result → known_free self.new.to ≡ 0 }
     {
         self.to.push(frame).is_ok()
     }

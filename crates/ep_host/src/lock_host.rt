@@ -12,7 +12,7 @@ use crate::finished::Finished;
 use crate::finishing::finished;
 use crate::host_fault::HostFault;
 use crate::host_frame::{HostFrame, frame_in};
-use crate::seat::{Seat, send};
+use crate::seat::{Seat, inboxes_of, send};
 use crate::sending::{Sending, sent_last};
 use crate::tended::Tended;
 use crate::tending::tend;
@@ -100,11 +100,7 @@ fn journals_of(alloc: Global, seats: Vec<Seat>) -> Result<Vec<Journal>, AllocErr
 {
     let mut journals = Vec::new(alloc);
     for seat in seats {
-        let Seat {
-            cell,
-            inbox: _,
-            sender: _,
-        } = seat;
+        let Seat { cell, sender: _ } = seat;
         journals.push(cell.into_inner().into_journal())?;
     }
     Ok(journals)
@@ -127,10 +123,11 @@ impl LockHost {
         requires { (1 ≤ capacity) × (capacity ≤ 4096) }
         ensures { IfOk result (λ host. host.cluster ≡ cluster) }
     {
+        let inboxes = inboxes_of(alloc, cluster, capacity)?;
         let mut seats = Vec::new(alloc);
         for index in 0..cluster.count() {
             let me = ReplicaId::new(index).unwrap();
-            seats.push(Seat::new(alloc, cluster, me, capacity)?)?;
+            seats.push(Seat::new(alloc, cluster, me, &inboxes)?)?;
         }
         Ok(LockHost {
             cluster,
@@ -176,7 +173,7 @@ impl LockHost {
             let instance = submit(&mut replica, client, request, command, seen)?;
             (instance, sent_last(self.alloc, &replica))
         };
-        send(rt, &self.seats, seat, sending);
+        send(rt, seat, sending);
         Ok(instance)
     }
 
@@ -190,7 +187,7 @@ impl LockHost {
             let mut replica = seat.cell.lock(rt);
             direct(self.alloc, &mut replica, act.event())?
         };
-        send(rt, &self.seats, seat, sending);
+        send(rt, seat, sending);
         Ok(())
     }
 
@@ -201,7 +198,7 @@ impl LockHost {
         ensures none { IfErr result (λ fault. (fault ≡ OutOfRange) × (size self.now.cluster ≤ replica)) }
     {
         let seat = self.seat(replica)?;
-        let frame = seat.inbox.pop(rt);
+        let frame = seat.sender.lock(rt).receive(rt);
         let Tended {
             moved,
             frames,
@@ -210,7 +207,7 @@ impl LockHost {
             let mut replica = seat.cell.lock(rt);
             pump(self.alloc, &mut replica, frame)
         };
-        send(rt, &self.seats, seat, Sending { frames, lost });
+        send(rt, seat, Sending { frames, lost });
         Ok(Turn::of(moved))
     }
 
@@ -266,7 +263,7 @@ impl LockHost {
     /// in order. Those that find an inbox full are lost, and counted.
     pub fn release<R: Wait>(&self, rt: &R) {
         for seat in &self.seats {
-            seat.sender.lock(rt).release(rt, &self.seats);
+            seat.sender.lock(rt).release(rt);
         }
     }
 

@@ -3,48 +3,69 @@
 use crate::delivery::Delivery;
 use crate::held::Held;
 use crate::host_frame::HostFrame;
-use crate::seat::{Seat, put, put_copy};
 use crate::weather_kind::WeatherKind;
+use ep_inbox::Port;
 use std::alloc::Global;
 use std::sync::Wait;
 
-/// How many frames for one replica are counted since the weather was set, and the held ones.
+/// A port to the inbox of one replica, how many frames for it are counted since the weather was set, and the held ones.
 #[derive(Drop)]
 pub struct Outlet {
+    pub port: Port<HostFrame>,
     pub count: u64,
     pub held: Held,
 }
 
 impl Outlet {
-    ghost use Rattle.std.specs.Prelude.{◌≡◌, None, Some};
-    ghost use Rattle.ep_host.specs.Outboxes.{empty_outlet, Posts, LetsGo};
+    ghost use Rattle.std.specs.Prelude.{◌≡◌, [], None, Some, IsFalse};
+    ghost use Rattle.ep_inbox.specs.Ports.{inbox_capacity, WasAt};
+    ghost use Rattle.ep_host.specs.Outboxes.{PutsIn, Posts, LetsGo};
     ghost use Rattle.ep_host.specs.declared.weather_kind.WeatherKind.TheVariants.{Hold, Repeat};
 
     /// None is counted or held.
-    pub fn new(alloc: Global) -> Outlet
-        ensures { result ≡ empty_outlet }
+    pub fn new(alloc: Global, port: Port<HostFrame>) -> Outlet
+        ensures { result ≡ record { port = port; count = 0; held = [] } }
     {
         Outlet {
+            port,
             count: 0,
             held: Held::new(alloc),
         }
     }
 
+    /// Puts the frame into the inbox, at the back. `false` where that is full.
+    fn put<R: Wait>(&mut self, rt: &R, frame: HostFrame) -> bool
+        ensures put { PutsIn frame result self.old self.new }
+        ensures full { IsFalse result → WasAt self.old.port (inbox_capacity self.old.port) }
+    {
+        self.port.put(rt, frame).is_ok()
+    }
+
+    /// Puts a copy of the frame, where there is memory for one.
+    fn put_copy<R: Wait>(&mut self, rt: &R, frame: &HostFrame) -> bool
+        ensures { PutsIn frame.now result self.old self.new }
+    {
+        match frame.copy() {
+            Ok(copy) => self.put(rt, copy),
+            Err(_) => false,
+        }
+    }
+
     /// Puts the frame once.
-    fn put_once<R: Wait>(&mut self, rt: &R, seats: &[Seat], frame: HostFrame) -> Delivery
+    fn put_once<R: Wait>(&mut self, rt: &R, frame: HostFrame) -> Delivery
         ensures { Posts None frame result self.old self.new }
     {
         self.count = self.count.saturating_add(1);
-        Delivery::Put(put(rt, seats, frame))
+        Delivery::Put(self.put(rt, frame))
     }
 
     /// Puts the frame twice, or once where there is no memory for a copy.
-    fn put_twice<R: Wait>(&mut self, rt: &R, seats: &[Seat], frame: HostFrame) -> Delivery
+    fn put_twice<R: Wait>(&mut self, rt: &R, frame: HostFrame) -> Delivery
         ensures { Posts (Some Repeat) frame result self.old self.new }
     {
         self.count = self.count.saturating_add(1);
-        let first = put_copy(rt, seats, &frame);
-        let second = put(rt, seats, frame);
+        let first = self.put_copy(rt, &frame);
+        let second = self.put(rt, frame);
         Delivery::Repeated(first, second)
     }
 
@@ -62,28 +83,22 @@ impl Outlet {
     }
 
     /// Does with a frame for the replica what the weather says.
-    pub fn send<R: Wait>(
-        &mut self,
-        rt: &R,
-        seats: &[Seat],
-        kind: Option<WeatherKind>,
-        frame: HostFrame,
-    ) -> Delivery
+    pub fn send<R: Wait>(&mut self, rt: &R, kind: Option<WeatherKind>, frame: HostFrame) -> Delivery
         ensures { Posts kind frame result self.old self.new }
     {
         match kind {
-            None => self.put_once(rt, seats, frame),
+            None => self.put_once(rt, frame),
             Some(WeatherKind::Drop) => {
                 self.count = self.count.saturating_add(1);
                 Delivery::Dropped
             }
             Some(WeatherKind::Hold) => self.hold(frame),
-            Some(WeatherKind::Repeat) => self.put_twice(rt, seats, frame),
+            Some(WeatherKind::Repeat) => self.put_twice(rt, frame),
         }
     }
 
     /// Puts the held frames, in order. Answers how many are lost.
-    pub fn release<R: Wait>(&mut self, rt: &R, seats: &[Seat]) -> u64
+    pub fn release<R: Wait>(&mut self, rt: &R) -> u64
         ensures { LetsGo result self.old self.new }
     {
         let mut lost = 0u64;
@@ -91,7 +106,7 @@ impl Outlet {
             let Some(frame) = self.held.pop() else {
                 break;
             };
-            if !put(rt, seats, frame) {
+            if !self.put(rt, frame) {
                 lost += 1;
             }
         }

@@ -3,7 +3,7 @@
 ghost use Rattle.std.specs.Prelude.{◌≡◌, ◌∷◌, [], ◌≤◌, false, IfOk, length};
 ghost use Rattle.ep_frame.specs.Meaning.{origin_at};
 ghost use Rattle.ep_host.specs.Fates.{fate};
-ghost use Rattle.ep_host.specs.Outboxes.{AreFresh, Passes, CountsFromNone, LetsGo};
+ghost use Rattle.ep_host.specs.Outboxes.{AreNew, Passes, CountsFromNone, LetsGo};
 ghost use Rattle.ep_host.specs.Pointwise.{Each, EachAt};
 ghost use Rattle.ep_host.specs.Setting.{LosesAll};
 ghost use Rattle.ep_host.specs.declared.delivery.Delivery.TheVariants.{Put};
@@ -11,20 +11,19 @@ ghost use Rattle.ep_host.specs.declared.delivery.Delivery.TheVariants.{Put};
 use crate::delivery::Delivery;
 use crate::host_frame::HostFrame;
 use crate::outlet::Outlet;
-use crate::seat::Seat;
 use crate::setting::holds;
 use crate::weather::{Weather, kind_at};
-use ep_base::Size;
+use ep_inbox::Port;
 use std::alloc::{AllocError, Global};
 use std::sync::Wait;
 
-/// An outlet for each replica of the cluster. None is counted or held.
-pub fn outlets_of(alloc: Global, cluster: Size) -> Result<Vec<Outlet>, AllocError>
-    ensures { IfOk result (λ outlets. AreFresh cluster outlets.items) }
+/// An outlet to each of these inboxes, in order. None is counted or held.
+pub fn outlets_to(alloc: Global, inboxes: &[Port<HostFrame>]) -> Result<Vec<Outlet>, AllocError>
+    ensures { IfOk result (λ outlets. AreNew inboxes.now outlets.items) }
 {
     let mut outlets = Vec::new(alloc);
-    for _ in 0..cluster.count() {
-        outlets.push(Outlet::new(alloc))?;
+    for inbox in inboxes {
+        outlets.push(Outlet::new(alloc, inbox.another()?))?;
     }
     Ok(outlets)
 }
@@ -32,7 +31,6 @@ pub fn outlets_of(alloc: Global, cluster: Size) -> Result<Vec<Outlet>, AllocErro
 /// Does with the frame what the weather says, by the outlet of its receiver. Where there is no such outlet, it is lost.
 pub fn deliver<R: Wait>(
     rt: &R,
-    seats: &[Seat],
     outlets: &mut Vec<Outlet>,
     weather: &[Weather],
     frame: HostFrame,
@@ -46,7 +44,7 @@ pub fn deliver<R: Wait>(
         return Delivery::Put(false);
     }
     let count = outlets[place].count.saturating_add(1);
-    outlets[place].send(rt, seats, kind_at(weather, to, count), frame)
+    outlets[place].send(rt, kind_at(weather, to, count), frame)
 }
 
 /// Makes the places for the frames that are to be held.
@@ -69,12 +67,12 @@ pub fn count_anew(outlets: &mut [Outlet])
 }
 
 /// Puts the held frames of each outlet, in order. Answers what is lost with those that find their inbox full, of so many before.
-pub fn release_all<R: Wait>(rt: &R, seats: &[Seat], outlets: &mut [Outlet], lost: u64) -> u64
+pub fn release_all<R: Wait>(rt: &R, outlets: &mut [Outlet], lost: u64) -> u64
     ensures { LosesAll LetsGo lost result outlets.old outlets.new }
 {
     let mut lost = lost;
     for place in 0..outlets.len() {
-        lost = lost.saturating_add(outlets[place].release(rt, seats));
+        lost = lost.saturating_add(outlets[place].release(rt));
     }
     lost
 }

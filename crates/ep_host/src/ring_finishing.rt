@@ -6,7 +6,7 @@ ghost use Rattle.ep_rules.specs.Audits.{IsAccepted};
 ghost use Rattle.ep_journal.specs.Entries.{journals_of};
 ghost use Rattle.ep_audit.specs.Audited.{IsAudited};
 ghost use Rattle.ep_host.specs.Finishing.{IsFinished};
-ghost use Rattle.ep_host.specs.Host.{IsHost};
+ghost use Rattle.ep_host.specs.Host.{IsHost, AllBegin, AllFrom};
 ghost use Rattle.ep_host.specs.RingFinishing.{replicas_in, entries_in, their_journals, their_receipts, logs_of};
 ghost use Rattle.ep_rules.specs.Verdicts.{AreOwn};
 
@@ -55,7 +55,9 @@ fn accepted(alloc: Global, journals: &Journals, receipts: &[Receipt]) -> Result<
 /// The audit of the nodes of one host, with all their receipts. It never finds a fault. Want of memory drops the nodes.
 pub fn finish(alloc: Global, mut nodes: Vec<RingNode>) -> Result<Verdict, AllocError>
     requires { (f : ℕ) × IsHost f nodes.items }
-    ensures { (f : ℕ) → IsHost f nodes.items → IfOk result (λ v. IsAudited f (their_journals (replicas_in nodes.items)) (their_receipts (replicas_in nodes.items)) v) }
+    ensures verdict { (f : ℕ) → IsHost f nodes.items → IfOk result (λ v. IsAudited f (their_journals (replicas_in nodes.items)) (their_receipts (replicas_in nodes.items)) v) }
+    ensures begins { AllBegin nodes.items }
+    ensures from { AllFrom nodes.items }
 {
     taken_was_sent(nodes.as_mut_slice());
     let receipts = receipts_of(alloc, &nodes)?;
@@ -76,6 +78,8 @@ pub fn finish_with(
     ensures accepted { IfOk result (λ r. IsOk r.verdict) }
     ensures version { IfOk result (λ r. r.journals.version ≡ V2) }
     ensures journals { (f : ℕ) → IsHost f nodes.items → IfOk result (λ r. (r.journals.faults ≡ f) × (r.journals.entries ≡ entries_in (replicas_in nodes.items))) }
+    ensures begins { AllBegin nodes.items }
+    ensures from { AllFrom nodes.items }
 {
     taken_was_sent(nodes.as_mut_slice());
     let journals = collected(alloc, nodes)?;

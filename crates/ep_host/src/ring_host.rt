@@ -23,7 +23,7 @@ fn join_nodes(
     capacity: usize,
 ) -> Result<(), AllocError>
     requires { CanJoin a.old b.old }
-    ensures { OnOk result (Joins a.old b.old a.new b.new) }
+    ensures { OnOk result (Joins capacity a.old b.old a.new b.new) }
 {
     let (a_to_b, b_from_a) = RingBuffer::new(alloc, capacity)?;
     let (b_to_a, a_from_b) = RingBuffer::new(alloc, capacity)?;
@@ -59,7 +59,7 @@ impl RingHost {
     pub fn new(alloc: Global, cluster: Size, capacity: usize) -> Result<Vec<RingNode>, AllocError>
         requires { (1 ≤ capacity) × (capacity ≤ 4096) }
         ensures host { IfOk result (λ nodes. IsHost cluster nodes.items) }
-        ensures fresh { IfOk result (λ nodes. All IsFresh nodes.items) }
+        ensures fresh { IfOk result (λ nodes. All (IsFresh capacity) nodes.items) }
     {
         let mut nodes = Vec::new(alloc);
         for index in 0..cluster.count() {

@@ -1,14 +1,15 @@
-//! A replica behind its lock, with its inbox.
+//! A replica behind its lock, and what it sends and receives by.
 
-ghost use Rattle.std.specs.Prelude.{◌<◌};
+ghost use Rattle.std.specs.Prelude.{◌≡◌, ◌<◌, ◌≤◌, length, All, IfOk};
 ghost use Rattle.ep_base.specs.Quorums.{size};
 ghost use Rattle.ep_host.specs.HostFrames.{AreHostFrames};
+ghost use Rattle.ep_host.specs.Outboxes.{IsOpen};
 
 use crate::host_frame::HostFrame;
 use crate::sender::Sender;
 use crate::sending::Sending;
-use crossbeam_queue::ArrayQueue;
 use ep_base::{ReplicaId, Size};
+use ep_inbox::Port;
 use ep_replica::Replica;
 use std::alloc::{AllocError, Global};
 use std::sync::{Mutex, Wait};
@@ -16,54 +17,52 @@ use std::sync::{Mutex, Wait};
 /// A replica behind its lock.
 pub type ReplicaCell = Mutex<Replica>;
 
-/// A replica behind its lock, its inbox, and what it sends by, behind the sending lock.
+/// A replica behind its lock, and what it sends and receives by, behind the sending lock.
 #[derive(Drop)]
 pub struct Seat {
     pub cell: ReplicaCell,
-    pub inbox: ArrayQueue<HostFrame>,
     pub sender: Mutex<Sender>,
 }
 
 impl Seat {
-    /// A new replica of the cluster, with an empty inbox.
+    /// A new replica of the cluster, of which these are the inboxes, in order.
     pub fn new(
         alloc: Global,
         cluster: Size,
         me: ReplicaId,
-        capacity: usize,
+        inboxes: &[Port<HostFrame>],
     ) -> Result<Seat, AllocError>
         requires here { me < size cluster }
-        requires some { 0 < capacity }
+        requires inboxes { length inboxes.now ≡ size cluster }
     {
-        let inbox = ArrayQueue::new(alloc, capacity)?;
-        let sender = Sender::new(alloc, cluster, me)?;
+        let sender = Sender::new(alloc, me, inboxes)?;
         Ok(Seat {
             cell: Mutex::new(Replica::new(alloc, cluster, me).unwrap()),
-            inbox,
             sender: Mutex::new(sender),
         })
     }
 }
 
-/// Puts the frame into its receiver's inbox. It is lost where there is no such replica, and where its inbox is full.
-pub fn put<R: Wait>(rt: &R, seats: &[Seat], frame: HostFrame) -> bool {
-    match seats.get(frame.origin().to.index() as usize) {
-        Some(seat) => seat.inbox.push(rt, frame).is_ok(),
-        None => false,
+/// A new inbox for each replica of the cluster, for so many frames.
+pub fn inboxes_of(
+    alloc: Global,
+    cluster: Size,
+    capacity: usize,
+) -> Result<Vec<Port<HostFrame>>, AllocError>
+    requires { 1 ≤ capacity }
+    ensures count { IfOk result (λ inboxes. length inboxes.items ≡ size cluster) }
+    ensures new { IfOk result (λ inboxes. All (IsOpen capacity) inboxes.items) }
+{
+    let mut inboxes = Vec::new(alloc);
+    for _ in 0..cluster.count() {
+        inboxes.push(Port::open(alloc, capacity)?)?;
     }
-}
-
-/// Puts a copy of the frame, where there is memory for one.
-pub fn put_copy<R: Wait>(rt: &R, seats: &[Seat], frame: &HostFrame) -> bool {
-    match frame.copy() {
-        Ok(copy) => put(rt, seats, copy),
-        Err(_) => false,
-    }
+    Ok(inboxes)
 }
 
 /// Sends frames of the replica of this seat, in order, under its sending lock, in its weather.
-pub fn send<R: Wait>(rt: &R, seats: &[Seat], from: &Seat, sending: Sending)
+pub fn send<R: Wait>(rt: &R, from: &Seat, sending: Sending)
     requires { AreHostFrames sending.frames.items }
 {
-    from.sender.lock(rt).send(rt, seats, sending);
+    from.sender.lock(rt).send(rt, sending);
 }

@@ -1,21 +1,22 @@
-//! What a replica behind its lock sends by.
+//! What a replica behind its lock sends and receives by.
 
 ghost use Rattle.std.specs.Prelude.{◌≡◌};
 
 use crate::delivery::Delivery;
 use crate::host_frame::HostFrame;
 use crate::outlet::Outlet;
-use crate::outlets::{count_anew, deliver, make_room, outlets_of, release_all};
-use crate::seat::Seat;
+use crate::outlets::{count_anew, deliver, make_room, outlets_to, release_all};
 use crate::sending::Sending;
 use crate::weather::{Weather, own_of};
-use ep_base::{ReplicaId, Size};
+use ep_base::ReplicaId;
 use ep_frame::Frame;
+use ep_inbox::Port;
 use std::alloc::{AllocError, Global};
 use std::marker::Model;
 use std::sync::Wait;
 
-/// The weather of the frames that a replica sends, an outlet for each replica of the cluster, and how many frames are lost.
+/// The weather of the frames that a replica sends, an outlet for each replica of the cluster, the port to its own inbox by which it receives, and how
+/// many frames are lost.
 ///
 /// Each held frame is in the outlet of its receiver, at any time and whatever threads do.
 #[derive(Drop)]
@@ -24,6 +25,7 @@ pub struct Sender {
     weather: Vec<Weather>,
     // By the receivers' numbers. The own one is never used.
     outlets: Vec<Outlet>,
+    inbox: Port<HostFrame>,
     lost: u64,
 }
 
@@ -32,28 +34,45 @@ impl Model for Sender {
 
     ghost Value = { Outbox };
 
-    ghost view = { λ s. record { me = s.me; weather = s.weather.items; outlets = s.outlets.items; lost = s.lost } };
+    ghost view = { λ s. record { me = s.me; weather = s.weather.items; outlets = s.outlets.items; inbox = s.inbox; lost = s.lost } };
 
     ghost invariant = { λ s. AreAddressed s.outlets.items };
 }
 
 impl Sender {
-    ghost use Rattle.std.specs.Prelude.{◌≡◌, ◌∷◌, [], IfOk, OnOk, OnErr};
+    ghost use Rattle.std.specs.Prelude.{◌≡◌, ◌<◌, ◌∷◌, [], length, IfOk, OnOk, OnErr, IfNone};
     ghost use Rattle.ep_host.specs.Fates.{fate, counted_up};
     ghost use Rattle.ep_host.specs.HostFrames.{AreHostFrames};
-    ghost use Rattle.ep_host.specs.Outboxes.{IsFreshOutbox, Mails, IsMailed, SetsOwn, IsLetGo};
+    ghost use Rattle.ep_inbox.specs.Ports.{WasAt};
+    ghost use Rattle.ep_host.specs.Outboxes.{IsNewOutbox, Mails, IsMailed, SetsOwn, IsLetGo, Receives};
 
-    /// Without weather. Nothing is held, counted or lost.
-    pub fn new(alloc: Global, cluster: Size, me: ReplicaId) -> Result<Sender, AllocError>
-        ensures { IfOk result (IsFreshOutbox cluster me) }
+    /// The sender of the replica of this number, of which these are the inboxes of the cluster, in order: without weather; nothing is held, counted or
+    /// lost.
+    pub fn new(
+        alloc: Global,
+        me: ReplicaId,
+        inboxes: &[Port<HostFrame>],
+    ) -> Result<Sender, AllocError>
+        requires { me < length inboxes.now }
+        ensures { IfOk result (IsNewOutbox inboxes.now me) }
     {
-        let outlets = outlets_of(alloc, cluster)?;
+        let inbox = inboxes[me.index() as usize].another()?;
+        let outlets = outlets_to(alloc, inboxes)?;
         Ok(Sender {
             me,
             weather: Vec::new(alloc),
             outlets,
+            inbox,
             lost: 0,
         })
+    }
+
+    /// Takes the frame at the front of the replica's inbox, in one step; none where the inbox was empty at one moment.
+    pub fn receive<R: Wait>(&mut self, rt: &R) -> Option<HostFrame>
+        ensures taken { Receives result self.old self.new }
+        ensures empty { IfNone result (WasAt self.old.inbox 0) }
+    {
+        self.inbox.take(rt)
     }
 
     /// How many frames are lost, counted up to 2^64 - 1.
@@ -71,32 +90,32 @@ impl Sender {
     }
 
     /// Does with the frame what the weather says, and counts it where it is lost.
-    fn send_one<R: Wait>(&mut self, rt: &R, seats: &[Seat], frame: HostFrame) -> Delivery
+    fn send_one<R: Wait>(&mut self, rt: &R, frame: HostFrame) -> Delivery
         ensures { Mails (fate frame result ∷ []) 0 self.old self.new }
     {
         let weather = self.weather.as_slice();
-        let delivery = deliver(rt, seats, &mut self.outlets, weather, frame);
+        let delivery = deliver(rt, &mut self.outlets, weather, frame);
         self.lost = self.lost.saturating_add(delivery.lost());
         delivery
     }
 
     /// Does with frames, in order, what the weather says, and counts those that are lost.
-    fn send_all<R: Wait>(&mut self, rt: &R, seats: &[Seat], frames: Vec<Frame>)
+    fn send_all<R: Wait>(&mut self, rt: &R, frames: Vec<Frame>)
         requires { AreHostFrames frames.items }
         ensures { IsMailed frames.items 0 self.old self.new }
     {
         for frame in frames {
-            self.send_one(rt, seats, HostFrame::new(frame));
+            self.send_one(rt, HostFrame::new(frame));
         }
     }
 
     /// Does with frames, in order, what the weather says, and counts those that are lost with those that were lost before.
-    pub fn send<R: Wait>(&mut self, rt: &R, seats: &[Seat], sending: Sending)
+    pub fn send<R: Wait>(&mut self, rt: &R, sending: Sending)
         requires { AreHostFrames sending.frames.items }
         ensures { IsMailed sending.frames.items sending.lost self.old self.new }
     {
         let Sending { frames, lost } = sending;
-        self.send_all(rt, seats, frames);
+        self.send_all(rt, frames);
         self.lose(lost);
     }
 
@@ -113,9 +132,9 @@ impl Sender {
     }
 
     /// Puts the held frames into the inboxes of their receivers, by rising receiver and for each in order. Those that find theirs full are lost.
-    pub fn release<R: Wait>(&mut self, rt: &R, seats: &[Seat])
+    pub fn release<R: Wait>(&mut self, rt: &R)
         ensures { IsLetGo self.old self.new }
     {
-        self.lost = release_all(rt, seats, &mut self.outlets, self.lost);
+        self.lost = release_all(rt, &mut self.outlets, self.lost);
     }
 }

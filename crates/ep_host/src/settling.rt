@@ -3,14 +3,17 @@
 ghost use Rattle.std.specs.Prelude.{ℕ};
 ghost use Rattle.ep_host.specs.Pointwise.{Each};
 ghost use Rattle.ep_host.specs.Follows.{Settles, Rounds};
-ghost use Rattle.ep_host.specs.Host.{IsHost};
+ghost use Rattle.ep_host.specs.Host.{IsHost, AllBegin, AllFrom};
+ghost use Rattle.ep_host.specs.Turned.{AreTurns, IsTurned};
 
+use crate::account::look_at_all;
 use crate::ring_node::RingNode;
 use crate::turn::Turn;
 
 /// One turn of the node; whether it moved.
 fn turn_of(node: &mut RingNode) -> bool
-    ensures { Rounds result node.old node.new }
+    ensures rounds { Rounds result node.old node.new }
+    ensures turn { AreTurns 1 node.old node.new }
 {
     match node.turn() {
         Turn::Moved => true,
@@ -20,7 +23,8 @@ fn turn_of(node: &mut RingNode) -> bool
 
 /// One turn of each node; whether one of them moved.
 fn round(nodes: &mut [RingNode]) -> bool
-    ensures { Each (Rounds result) nodes.old nodes.new }
+    ensures rounds { Each (Rounds result) nodes.old nodes.new }
+    ensures turns { Each (AreTurns 1) nodes.old nodes.new }
 {
     let mut moved = false;
     for place in 0..nodes.len() {
@@ -30,14 +34,27 @@ fn round(nodes: &mut [RingNode]) -> bool
     moved
 }
 
-/// Gives turns in rounds, until a round moves nothing or the rounds are used up.
-pub fn settle(nodes: &mut [RingNode], rounds: u32)
+/// Turns in rounds, until a round moves nothing or the rounds are used up.
+fn turn_all(nodes: &mut [RingNode], rounds: u32)
     ensures nodes { Each (Settles rounds) nodes.old nodes.new }
-    ensures host { (f : ℕ) → IsHost f nodes.old → IsHost f nodes.new }
+    ensures turns { Each (IsTurned rounds) nodes.old nodes.new }
 {
     for _done in 0..rounds {
         if !round(nodes) {
             return;
         }
     }
+}
+
+/// Gives the nodes of a host turns in rounds, until a round moves nothing or the rounds are used up.
+pub fn settle(nodes: &mut [RingNode], rounds: u32)
+    requires { (f : ℕ) × IsHost f nodes.old }
+    ensures nodes { Each (Settles rounds) nodes.old nodes.new }
+    ensures turns { Each (IsTurned rounds) nodes.old nodes.new }
+    ensures host { (f : ℕ) → IsHost f nodes.old → IsHost f nodes.new }
+    ensures begins { AllBegin nodes.new }
+    ensures from { AllFrom nodes.new }
+{
+    turn_all(nodes, rounds);
+    look_at_all(nodes);
 }

@@ -257,8 +257,8 @@ uses_more r turns tasks asked xs ys zs u given each none = ⊎_elim
 
 -- Before any section.
 
-pub has_begun : (f turns : ℕ) (s : RingRun) → IsHost f s.nodes.items → All IsFresh s.nodes.items → s.receipts.items ≡ [] → AreCounted s.clients [] [] → HasRun f turns [] s
-has_begun f turns s host fresh none counted = record {
+pub has_begun : (c f turns : ℕ) (s : RingRun) → IsHost f s.nodes.items → All (IsFresh c) s.nodes.items → s.receipts.items ≡ [] → AreCounted s.clients [] [] → HasRun f turns [] s
+has_begun c f turns s host fresh none counted = record {
   host = host;
   own = subst (λ (l : List Receipt). AreOf s.nodes.items l) (sym none) (λ t h. absurd h);
   counted = subst (λ (l : List Receipt). AreCounted s.clients [] l) (sym none) counted;

@@ -31,6 +31,10 @@ use std::thread::Threads;
 struct Open;
 
 impl Gate for Open {
+    ghost use Rattle.std.specs.Prelude.{⊤};
+
+    ghost lets = { λ _ _. ⊤ };
+
     fn told(&self, _node: usize, _agenda_empty: bool) -> bool {
         true
     }
@@ -105,6 +109,7 @@ fn begin(
 
 /// Puts the held frames, and then so many rounds.
 fn settle_released(nodes: &mut [RingNode], rounds: u32)
+    requires { (f : ℕ) × IsHost f nodes.old }
     ensures settles { SettlesReleased rounds nodes.old nodes.new }
     ensures host { (f : ℕ) → IsHost f nodes.old → IsHost f nodes.new }
 {
@@ -114,6 +119,7 @@ fn settle_released(nodes: &mut [RingNode], rounds: u32)
 
 /// So many turns of each node in a thread of its own; then the held frames are put, and then so many rounds.
 fn turned<R: Threads + Sync>(rt: &R, nodes: Vec<RingNode>, turns: u32) -> Vec<RingNode>
+    requires { (f : ℕ) × IsHost f nodes.items }
     ensures turns { Turns turns nodes.items result.items }
     ensures host { (f : ℕ) → IsHost f nodes.items → IsHost f result.items }
 {

@@ -2,7 +2,7 @@ use Rattle.std.proofs.Common.{rules, ◌≡◌, ◌∙◌, List, All, ap, subst}
 use Rattle.std.proofs.lemmas.List.{with_items_is}
 use Rattle.ep_base.specs.declared.version.Version.TheVariants.{V2}
 use Rattle.ep_journal.specs.Entries.{AreInOrder, all_entries}
-use Rattle.ep_host.specs.Host.{Looked, Knows, AllSent}
+use Rattle.ep_host.specs.Host.{Looked, Knows, AllSent, AllBegin, AllFrom}
 use Rattle.ep_host.specs.Node.{Node}
 use Rattle.ep_host.specs.Pointwise.{Each}
 use Rattle.ep_host.specs.RingFinishing.{replicas_in, their_receipts, logs_of}
@@ -35,8 +35,8 @@ accepted-requires c =
     let entries : j.entries ≡ all_entries ls = search rules in
     end_accepted f nodes j c.deref-2.result.now host know sent (is_end f nodes after j ls c.deref-2.result.now host looked logs order entries receipts)
 
-pub returns : goal.returns
-returns c = λ f host.
+pub returns-clause-verdict : goal.returns-clause-verdict
+returns-clause-verdict c = λ f host.
     let nodes = c.args.nodes.items in let after = c.taken_was_sent.new.nodes in
     let is = with_items_is c.args.nodes after (search rules) in
     let value = c.as_mut_slice.ensures.value in

@@ -11,6 +11,8 @@ returns c =
       b_is = c.in_ok-add_link-2.ensures;
       there_peer = c.me-b_me.ensures;
       here_peer = c.me-a_me.ensures;
+      there_room = record { room = c.in_ok-a_to_b.ensures.producer.2; free = c.in_ok-a_to_b.ensures.producer.1 };
+      here_room = record { room = c.in_ok-b_to_a.ensures.producer.2; free = c.in_ok-b_to_a.ensures.producer.1 };
       out = c.in_ok-a_to_b.ensures.pair;
       back = c.in_ok-b_to_a.ensures.pair;
     }

@@ -1,16 +1,30 @@
 use Rattle.std.proofs.Common.{rules, List, subst, sym}
 use Rattle.std.proofs.lemmas.List.{with_items_is}
 use Rattle.ep_host.specs.Follows.{Follows, Runs}
-use Rattle.ep_host.specs.Host.{IsHost}
+use Rattle.ep_host.specs.Host.{IsHost, AllBegin, AllFrom}
 use Rattle.ep_host.specs.Node.{Node}
 use Rattle.ep_host.specs.Pointwise.{Each}
-use Rattle.ep_host.proofs.Hosts.{host_still}
+use Rattle.ep_host.specs.Turned.{IsTurned}
+use Rattle.ep_host.proofs.Looks.{host_ran}
 use Rattle.ep_host.proofs.Places.{each_weaker}
 use Rattle.ep_host.proofs.threads.section.Goals as goal
 
+pub turn_each-requires : goal.turn_each-requires
+turn_each-requires g c = (c.requires.0, subst (λ (l : List Node). IsHost c.requires.0 l) (sym c.as_mut_slice.ensures.value) c.requires.1)
+
 pub returns-clause-host : goal.returns-clause-host
 returns-clause-host g c = λ f host.
-    let e = with_items_is c.args.nodes c.run_each.new.nodes (search rules) in
+    let e = with_items_is c.args.nodes c.turn_each.new.nodes (search rules) in
     subst (λ (l : List Node). IsHost f l) (sym e)
-    (host_still f c.args.nodes.items c.run_each.new.nodes
-    (each_weaker Runs Follows (λ a b r. r.follows) c.args.nodes.items c.run_each.new.nodes (subst (λ (l : List Node). Each Runs l c.run_each.new.nodes) c.as_mut_slice.ensures.value c.run_each.ensures)) host)
+    (host_ran f c.args.nodes.items c.turn_each.new.nodes (subst (λ (l : List Node). Each Runs l c.turn_each.new.nodes) c.as_mut_slice.ensures.value c.turn_each.ensures.runs) host)
+
+pub returns-clause-turns : goal.returns-clause-turns
+returns-clause-turns g c =
+    let e = with_items_is c.args.nodes c.turn_each.new.nodes (search rules) in
+    subst (λ (l : List Node). Each (IsTurned c.args.turns) c.args.nodes.items l) (sym e) (subst (λ (l : List Node). Each (IsTurned c.args.turns) l c.turn_each.new.nodes) c.as_mut_slice.ensures.value c.turn_each.ensures.turns)
+
+pub returns-clause-begins : goal.returns-clause-begins
+returns-clause-begins g c = let e = with_items_is c.args.nodes c.turn_each.new.nodes (search rules) in subst (λ (l : List Node). AllBegin l) (sym e) c.turn_each.ensures.begins
+
+pub returns-clause-from : goal.returns-clause-from
+returns-clause-from g c = let e = with_items_is c.args.nodes c.turn_each.new.nodes (search rules) in subst (λ (l : List Node). AllFrom l) (sym e) c.turn_each.ensures.from

@@ -1,5 +1,5 @@
-use Rattle.std.proofs.Common.{arith, ◌+◌, refl}
-use Rattle.ep_host.proofs.Mailing.{letting_none, letting_more, letting_all, letting_end}
+use Rattle.std.proofs.Common.{arith, ◌+◌, refl, subst}
+use Rattle.ep_host.proofs.Mailing.{letting_none, letting_more, letting_all, letting_end, few_let_go}
 use Rattle.ep_host.proofs.outlet.Outlet.release.Goals as goal
 use Rattle.ep_host.proofs.outlet.Outlet.release.Goals.{then-not-put, else-not-put}
 
@@ -7,14 +7,12 @@ pub loop-init : goal.loop-init
 loop-init g c = letting_none c.args.self.now
 
 pub overflow_add-lost : goal.overflow_add-lost
-overflow_add-lost g c = let few = c.loop.invariant.few in omega (arith, few, c.loop-test.true, c.len-end.type_inv)
+overflow_add-lost g c = let few = few_let_go c.loop.lost c.loop.counter c.args.self.now c.loop.self c.loop.invariant in omega (arith, few, c.loop-test.true, c.len-end.type_inv)
 
 pub loop-preserved : goal.loop-preserved
-loop-preserved g c = let a = c.args.self.now in let b = c.loop.self in
-    elim c.if-not-put.branch [
-      | then-not-put w ↦ rw w.lost-is (letting_more c.loop.lost (c.loop.lost + 1) c.loop.counter c.in-Some.frame a b _ c.loop.invariant (omega arith) c.in-Some.ensures.items refl)
-      | else-not-put w ↦ rw w.lost-is (letting_more c.loop.lost c.loop.lost c.loop.counter c.in-Some.frame a b _ c.loop.invariant (omega arith) c.in-Some.ensures.items refl)
-    ]
+loop-preserved g c =
+    let more = letting_more c.put.result c.loop.lost c.loop.counter c.in-Some.frame c.args.self.now c.loop.self _ c.put.new.self c.loop.invariant c.in-Some.ensures.items refl refl c.put.ensures.put in
+    elim c.if-not-put.branch [ then-not-put w ↦ rw w.lost-is more | else-not-put w ↦ rw w.lost-is more ]
 
 pub returns-after-loop : goal.returns-after-loop
 returns-after-loop g c = letting_all c.loop.lost c.loop.counter c.args.self.now c.loop.self (omega (arith, c.loop-test.false, c.len-end.ensures)) c.loop.invariant

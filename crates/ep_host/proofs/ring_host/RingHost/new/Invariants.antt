@@ -3,7 +3,7 @@ use Rattle.ep_host.proofs.Hosting.{AreLinked, AreJoined}
 use Rattle.ep_host.proofs.ring_host.RingHost.new.Given as goal
 
 abbrev pub invariant-loop-index : goal.invariant-loop-index
-invariant-loop-index l = record { linked : AreLinked l.cluster l.nodes.items; count : length l.nodes.items ≡ l.index }
+invariant-loop-index l = record { linked : AreLinked l.capacity l.cluster l.nodes.items; count : length l.nodes.items ≡ l.index }
 
 abbrev pub invariant-loop-place : goal.invariant-loop-place
-invariant-loop-place l = record { joined : AreJoined l.cluster l.place l.nodes.items l.node; count : length l.nodes.items ≡ l.index; end : l.place-end ≡ length l.nodes.items }
+invariant-loop-place l = record { joined : AreJoined l.capacity l.cluster l.place l.nodes.items l.node; count : length l.nodes.items ≡ l.index; end : l.place-end ≡ length l.nodes.items }

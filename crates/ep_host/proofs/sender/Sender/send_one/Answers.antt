@@ -10,5 +10,5 @@ invariant_of-self g c = let i = c.self.inside in let d = c.deliver-delivery in
 
 pub returns : goal.returns
 returns g c = let i = c.self.inside in let d = c.deliver-delivery in rw (← c.self.view_is)
-    (mails_one c.as_slice-weather.result.now c.args.frame d.result (outbox i.me i.weather.items i.outlets.items i.lost) d.new.outlets.items c.saturating_add-self-inside.result c.as_slice-weather.ensures.value d.ensures.outlets d.ensures.stray
+    (mails_one c.as_slice-weather.result.now c.args.frame d.result (outbox i.me i.weather.items i.outlets.items i.inbox i.lost) d.new.outlets.items c.saturating_add-self-inside.result c.as_slice-weather.ensures.value d.ensures.outlets d.ensures.stray
     (c.saturating_add-self-inside.ensures ∙ counts i.lost c.lost.result (omega arith) ∙ ap (counted_up i.lost) c.lost.ensures))

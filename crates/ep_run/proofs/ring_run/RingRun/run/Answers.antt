@@ -63,3 +63,11 @@ returns-clause-weather g c =
     let begins : Begins (asked_by ps ts plan.lines) ws c.as_mut_slice.result.now middle = c.in_ok-begin.ensures.begins ps ts r.2.counted in
     let turned : Turns turns middle new.nodes.items = subst (λ (l : List Node). Turns turns middle l) (sym kept) (subst (λ (l : List Node). Turns turns l c.turned.result.items) is c.turned.ensures.turns) in
     own_stays turns ws begins.assigned middle new.nodes.items begins.sets turned
+
+pub turned-requires : goal.turned-requires
+turned-requires g c =
+    let r = c.requires.run in
+    let old = c.args.self.now in
+    let middle : List Node = c.begin.new.nodes in
+    let is : c.replace-nodes.result.items ≡ middle = ap (λ (v : _). v.items) c.replace-nodes.ensures.value ∙ with_items_is old.nodes middle (search rules) in
+    (r.0, subst (λ (l : List Node). IsHost r.0 l) (sym is) (c.begin.ensures.host r.0 (subst (λ (l : List Node). IsHost r.0 l) (sym c.as_mut_slice.ensures.value) r.2.host)))
