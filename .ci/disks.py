@@ -1,5 +1,5 @@
 """What `epaxos node` does with its disk: it is run under .ci/shim.c, which fails its calls one by one, and a model of a disk (.ci/disk.py)
-tells what a power loss at any moment would leave; and then 500 images of disks (tools/disk-images). Runs alone too: python3 .ci/disks.py
+tells what a power loss at any moment would leave; and then images of disks (tools/disk-images). Runs alone too: python3 .ci/disks.py
 [NODE PROGRAM [WORD]], with a word the rows alone whose names have it.
 
 After each call of each run, whatever was answered has to be on the disk for sure, in whole records at the beginning of the log that the
