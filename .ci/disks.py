@@ -1,5 +1,5 @@
 """What `epaxos node` does with its disk: it is run under .ci/shim.c, which fails its calls one by one, and a model of a disk (.ci/disk.py)
-tells what a power loss at any moment would leave; and then 500 images of disks (tools/disk-images). Runs alone too: python3 .ci/disks.py
+tells what a power loss at any moment would leave; and then images of disks (tools/disk-images). Runs alone too: python3 .ci/disks.py
 [NODE PROGRAM [WORD]], with a word the rows alone whose names have it.
 
 After each call of each run, whatever was answered has to be on the disk for sure, in whole records at the beginning of the log that the
@@ -185,10 +185,22 @@ ROWS = (asked, each, short_writes, full_disk, failed_sync, a_disk_that_lies)
 
 
 def tried(node=NODE, word=""):
-    """How many rows passed, and how many failed."""
+    """How many rows passed, and how many failed; the images are one."""
     if not os.path.isfile(node):
         print("no row of disks is run: `rt ci` has not built ep_server", flush=True)
         return 0, 0
+    passed, failed = rows(node, word)
+    if not word:
+        if os.path.isfile(f"{node}.by-rattle"):
+            counts = rows(f"{node}.by-rattle", word)
+            passed, failed = passed + counts[0], failed + counts[1]
+        is_well = not subprocess.run([f"{TOP}/tools/disk-images", node], stdin=subprocess.DEVNULL).returncode
+        passed, failed = passed + is_well, failed + (not is_well)
+    return passed, failed
+
+
+def rows(node, word):
+    """How many rows of this program passed, and how many failed."""
     with tempfile.TemporaryDirectory(prefix="epaxos-disks-", dir="/dev/shm" if os.path.isdir("/dev/shm") else None) as folder:
         built = shim.built(folder)
         if not built:
@@ -201,9 +213,8 @@ def tried(node=NODE, word=""):
             made += 1
             return shim.Case(built, node, f"{folder}/{made}")
 
-        rows = [(it.__name__.replace("_", " "), it) for it in ROWS] + list(failed_calls(make))
         passed = failed = 0
-        for name, row in rows:
+        for name, row in (*((it.__name__.replace("_", " "), it) for it in ROWS), *failed_calls(make)):
             if word not in name:
                 continue
             case = make()
@@ -214,10 +225,8 @@ def tried(node=NODE, word=""):
             for fault in dict.fromkeys(case.faults[:MOST_TOLD]):
                 print(f"disks, {name}: {fault}", flush=True)
             passed, failed = passed + (not case.faults), failed + bool(case.faults)
-    print(f"disks: {passed + failed} rows of a node whose calls are traced and failed, {failed} failed", flush=True)
-    if not word:
-        is_well = not subprocess.run([f"{TOP}/tools/disk-images", node], stdin=subprocess.DEVNULL).returncode
-        passed, failed = passed + is_well, failed + (not is_well)
+    name = os.path.basename(node)
+    print(f"disks: {passed + failed} rows of {name}, whose calls are traced and failed; {passed} passed, {failed} failed", flush=True)
     return passed, failed
 
 
