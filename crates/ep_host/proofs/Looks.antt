@@ -1,10 +1,10 @@
 -- Turns, and looks after them.
-use Rattle.std.proofs.Common.{◌≡◌, ℕ, ◌+◌, ◌<◌, ◌≤◌, Bool, true, List, [], length, get_or, refl, sym, ap, ◌∙◌, subst, arith, add-one}
+use Rattle.std.proofs.Common.{◌≡◌, ℕ, ◌+◌, ◌<◌, ◌≤◌, Bool, true, List, [], length, get_or, refl, sym, ap, ◌∙◌, subst, arith, add-one, All}
 use Rattle.std.proofs.lemmas.List.{append-nil}
 use Rattle.ep_host.specs.Fates.{Carries}
 use Rattle.ep_host.specs.Follows.{Follows, Runs, Settles}
 use Rattle.ep_host.specs.Host.{IsHost, Quiet, Looked}
-use Rattle.ep_host.specs.Node.{Node}
+use Rattle.ep_host.specs.Node.{Node, fresh_node}
 use Rattle.ep_host.specs.Pointwise.{Each}
 use Rattle.ep_host.specs.Turned.{AreTurns, IsTurned, WereLet}
 use Rattle.ep_host.specs.Turns.{IsTurn}
@@ -98,3 +98,11 @@ host_ran f xs ys h host = host_still f xs ys (each_weaker Runs Follows (λ a b r
 
 pub host_settled : (n f : ℕ) (xs ys : List Node) → Each (Settles n) xs ys → IsHost f xs → IsHost f ys
 host_settled n f xs ys h host = host_still f xs ys (each_weaker (Settles n) Follows (λ a b s. s.follows) xs ys h) host
+
+-- where each node has ended, each was let end
+pub all_passed :
+    (lets : ℕ → Type 0) (seen nodes old : List Node) → seen ≡ nodes → length nodes ≡ length old → All (λ (n : Node). n.ended ≡ true) seen → WereLet lets nodes → (i : ℕ) → i < length old → lets i
+all_passed lets seen nodes old is len all were = λ i low.
+    let l : i < length nodes = omega (arith, len) in
+    let b = fresh_node (record { faults = 0; me = 0; entries = [] }) in
+    were i b l (subst (λ (ns : List Node). All (λ (n : Node). n.ended ≡ true) ns) is all i b l)

@@ -1,11 +1,18 @@
 //! Replicas behind locks.
 
-ghost use Rattle.std.specs.Prelude.{◌≡◌, ◌≤◌, IfOk, IfSome, IfErr, OnOk, vec_len};
+ghost use Rattle.std.specs.Prelude.{◌≡◌, ◌≤◌, ◌++◌, ◌∷◌, [], List, IfOk, IfSome, IfErr, OnOk, OnErr, vec_len};
 ghost use Rattle.ep_base.specs.Quorums.{size};
+ghost use Rattle.ep_journal.specs.Entries.{entries_of};
+ghost use Rattle.ep_journal.specs.declared.entry.Entry.{Entry};
 ghost use Rattle.ep_journal.specs.declared.event.Event.TheVariants.{Propose};
+ghost use Rattle.ep_replica.specs.Applied.{Applied};
+ghost use Rattle.ep_replica.specs.Pending.{Submits};
+ghost use Rattle.ep_replica.specs.Receipts.{outcome_of, receipts_after};
 ghost use Rattle.ep_host.specs.Asking.{AreTold, IsTaken, IsSubmitted, IsDeclinedThere, IsPumped, IsOutcome, turn_of};
 ghost use Rattle.ep_host.specs.Finishing.{AreVersion2};
 ghost use Rattle.ep_host.specs.HostFrames.{AreHostFrames};
+ghost use Rattle.ep_host.specs.Sent.{IsCopied};
+ghost use Rattle.ep_host.specs.Tending.{Tends};
 
 use crate::act::Act;
 use crate::finished::Finished;
@@ -40,7 +47,8 @@ fn receipt_at(
     replica: &Replica,
     instance: InstanceId,
 ) -> Result<Option<Receipt>, AllocError>
-    ensures { IfOk result (λ o. IfSome o (IsOutcome instance)) }
+    ensures told { IfOk result (λ o. IfSome o (IsOutcome instance)) }
+    ensures exact { IfOk result (λ o. o ≡ outcome_of replica.now.me (entries_of replica.now.entries) instance) }
 {
     // Nothing is done with the entries, here and below: that they are a journal is known by asking for them.
     let _run = replica.journal().entries();
@@ -52,7 +60,8 @@ fn receipt_at(
 
 /// The receipts that the entries after this one give.
 fn receipts_at(alloc: Global, replica: &Replica, entry: u32) -> Result<Vec<Receipt>, AllocError>
-    ensures { IfOk result (λ receipts. AreTold entry receipts.items) }
+    ensures told { IfOk result (λ receipts. AreTold entry receipts.items) }
+    ensures exact { IfOk result (λ receipts. receipts.items ≡ receipts_after replica.now.me entry (entries_of replica.now.entries)) }
 {
     let _run = replica.journal().entries();
     replica.receipts_after(alloc, entry)
@@ -68,6 +77,8 @@ fn submit(
 ) -> Result<InstanceId, StepFault>
     ensures ok { IfOk result (IsSubmitted (Propose client request command seen)) }
     ensures declined { IfErr result (IsDeclinedThere (Propose client request command seen)) }
+    ensures exact { IfOk result (λ i. Submits replica.old (Propose client request command seen) i replica.new) }
+    ensures same { OnErr result (replica.new ≡ replica.old) }
 {
     let _run = replica.journal().entries();
     replica.submit(client, request, command, seen)
@@ -78,6 +89,9 @@ fn direct(alloc: Global, replica: &mut Replica, event: Event) -> Result<Sending,
     ensures ok { OnOk result (IsTaken event) }
     ensures version { IfOk result (λ s. AreHostFrames s.frames.items) }
     ensures declined { IfErr result (IsDeclinedThere event) }
+    ensures exact { OnOk result ((e : Entry) × Applied replica.old event e replica.new) }
+    ensures frames { IfOk result (λ s. (before : List Entry) (e : Entry) → replica.new.entries ≡ before ++ e ∷ [] → IsCopied e.frames s.frames.items s.lost) }
+    ensures same { OnErr result (replica.new ≡ replica.old) }
 {
     let _run = replica.journal().entries();
     replica.take(event)?;
@@ -87,6 +101,7 @@ fn direct(alloc: Global, replica: &mut Replica, event: Event) -> Result<Sending,
 /// The replica is tended.
 fn pump(alloc: Global, replica: &mut Replica, frame: Option<HostFrame>) -> Tended
     ensures pumped { IsPumped (turn_of result.moved) }
+    ensures exact { Tends frame replica.old replica.new result }
     ensures version { AreHostFrames result.frames.items }
 {
     let _run = replica.journal().entries();

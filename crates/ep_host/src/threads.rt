@@ -36,7 +36,7 @@ fn run_each<R: Threads + Sync, G: Gate>(rt: &R, nodes: &mut [RingNode], gate: &G
 
 /// The same, and then a look at both ends of every ring.
 fn turn_each<R: Threads + Sync, G: Gate>(rt: &R, nodes: &mut [RingNode], gate: &G, turns: u32)
-    requires { (f : ℕ) × IsHost f nodes.old }
+    requires host { (f : ℕ) × IsHost f nodes.old }
     ensures runs { Each Runs nodes.old nodes.new }
     ensures turns { Each (IsTurned turns) nodes.old nodes.new }
     ensures gate { WereLet (G.lets gate.now) nodes.new }
@@ -63,7 +63,7 @@ pub fn section<R: Threads + Sync, G: Gate>(
     gate: &G,
     turns: u32,
 ) -> Section
-    requires { (f : ℕ) × IsHost f nodes.items }
+    requires host { (f : ℕ) × IsHost f nodes.items }
     ensures nodes { Each Follows nodes.items result.nodes.items }
     ensures turns { Each (IsTurned turns) nodes.items result.nodes.items }
     ensures begins { AllBegin result.nodes.items }

@@ -47,3 +47,21 @@ returns-clause-verdict c = λ f host.
     let order : AreInOrder j.version j.faults 0 ls = search rules in
     let entries : j.entries ≡ all_entries ls = search rules in
     end_audited f nodes j c.deref-2.result.now (is_end f nodes after j ls c.deref-2.result.now host looked logs order entries receipts) c.accepted.result c.accepted.ensures
+
+pub returns-in_err-receipts-clause-begins : goal.returns-in_err-receipts-clause-begins
+returns-in_err-receipts-clause-begins c = subst (λ (l : List Node). AllBegin l) c.as_mut_slice.ensures.value c.taken_was_sent.ensures.begins
+
+pub returns-in_err-receipts-clause-from : goal.returns-in_err-receipts-clause-from
+returns-in_err-receipts-clause-from c = subst (λ (l : List Node). AllFrom l) c.as_mut_slice.ensures.value c.taken_was_sent.ensures.from
+
+pub returns-in_err-journals-clause-begins : goal.returns-in_err-journals-clause-begins
+returns-in_err-journals-clause-begins c = subst (λ (l : List Node). AllBegin l) c.as_mut_slice.ensures.value c.taken_was_sent.ensures.begins
+
+pub returns-in_err-journals-clause-from : goal.returns-in_err-journals-clause-from
+returns-in_err-journals-clause-from c = subst (λ (l : List Node). AllFrom l) c.as_mut_slice.ensures.value c.taken_was_sent.ensures.from
+
+pub returns-clause-begins : goal.returns-clause-begins
+returns-clause-begins c = subst (λ (l : List Node). AllBegin l) c.as_mut_slice.ensures.value c.taken_was_sent.ensures.begins
+
+pub returns-clause-from : goal.returns-clause-from
+returns-clause-from c = subst (λ (l : List Node). AllFrom l) c.as_mut_slice.ensures.value c.taken_was_sent.ensures.from

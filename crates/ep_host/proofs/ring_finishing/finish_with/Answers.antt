@@ -57,3 +57,21 @@ returns-clause-version c =
     let logs = c.in_ok-journals.ensures ∙ ap (λ (l : List Node). logs_of (replicas_in l)) is in
     let order : AreInOrder j.version j.faults 0 ls = search rules in
     ended_version f nodes after j ls host looked logs order
+
+pub returns-in_err-journals-clause-begins : goal.returns-in_err-journals-clause-begins
+returns-in_err-journals-clause-begins c = subst (λ (l : List Node). AllBegin l) c.as_mut_slice.ensures.value c.taken_was_sent.ensures.begins
+
+pub returns-in_err-journals-clause-from : goal.returns-in_err-journals-clause-from
+returns-in_err-journals-clause-from c = subst (λ (l : List Node). AllFrom l) c.as_mut_slice.ensures.value c.taken_was_sent.ensures.from
+
+pub returns-in_err-verdict-clause-begins : goal.returns-in_err-verdict-clause-begins
+returns-in_err-verdict-clause-begins c = subst (λ (l : List Node). AllBegin l) c.as_mut_slice.ensures.value c.taken_was_sent.ensures.begins
+
+pub returns-in_err-verdict-clause-from : goal.returns-in_err-verdict-clause-from
+returns-in_err-verdict-clause-from c = subst (λ (l : List Node). AllFrom l) c.as_mut_slice.ensures.value c.taken_was_sent.ensures.from
+
+pub returns-clause-begins : goal.returns-clause-begins
+returns-clause-begins c = subst (λ (l : List Node). AllBegin l) c.as_mut_slice.ensures.value c.taken_was_sent.ensures.begins
+
+pub returns-clause-from : goal.returns-clause-from
+returns-clause-from c = subst (λ (l : List Node). AllFrom l) c.as_mut_slice.ensures.value c.taken_was_sent.ensures.from

@@ -2,7 +2,7 @@ use Rattle.ep_host.proofs.Looks.{each_runs, each_turned, were_let_looked, host_r
 use Rattle.ep_host.proofs.threads.turn_each.Goals as goal
 
 pub look_at_all-requires : goal.look_at_all-requires
-look_at_all-requires g c = (c.requires.0, host_ran c.requires.0 c.args.nodes.now c.run_each.new.nodes c.run_each.ensures.runs c.requires.1)
+look_at_all-requires g c = (c.requires.host.0, host_ran c.requires.host.0 c.args.nodes.now c.run_each.new.nodes c.run_each.ensures.runs c.requires.host.1)
 
 pub returns-clause-runs : goal.returns-clause-runs
 returns-clause-runs g c = each_runs c.args.nodes.now c.run_each.new.nodes c.look_at_all.new.nodes c.run_each.ensures.runs c.look_at_all.ensures.looked
