@@ -2,6 +2,8 @@
 use Rattle.std.specs.Prelude.{ℕ, Bool, true, false, List, ◌++◌, codes, decimal}
 use Rattle.ep_bundle.specs.declared.bundle_fault.BundleFault.{BundleFault}
 use Rattle.ep_bundle.specs.declared.bundle_fault.BundleFault.TheVariants as bundle
+use Rattle.ep_advice.specs.declared.explain_fault.ExplainFault.{ExplainFault}
+use Rattle.ep_advice.specs.declared.explain_fault.ExplainFault.TheVariants as explain
 use Rattle.ep_draw.specs.declared.draw_fault.DrawFault.{DrawFault}
 use Rattle.ep_draw.specs.declared.draw_fault.DrawFault.TheVariants as draw
 use Rattle.ep_graph.specs.declared.graph_fault.GraphFault.{GraphFault}
@@ -103,6 +105,11 @@ of_script (script.Refused line) = Script line
 of_script script.Memory = Memory
 of_script script.ReadFailed = Read
 
+-- why nothing is explained, as the program's fault
+abbrev pub of_explained : ExplainFault → Fault
+of_explained explain.Memory = Memory
+of_explained explain.ReadFailed = Read
+
 -- a diagram's fault as the program's
 abbrev pub of_diagram : DrawFault → Fault
 of_diagram draw.Memory = Memory
@@ -113,8 +120,9 @@ abbrev pub of_graph : GraphFault → Fault
 of_graph graph.Memory = Memory
 of_graph (graph.TooMany count) = TooMany count
 
--- how the program ends that has explained a bundle
+-- how the program ends that has explained a bundle or a script
 abbrev pub status_found : Finding → Status
 status_found finding.Accepted = Done
 status_found finding.Refused = AuditRefused
 status_found finding.Unreadable = Refused
+status_found finding.Script = Done
