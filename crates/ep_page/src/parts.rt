@@ -23,7 +23,7 @@ h1{font-size:15px;margin:0}
 #key b{display:inline-block;width:9px;height:9px;transform:rotate(45deg);margin:0 5px 0 2px}
 main{flex:1;min-height:0;display:flex}
 #side{width:min(380px,34vw);min-width:250px;display:flex;flex-direction:column;border-right:1px solid #ccd2d9}
-#head,.row{display:grid;grid-template-columns:5.2em 1fr 4.2em 5.6em 1fr;gap:6px;padding:0 8px;height:24px;align-items:center;white-space:nowrap}
+#head,.row{display:grid;grid-template-columns:3.4em minmax(0,1.5fr) 3.2em 5.2em minmax(0,1fr);gap:6px;padding:0 8px;height:24px;align-items:center;white-space:nowrap}
 #head{font-weight:600;border-bottom:1px solid #ccd2d9}
 .row>span,#head>span{overflow:hidden;text-overflow:ellipsis}
 #list{flex:1;overflow:auto;position:relative;outline-offset:-2px}
@@ -51,7 +51,7 @@ canvas.held{cursor:grabbing}
 </header>
 <main>
 <section id=\"side\" aria-label=\"instances\">
-<div id=\"head\"><span>instance</span><span>command</span><span>client</span><span>path</span><span>reply</span></div>
+<div id=\"head\"><span title=\"instance\">inst.</span><span>command</span><span>client</span><span>path</span><span>reply</span></div>
 <div id=\"list\" tabindex=\"0\"></div>
 </section>
 <section id=\"right\">
@@ -206,7 +206,7 @@ const ordered = [...instances.values()].sort((a, b) => {
 });
 
 // What is shown: the rows that the instance and the words keep.
-let rows = entries, placeIn = new Int32Array(entries.length), chosen = null, selected = -1, wanted = [];
+let rows = entries, listed = ordered, placeIn = new Int32Array(entries.length), chosen = null, selected = -1, wanted = [];
 const list = document.getElementById('list'), find = document.getElementById('find'), words = document.getElementById('words');
 const canvas = document.getElementById('diagram'), stage = document.getElementById('stage'), draw2d = canvas.getContext('2d');
 const view = {zoom: 1, x: 0, y: 0, width: 0, height: 0, ratio: 1};
@@ -219,6 +219,10 @@ function keep() {
   rows.forEach((it, k) => { placeIn[it.index] = k; });
   if (selected >= 0 && placeIn[selected] < 0) selected = -1;
   document.getElementById('count').textContent = `${rows.length} of ${entries.length} events, ${instances.size} instances, ${count} replicas`;
+  // the list has the instances that events with these words are about
+  const about = new Set();
+  if (wanted.length) for (const it of rows) for (const name of it.about) about.add(name);
+  listed = wanted.length ? ordered.filter(it => about.has(it.name)) : ordered;
   view.y = 0;
   clamp(); paint(); listRows();
 }
@@ -262,10 +266,12 @@ function draw() {
     const path = paths[name] || (paths[name] = {path: new Path2D(), heads: new Path2D(), dashed});
     const x = X(entries[it.from].replica), y = Y(from);
     if (it.to < 0) {
-      const way = it.column > entries[it.from].replica ? 1 : -1, end = x + way * Math.min(60, columnWidth * 0.4) * zoom, low = y + 10 * zoom, s = 4 * Math.max(zoom, 0.4);
+      const apart = it.column - entries[it.from].replica, way = Math.sign(apart), far = Math.abs(apart);
+      // (to a replica farther away a stub falls less, so that no two lie on each other)
+      const end = x + way * Math.min(60, columnWidth * 0.4) * zoom, low = y + (far > 1 ? -4 * far : 11) * zoom, s = 4 * Math.max(zoom, 0.4);
       path.path.moveTo(x, y); path.path.lineTo(end, low);
       path.heads.moveTo(end - s, low - s); path.heads.lineTo(end + s, low + s); path.heads.moveTo(end - s, low + s); path.heads.lineTo(end + s, low - s);
-      if (zoom >= 0.8) labels.push([it, end + way * 26, low + 4]);
+      if (zoom >= 0.8) labels.push([it, end + way * 26 * zoom, low + (far > 1 ? -4 : 4) * zoom]);
       continue;
     }
     const a = X(entries[it.to].replica), b = Y(to), long = Math.hypot(a - x, b - y) || 1, ux = (a - x) / long, uy = (b - y) / long;
@@ -351,6 +357,7 @@ function select(index) {
 
 function choose(name) {
   chosen = name;
+  find.value = ''; wanted = [];
   if (name) {
     const it = instances.get(name);
     words.textContent = `${name}: ${it.command || 'no command is known'}; ${it.path === 'open' ? 'not committed' : 'committed, ' + it.path}${it.reply ? '; replied ' + it.reply : ''}; ${it.events} events`;
@@ -361,13 +368,13 @@ function choose(name) {
 // The list has rows for what is in sight alone.
 const HIGH = 24;
 function listRows() {
-  const first = Math.max(0, Math.floor(list.scrollTop / HIGH) - 4), last = Math.min(ordered.length, first + Math.ceil(list.clientHeight / HIGH) + 9);
+  const first = Math.max(0, Math.floor(list.scrollTop / HIGH) - 4), last = Math.min(listed.length, first + Math.ceil(list.clientHeight / HIGH) + 9);
   const made = document.createDocumentFragment();
   const space = document.createElement('div');
-  space.style.height = `${ordered.length * HIGH}px`;
+  space.style.height = `${listed.length * HIGH}px`;
   made.append(space);
   for (let k = first; k < last; k++) {
-    const it = ordered[k], row = document.createElement('div');
+    const it = listed[k], row = document.createElement('div');
     row.className = it.name === chosen ? 'row on' : 'row';
     row.style.top = `${k * HIGH}px`;
     row.dataset.name = it.name;
@@ -389,14 +396,14 @@ list.addEventListener('click', event => {
 });
 list.addEventListener('keydown', event => {
   const by = {ArrowDown: 1, ArrowUp: -1}[event.key];
-  if (!by || !ordered.length) return;
+  if (!by || !listed.length) return;
   event.preventDefault();
-  const at = ordered.findIndex(it => it.name === chosen), next = Math.max(0, Math.min(ordered.length - 1, at + by));
+  const at = listed.findIndex(it => it.name === chosen), next = Math.max(0, Math.min(listed.length - 1, at + by));
   if (next * HIGH < list.scrollTop || (next + 1) * HIGH > list.scrollTop + list.clientHeight) list.scrollTop = next * HIGH - list.clientHeight / 2;
-  choose(ordered[next].name);
+  choose(listed[next].name);
 });
-find.addEventListener('input', () => { wanted = find.value.split(' ').filter(it => it).length ? [find.value.trim()] : []; keep(); });
-document.getElementById('all').addEventListener('click', () => { find.value = ''; wanted = []; choose(null); });
+find.addEventListener('input', () => { chosen = null; wanted = find.value.split(' ').filter(it => it).length ? [find.value.trim()] : []; keep(); });
+document.getElementById('all').addEventListener('click', () => choose(null));
 for (const button of document.querySelectorAll('#zoom button')) button.addEventListener('click', () => {
   const by = +button.dataset.by;
   if (by === 1) { Object.assign(view, {zoom: 1, x: 0, y: 0}); clamp(); paint(); }
@@ -439,7 +446,7 @@ canvas.addEventListener('keydown', event => {
   else if (event.key === 'ArrowUp' && rows[at - 1]) select(rows[at - 1].index);
   else if (event.key === 'PageDown' || event.key === 'PageUp') { view.y += (event.key === 'PageUp' ? 1 : -1) * view.height * 0.8; clamp(); paint(); }
   else if (event.key === '+' || event.key === '-') zoomAt(event.key === '+' ? 1.3 : 0.77, view.width / 2, view.height / 2);
-  else if (event.key === 'Escape') { find.value = ''; wanted = []; choose(null); }
+  else if (event.key === 'Escape') choose(null);
   else return;
   event.preventDefault();
 });
