@@ -384,7 +384,7 @@ def drawn():
     """As much as is drawn, and one more: of entries, which are recoveries of one instance, and of instances, which are gets, each committed."""
     made, recoveries = ["replay", "--emit", "bundle", "|", "draw"], b"replicas 3\n" + b"recover 1 0.1\n" * 2001
     gets = b"replicas 3\n" + b"propose 0 7 get x\n" * 2000 + b"flush\n" * 3
-    told = b"too many to draw: 2001, and 2000 at most; --from and --to keep a part of a diagram\n"
+    told = b"too many to draw: 2001, and 2000 at most; --from, --to, --instance and --replica keep a part of a diagram, and --page shows all\n"
     yield dict(name="2,001 entries, drawn", words=made, given=recoveries, told=told, status=2)
     yield dict(name="2,000 of them, drawn", words=[*made, "--to", "2000"], given=recoveries, says=["1:1 recover 0.1", "1:2000 recover 0.1"], is_picture=True)
     yield dict(name="2,001 instances, drawn", words=[*made, "--graph"], given=gets + flushed(b"propose 1 7 get x"), told=told, status=2)

@@ -43,7 +43,7 @@ not_a_run replica entry = codes "bundle refused E11 at replica " ++ decimal repl
 
 -- so many entries are asked for, or so many instances are there, more than a picture shows
 abbrev pub too_many : ℕ → List ℕ
-too_many count = codes "too many to draw: " ++ decimal count ++ codes ", and 2000 at most; --from and --to keep a part of a diagram\n"
+too_many count = codes "too many to draw: " ++ decimal count ++ codes ", and 2000 at most; --from, --to, --instance and --replica keep a part of a diagram, and --page shows all\n"
 
 abbrev pub out_of_memory : List ℕ
 out_of_memory = codes "out of memory\n"
