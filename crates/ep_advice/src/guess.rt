@@ -34,8 +34,7 @@ fn begins_bundle(bytes: &[u8]) -> bool {
 
 /// Whether there are bytes, and the first ones are text: not the magic of a bundle, nor control characters.
 pub fn is_text(bytes: &[u8]) -> bool {
-    !begins_bundle(bytes)
-        && bytes.iter().take(SEEN).all(|byte| is_text_byte(*byte))
+    !begins_bundle(bytes) && bytes.iter().take(SEEN).all(|byte| is_text_byte(*byte))
 }
 
 fn hint_of(word: &[u8]) -> Hint {
