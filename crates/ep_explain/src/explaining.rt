@@ -15,7 +15,9 @@ use crate::grammar::field_reasons;
 use crate::handled::handling_reasons;
 use crate::listing::faults;
 use crate::stepping::step_reasons;
-use ep_advice::{Advice, ExplainFault, Kept, Reasons, Subcommand, explain_script, push_section, subcommand_of};
+use ep_advice::{
+    Advice, ExplainFault, Kept, Reasons, Subcommand, explain_script, push_section, subcommand_of,
+};
 use ep_base::Source;
 use ep_bundle::{Bundle, BundleFault, read_bundle};
 use ep_report::AuditFault;
@@ -30,10 +32,7 @@ const AHEAD: usize = 65_536;
 /// First comes what the reader or an audit says: `bundle refused ..`, where they are no bundle; `verdict accepted`, and nothing
 /// else; or `verdict refused`, and then all faults in the audit's order, of which the first is the audit's. Under each fault
 /// stand its reasons, a line each, indented by two spaces. Of a script see `explain_script`.
-pub fn explain<S: Source>(
-    alloc: Global,
-    source: &mut Kept<S>,
-) -> Result<Explained, ExplainFault>
+pub fn explain<S: Source>(alloc: Global, source: &mut Kept<S>) -> Result<Explained, ExplainFault>
     ensures told { (bytes : List ℕ) → known_left S.left source.old ≡ Some bytes → IfOk result (λ told. IsExplained bytes told.finding told.text.items) }
     ensures failed { FailsAsTold is_read_failed result (S.has_failed source.old.source) (S.has_failed source.new.source) }
 {
@@ -76,10 +75,7 @@ fn script_finding(is_read: bool) -> Finding
 }
 
 /// What is told of bytes that are taken for a bundle.
-fn explain_bytes<S: Source>(
-    alloc: Global,
-    source: &mut Kept<S>,
-) -> Result<Explained, ExplainFault>
+fn explain_bytes<S: Source>(alloc: Global, source: &mut Kept<S>) -> Result<Explained, ExplainFault>
     ensures told { (bytes : List ℕ) → known_left S.left source.old ≡ Some bytes → IfOk result (λ told. IsExplained bytes told.finding told.text.items) }
     ensures failed { FailsAsTold is_read_failed result (S.has_failed source.old.source) (S.has_failed source.new.source) }
 {

@@ -180,7 +180,7 @@ fn add_lines(
         let words = plan.shown(*shapes.allocator(), *node, members.len())?;
         let down = LINE.saturating_mul(line as u64).saturating_add(FIRST);
         let at = Point {
-            x: corner.x.saturating_add(9),
+            x: corner.x.saturating_add(7),
             y: corner.y.saturating_add(down),
         };
         add_words(shapes, Look::Plain, at, words)?;

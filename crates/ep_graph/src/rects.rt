@@ -5,11 +5,11 @@ use ep_svg::Point;
 use std::alloc::{AllocError, Global};
 
 /// How high a line in a box is.
-pub(crate) const LINE: u64 = 20;
+pub(crate) const LINE: u64 = 16;
 /// How far below a box's upper edge its first line stands.
-pub(crate) const FIRST: u64 = 19;
+pub(crate) const FIRST: u64 = 16;
 /// How far apart rows of boxes are.
-pub(crate) const GAP: u64 = 18;
+pub(crate) const GAP: u64 = 14;
 /// How far apart the lanes are in which arrows pass boxes.
 pub(crate) const LANE: u64 = 7;
 /// How many lanes a part has that has any.
@@ -81,7 +81,7 @@ fn extent_of(alloc: Global, plan: &Plan<'_>, members: &[usize]) -> Result<Point,
         most = plan.shown(alloc, *node, members.len())?.len().max(most);
     }
     Ok(Point {
-        x: (most as u64).saturating_mul(29) / 4 + 18,
+        x: (most as u64).saturating_mul(29) / 4 + 14,
         y: height_for(members.len()),
     })
 }
@@ -156,7 +156,7 @@ fn place_rows(
             row: 0,
             lane: 0,
         })?;
-        x = x.saturating_add(extent.x).saturating_add(14);
+        x = x.saturating_add(extent.x).saturating_add(8);
     }
     Ok(())
 }
@@ -242,7 +242,7 @@ impl Band {
             Band {
                 at: Point {
                     x: LEFT,
-                    y: self.bottom.saturating_add(30),
+                    y: self.bottom.saturating_add(24),
                 },
                 bottom: self.bottom,
             }
@@ -255,7 +255,7 @@ impl Band {
     fn after(self, extent: Point) -> Band {
         Band {
             at: Point {
-                x: self.at.x.saturating_add(extent.x).saturating_add(16),
+                x: self.at.x.saturating_add(extent.x).saturating_add(8),
                 y: self.at.y,
             },
             bottom: self.at.y.saturating_add(extent.y).max(self.bottom),
