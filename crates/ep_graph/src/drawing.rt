@@ -106,19 +106,28 @@ fn above(place: Place) -> Point {
     }
 }
 
-// Draws an arrow that passes rows of boxes, from here: beside them, in this lane.
+// Draws an arrow that passes rows of boxes, from here: up to the gap above, over to this lane, beside the boxes up to the gap below the other box,
+// and over to that.
 fn add_way(shapes: &mut Vec<Shape>, from: Point, to: Place, lane: u64) -> Result<(), AllocError> {
-    let low = Point {
-        x: lane,
+    let end = to.bottom();
+    let out = Point {
+        x: from.x,
         y: from.y.saturating_sub(GAP / 2),
     };
+    let low = Point { x: lane, y: out.y };
     let high = Point {
         x: lane,
-        y: to.bottom().y.saturating_add(GAP / 2),
+        y: end.y.saturating_add(GAP / 2),
     };
-    add_piece(shapes, Look::Life, from, low)?;
+    let below = Point {
+        x: end.x,
+        y: high.y,
+    };
+    add_piece(shapes, Look::Life, from, out)?;
+    add_piece(shapes, Look::Life, out, low)?;
     add_piece(shapes, Look::Life, low, high)?;
-    add_piece(shapes, Look::Needs, high, to.bottom())
+    add_piece(shapes, Look::Life, high, below)?;
+    add_piece(shapes, Look::Needs, below, end)
 }
 
 // Draws an arrow from a box to another one above it. It runs between rows and beside boxes, and so through none.
