@@ -1,9 +1,10 @@
 //! What is told of bytes that are to be a bundle.
 
-ghost use Rattle.std.specs.Prelude.{◌≡◌, ◌++◌, ℕ, List, Some, IfOk, OnOk};
+ghost use Rattle.std.specs.Prelude.{◌≡◌, ◌++◌, ℕ, List, Some, IfOk, IfErr, OnOk};
 ghost use Rattle.ep_base.specs.Devices.{FailsAsTold, tells};
 ghost use Rattle.ep_bundle.specs.Reading.{is_read_failed as is_bundle_unread};
 ghost use Rattle.ep_advice.specs.Kept.{is_read_failed, known_left};
+ghost use Rattle.ep_advice.specs.declared.explain_fault.ExplainFault.TheVariants.{Memory};
 ghost use Rattle.ep_explain.specs.Explained.{IsExplained, IsJudged, IsNoBundle, IsRefusalTold, IsVerdictTold, script_finding};
 ghost use Rattle.ep_explain.specs.Sections.{AreTold, fault_section};
 ghost use Rattle.ep_report.specs.Reports.{text_of};
@@ -80,7 +81,7 @@ fn explain_bytes<S: Source>(alloc: Global, source: &mut Kept<S>) -> Result<Expla
     ensures failed { FailsAsTold is_read_failed result (S.has_failed source.old.source) (S.has_failed source.new.source) }
 {
     match read_bundle(alloc, source) {
-        Ok(bundle) => Ok(explain_bundle(alloc, &bundle)?),
+        Ok(bundle) => explain_bundle(alloc, &bundle),
         Err(fault) => explain_refusal(alloc, source.bytes(), fault),
     }
 }
@@ -137,11 +138,12 @@ fn refusal_reasons(
 }
 
 /// What is told of a bundle.
-fn explain_bundle(alloc: Global, bundle: &Bundle) -> Result<Explained, AllocError>
-    ensures { IfOk result (λ told. IsJudged bundle.now.journals bundle.now.receipts.items told.finding told.text.items) }
+fn explain_bundle(alloc: Global, bundle: &Bundle) -> Result<Explained, ExplainFault>
+    ensures told { IfOk result (λ told. IsJudged bundle.now.journals bundle.now.receipts.items told.finding told.text.items) }
+    ensures memory { IfErr result (λ e. e ≡ Memory) }
 {
     let found = faults(alloc, &bundle.journals, &bundle.receipts)?;
-    tell_verdict(alloc, bundle, &found)
+    Ok(tell_verdict(alloc, bundle, &found)?)
 }
 
 /// What an audit says that finds these faults, and the reasons.

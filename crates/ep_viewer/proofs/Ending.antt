@@ -20,7 +20,9 @@ use Rattle.ep_viewer.specs.Views.{Does, IsCrowded, IsMany, IsNever, IsView, View
 use Rattle.ep_view.specs.Shown.{IsShown}
 use Rattle.ep_words.specs.declared.part.Part.{Part}
 use Rattle.ep_viewer.specs.declared.asked.Asked.{Asked}
-use Rattle.ep_viewer.specs.declared.asked.Asked.TheVariants.{Show, Draw}
+use Rattle.ep_viewer.specs.declared.asked.Asked.TheVariants.{Show, Draw, Page, Events}
+use Rattle.ep_events.specs.Files.{IsTraceFile}
+use Rattle.ep_page.specs.Pages.{IsPage}
 use Rattle.ep_draw.specs.Drawn.{IsDrawn, IsTooMany, IsRefused}
 use Rattle.ep_draw.specs.declared.draw_fault.DrawFault.{DrawFault}
 use Rattle.ep_draw.specs.declared.draw_fault.DrawFault.TheVariants as draw
@@ -99,6 +101,15 @@ pub drawn_as_asked :
     (asked : Asked) (part : Part) (r : Result Status Fault) (zs : List ℕ) (out : Output) → asked ≡ Draw part →
     Views (λ journals text. IsDrawn journals part text) (λ count journals. IsTooMany journals part count) r zs out → Does asked r zs out
 drawn_as_asked asked part r zs out is views = subst (λ (a : Asked). Does a r zs out) (sym is) views
+
+pub paged_as_asked :
+    (asked : Asked) (part : Part) (r : Result Status Fault) (zs : List ℕ) (out : Output) → asked ≡ Page part → Views (λ journals text. IsPage journals part text) IsNever r zs out → Does asked r zs out
+paged_as_asked asked part r zs out is views = subst (λ (a : Asked). Does a r zs out) (sym is) views
+
+pub events_as_asked :
+    (asked : Asked) (part : Part) (r : Result Status Fault) (zs : List ℕ) (out : Output) → asked ≡ Events part →
+    Views (λ journals text. IsTraceFile journals part text) IsNever r zs out → Does asked r zs out
+events_as_asked asked part r zs out is views = subst (λ (a : Asked). Does a r zs out) (sym is) views
 
 -- an output on which nothing was put
 pub nothing_put : (held : Option (List ℕ)) (had has : Bool) → WroteNothing (output held held had has)
