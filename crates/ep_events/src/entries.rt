@@ -33,11 +33,7 @@ fn happened_words(alloc: Global, entry: &Entry) -> Result<Vec<u8>, AllocError>
     Ok(words)
 }
 
-fn push_slice_head(
-    text: &mut Vec<u8>,
-    replica: ReplicaId,
-    entry: &Entry,
-) -> Result<(), AllocError>
+fn push_slice_head(text: &mut Vec<u8>, replica: ReplicaId, entry: &Entry) -> Result<(), AllocError>
     ensures { OnOk result (text.new.items ≡ text.old.items ++ slice_head replica entry.now) }
 {
     let words = event_words(*text.allocator(), &entry.event)?;
@@ -61,11 +57,7 @@ fn push_slice_words(text: &mut Vec<u8>, entry: &Entry) -> Result<(), AllocError>
     text.extend_from_slice(b"}}")
 }
 
-fn push_slice(
-    text: &mut Vec<u8>,
-    replica: ReplicaId,
-    entry: &Entry,
-) -> Result<(), AllocError>
+fn push_slice(text: &mut Vec<u8>, replica: ReplicaId, entry: &Entry) -> Result<(), AllocError>
     ensures { OnOk result (text.new.items ≡ text.old.items ++ slice_text replica entry.now) }
 {
     push_slice_head(text, replica, entry)?;
@@ -113,11 +105,7 @@ fn push_enters(
 }
 
 // Appends the arrow of the frame that the entry handles, if it handles one.
-fn push_arrow(
-    text: &mut Vec<u8>,
-    replica: ReplicaId,
-    entry: &Entry,
-) -> Result<(), AllocError>
+fn push_arrow(text: &mut Vec<u8>, replica: ReplicaId, entry: &Entry) -> Result<(), AllocError>
     ensures { OnOk result (text.new.items ≡ text.old.items ++ arrow_of replica entry.now entry.now.event) }
 {
     match &entry.event {
@@ -129,6 +117,7 @@ fn push_arrow(
     }
 }
 
+#[tactic(auto, using(crate::proofs::Fronts::front))]
 fn begins_commit(words: &[u8]) -> bool
     ensures { result ≡ bytes_eq (take 7 words.now) (codes "Commit ") }
 {

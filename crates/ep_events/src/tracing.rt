@@ -78,7 +78,9 @@ fn push_processes(text: &mut Vec<u8>, count: u8) -> Result<(), AllocError>
 fn push_opening(text: &mut Vec<u8>, count: u8) -> Result<(), AllocError>
     ensures { OnOk result (text.new.items ≡ text.old.items ++ opening count) }
 {
-    text.extend_from_slice(b"{\"traceEvents\":[\n{\"ph\":\"M\",\"name\":\"process_sort_index\",\"pid\":0,\"tid\":0,\"args\":{\"sort_index\":0}}")?;
+    text.extend_from_slice(
+        b"{\"traceEvents\":[\n{\"ph\":\"M\",\"name\":\"process_sort_index\",\"pid\":0,\"tid\":0,\"args\":{\"sort_index\":0}}",
+    )?;
     push_processes(text, count)
 }
 
@@ -87,11 +89,7 @@ fn push_opening(text: &mut Vec<u8>, count: u8) -> Result<(), AllocError>
 /// An arrow leads from where each handled frame says that it was sent to where it is handled. Instants tell where an instance is committed, and
 /// where a frame is sent that no entry of any journal handles.
 #[tactic(auto, using(crate::proofs::Traced::is_traced))]
-pub fn trace_events(
-    alloc: Global,
-    journals: &Journals,
-    part: &Part,
-) -> Result<Vec<u8>, AllocError>
+pub fn trace_events(alloc: Global, journals: &Journals, part: &Part) -> Result<Vec<u8>, AllocError>
     ensures { IfOk result (λ text. IsTraceFile journals.now part.now text.items) }
 {
     journals.are_journals();
