@@ -1,6 +1,12 @@
 -- What is told of bytes, by what is read of them and which faults are found.
 use Rattle.std.proofs.Common.{◌≡◌, ℕ, ◌+◌, ◌<◌, List, [], ◌∷◌, ◌++◌, length, take, get_or, append-nil, append_assoc, Option, Result, Ok, Err, IfOk, sym, ap, subst, ◌∙◌}
 use Rattle.std.proofs.lemmas.List.{take_more}
+use Rattle.std.specs.Prelude.{Bool, ◌||◌, IfErr, None, Some}
+use Rattle.std.specs.Io.KnownBytes.{Keeps}
+use Rattle.ep_advice.specs.Kept.{is_read_failed}
+use Rattle.ep_advice.specs.declared.explain_fault.ExplainFault.{ExplainFault}
+use Rattle.ep_advice.specs.declared.explain_fault.ExplainFault.TheVariants as explain
+use Rattle.ep_base.specs.Devices.{FailsAsTold, tells}
 use Rattle.ep_bundle.specs.Contents.{contents_of}
 use Rattle.ep_bundle.specs.Journals.{Contents, Finds, ReadsBundle}
 use Rattle.ep_bundle.specs.declared.bundle.Bundle.{Bundle}
@@ -32,6 +38,21 @@ pub judged_if :
     IfOk r (λ told. IsJudged b.journals b.receipts.items told.finding told.text.items) → IfOk r (λ told. IsExplained zs told.finding told.text.items)
 judged_if left zs b (Err x) q told = tt
 judged_if left zs b (Ok t) q told = let f = q.1 in read (contents_of b) (record { at = q.0; bytes = f.0 }) f.2 told
+
+-- a source's own fault, told or not
+
+pub told_so : {A : Type 0} (r : Result A ExplainFault) (had has told : Bool) → tells is_read_failed r ≡ told → has ≡ (told || had) → FailsAsTold is_read_failed r had has
+told_so r had has told is flag = flag ∙ ap (λ (b : Bool). b || had) (sym is)
+
+pub untold : {A : Type 0} (r : Result A ExplainFault) (had has : Bool) → IfErr r (λ e. e ≡ explain.Memory) → has ≡ had → FailsAsTold is_read_failed r had has
+untold (Ok a) had has memory same = same
+untold (Err e) had has memory same = same ∙ ap (λ (b : Bool). b || had) (sym (ap is_read_failed memory))
+
+-- what is known of a source stays known
+pub kept_known : (a b : Option (List ℕ)) (zs : List ℕ) → Keeps a b → a ≡ Some zs → b ≡ Some zs
+kept_known None b zs kept known = let s : None ≡ Some zs = known in absurd (cc)
+kept_known (Some x) None zs kept known = absurd kept
+kept_known (Some x) (Some y) zs kept known = ap (λ (l : List ℕ). Some l) kept ∙ known
 
 -- The first k faults, after what the text held.
 

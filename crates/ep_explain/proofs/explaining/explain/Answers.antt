@@ -1,12 +1,8 @@
-use Rattle.std.proofs.Common.{Some, ap}
-use Rattle.ep_explain.proofs.Telling.{refused_if, judged_if}
+use Rattle.ep_explain.proofs.Telling.{kept_known}
 use Rattle.ep_explain.proofs.explaining.explain.Goals as goal
 
-pub returns-in-Ok : goal.returns-in-Ok
-returns-in-Ok c =
-    judged_if _ c.args.bytes.now c.in-Ok.bundle c.explain_bundle.result (c.in-Ok.ensures.bytes c.args.bytes.now (ap (λ w. Some w.inner.now) c.new.ensures)) c.explain_bundle.ensures
+pub returns-in-Some-clause-told : goal.returns-in-Some-clause-told
+returns-in-Some-clause-told g c bytes known = c.explain_as.ensures.told bytes (kept_known _ _ bytes c.in_ok-look_ahead.ensures.left known)
 
-pub returns-in-Err : goal.returns-in-Err
-returns-in-Err c =
-    refused_if _ c.args.bytes.now c.in-Err.fault c.explain_refusal.result (c.in-Err.ensures.bytes c.args.bytes.now (ap (λ w. Some w.inner.now) c.new.ensures))
-    c.explain_refusal.ensures.told c.explain_refusal.ensures.named
+pub returns-in-None-clause-told : goal.returns-in-None-clause-told
+returns-in-None-clause-told g c bytes known = c.explain_bytes.ensures.told bytes (kept_known _ _ bytes c.in_ok-look_ahead.ensures.left known)
