@@ -7,6 +7,7 @@ texts, and what is refused here, are the programs' own.
 
 import os
 import re
+import shlex
 import sys
 
 TOP = os.path.dirname(os.path.dirname(os.path.realpath(__file__)))
@@ -68,12 +69,12 @@ class Command:
         found = re.findall(r"^  (?:    |-\w, )--([\w-]+)(?: <([^>]+)>)?(?:\.\.\.)?(?:  .*)?$", text, re.M)
         self.options = {option: Option(option, value) for option, value in found}
         self.usage, self.needed = usage, re.findall(r"(?<!\[)--([\w-]+)", usage)
-        self.words = re.findall(r" (<\w+>)(?:\.\.\.)?$", usage)
+        self.words = re.findall(r"(<\w+>)\.\.\.$", usage)
         self.repeated = {"receipts"}
 
     def usage_with(self, given):
         """The usage where these options are given, in the order of the help."""
-        wanted = [it.shown for name, it in self.options.items() if name in given or name in self.needed]
+        wanted = [it.shown for name, it in self.options.items() if name != "help" and (name in given or name in self.needed)]
         return " ".join([f"epaxos {self.name}", *wanted, *(f"{it}..." for it in self.words)])
 
     def read(self, words):
@@ -86,10 +87,8 @@ class Command:
                 break
             if word in ("--help", "-h"):
                 raise Helped
-            if word.startswith("--"):
-                at = self.read_option(word, words, at, given)
-            elif word.startswith("-") and (len(word) > 1 or not self.words):
-                raise unexpected(word if len(word) < 3 else word[:2], self.usage)
+            if is_option(word):
+                at = self.read_option(word, words, at, given, plain)
             else:
                 plain.append(word)
                 if not self.words:
@@ -101,21 +100,17 @@ class Command:
             raise Refused("the following required arguments were not provided:\n" + "".join(f"  {it}\n" for it in lacking) + f"\nUsage: {self.usage_with(given)}\n")
         return given
 
-    def read_option(self, word, words, at, given):
+    def read_option(self, word, words, at, given, plain):
         """Reads an option, and its value where it has one, and returns the place of the next word."""
         name, equals, value = word[2:].partition("=")
-        option = self.options.get(name)
-        if not option or name == "help":
-            near = nearest(name, [it for it in self.options])
-            if not near:
-                raise unexpected(f"--{name}", self.usage)
-            used = {*given, *([] if near == "help" else [near])}
-            raise unexpected(f"--{name}", self.usage_with(used), f"a similar argument exists: '--{near}'")
+        option = self.known(word)
+        if not option:
+            raise self.unknown(word, given, plain)
         if option.value and not equals:
-            if at == len(words) or words[at].startswith("-") and len(words[at]) > 1 and not self.is_odd(words[at]):
+            if at < len(words) and is_option(words[at]) and not self.known(words[at]) and words[at] != "-h":
+                raise self.unknown(words[at], given, plain)
+            if at == len(words) or is_option(words[at]):
                 raise Refused(f"a value is required for '{option.shown}' but none was supplied\n")
-            if self.is_odd(words[at]):
-                raise unexpected(words[at][:2], self.usage)
             value, at = words[at], at + 1
         elif equals and not option.value:
             raise Refused(f"unexpected value '{value}' for '{option.shown}' found; no more were expected\n\nUsage: {self.usage_with({*given, name})}\n")
@@ -124,14 +119,28 @@ class Command:
         given[name] = value
         return at
 
-    def is_odd(self, word):
-        """Whether a word is a short option that the command hasn't."""
-        return len(word) > 1 and word[0] == "-" and word[1] not in "-h"
+    def known(self, word):
+        """The option that a word of the command line names, or none."""
+        return self.options.get(word[2:].partition("=")[0]) if word.startswith("--") else None
+
+    def unknown(self, word, given, plain):
+        """The refusal of an option that the command hasn't."""
+        word = word.partition("=")[0] if word.startswith("--") else word[:2]
+        near = nearest(word[2:], list(self.options)) if word.startswith("--") else None
+        if near:
+            return unexpected(word, self.usage_with({*given, near}), f"a similar argument exists: '--{near}'")
+        tip = f"to pass '{word}' as a value, use '-- {word}'" if self.words else ""
+        return unexpected(word, self.usage_with(given) if plain else self.usage, tip)
+
+
+def is_option(word):
+    """Whether a word of a command line is an option."""
+    return word.startswith("-") and len(word) > 1
 
 
 def unexpected(word, usage, tip=""):
     """The refusal of a word."""
-    return Refused(f"unexpected argument '{word}' found\n" + tip * 0 + (f"\n  tip: {tip}\n" if tip else "") + f"\nUsage: {usage}\n")
+    return Refused(f"unexpected argument '{word}' found\n" + (f"\n  tip: {tip}\n" if tip else "") + f"\nUsage: {usage}\n")
 
 
 def tip_of_file(command, word):
@@ -179,12 +188,11 @@ def of_top(words):
     if not words:
         return f"'epaxos' requires a subcommand but one was not provided\n  [subcommands: {', '.join(every)}]\n\nUsage: epaxos <COMMAND>\n"
     word = words[0]
-    is_option = word.startswith("-") and len(word) > 1
-    first = f"unexpected argument '{word}' found" if is_option else f"unrecognized subcommand '{word}'"
+    first = f"unexpected argument '{word}' found" if is_option(word) else f"unrecognized subcommand '{word}'"
     command, own = nearest(word, every), nearest(word.strip("-"), [it[2:] for it in OWN])
     if os.path.isfile(word):
         tip = tip_of_file(command_for(word), word)
-    elif command and not is_option:
+    elif command and not is_option(word):
         tip = f"a similar subcommand exists: '{command}'"
     else:
         tip = f"a similar argument exists: '--{own}'" if own else ""
@@ -204,6 +212,8 @@ def refusal(words):
 
 def check(command, given):
     """Refuses a value that an option hasn't."""
+    if "graph" in given and {*given} & {it for it, *_ in PART}:
+        raise Refused("with '--graph' no part is kept\n")
     for option, is_value, wanted in VALUES.get(command, ()):
         if option in given and not is_value(given[option]):
             raise Refused(wanted.format(value=quoted(given[option]), shown=f"--{option}"))
@@ -256,8 +266,18 @@ VALUES = {
     ),
     "show": PART,
     "draw": PART,
-    "node": (("replicas", *listed("N", "3", "5", "7")),),
+    "node": (("replicas", *listed("N", "3", "5", "7")), ("sync", *listed("WHEN", "each", "asked"))),
 }
+
+
+def explained(words, status, said):
+    """The line that leads to `explain`, where a script, a bundle or an audit refuses, as `./epaxos` adds it on a terminal; else nothing."""
+    is_refused = words[0] != "explain" and re.match("(script|bundle) refused", said)
+    if not os.isatty(2) or not (is_refused or words[0] == "audit" and status == 1):
+        return ""
+    path = os.path.realpath("/dev/stdin")
+    file = os.path.relpath(path) if os.path.isfile(path) else "FILE"
+    return f"see: epaxos explain < {shlex.quote(file)}\n"
 
 
 def tell(text, status):
