@@ -1,4 +1,4 @@
-#!/usr/bin/env python3
+#!/usr/bin/env -S python3 -SsE
 """What the words of a command line come to before any program is run: as the programs themselves read them, by what their help tells.
 
 tools/help/NAME is what `epaxos NAME --help` prints, and `tools/help/commands` which program each command is of. tools/help-texts looks whether those
@@ -212,6 +212,8 @@ def refusal(words):
 
 def check(command, given):
     """Refuses a value that an option hasn't."""
+    if {"graph", "page"} <= {*given}:
+        raise Refused("'--graph' and '--page' don't go together\n")
     if "graph" in given and {*given} & {it for it, *_ in PART}:
         raise Refused("with '--graph' no part is kept\n")
     for option, is_value, wanted in VALUES.get(command, ()):
