@@ -384,19 +384,19 @@ def drawn():
     """As much as is drawn, and one more: of entries, which are recoveries of one instance, and of instances, which are gets, each committed."""
     made, recoveries = ["replay", "--emit", "bundle", "|", "draw"], b"replicas 3\n" + b"recover 1 0.1\n" * 2001
     gets = b"replicas 3\n" + b"propose 0 7 get x\n" * 2000 + b"flush\n" * 3
-    told = b"too many to draw: 2001, and 2000 at most; --from and --to keep a part of a diagram\n"
+    told = b"too many to draw: 2001, and 2000 at most; --from, --to, --instance and --replica keep a part of a diagram, and --page shows all\n"
     yield dict(name="2,001 entries, drawn", words=made, given=recoveries, told=told, status=2)
     yield dict(name="2,000 of them, drawn", words=[*made, "--to", "2000"], given=recoveries, says=["1:1 recover 0.1", "1:2000 recover 0.1"], is_picture=True)
     yield dict(name="2,001 instances, drawn", words=[*made, "--graph"], given=gets + flushed(b"propose 1 7 get x"), told=told, status=2)
     # words beside a row, and in a box: of 120 bytes all stand there, of 121 the first 120
-    for ways, before, behind in (([], "0:1 propose put k ", " (client 1 request 1 seen 0); took 0.1"), (["--graph"], "0.1 put k ", " seq 1")):
+    for ways, before, behind in (([], "0:1 propose put k ", " (client 1 request 1 seen 0); took 0.1"), (["--graph"], "0.1 put k ", "")):
         for length in (120, 121):
             value = "v" * (length - len(before + behind))
             words = f">{before}{value}{behind}"
             stands = f"{words}</text>" if length == 120 else f"{words[:121]}...</text>"
             given = f"replicas 3\npropose 0 1 put k {value}\nflush\nflush\n".encode()
             yield dict(name=f"words of {length} bytes, {' '.join(made[4:] + ways)}", words=[*made, *ways], given=given, wanted=b"<svg ", is_begun=True, says=[stands])
-    yield dict(name="2,000 instances, drawn", words=[*made, "--graph"], given=gets, says=["0.1 get x seq 1", "0.2000 get x seq 1"], is_picture=True)
+    yield dict(name="2,000 instances, drawn", words=[*made, "--graph"], given=gets, says=["0.1 get x", "0.2000 get x"], is_picture=True)
 
 
 def every():

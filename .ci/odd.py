@@ -143,7 +143,7 @@ def played():
         yield dict(name=f"odd bytes, {what}: a run, shown", words=[*made, "show"], given=script, wanted=shown.encode())
         yield dict(name=f"odd bytes, {what}: a run, explained", words=[*made, "explain"], given=script, wanted=b"verdict accepted\n")
         yield dict(name=f"odd bytes, {what}: a run, drawn", words=[*made, "draw"], given=script, says=told, is_picture=True)
-        lines = [it if len(it) <= 120 else f"{it[:120]}..." for it in (f"0.1 {put} seq 1", f"0.2 {get} seq 2")]
+        lines = [it if len(it) <= 120 else f"{it[:120]}..." for it in (f"0.1 {put}", f"0.2 {get}")]
         yield dict(name=f"odd bytes, {what}: a run, drawn as a graph", words=[*made, "draw", "--graph"], given=script, says=lines, is_picture=True)
         yield dict(name=f"odd bytes, {what}: a run, traced", words=["replay", "--emit", "trace"], given=script, wanted=events(put, get, value_word).encode())
 

@@ -10,11 +10,11 @@ A row is a folder .ci/rows/NAME with files, each of which may lack:
   redirect   the shell's redirections of the last run
   files      a folder: files that lie where the runs are; NAME.hex is NAME, in hexadecimal
   stdout stderr status     what is wanted: nothing, nothing and 0 where there is no such file; stdout.gz: packed
-PROGRAM is ep_main as it was built; what begins with `node` or `collect` is run by ep_server, and what begins with `show`, `explain`
-or `draw`, and traces, by ep_viewer, which were built as it was. Runs of `epaxos node` on one log, and its bundle, are made here.
+PROGRAM is ep_main as it was built; what begins with `node` or `collect` is run by ep_server, and what begins with `show`, `explain`,
+`draw` or `trace-events`, and traces, by ep_viewer, which were built as it was. Runs of `epaxos node` on one log, and its bundle, are made here.
 More rows are made of the scripts and reports in docs/FORMATS.md, examples/ and .ci/scripts/ (NAME.script is played, NAME.run is run
 by both hosts, and where there is a NAME.trace or a NAME.svg, NAME.script is traced
-or drawn), and by .ci/made.py, .ci/words.py, .ci/cases.py and .ci/odd.py.
+or drawn), and by .ci/made.py, .ci/words.py, .ci/cases.py, .ci/odd.py and .ci/faults.py.
 """
 
 import gzip
@@ -36,7 +36,7 @@ TAGS = {"svg", "title", "style", "defs", "marker", "path", "rect", "g", "line", 
 
 def program_of(program, words):
     """The program that is run with these words: ep_server or ep_viewer for its own, as ep_main was built."""
-    own = {"node": "ep_server", "collect": "ep_server", "show": "ep_viewer", "explain": "ep_viewer", "draw": "ep_viewer"}
+    own = {"node": "ep_server", "collect": "ep_server", "show": "ep_viewer", "explain": "ep_viewer", "draw": "ep_viewer", "trace-events": "ep_viewer"}
     if words[:1] == ["replay"] and ("--emit=trace" in words or ["--emit", "trace"] in [words[at : at + 2] for at in range(len(words))]):
         return program.replace("ep_main", "ep_viewer")
     return program.replace("ep_main", own.get(words[0], "ep_main") if words else "ep_main")
@@ -219,12 +219,13 @@ def every():
     """All rows."""
     sys.path.insert(0, f"{TOP}/.ci")
     import cases
+    import faults
     import made
     import odd
     import words
 
     yield from stored()
-    yield from (Row(**it) for it in (*words.every(), *cases.every(), *odd.every()))
+    yield from (Row(**it) for it in (*words.every(), *cases.every(), *odd.every(), *faults.every()))
     yield from written()
     for name, script, report in (*made.every(), *cases.played()):
         yield from played(name, script, report)

@@ -1,6 +1,7 @@
 //! What stands around the dots of a diagram: what it is, the replicas' lines, and at the right of each row what happened, in
 //! words.
 
+use crate::commits::add_commit;
 use crate::layout::row_y;
 use crate::scene::Scene;
 use crate::words::told;
@@ -172,6 +173,7 @@ fn add_row(
 ) -> Result<(), AllocError> {
     add_stamp(shapes, row, entry)?;
     add_guide(shapes, scene, row)?;
+    add_commit(shapes, scene, row, replica, entry)?;
     let words = shown(*shapes.allocator(), replica, entry)?;
     let at = Point {
         x: scene.layout().words(),

@@ -4,6 +4,7 @@
 //! no contract. `ep_svg` writes all text.
 #![tactic(auto)]
 
+mod commits;
 mod dots;
 mod draw_fault;
 mod drawing;

@@ -7,6 +7,7 @@ pub(crate) const WIDTH: u64 = 900;
 pub(crate) const STYLE: &[u8] = b">
 <title>Space-time diagram</title>
 <style>
+svg{max-width:100%;height:auto}
 text{font:12px ui-monospace,'DejaVu Sans Mono',Menlo,Consolas,monospace;fill:#222;white-space:pre}
 .title{font-size:16px;font-weight:bold}
 .head{font-weight:bold;text-anchor:middle;font-size:13px}
@@ -46,8 +47,27 @@ text{font:12px ui-monospace,'DejaVu Sans Mono',Menlo,Consolas,monospace;fill:#22
 .prepareok.leaves path{marker-end:url(#prepareok-out)}
 .nack.leaves path{marker-end:url(#nack-out)}
 .lost path{marker-end:url(#lost)}
+.fast{fill:#c9ecd9;stroke:#0a7a4b;stroke-width:2}
+.slow{fill:#fbe0c8;stroke:#a04a00;stroke-width:2}
+.recovered{fill:#e8d6f3;stroke:#7a2ea0;stroke-width:2}
 .fault{color:#d00000}
 .fault path{stroke-width:3.5;marker-end:url(#fault)}
+svg:not(:has(>.preaccept)) .k1{display:none}
+svg:not(:has(>.preacceptok)) .k2{display:none}
+svg:not(:has(>.accept)) .k3{display:none}
+svg:not(:has(>.acceptok)) .k4{display:none}
+svg:not(:has(>.commit)) .k5{display:none}
+svg:not(:has(>.prepare)) .k6{display:none}
+svg:not(:has(>.prepareok)) .k7{display:none}
+svg:not(:has(>.nack)) .k8{display:none}
+svg:not(:has(>.lost)) .k9{display:none}
+svg:not(:has(>.leaves,>.enters)) .k10{display:none}
+svg:not(:has(>.fault,>.ring)) .k11{display:none}
+svg:not(:has(>.giveup,>.recover)) .k14{display:none}
+svg:not(:has(>.execute)) .k15{display:none}
+svg:not(:has(>.fast)) .k16{display:none}
+svg:not(:has(>.slow)) .k17{display:none}
+svg:not(:has(>.recovered)) .k18{display:none}
 </style>
 <defs>
 <marker id='preaccept' markerUnits='userSpaceOnUse' markerWidth='12' markerHeight='10' refX='18' refY='5' orient='auto'><path d='M0 0L11 5L0 10z' fill='#0b62a8'/></marker>
@@ -74,20 +94,23 @@ text{font:12px ui-monospace,'DejaVu Sans Mono',Menlo,Consolas,monospace;fill:#22
 
 /// The key: what lines and dots mean.
 pub(crate) const KEY: &[u8] = b"<g>
-<g class='frame preaccept leaves'><path d='M24 104H98'/></g><g class='label preaccept'><text x='54' y='108'>PA</text></g><text x='108' y='108'>PreAccept</text>
-<g class='frame preacceptok leaves'><path d='M236 104H310'/></g><g class='label preacceptok'><text x='266' y='108'>PAok</text></g><text x='320' y='108'>PreAcceptOK</text>
-<g class='frame accept leaves'><path d='M448 104H522'/></g><g class='label accept'><text x='478' y='108'>A</text></g><text x='532' y='108'>Accept</text>
-<g class='frame acceptok leaves'><path d='M660 104H734'/></g><g class='label acceptok'><text x='690' y='108'>Aok</text></g><text x='744' y='108'>AcceptOK</text>
-<g class='frame commit leaves'><path d='M24 130H98'/></g><g class='label commit'><text x='54' y='134'>C</text></g><text x='108' y='134'>Commit</text>
-<g class='frame prepare leaves'><path d='M236 130H310'/></g><g class='label prepare'><text x='266' y='134'>P</text></g><text x='320' y='134'>Prepare</text>
-<g class='frame prepareok leaves'><path d='M448 130H522'/></g><g class='label prepareok'><text x='478' y='134'>Pok</text></g><text x='532' y='134'>PrepareOK</text>
-<g class='frame nack leaves'><path d='M660 130H734'/></g><g class='label nack'><text x='690' y='134'>N</text></g><text x='744' y='134'>Nack</text>
-<g class='frame nack lost'><path d='M24 156H88' style='stroke-dasharray:none'/></g><text x='108' y='160'>never handled</text>
-<g class='frame nack leaves'><path d='M236 156H276' style='stroke-dasharray:none'/></g><text x='320' y='160'>not in this part</text>
-<g class='frame fault'><path d='M448 156H510'/></g><circle class='ring' cx='510' cy='156' r='11'/><circle class='dot handle' cx='510' cy='156' r='6'/><text x='532' y='160'>the audit's fault</text>
-<circle class='dot propose' cx='86' cy='182' r='6'/><text x='108' y='186'>propose</text>
-<circle class='dot handle' cx='298' cy='182' r='6'/><text x='320' y='186'>handle a frame</text>
-<circle class='dot recover' cx='510' cy='182' r='6'/><text x='532' y='186'>give up, recover</text>
-<circle class='dot execute' cx='722' cy='182' r='6'/><text x='744' y='186'>execute</text>
+<g class='k1'><g class='frame preaccept leaves'><path d='M24 104H98'/></g><g class='label preaccept'><text x='54' y='108'>PA</text></g><text x='108' y='108'>PreAccept</text></g>
+<g class='k2'><g class='frame preacceptok leaves'><path d='M236 104H310'/></g><g class='label preacceptok'><text x='266' y='108'>PAok</text></g><text x='320' y='108'>PreAcceptOK</text></g>
+<g class='k3'><g class='frame accept leaves'><path d='M448 104H522'/></g><g class='label accept'><text x='478' y='108'>A</text></g><text x='532' y='108'>Accept</text></g>
+<g class='k4'><g class='frame acceptok leaves'><path d='M660 104H734'/></g><g class='label acceptok'><text x='690' y='108'>Aok</text></g><text x='744' y='108'>AcceptOK</text></g>
+<g class='k5'><g class='frame commit leaves'><path d='M24 130H98'/></g><g class='label commit'><text x='54' y='134'>C</text></g><text x='108' y='134'>Commit</text></g>
+<g class='k6'><g class='frame prepare leaves'><path d='M236 130H310'/></g><g class='label prepare'><text x='266' y='134'>P</text></g><text x='320' y='134'>Prepare</text></g>
+<g class='k7'><g class='frame prepareok leaves'><path d='M448 130H522'/></g><g class='label prepareok'><text x='478' y='134'>Pok</text></g><text x='532' y='134'>PrepareOK</text></g>
+<g class='k8'><g class='frame nack leaves'><path d='M660 130H734'/></g><g class='label nack'><text x='690' y='134'>N</text></g><text x='744' y='134'>Nack</text></g>
+<g class='k9'><g class='frame nack lost'><path d='M24 156H88' style='stroke-dasharray:none'/></g><text x='108' y='160'>never handled</text></g>
+<g class='k10'><g class='frame nack leaves'><path d='M236 156H276' style='stroke-dasharray:none'/></g><text x='320' y='160'>not in this part</text></g>
+<g class='k11'><g class='frame fault'><path d='M448 156H510'/></g><circle class='ring' cx='510' cy='156' r='11'/><circle class='dot handle' cx='510' cy='156' r='6'/><text x='532' y='160'>the audit's fault</text></g>
+<g class='k12'><circle class='dot propose' cx='86' cy='182' r='6'/><text x='108' y='186'>propose</text></g>
+<g class='k13'><circle class='dot handle' cx='298' cy='182' r='6'/><text x='320' y='186'>handle a frame</text></g>
+<g class='k14'><circle class='dot recover' cx='510' cy='182' r='6'/><text x='532' y='186'>give up, recover</text></g>
+<g class='k15'><circle class='dot execute' cx='722' cy='182' r='6'/><text x='744' y='186'>execute</text></g>
+<g class='k16'><rect class='fast' x='75' y='197' width='22' height='22' rx='6'/><circle class='dot handle' cx='86' cy='208' r='6'/><text x='108' y='212'>committed, fast</text></g>
+<g class='k17'><rect class='slow' x='287' y='197' width='22' height='22' rx='6'/><circle class='dot handle' cx='298' cy='208' r='6'/><text x='320' y='212'>committed, slow</text></g>
+<g class='k18'><rect class='recovered' x='499' y='197' width='22' height='22' rx='6'/><circle class='dot handle' cx='510' cy='208' r='6'/><text x='532' y='212'>committed, recovered</text></g>
 </g>
 ";

@@ -1,5 +1,5 @@
--- What is told of bytes that are to be a bundle.
-use Rattle.std.specs.Prelude.{◌≡◌, ℕ, List, [], ◌∷◌, ◌++◌, Ok, Err, codes}
+-- What is told of bytes that are to be a bundle or a script.
+use Rattle.std.specs.Prelude.{◌≡◌, ℕ, Bool, true, false, List, [], ◌∷◌, ◌++◌, Ok, Err, codes}
 use Rattle.ep_bundle.specs.Journals.{Contents, ReadsBundle}
 use Rattle.ep_bundle.specs.Reading.{Left}
 use Rattle.ep_bundle.specs.Texts.{fault_text as refusal_text}
@@ -10,9 +10,12 @@ use Rattle.ep_report.specs.Reports.{text_of}
 use Rattle.ep_report.specs.declared.audit_fault.AuditFault.{AuditFault}
 use Rattle.ep_rules.specs.declared.receipt.Receipt.{Receipt}
 use Rattle.ep_explain.specs.Faults.{all_faults, IsFirst}
-use Rattle.ep_explain.specs.Sections.{section, AreTold}
+use Rattle.ep_advice.specs.Advice.{IsAdvice, refused_at}
+use Rattle.ep_advice.specs.Sections.{section}
+use Rattle.ep_advice.specs.declared.subcommand.Subcommand.{Subcommand}
+use Rattle.ep_explain.specs.Sections.{AreTold}
 use Rattle.ep_explain.specs.declared.finding.Finding.{Finding}
-use Rattle.ep_explain.specs.declared.finding.Finding.TheVariants.{Accepted, Refused, Unreadable}
+use Rattle.ep_explain.specs.declared.finding.Finding.TheVariants.{Accepted, Refused, Unreadable, Script}
 
 -- a fault of the bytes themselves
 abbrev pub IsNoBundle : BundleFault → Type 0
@@ -41,8 +44,16 @@ pub record IsJudged (c : Collected) (ts : List Receipt) (finding : Finding) (tex
 abbrev pub unread : List ℕ → Left
 unread bytes = record { at = 0; bytes = bytes }
 
+abbrev pub script_finding : Bool → Finding
+script_finding true = Script
+script_finding false = Unreadable
+
 pub data IsExplained (bytes : List ℕ) (finding : Finding) (text : List ℕ) : Type 0 where
   -- they are no bundle
   unreadable : (e : BundleFault) → ReadsBundle (unread bytes) (Err e) → IsRefusalTold e finding text → IsExplained bytes finding text
   -- they are a bundle
   read : (c : Contents) (rest : Left) → ReadsBundle (unread bytes) (Ok (c, rest)) → IsJudged c.0 c.1 finding text → IsExplained bytes finding text
+  -- they are taken for a script for this subcommand
+  script :
+      (subcommand : Subcommand) (is_read : Bool) → IsAdvice subcommand (refused_at subcommand bytes) is_read text → finding ≡ script_finding is_read →
+      IsExplained bytes finding text

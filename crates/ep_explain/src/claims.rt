@@ -4,7 +4,7 @@ ghost use Rattle.ep_journal.specs.Entries.{AreJournals};
 
 use crate::handled::{add_clock, push_entry};
 use crate::lookups::{entries_of, entry_at, is_request, proposal_in};
-use crate::reasons::Reasons;
+use ep_advice::Reasons;
 use ep_base::{Answer, InstanceId, ReplicaId};
 use ep_journal::{Entry, Event, Journals};
 use ep_report::{push_answer, push_instance, push_number};

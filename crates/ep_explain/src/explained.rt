@@ -2,7 +2,7 @@
 
 use crate::finding::Finding;
 
-/// What is found of bytes that are to be a bundle, and why, in words.
+/// What is found of bytes that are to be a bundle or a script, and why, in words.
 #[derive(Drop)]
 pub struct Explained {
     pub finding: Finding,

@@ -1,7 +1,10 @@
 //! What is told of bytes that are to be a bundle.
 
-ghost use Rattle.std.specs.Prelude.{◌≡◌, ◌++◌, ℕ, List, IfOk, OnOk};
-ghost use Rattle.ep_explain.specs.Explained.{IsExplained, IsJudged, IsNoBundle, IsRefusalTold, IsVerdictTold};
+ghost use Rattle.std.specs.Prelude.{◌≡◌, ◌++◌, ℕ, List, Some, IfOk, OnOk};
+ghost use Rattle.ep_base.specs.Devices.{FailsAsTold, tells};
+ghost use Rattle.ep_bundle.specs.Reading.{is_read_failed as is_bundle_unread};
+ghost use Rattle.ep_advice.specs.Kept.{is_read_failed, known_left};
+ghost use Rattle.ep_explain.specs.Explained.{IsExplained, IsJudged, IsNoBundle, IsRefusalTold, IsVerdictTold, script_finding};
 ghost use Rattle.ep_explain.specs.Sections.{AreTold, fault_section};
 ghost use Rattle.ep_report.specs.Reports.{text_of};
 
@@ -11,31 +14,105 @@ use crate::finding::Finding;
 use crate::grammar::field_reasons;
 use crate::handled::handling_reasons;
 use crate::listing::faults;
-use crate::reasons::{Reasons, push_section};
 use crate::stepping::step_reasons;
-use ep_base::Noted;
+use ep_advice::{Advice, ExplainFault, Kept, Reasons, Subcommand, explain_script, push_section, subcommand_of};
+use ep_base::Source;
 use ep_bundle::{Bundle, BundleFault, read_bundle};
 use ep_report::AuditFault;
 use std::alloc::{AllocError, Global};
 
-/// What is found of these bytes, and why, in words.
+/// How many bytes are looked at before it is known what they are.
+const AHEAD: usize = 65_536;
+
+/// What is found of the bytes of a source, and why, in words. They are taken for a script by their first 65,536 bytes, as `subcommand_of` says, or
+/// else for a bundle. Past the first field or line at fault nothing is read, so a source without an end is explained too.
 ///
 /// First comes what the reader or an audit says: `bundle refused ..`, where they are no bundle; `verdict accepted`, and nothing
 /// else; or `verdict refused`, and then all faults in the audit's order, of which the first is the audit's. Under each fault
-/// stand its reasons, a line each, indented by two spaces.
-pub fn explain(alloc: Global, bytes: &[u8]) -> Result<Explained, AllocError>
-    ensures { IfOk result (λ told. IsExplained bytes.now told.finding told.text.items) }
+/// stand its reasons, a line each, indented by two spaces. Of a script see `explain_script`.
+pub fn explain<S: Source>(
+    alloc: Global,
+    source: &mut Kept<S>,
+) -> Result<Explained, ExplainFault>
+    ensures told { (bytes : List ℕ) → known_left S.left source.old ≡ Some bytes → IfOk result (λ told. IsExplained bytes told.finding told.text.items) }
+    ensures failed { FailsAsTold is_read_failed result (S.has_failed source.old.source) (S.has_failed source.new.source) }
 {
-    match read_bundle(alloc, &mut Noted::new(bytes)) {
-        Ok(bundle) => explain_bundle(alloc, &bundle),
-        Err(fault) => explain_refusal(alloc, bytes, fault),
+    source.look_ahead(AHEAD)?;
+    match taken_for(source.bytes()) {
+        Some(subcommand) => explain_as(alloc, subcommand, source),
+        None => explain_bytes(alloc, source),
+    }
+}
+
+/// For which subcommand's script these bytes are taken.
+fn taken_for(bytes: Option<&[u8]>) -> Option<Subcommand> {
+    subcommand_of(bytes?)
+}
+
+/// What is told of a script.
+fn explain_as<S: Source>(
+    alloc: Global,
+    subcommand: Subcommand,
+    source: &mut Kept<S>,
+) -> Result<Explained, ExplainFault>
+    ensures told { (bytes : List ℕ) → known_left S.left source.old ≡ Some bytes → IfOk result (λ told. IsExplained bytes told.finding told.text.items) }
+    ensures failed { FailsAsTold is_read_failed result (S.has_failed source.old.source) (S.has_failed source.new.source) }
+{
+    let Advice { is_read, text } = explain_script(alloc, subcommand, source)?;
+    Ok(Explained {
+        finding: script_finding(is_read),
+        text,
+    })
+}
+
+fn script_finding(is_read: bool) -> Finding
+    ensures { result ≡ script_finding is_read }
+{
+    if is_read {
+        Finding::Script
+    } else {
+        Finding::Unreadable
+    }
+}
+
+/// What is told of bytes that are taken for a bundle.
+fn explain_bytes<S: Source>(
+    alloc: Global,
+    source: &mut Kept<S>,
+) -> Result<Explained, ExplainFault>
+    ensures told { (bytes : List ℕ) → known_left S.left source.old ≡ Some bytes → IfOk result (λ told. IsExplained bytes told.finding told.text.items) }
+    ensures failed { FailsAsTold is_read_failed result (S.has_failed source.old.source) (S.has_failed source.new.source) }
+{
+    match read_bundle(alloc, source) {
+        Ok(bundle) => Ok(explain_bundle(alloc, &bundle)?),
+        Err(fault) => explain_refusal(alloc, source.bytes(), fault),
     }
 }
 
 /// What is told where the reader refuses the bytes.
-fn explain_refusal(alloc: Global, bytes: &[u8], fault: BundleFault) -> Result<Explained, AllocError>
+fn explain_refusal(
+    alloc: Global,
+    bytes: Option<&[u8]>,
+    fault: BundleFault,
+) -> Result<Explained, ExplainFault>
     ensures told { IfOk result (λ told. IsRefusalTold fault told.finding told.text.items) }
     ensures named { IfOk result (λ _. IsNoBundle fault) }
+    ensures failed { tells is_read_failed result ≡ is_bundle_unread fault }
+{
+    match fault {
+        BundleFault::Memory => Err(ExplainFault::Memory),
+        BundleFault::ReadFailed => Err(ExplainFault::ReadFailed),
+        BundleFault::BadBundle(_) => Ok(tell_refusal(alloc, bytes, fault)?),
+        BundleFault::NotARun(_, _) => Ok(tell_refusal(alloc, bytes, fault)?),
+    }
+}
+
+fn tell_refusal(
+    alloc: Global,
+    bytes: Option<&[u8]>,
+    fault: BundleFault,
+) -> Result<Explained, AllocError>
+    ensures { IfOk result (λ told. IsRefusalTold fault told.finding told.text.items) }
 {
     let reasons = refusal_reasons(alloc, bytes, fault)?;
     let line = fault.to_string(alloc)?;
@@ -47,13 +124,17 @@ fn explain_refusal(alloc: Global, bytes: &[u8], fault: BundleFault) -> Result<Ex
     })
 }
 
-/// Why the reader refuses the bytes. Memory isn't told as a reason.
-fn refusal_reasons(alloc: Global, bytes: &[u8], fault: BundleFault) -> Result<Reasons, AllocError>
-    ensures { IfOk result (λ _. IsNoBundle fault) }
-{
+/// Why the reader refuses the bytes. Memory and reading aren't told as reasons.
+fn refusal_reasons(
+    alloc: Global,
+    bytes: Option<&[u8]>,
+    fault: BundleFault,
+) -> Result<Reasons, AllocError> {
+    let Some(bytes) = bytes else {
+        return Err(AllocError);
+    };
     match fault {
-        BundleFault::Memory => Err(AllocError),
-        BundleFault::ReadFailed => Err(AllocError),
+        BundleFault::Memory | BundleFault::ReadFailed => Err(AllocError),
         BundleFault::BadBundle(place) => field_reasons(alloc, bytes, place),
         BundleFault::NotARun(replica, entry) => step_reasons(alloc, bytes, replica, entry),
     }

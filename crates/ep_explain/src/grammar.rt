@@ -2,11 +2,11 @@
 
 use crate::allowed::Allowed;
 use crate::field::Field;
-use crate::reasons::Reasons;
 use crate::region::Region;
 use crate::spot::Spot;
 use crate::stop::Stop;
 use crate::walk::{Walk, number_of};
+use ep_advice::{Reasons, is_text};
 use ep_report::push_number;
 use ep_script::push_word;
 use std::alloc::{AllocError, Global};
@@ -25,10 +25,14 @@ pub(crate) fn field_reasons(
     place: u64,
 ) -> Result<Reasons, AllocError> {
     let mut reasons = Reasons::new(alloc);
+    if is_text(bytes) {
+        add_text(bytes, &mut reasons)?;
+        return Ok(reasons);
+    }
     let mut walk = Walk::new(bytes, place);
     match pass_bundle(&mut walk) {
         Err(Stop::At(spot)) => add_spot(alloc, spot, walk.rest(), &mut reasons)?,
-        Err(Stop::Past) | Ok(()) => add_left(alloc, walk.rest(), &mut reasons)?,
+        Err(Stop::Past) | Ok(()) => add_left(&mut reasons)?,
     }
     Ok(reasons)
 }
@@ -161,6 +165,32 @@ fn pass_receipt(walk: &mut Walk<'_>, terms: Terms) -> Result<(), Stop> {
     pass_answer(walk)
 }
 
+/// What the text is that was given for a bundle.
+fn name_of(bytes: &[u8]) -> &'static [u8] {
+    if bytes.starts_with(b"verdict ") {
+        b"found: a report, as replay, run and audit print it"
+    } else if bytes.starts_with(b"stamp ") {
+        b"found: entries in words, as show prints them"
+    } else if bytes.starts_with(b"line ") {
+        b"found: a trace, as replay --emit trace prints it"
+    } else if bytes.starts_with(b"<") {
+        b"found: a picture or a page, as draw prints it"
+    } else if bytes.starts_with(b"{") {
+        b"found: trace events, as trace-events prints them, or other JSON"
+    } else {
+        b"found: text, of which no line near its beginning begins with a word of scripts, as replicas or propose"
+    }
+}
+
+/// What to do where text was given for a bundle, and what the text is.
+fn add_text(bytes: &[u8], reasons: &mut Reasons) -> Result<(), AllocError> {
+    reasons.say(
+        b"do: give explain a bundle, as `epaxos replay --emit bundle` and `epaxos collect` write it, or a script",
+    )?;
+    reasons.say(b"likely: another file or another program's output was given")?;
+    reasons.say(name_of(bytes))
+}
+
 /// What to do, what it usually means, and the field: what it may be, and what it is.
 fn add_spot(
     alloc: Global,
@@ -234,13 +264,10 @@ fn push_found(line: &mut Vec<u8>, spot: Spot, rest: &[u8]) -> Result<(), AllocEr
 }
 
 /// The bundle is over, and bytes are left.
-fn add_left(alloc: Global, rest: &[u8], reasons: &mut Reasons) -> Result<(), AllocError> {
+fn add_left(reasons: &mut Reasons) -> Result<(), AllocError> {
     add_cure(reasons)?;
     reasons.say(
         b"likely: something was appended to the bundle, or a count before this place was changed",
     )?;
-    let left = rest.len();
-    reasons.tell(format!(in alloc;
-        "found: {left} bytes after the last receipt, where the bundle is over"
-    )?)
+    reasons.say(b"found: a byte or more after the last receipt, where the bundle is over")
 }

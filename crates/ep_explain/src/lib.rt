@@ -1,7 +1,7 @@
-//! Why a bundle is refused, in words.
+//! Why a bundle or a script is refused, in words.
 //!
-//! A program that shows bundles calls `explain`, whose first line is that of the reader or of the audit. Then come all
-//! faults, each with its reasons: what to do, what usually brings it about, what stands where, and what differs. An audit stops
+//! A program that shows bundles calls `explain`, whose first line is that of the reader or of the audit. Of scripts `ep_advice` tells. Of a bundle
+//! all faults come then, each with its reasons: what to do, what usually brings it about, what stands where, and what differs. An audit stops
 //! at its first fault; `faults` tells all of them, in the audit's order.
 //!
 //! Start with `explaining.rt` and specs/Explained.antt. `handled.rt` and `claims.rt` tell of what an audit refuses,
@@ -23,7 +23,6 @@ mod grammar;
 mod handled;
 mod listing;
 mod lookups;
-mod reasons;
 mod region;
 mod side;
 mod spot;

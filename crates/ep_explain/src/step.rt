@@ -4,10 +4,10 @@ ghost use Rattle.std.specs.Prelude.{IfSome};
 ghost use Rattle.ep_journal.specs.Leaving.{MarksNext};
 
 use crate::frames::{push_difference, push_frame, push_frame_fault, push_told};
-use crate::reasons::Reasons;
 use crate::side::Side;
 use crate::told::Told;
 use bytes::Bytes;
+use ep_advice::Reasons;
 use ep_base::{Answer, InstanceId, Stamp};
 use ep_bundle::Draft;
 use ep_frame::{Frame, FrameFault};

@@ -8,7 +8,7 @@ use crate::graph_fault::GraphFault;
 use crate::layers::Layers;
 use crate::plan::Plan;
 use crate::reach::Reach;
-use crate::rects::{LINE, Place, place_boxes};
+use crate::rects::{FIRST, GAP, LANE, LANES, LINE, Place, place_boxes};
 use crate::style::STYLE;
 use ep_journal::Journals;
 use ep_report::push_number;
@@ -62,17 +62,17 @@ fn add_heading(shapes: &mut Vec<Shape>, count: usize) -> Result<(), AllocError> 
     add_words(shapes, Look::Title, Point { x: 24, y: 28 }, title)?;
     add_plain(
         shapes,
-        52,
+        50,
         b"Execution goes from the top down. An arrow points to what an instance depends on; an arrow that others imply is left out.",
     )?;
     add_plain(
         shapes,
-        70,
+        67,
         b"Instances in one box depend on each other, and are executed in this order: by seq, and then by instance.",
     )?;
     add_plain(
         shapes,
-        88,
+        84,
         b"A dashed box is an instance that isn't committed: what points to it can't be executed yet.",
     )
 }
@@ -87,14 +87,57 @@ fn place_of(places: &[Place], node: usize) -> Option<Place> {
     None
 }
 
-// Draws an arrow from a box to another one above it.
-fn add_arrow(shapes: &mut Vec<Shape>, from: Place, to: Place) -> Result<(), AllocError> {
-    shapes.push(Shape::Line {
-        look: Look::Needs,
-        from: from.top(),
-        to: to.bottom(),
-    })?;
+// Draws a piece of an arrow, with its head or without.
+fn add_piece(
+    shapes: &mut Vec<Shape>,
+    look: Look,
+    from: Point,
+    to: Point,
+) -> Result<(), AllocError> {
+    shapes.push(Shape::Line { look, from, to })?;
     Ok(())
+}
+
+/// The point in this box's middle on its row's upper edge.
+fn above(place: Place) -> Point {
+    Point {
+        x: place.top().x,
+        y: place.row,
+    }
+}
+
+// Draws an arrow that passes rows of boxes, from here: beside them, in this lane.
+fn add_way(shapes: &mut Vec<Shape>, from: Point, to: Place, lane: u64) -> Result<(), AllocError> {
+    let low = Point {
+        x: lane,
+        y: from.y.saturating_sub(GAP / 2),
+    };
+    let high = Point {
+        x: lane,
+        y: to.bottom().y.saturating_add(GAP / 2),
+    };
+    add_piece(shapes, Look::Life, from, low)?;
+    add_piece(shapes, Look::Life, low, high)?;
+    add_piece(shapes, Look::Needs, high, to.bottom())
+}
+
+// Draws an arrow from a box to another one above it. It runs between rows and beside boxes, and so through none.
+fn add_arrow(
+    shapes: &mut Vec<Shape>,
+    from: Place,
+    to: Place,
+    count: usize,
+) -> Result<(), AllocError> {
+    let start = above(from);
+    if from.top().y != start.y {
+        add_piece(shapes, Look::Life, from.top(), start)?;
+    }
+    if from.layer <= to.layer.saturating_add(1) {
+        return add_piece(shapes, Look::Needs, start, to.bottom());
+    }
+    let place = (count as u64) % LANES;
+    let lane = from.lane.saturating_add(LANE.saturating_mul(place));
+    add_way(shapes, start, to, lane)
 }
 
 fn add_arrows(
@@ -102,10 +145,10 @@ fn add_arrows(
     edges: &[(usize, usize)],
     places: &[Place],
 ) -> Result<(), AllocError> {
-    for (from, to) in edges {
+    for (count, (from, to)) in edges.iter().enumerate() {
         if let Some(from) = place_of(places, *from) {
             if let Some(to) = place_of(places, *to) {
-                add_arrow(shapes, from, to)?;
+                add_arrow(shapes, from, to, count)?;
             }
         }
     }
@@ -135,9 +178,9 @@ fn add_lines(
 ) -> Result<(), AllocError> {
     for (line, node) in members.iter().enumerate() {
         let words = plan.shown(*shapes.allocator(), *node, members.len())?;
-        let down = LINE.saturating_mul(line as u64).saturating_add(20);
+        let down = LINE.saturating_mul(line as u64).saturating_add(FIRST);
         let at = Point {
-            x: corner.x.saturating_add(12),
+            x: corner.x.saturating_add(9),
             y: corner.y.saturating_add(down),
         };
         add_words(shapes, Look::Plain, at, words)?;
@@ -188,7 +231,6 @@ fn width_of(places: &[Place]) -> u64 {
 fn add_graph(shapes: &mut Vec<Shape>, plan: &Plan<'_>, places: &[Place]) -> Result<(), AllocError> {
     add_heading(shapes, plan.committed.len())?;
     add_boxes(shapes, plan, places)?;
-    // An arrow goes over the boxes between, so that it doesn't seem to begin at one of them.
     add_arrows(shapes, &plan.layers.edges, places)?;
     add_all_lines(shapes, plan, places)
 }

@@ -57,7 +57,7 @@ impl<'a> Plan<'a> {
         Ok(words)
     }
 
-    /// The line of a node: its instance, its command and its seq, and what it depends on where it isn't alone.
+    /// The line of a node: its instance and its command, and its seq and what it depends on where it isn't alone.
     fn told(&self, alloc: Global, node: usize, whole: bool) -> Result<Vec<u8>, AllocError> {
         let mut words = Vec::new(alloc);
         let Some(instance) = self.reach.nodes().get(node) else {
@@ -75,9 +75,9 @@ impl<'a> Plan<'a> {
 fn push_decree(words: &mut Vec<u8>, decree: &Decree, whole: bool) -> Result<(), AllocError> {
     words.push(b' ')?;
     push_command(words, &decree.command)?;
-    words.extend_from_slice(b" seq ")?;
-    push_number(words, u64::from(decree.attrs.seq.number()))?;
     if whole {
+        words.extend_from_slice(b" seq ")?;
+        push_number(words, u64::from(decree.attrs.seq.number()))?;
         words.extend_from_slice(b" deps ")?;
         push_deps(words, &decree.attrs.deps)?;
     }

@@ -1,26 +1,39 @@
-//! Where the boxes of components stand.
+//! Where the boxes of components stand: a column for each part of the graph that hangs together.
 
 use crate::plan::Plan;
 use ep_svg::Point;
 use std::alloc::{AllocError, Global};
 
 /// How high a line in a box is.
-pub(crate) const LINE: u64 = 22;
-/// The x at which boxes go on below, in the same layer.
-const RIGHT: u64 = 1000;
-/// The x at which rows of boxes begin.
+pub(crate) const LINE: u64 = 20;
+/// How far below a box's upper edge its first line stands.
+pub(crate) const FIRST: u64 = 19;
+/// How far apart rows of boxes are.
+pub(crate) const GAP: u64 = 18;
+/// How far apart the lanes are in which arrows pass boxes.
+pub(crate) const LANE: u64 = 7;
+/// How many lanes a part has that has any.
+pub(crate) const LANES: u64 = 10;
+/// The x up to which parts stand side by side.
+const RIGHT: u64 = 1376;
+/// The x at which parts begin.
 const LEFT: u64 = 24;
-/// The y of the first row.
-const TOP: u64 = 120;
+/// The y of the first band of parts.
+const TOP: u64 = 104;
 
 /// The box of a component, which is named by its first node.
 #[derive(Clone, Copy)]
 pub(crate) struct Place {
     pub first: usize,
+    pub layer: usize,
     /// Its upper left corner.
     pub at: Point,
     /// How wide and how high it is.
     pub extent: Point,
+    /// The y of its row's upper edge.
+    pub row: u64,
+    /// The x of the first lane beside its part.
+    pub lane: u64,
 }
 
 impl Place {
@@ -32,18 +45,33 @@ impl Place {
         }
     }
 
-    /// The middle of its lower edge.
+    /// The middle of its lower edge, which is its row's.
     pub fn bottom(self) -> Point {
         Point {
             x: self.at.x.saturating_add(self.extent.x / 2),
             y: self.at.y.saturating_add(self.extent.y),
         }
     }
+
+    /// The same box, with its part so far to the right and down, and so wide.
+    fn moved(self, by: Point, width: u64) -> Place {
+        Place {
+            first: self.first,
+            layer: self.layer,
+            at: Point {
+                x: self.at.x.saturating_add(by.x),
+                y: self.at.y.saturating_add(by.y),
+            },
+            extent: self.extent,
+            row: self.row.saturating_add(by.y),
+            lane: by.x.saturating_add(width).saturating_add(8),
+        }
+    }
 }
 
 /// How high a box of so many lines is.
 fn height_for(lines: usize) -> u64 {
-    LINE.saturating_mul(lines as u64).saturating_add(12)
+    LINE.saturating_mul(lines as u64).saturating_add(8)
 }
 
 /// How wide and how high the box of these nodes is.
@@ -53,115 +81,211 @@ fn extent_of(alloc: Global, plan: &Plan<'_>, members: &[usize]) -> Result<Point,
         most = plan.shown(alloc, *node, members.len())?.len().max(most);
     }
     Ok(Point {
-        x: (most as u64).saturating_mul(29) / 4 + 24,
+        x: (most as u64).saturating_mul(29) / 4 + 18,
         y: height_for(members.len()),
     })
 }
 
-/// Where the next box goes, in rows that are so high.
-#[derive(Clone, Copy)]
-struct Pen {
-    at: Point,
-    height: u64,
+/// Lets the nodes of both parts be of one.
+fn join(parts: &mut [usize], one: usize, other: usize) {
+    let (Some(first), Some(second)) = (parts.get(one), parts.get(other)) else {
+        return;
+    };
+    let low = *first.min(second);
+    let high = *first.max(second);
+    if low == high {
+        return;
+    }
+    for part in parts.iter_mut() {
+        if *part == high {
+            *part = low;
+        }
+    }
 }
 
-impl Pen {
-    /// At the start of the next row.
-    fn next_row(self) -> Pen {
-        Pen {
-            at: Point {
-                x: LEFT,
-                y: self.at.y.saturating_add(self.height).saturating_add(52),
-            },
-            height: self.height,
+/// The part of each node, named by a node of it: all nodes that arrows join are of one part.
+fn parts_of(alloc: Global, plan: &Plan<'_>) -> Result<Vec<usize>, AllocError> {
+    let mut parts = Vec::new(alloc);
+    for node in 0..plan.layers.layers.len() {
+        parts.push(plan.reach.first_of(node))?;
+    }
+    for (from, to) in &plan.layers.edges {
+        join(&mut parts, *from, *to);
+    }
+    Ok(parts)
+}
+
+/// The components of a part, each with its layer, in rising order.
+fn components_of(
+    alloc: Global,
+    plan: &Plan<'_>,
+    parts: &[usize],
+    part: usize,
+) -> Result<Vec<(usize, usize)>, AllocError> {
+    let mut found = Vec::new(alloc);
+    for (node, layer) in plan.layers.layers.iter().enumerate() {
+        if parts.get(node) == Some(&part) && plan.reach.first_of(node) == node {
+            found.push((*layer, node))?;
         }
     }
+    found.sort()?;
+    Ok(found)
+}
 
-    /// After a box of this extent.
-    fn after(self, extent: Point) -> Pen {
-        Pen {
-            at: Point {
-                x: self.at.x.saturating_add(extent.x).saturating_add(32),
-                y: self.at.y,
-            },
-            height: self.height,
+/// Places the boxes of these components in one row after another, each beside the last one.
+fn place_rows(
+    alloc: Global,
+    plan: &Plan<'_>,
+    components: &[(usize, usize)],
+    places: &mut Vec<Place>,
+) -> Result<(), AllocError> {
+    let mut x = 0u64;
+    let mut before = None;
+    for (layer, first) in components {
+        if before != Some(*layer) {
+            x = 0;
+        }
+        before = Some(*layer);
+        let members = plan.members(alloc, *first)?;
+        let extent = extent_of(alloc, plan, &members)?;
+        places.push(Place {
+            first: *first,
+            layer: *layer,
+            at: Point { x, y: 0 },
+            extent,
+            row: 0,
+            lane: 0,
+        })?;
+        x = x.saturating_add(extent.x).saturating_add(14);
+    }
+    Ok(())
+}
+
+/// How high the highest of the boxes from this place on is that are of one layer with it.
+fn row_height(places: &[Place], from: usize) -> u64 {
+    let Some(first) = places.get(from) else {
+        return 0;
+    };
+    let mut most = 0;
+    for place in places.iter().skip(from) {
+        if place.layer != first.layer {
+            return most;
+        }
+        most = place.extent.y.max(most);
+    }
+    most
+}
+
+/// Puts the boxes from this place on into their rows, and tells how high all rows are. Boxes stand on their row's lower edge, so that arrows
+/// from below reach them.
+fn stack_rows(places: &mut [Place], from: usize) -> u64 {
+    let mut y = 0u64;
+    let mut height = 0u64;
+    let mut before = None;
+    for at in from..places.len() {
+        let layer = places[at].layer;
+        if before != Some(layer) {
+            if before.is_some() {
+                y = y.saturating_add(height).saturating_add(GAP);
+            }
+            height = row_height(places, at);
+        }
+        before = Some(layer);
+        let place = &mut places[at];
+        place.row = y;
+        place.at.y = y.saturating_add(height.saturating_sub(place.extent.y));
+    }
+    y.saturating_add(height)
+}
+
+/// How wide the boxes from this place on are together.
+fn width_from(places: &[Place], from: usize) -> u64 {
+    let mut most = 0;
+    for place in places.iter().skip(from) {
+        most = place.at.x.saturating_add(place.extent.x).max(most);
+    }
+    most
+}
+
+/// The layer of the component of this first node.
+fn layer_of(plan: &Plan<'_>, node: usize) -> usize {
+    match plan.layers.layers.get(node) {
+        Some(layer) => *layer,
+        None => 0,
+    }
+}
+
+/// Whether an arrow of the part passes a row of boxes.
+fn has_lanes(plan: &Plan<'_>, parts: &[usize], part: usize) -> bool {
+    for (from, to) in &plan.layers.edges {
+        if parts.get(*from) == Some(&part)
+            && layer_of(plan, *from) > layer_of(plan, *to).saturating_add(1)
+        {
+            return true;
         }
     }
+    false
+}
 
-    /// Here, or in the next row where this one is full.
-    fn fitted(self) -> Pen {
-        if self.at.x > RIGHT {
-            self.next_row()
+/// Where the next part goes: in a band of parts side by side.
+#[derive(Clone, Copy)]
+struct Band {
+    at: Point,
+    /// The y below all parts so far.
+    bottom: u64,
+}
+
+impl Band {
+    /// Here, or in the next band where this one has no room for a part that is so wide.
+    fn fitted(self, width: u64) -> Band {
+        if self.at.x > LEFT && self.at.x.saturating_add(width) > RIGHT {
+            Band {
+                at: Point {
+                    x: LEFT,
+                    y: self.bottom.saturating_add(30),
+                },
+                bottom: self.bottom,
+            }
         } else {
             self
         }
     }
 
-    /// Where a box of this extent goes: down to the row's lower edge, so that arrows from below reach it.
-    fn corner(self, extent: Point) -> Point {
-        Point {
-            x: self.at.x,
-            y: self
-                .at
-                .y
-                .saturating_add(self.height.saturating_sub(extent.y)),
+    /// After a part of this extent.
+    fn after(self, extent: Point) -> Band {
+        Band {
+            at: Point {
+                x: self.at.x.saturating_add(extent.x).saturating_add(16),
+                y: self.at.y,
+            },
+            bottom: self.at.y.saturating_add(extent.y).max(self.bottom),
         }
     }
 }
 
-// Places the box of a component.
-fn place_box(
+// Places the boxes of a part.
+fn place_part(
     alloc: Global,
     plan: &Plan<'_>,
-    first: usize,
-    from: Pen,
+    parts: &[usize],
+    part: usize,
     places: &mut Vec<Place>,
-) -> Result<Pen, AllocError> {
-    let pen = from.fitted();
-    let members = plan.members(alloc, first)?;
-    let extent = extent_of(alloc, plan, &members)?;
-    places.push(Place {
-        first,
-        at: pen.corner(extent),
-        extent,
-    })?;
-    Ok(pen.after(extent))
+) -> Result<Point, AllocError> {
+    let from = places.len();
+    let components = components_of(alloc, plan, parts, part)?;
+    place_rows(alloc, plan, &components, places)?;
+    let height = stack_rows(places, from);
+    Ok(Point {
+        x: width_from(places, from),
+        y: height,
+    })
 }
 
-// Whether the node is the first one of a component in this layer.
-fn is_first(plan: &Plan<'_>, layer: usize, node: usize) -> bool {
-    plan.layers.layers.get(node) == Some(&layer) && plan.reach.first_of(node) == node
-}
-
-// How high the highest box of a layer is.
-fn height_of(alloc: Global, plan: &Plan<'_>, layer: usize) -> Result<u64, AllocError> {
-    let mut most = 0;
-    for node in 0..plan.layers.layers.len() {
-        if is_first(plan, layer, node) {
-            most = plan.members(alloc, node)?.len().max(most);
-        }
+// Moves the boxes from this place on, which are all of a part that is so wide.
+fn move_from(places: &mut [Place], from: usize, by: Point, width: u64) {
+    for at in from..places.len() {
+        places[at] = places[at].moved(by, width);
     }
-    Ok(height_for(most))
-}
-
-// Places the boxes of a layer, and answers the y below them.
-fn place_layer(
-    alloc: Global,
-    plan: &Plan<'_>,
-    layer: usize,
-    top: u64,
-    places: &mut Vec<Place>,
-) -> Result<u64, AllocError> {
-    let mut pen = Pen {
-        at: Point { x: LEFT, y: top },
-        height: height_of(alloc, plan, layer)?,
-    };
-    for node in 0..plan.layers.layers.len() {
-        if is_first(plan, layer, node) {
-            pen = place_box(alloc, plan, node, pen, places)?;
-        }
-    }
-    Ok(pen.next_row().at.y)
 }
 
 /// Places the boxes of all components, and answers the y below them.
@@ -170,9 +294,28 @@ pub(crate) fn place_boxes(
     plan: &Plan<'_>,
     places: &mut Vec<Place>,
 ) -> Result<u64, AllocError> {
-    let mut top = TOP;
-    for layer in 0..plan.layers.count() {
-        top = place_layer(alloc, plan, layer, top, places)?;
+    let parts = parts_of(alloc, plan)?;
+    let mut band = Band {
+        at: Point { x: LEFT, y: TOP },
+        bottom: TOP,
+    };
+    for part in 0..parts.len() {
+        if parts.get(part) == Some(&part) {
+            let from = places.len();
+            let extent = place_part(alloc, plan, &parts, part, places)?;
+            let beside = if has_lanes(plan, &parts, part) {
+                LANE.saturating_mul(LANES).saturating_add(8)
+            } else {
+                0
+            };
+            let whole = Point {
+                x: extent.x.saturating_add(beside),
+                y: extent.y,
+            };
+            band = band.fitted(whole.x);
+            move_from(places, from, band.at, extent.x);
+            band = band.after(whole);
+        }
     }
-    Ok(top)
+    Ok(band.bottom.saturating_add(24))
 }

@@ -4,11 +4,13 @@
 pub(crate) const STYLE: &[u8] = b">
 <title>Dependency graph</title>
 <style>
+svg{max-width:100%;height:auto}
 text{font:12px ui-monospace,'DejaVu Sans Mono',Menlo,Consolas,monospace;fill:#222;white-space:pre;paint-order:stroke;stroke:#fff;stroke-opacity:.7;stroke-width:3px;stroke-linejoin:round}
 .title{font-size:16px;font-weight:bold}
 rect{fill:#fff;stroke:#222;stroke-width:1.5}
 .together{fill:#eef4fb;stroke-width:3}
 .missing{stroke-dasharray:5 4;stroke:#777}
+.life{stroke:#555;stroke-width:1.5}
 .needs{stroke:#555;stroke-width:1.5;marker-end:url(#head)}
 </style>
 <defs><marker id='head' markerUnits='userSpaceOnUse' markerWidth='12' markerHeight='10' refX='11' refY='5' orient='auto'><path d='M0 0L11 5L0 10z' fill='#555'/></marker></defs>

@@ -22,4 +22,10 @@ pub enum Look {
     Missing,
     /// A dependency.
     Needs,
+    /// Where an instance is committed on the fast path.
+    Fast,
+    /// Where one is committed on the slow path.
+    Slow,
+    /// Where one is committed that was recovered.
+    Recovered,
 }

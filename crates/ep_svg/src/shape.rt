@@ -51,6 +51,9 @@ fn look_class(look: Look) -> &'static [u8]
         Look::Together => b"together",
         Look::Missing => b"missing",
         Look::Needs => b"needs",
+        Look::Fast => b"fast",
+        Look::Slow => b"slow",
+        Look::Recovered => b"recovered",
     }
 }
 

@@ -2,20 +2,21 @@
 use Rattle.std.proofs.Common.{◌≡◌, ℕ, Bool, true, false, List, Option, Some, None, Result, Ok, Err, ◌++◌, append-nil, refl, sym, ◌∙◌, ap, subst}
 use Rattle.std.specs.Prelude.{◌||◌, IsErrAnd}
 use Rattle.ep_base.specs.Devices.{FailsAsTold}
-use Rattle.std.specs.Io.KnownBytes.{IsAtEnd}
-use Rattle.ep_bundle.specs.Filling.{Begun}
 use Rattle.ep_bundle.specs.Journals.{ReadsBundle, Finds}
 use Rattle.ep_bundle.specs.Reading.{Left, is_read_failed}
+use Rattle.ep_advice.specs.Kept.{is_read_failed as is_explain_read}
+use Rattle.ep_advice.specs.declared.explain_fault.ExplainFault.{ExplainFault}
+use Rattle.ep_advice.specs.declared.explain_fault.ExplainFault.TheVariants as explain
 use Rattle.ep_bundle.specs.declared.bundle_fault.BundleFault.{BundleFault}
 use Rattle.ep_bundle.specs.declared.bundle_fault.BundleFault.TheVariants as bundle
 use Rattle.ep_journal.specs.Entries.{Collected}
 use Rattle.ep_script.specs.Faults.{is_read_failed as is_script_read}
 use Rattle.ep_script.specs.declared.script_fault.ScriptFault.{ScriptFault}
 use Rattle.ep_script.specs.declared.script_fault.ScriptFault.TheVariants as script
-use Rattle.ep_viewer.specs.Faults.{of_bundle, of_diagram, of_graph, of_script, is_read, is_write}
+use Rattle.ep_viewer.specs.Faults.{of_bundle, of_diagram, of_explained, of_graph, of_script, is_read, is_write}
 use Rattle.ep_rules.specs.declared.receipt.Receipt.{Receipt}
 use Rattle.ep_viewer.specs.Outputs.{Output, output, Wrote, WroteNothing}
-use Rattle.ep_viewer.specs.Views.{Does, IsCrowded, IsMany, IsNever, IsShort, IsView, Views, Explains}
+use Rattle.ep_viewer.specs.Views.{Does, IsCrowded, IsMany, IsNever, IsView, Views, Explains}
 use Rattle.ep_view.specs.Shown.{IsShown}
 use Rattle.ep_words.specs.declared.part.Part.{Part}
 use Rattle.ep_viewer.specs.declared.asked.Asked.{Asked}
@@ -153,20 +154,22 @@ graph_not_read d r had has is flag = as_told is_read (of_graph d) false had has 
 pub graph_not_written : {A : Type 0} (d : GraphFault) (r : Result A Fault) (had : Bool) → IsErrAnd r (λ x. x ≡ of_graph d) → FailsAsTold is_write r had had
 graph_not_written d r had is = as_told is_write (of_graph d) false had had r is (write_of_graph d) refl
 
+read_of_explained : (x : ExplainFault) → is_read (of_explained x) ≡ is_explain_read x
+read_of_explained explain.Memory = refl
+read_of_explained explain.ReadFailed = refl
+
+write_of_explained : (x : ExplainFault) → is_write (of_explained x) ≡ false
+write_of_explained explain.Memory = refl
+write_of_explained explain.ReadFailed = refl
+
+pub explained_read : {A : Type 0} (x : ExplainFault) (r : Result A Fault) (had has : Bool) → IsErrAnd r (λ e. e ≡ of_explained x) → has ≡ (is_explain_read x || had) → FailsAsTold is_read r had has
+explained_read x r had has is flag = as_told is_read (of_explained x) (is_explain_read x) had has r is (read_of_explained x) flag
+
+pub explained_not_written : {A : Type 0} (x : ExplainFault) (r : Result A Fault) (had : Bool) → IsErrAnd r (λ e. e ≡ of_explained x) → FailsAsTold is_write r had had
+explained_not_written x r had is = as_told is_write (of_explained x) false had had r is (write_of_explained x) refl
+
 -- what isn't read isn't explained
-stopped_short : (f : Fault) (zs : List ℕ) (out : Output) → IsShort f → WroteNothing out → Explains (Err f) zs out
-stopped_short (Script line) zs out is silent = absurd is
-stopped_short (BadBundle offset) zs out is silent = absurd is
-stopped_short (NotARun replica entry) zs out is silent = absurd is
-stopped_short (TooMany count) zs out is silent = absurd is
-stopped_short Memory zs out is silent = silent
-stopped_short Read zs out is silent = silent
-stopped_short Write zs out is silent = absurd is
-
-pub not_explained : (f : Fault) (r : Result Status Fault) (zs : List ℕ) (out : Output) → IsErrAnd r (λ e. e ≡ f) → IsShort f → WroteNothing out → Explains r zs out
-not_explained f (Ok status) zs out is short silent = absurd is
-not_explained f (Err e) zs out is short silent = subst (λ (x : Fault). Explains (Err x) zs out) (sym is) (stopped_short f zs out short silent)
-
--- a source that is at its end has given all of its bytes
-pub all_given : (zs bs : List ℕ) (left : Option (List ℕ)) → Begun zs bs left → IsAtEnd left → bs ≡ zs
-all_given zs bs left c end = sym (c.2 ∙ ap (λ (l : List ℕ). bs ++ l) (subst (λ (l : Option (List ℕ)). IsAtEnd l) c.1 end) ∙ append-nil bs)
+pub not_explained : (x : ExplainFault) (r : Result Status Fault) (zs : List ℕ) (out : Output) → IsErrAnd r (λ e. e ≡ of_explained x) → WroteNothing out → Explains r zs out
+not_explained x (Ok status) zs out is silent = absurd is
+not_explained explain.Memory (Err e) zs out is silent = subst (λ (f : Fault). Explains (Err f) zs out) (sym is) silent
+not_explained explain.ReadFailed (Err e) zs out is silent = subst (λ (f : Fault). Explains (Err f) zs out) (sym is) silent

@@ -2,6 +2,8 @@
 use Rattle.std.specs.Prelude.{ℕ, Bool, true, false, List, ◌++◌, codes, decimal}
 use Rattle.ep_bundle.specs.declared.bundle_fault.BundleFault.{BundleFault}
 use Rattle.ep_bundle.specs.declared.bundle_fault.BundleFault.TheVariants as bundle
+use Rattle.ep_advice.specs.declared.explain_fault.ExplainFault.{ExplainFault}
+use Rattle.ep_advice.specs.declared.explain_fault.ExplainFault.TheVariants as explain
 use Rattle.ep_draw.specs.declared.draw_fault.DrawFault.{DrawFault}
 use Rattle.ep_draw.specs.declared.draw_fault.DrawFault.TheVariants as draw
 use Rattle.ep_graph.specs.declared.graph_fault.GraphFault.{GraphFault}
@@ -41,7 +43,7 @@ not_a_run replica entry = codes "bundle refused E11 at replica " ++ decimal repl
 
 -- so many entries are asked for, or so many instances are there, more than a picture shows
 abbrev pub too_many : ℕ → List ℕ
-too_many count = codes "too many to draw: " ++ decimal count ++ codes ", and 2000 at most; --from and --to keep a part of a diagram\n"
+too_many count = codes "too many to draw: " ++ decimal count ++ codes ", and 2000 at most; --from, --to, --instance and --replica keep a part of a diagram, and --page shows all\n"
 
 abbrev pub out_of_memory : List ℕ
 out_of_memory = codes "out of memory\n"
@@ -103,6 +105,11 @@ of_script (script.Refused line) = Script line
 of_script script.Memory = Memory
 of_script script.ReadFailed = Read
 
+-- why nothing is explained, as the program's fault
+abbrev pub of_explained : ExplainFault → Fault
+of_explained explain.Memory = Memory
+of_explained explain.ReadFailed = Read
+
 -- a diagram's fault as the program's
 abbrev pub of_diagram : DrawFault → Fault
 of_diagram draw.Memory = Memory
@@ -113,8 +120,9 @@ abbrev pub of_graph : GraphFault → Fault
 of_graph graph.Memory = Memory
 of_graph (graph.TooMany count) = TooMany count
 
--- how the program ends that has explained a bundle
+-- how the program ends that has explained a bundle or a script
 abbrev pub status_found : Finding → Status
 status_found finding.Accepted = Done
 status_found finding.Refused = AuditRefused
 status_found finding.Unreadable = Refused
+status_found finding.Script = Done

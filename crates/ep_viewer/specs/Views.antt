@@ -4,10 +4,12 @@ use Rattle.ep_bundle.specs.Journals.{ReadsBundle}
 use Rattle.ep_bundle.specs.Reading.{Left}
 use Rattle.ep_bundle.specs.declared.bundle_fault.BundleFault.TheVariants as bundle
 use Rattle.ep_draw.specs.Drawn.{IsDrawn, IsTooMany}
+use Rattle.ep_events.specs.Files.{IsTraceFile}
 use Rattle.ep_explain.specs.Explained.{IsExplained}
 use Rattle.ep_explain.specs.declared.finding.Finding.{Finding}
 use Rattle.ep_graph.specs.Graphs.{IsGraphFile}
 use Rattle.ep_journal.specs.Entries.{Collected}
+use Rattle.ep_page.specs.Pages.{IsPage}
 use Rattle.ep_rules.specs.declared.receipt.Receipt.{Receipt}
 use Rattle.ep_script.specs.Plan.{Plan, script_of}
 use Rattle.ep_trace.specs.Traced.{IsTraced}
@@ -17,7 +19,7 @@ use Rattle.ep_base.specs.Devices.{FailsAsTold}
 use Rattle.ep_viewer.specs.Faults.{command_line_refused, out_of_memory, line_of, status_of, status_found, is_read, is_write}
 use Rattle.ep_viewer.specs.Outputs.{Input, Output, Wrote, WroteNothing, Told}
 use Rattle.ep_viewer.specs.declared.asked.Asked.{Asked}
-use Rattle.ep_viewer.specs.declared.asked.Asked.TheVariants.{Show, Columns, Trace, Explain, Draw, Graph, Version, Help}
+use Rattle.ep_viewer.specs.declared.asked.Asked.TheVariants.{Show, Columns, Trace, Explain, Draw, Graph, Page, Events, Version, Help}
 use Rattle.ep_viewer.specs.declared.declined.Declined.{Declined}
 use Rattle.ep_viewer.specs.declared.declined.Declined.TheVariants as declined
 use Rattle.ep_viewer.specs.declared.fault.Fault.{Fault}
@@ -84,17 +86,8 @@ Prints (Err Memory) text out = ⊥
 Prints (Err Read) text out = ⊥
 Prints (Err Write) text out = Unit {0}
 
--- the input wasn't read to its end: reading failed, or memory was refused
-abbrev pub IsShort : Fault → Type 0
-IsShort (Script line) = ⊥
-IsShort (BadBundle offset) = ⊥
-IsShort (NotARun replica entry) = ⊥
-IsShort (TooMany count) = ⊥
-IsShort Memory = Unit {0}
-IsShort Read = Unit {0}
-IsShort Write = ⊥
-
--- What was written says why the bytes are no bundle, or what an audit finds of the bundle that they are; the status says which.
+-- What was written says what the reader of scripts finds of the bytes, or why they are no bundle, or what an audit finds of the bundle that they
+-- are; the status says which.
 pub record IsExplanation (status : Status) (zs : List ℕ) (out : Output) : Type 0 where
   pub finding : Finding
   pub text : List ℕ
@@ -128,6 +121,8 @@ Does (Columns part) outcome zs out = Views IsAnyText IsNever outcome zs out
 Does Explain outcome zs out = Explains outcome zs out
 Does (Draw part) outcome zs out = Views (λ journals text. IsDrawn journals part text) (λ count journals. IsTooMany journals part count) outcome zs out
 Does Graph outcome zs out = Views (λ journals text. IsGraphFile text) IsMany outcome zs out
+Does (Page part) outcome zs out = Views (λ journals text. IsPage journals part text) IsNever outcome zs out
+Does (Events part) outcome zs out = Views (λ journals text. IsTraceFile journals part text) IsNever outcome zs out
 Does Trace outcome zs out = Traces outcome zs out
 Does Version outcome zs out = Prints outcome (codes "epaxos 0.1.0\n") out
 Does (Help text) outcome zs out = Prints outcome (string_bytes text) out

@@ -11,12 +11,16 @@ pub enum Asked {
     Columns(Part),
     /// To trace a script's replay.
     Trace,
-    /// To explain why a bundle is refused.
+    /// To explain why a bundle or a script is refused.
     Explain,
     /// To draw this part of a bundle's journals.
     Draw(Part),
     /// To draw the dependency graph of what a bundle's journals commit.
     Graph,
+    /// To make a page for a browser of this part of a bundle's journals.
+    Page(Part),
+    /// To write this part of a bundle's journals as trace events.
+    Events(Part),
     /// The program's name and its version.
     Version,
     /// Help: this text.

@@ -27,17 +27,19 @@ Exit status:
 
 /// What the help of `explain` says at its end.
 const AFTER_EXPLAIN: &str = "\
-Standard input, to its end, is a bundle, as `replay --emit bundle` writes it. Printed are the lines of the audit or of the reader,
-with all faults and not the first alone, and under each what to do, what usually brings it about, what stands where, and what
-differs. Nothing is printed before the end is read.
+Standard input is a bundle, as `replay --emit bundle` writes it, or a script. Printed are the lines of the audit or of the reader,
+with all faults of a bundle and not the first alone, and under each what to do, what usually brings it about, what stands where, and
+what differs; of a script the line and the word that are refused, what stands there and what may. Nothing is printed before the end
+is read, or the first field or line at fault.
 
 Example:
   epaxos explain < refused.bundle
+  epaxos explain < refused.script
 
 Exit status:
-  0  the audit accepts the bundle
-  1  the audit refuses it
-  2  the command line is refused, and standard error says where; or it is no bundle, and why is printed
+  0  the audit accepts the bundle, or the script is read
+  1  the audit refuses the bundle
+  2  the command line is refused, and standard error says where; or it is no bundle and no script, and why is printed
   3  memory was refused
   4  reading or writing failed";
 
@@ -46,14 +48,32 @@ const AFTER_DRAW: &str = "\
 Standard input, to its end, is a bundle, as `replay --emit bundle` writes it. Printed is one SVG file: a line a replica, a dot an
 event, an arrow from where a frame was sent to where it was handled, a cross where it never was, and in red what the audit finds
 at fault. With --graph: the dependency graph of what is committed, components boxed, without what is implied. More than 2,000
-events or instances are refused: keep a part of the events. Nothing is printed before the end is read.
+events or instances are refused: keep a part of the events, or take --page, which shows 10,000 and more: one HTML file that needs no
+network, with the diagram to zoom and move in, its instances and a box for words. Nothing is printed before the end is read.
 
 Example:
   epaxos replay --emit bundle < examples/one_put.script | epaxos draw > one_put.svg
+  epaxos replay --emit bundle < examples/one_put.script | epaxos draw --page > one_put.html
 
 Exit status:
   0  the picture is printed
   2  the command line or the bundle is refused, or too many events are asked for; standard error says where
+  3  memory was refused
+  4  reading or writing failed";
+
+/// What the help of `trace-events` says at its end.
+const AFTER_EVENTS: &str = "\
+Standard input, to its end, is a bundle, as `replay --emit bundle` writes it. Printed is JSON in the Trace Event Format, which
+https://ui.perfetto.dev and chrome://tracing open: a process a replica, a slice an entry, with its words among its arguments, an
+arrow a frame, an instant where an instance is committed and where a frame is sent that no entry handles. A stamp is a microsecond.
+Nothing is printed before the end is read.
+
+Example:
+  epaxos replay --emit bundle < examples/one_put.script | epaxos trace-events > one_put.json
+
+Exit status:
+  0  the events are printed
+  2  the command line or the bundle is refused; standard error says where
   3  memory was refused
   4  reading or writing failed";
 
@@ -104,6 +124,9 @@ fn asked_by(alloc: Global, matches: &ArgMatches<'_>) -> Result<Asked, Declined> 
     if let Some(options) = matches.subcommand_matches("draw") {
         return drawn_by(alloc, options);
     }
+    if let Some(options) = matches.subcommand_matches("trace-events") {
+        return Ok(Asked::Events(part_of(alloc, options)?));
+    }
     if let Some(options) = matches.subcommand_matches("replay") {
         return traced_by(alloc, options);
     }
@@ -112,8 +135,23 @@ fn asked_by(alloc: Global, matches: &ArgMatches<'_>) -> Result<Asked, Declined> 
 
 /// A graph is of all that is committed, so no part of it is kept.
 fn drawn_by(alloc: Global, options: &ArgMatches<'_>) -> Result<Asked, Declined> {
-    if !options.get_flag("graph") {
-        return Ok(Asked::Draw(part_of(alloc, options)?));
+    if options.get_flag("graph") {
+        return graph_by(alloc, options);
+    }
+    let part = part_of(alloc, options)?;
+    if options.get_flag("page") {
+        Ok(Asked::Page(part))
+    } else {
+        Ok(Asked::Draw(part))
+    }
+}
+
+fn graph_by(alloc: Global, options: &ArgMatches<'_>) -> Result<Asked, Declined> {
+    if options.get_flag("page") {
+        return Err(Declined::Words(String::from_str(
+            alloc,
+            "error: '--graph' and '--page' don't go together\n\nFor more information, try '--help'.\n",
+        )?));
     }
     if ["instance", "replica", "from", "to"]
         .iter()
@@ -131,6 +169,9 @@ fn drawn_by(alloc: Global, options: &ArgMatches<'_>) -> Result<Asked, Declined> 
 fn traced_by(alloc: Global, options: &ArgMatches<'_>) -> Result<Asked, Declined> {
     match options.get_str("emit") {
         Some("trace") => Ok(Asked::Trace),
+        Some(word) if word != "report" && word != "bundle" => Err(Declined::Words(format!(in alloc;
+            "error: invalid value {word:?} for '--emit <WHAT>'\n  [possible values: report, bundle, trace]\n\nFor more information, try '--help'.\n"
+        )?)),
         _ => Err(Declined::Words(String::from_str(
             alloc,
             "error: of a replay, this program prints a trace alone\n\nFor more information, try '--help'.\n",
@@ -233,9 +274,12 @@ fn program<'a>(alloc: Global) -> Result<Command<'a>, AllocError> {
     let show = show_command(alloc)?;
     let replay = replay_command(alloc)?;
     let explain = Command::new(alloc, "explain")
-        .about("Reads a bundle on standard input, and prints why it is refused, in words")
+        .about(
+            "Reads a bundle or a script on standard input, and prints why it is refused, in words",
+        )
         .after_help(AFTER_EXPLAIN);
     let draw = draw_command(alloc)?;
+    let events = events_command(alloc)?;
     let command = Command::new(alloc, "epaxos")
         .about("A replicated key-value core without a leader")
         .version("0.1.0")
@@ -244,6 +288,7 @@ fn program<'a>(alloc: Global) -> Result<Command<'a>, AllocError> {
         .subcommand(show)?
         .subcommand(explain)?
         .subcommand(draw)?
+        .subcommand(events)?
         .subcommand(replay)
 }
 
@@ -268,12 +313,25 @@ fn draw_command<'a>(alloc: Global) -> Result<Command<'a>, AllocError> {
             "Draws the dependency graph of what is committed, of all journals, in place of the diagram",
         )
         .action(ArgAction::SetTrue);
+    let page = Arg::new(alloc, "page")
+        .long("page")
+        .help("Makes a page for a browser, one HTML file, in place of the picture")
+        .action(ArgAction::SetTrue);
     let command = Command::new(alloc, "draw")
         .about(
             "Reads a bundle on standard input, and prints the space-time diagram of its journals, an SVG file",
         )
         .after_help(AFTER_DRAW);
-    parted(alloc, command.arg(graph)?)
+    parted(alloc, command.arg(graph)?.arg(page)?)
+}
+
+fn events_command<'a>(alloc: Global) -> Result<Command<'a>, AllocError> {
+    let command = Command::new(alloc, "trace-events")
+        .about(
+            "Reads a bundle on standard input, and prints its journals as trace events, JSON for Perfetto",
+        )
+        .after_help(AFTER_EVENTS);
+    parted(alloc, command)
 }
 
 fn show_command<'a>(alloc: Global) -> Result<Command<'a>, AllocError> {

@@ -1,10 +1,11 @@
 //! Why the program ends before its work is done.
 
 ghost use Rattle.std.specs.Prelude.{◌≡◌};
-ghost use Rattle.ep_viewer.specs.Faults.{of_bundle, of_diagram, of_graph, of_script, status_of};
+ghost use Rattle.ep_viewer.specs.Faults.{of_bundle, of_diagram, of_explained, of_graph, of_script, status_of};
 ghost use Rattle.ep_viewer.specs.declared.fault.Fault.TheVariants.{Memory, Read, Write};
 
 use crate::status::Status;
+use ep_advice::ExplainFault;
 use ep_base::{ReadFailed, ReplicaId, WriteFailed};
 use ep_bundle::BundleFault;
 use ep_draw::DrawFault;
@@ -66,6 +67,17 @@ impl From<ScriptFault> for Fault {
             ScriptFault::Refused(line) => Fault::Script(line),
             ScriptFault::Memory => Fault::Memory,
             ScriptFault::ReadFailed => Fault::Read,
+        }
+    }
+}
+
+impl From<ExplainFault> for Fault {
+    ghost from_gives = { λ x e. e ≡ of_explained x };
+
+    fn from(fault: ExplainFault) -> Fault {
+        match fault {
+            ExplainFault::Memory => Fault::Memory,
+            ExplainFault::ReadFailed => Fault::Read,
         }
     }
 }

@@ -1,9 +1,9 @@
-//! `epaxos show`, `explain`, `draw` and `replay --emit trace`: runs in words and pictures, for people who look at them.
+//! `epaxos show`, `explain`, `draw`, `trace-events` and `replay --emit trace`: runs in words and pictures, for people who look at them.
 //!
 //! `main` hands the words to `read_words`, in `command_line.rt`, and what they ask for with the standard streams to `perform`, in
 //! `program.rt`, which is all of the program: over any source and sinks, so that its contract can say what the bytes and the
 //! status mean. It does no more than read a bundle and call `ep_view`,
-//! `ep_explain`, `ep_draw` or `ep_graph`, or read a script and call `ep_trace`.
+//! `ep_explain`, `ep_draw`, `ep_graph`, `ep_page` or `ep_events`, or read a script and call `ep_trace`.
 //!
 //! Start with `program.rt` and specs/Views.antt. A fault has one line on the fault output and one status (`fault.rt`,
 //! `telling.rt`, `status.rt`), as docs/FORMATS.md, section 6, lists them.
@@ -16,6 +16,7 @@ mod declined;
 mod drawing;
 mod explaining;
 mod fault;
+mod paging;
 mod program;
 mod showing;
 mod status;
@@ -27,6 +28,7 @@ use crate::command_line::read_words;
 use crate::declined::Declined;
 use crate::program::{decline, perform};
 use crate::status::Status;
+use ep_advice::Kept;
 use ep_base::{Noted, Sink};
 use std::io::{ErrorKind, Read};
 use std::process::ExitCode;
@@ -52,7 +54,7 @@ fn run<R: Env + AllocGlobal, I: Read + Drop, W: Sink, F: Sink>(
     let alloc = rt.alloc();
     let words = words(rt)?;
     let asked = read_words(alloc, words.as_slice())?;
-    let mut reader = read_ahead(alloc, input)?;
+    let mut reader = Kept::new(alloc, read_ahead(alloc, input)?);
     Ok(perform(alloc, &asked, &mut reader, writer, fault_writer))
 }
 

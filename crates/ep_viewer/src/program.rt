@@ -1,6 +1,7 @@
 //! The program, over any source and sinks.
 
 ghost use Rattle.std.specs.Prelude.{◌≡◌, ℕ, List, Some};
+ghost use Rattle.ep_advice.specs.Kept.{known_left};
 ghost use Rattle.ep_base.specs.Devices.{FailsAsTold};
 ghost use Rattle.ep_viewer.specs.Faults.{is_read, is_write};
 ghost use Rattle.ep_viewer.specs.Outputs.{input, output};
@@ -11,10 +12,12 @@ use crate::declined::Declined;
 use crate::drawing::{print_drawn, print_graph};
 use crate::explaining::print_explained;
 use crate::fault::Fault;
+use crate::paging::{print_events, print_page};
 use crate::showing::{print_columns, print_shown};
 use crate::status::Status;
 use crate::telling::{tell, tell_words};
 use crate::tracing::print_trace;
+use ep_advice::Kept;
 use ep_base::{Sink, Source};
 use std::alloc::Global;
 
@@ -23,11 +26,11 @@ use std::alloc::Global;
 pub fn perform<S: Source, W: Sink, F: Sink>(
     alloc: Global,
     asked: &Asked,
-    reader: &mut S,
+    reader: &mut Kept<S>,
     writer: &mut W,
     fault_writer: &mut F,
 ) -> Status
-    ensures { (zs : List ℕ) → S.left reader.old ≡ Some zs → Performs asked.now result zs (input (S.has_failed reader.old) (S.has_failed reader.new))
+    ensures { (zs : List ℕ) → known_left S.left reader.old ≡ Some zs → Performs asked.now result zs (input (S.has_failed reader.old.source) (S.has_failed reader.new.source))
         (output (W.held writer.old) (W.held writer.new) (W.has_failed writer.old) (W.has_failed writer.new))
         (output (F.held fault_writer.old) (F.held fault_writer.new) (F.has_failed fault_writer.old) (F.has_failed fault_writer.new)) }
 {
@@ -39,12 +42,12 @@ pub fn perform<S: Source, W: Sink, F: Sink>(
 fn attempt<S: Source, W: Sink>(
     alloc: Global,
     asked: &Asked,
-    reader: &mut S,
+    reader: &mut Kept<S>,
     writer: &mut W,
 ) -> Result<Status, Fault>
-    ensures done { (zs : List ℕ) → S.left reader.old ≡ Some zs → Does asked.now result zs
+    ensures done { (zs : List ℕ) → known_left S.left reader.old ≡ Some zs → Does asked.now result zs
         (output (W.held writer.old) (W.held writer.new) (W.has_failed writer.old) (W.has_failed writer.new)) }
-    ensures read { FailsAsTold is_read result (S.has_failed reader.old) (S.has_failed reader.new) }
+    ensures read { FailsAsTold is_read result (S.has_failed reader.old.source) (S.has_failed reader.new.source) }
     ensures written { FailsAsTold is_write result (W.has_failed writer.old) (W.has_failed writer.new) }
 {
     match asked {
@@ -53,6 +56,8 @@ fn attempt<S: Source, W: Sink>(
         Asked::Explain => print_explained(alloc, reader, writer),
         Asked::Draw(part) => print_drawn(alloc, part, reader, writer),
         Asked::Graph => print_graph(alloc, reader, writer),
+        Asked::Page(part) => print_page(alloc, part, reader, writer),
+        Asked::Events(part) => print_events(alloc, part, reader, writer),
         Asked::Trace => print_trace(alloc, reader, writer),
         Asked::Version => {
             writer.put(b"epaxos 0.1.0\n")?;

@@ -1,18 +1,22 @@
-use Rattle.std.proofs.Common.{◌≡◌, ◌∙◌, ℕ, List, rules, subst}
-use Rattle.ep_explain.specs.Explained.{IsExplained}
-use Rattle.ep_viewer.proofs.Ending.{not_explained}
+use Rattle.std.proofs.Common.{rules}
+use Rattle.ep_viewer.proofs.Ending.{not_explained, explained_not_written, explained_read}
 use Rattle.ep_viewer.proofs.explaining.print_explained.Goals as goal
 
-pub returns-in_err-bytes-clause-done : goal.returns-in_err-bytes-clause-done
-returns-in_err-bytes-clause-done g c zs known = not_explained c.in_err-bytes.field-0.0 _ zs _ c.from_residual.ensures.1 c.in_err-bytes.ensures.short (search rules)
+pub returns-in_err-told-clause-done : goal.returns-in_err-told-clause-done
+returns-in_err-told-clause-done g c zs known = not_explained c.in_err-told.field-0.0 _ zs _ c.from_residual.ensures.1 (search rules)
+
+pub returns-in_err-told-clause-read : goal.returns-in_err-told-clause-read
+returns-in_err-told-clause-read g c = explained_read c.in_err-told.field-0.0 _ _ _ c.from_residual.ensures.1 c.in_err-told.ensures.failed
+
+pub returns-in_err-told-clause-written : goal.returns-in_err-told-clause-written
+returns-in_err-told-clause-written g c = explained_not_written c.in_err-told.field-0.0 _ _ c.from_residual.ensures.1
 
 pub returns-clause-done : goal.returns-clause-done
 returns-clause-done g c zs known =
-    let same : c.as_slice.result.now ≡ zs = c.as_slice.ensures.value ∙ c.in_ok-bytes.ensures.bytes zs known in
     record {
       finding = c.in_ok-told.told.finding;
       text = c.in_ok-told.told.text.items;
-      explained = subst (λ (bytes : List ℕ). IsExplained bytes c.in_ok-told.told.finding c.in_ok-told.told.text.items) same c.in_ok-told.ensures;
+      explained = c.in_ok-told.ensures.told zs known;
       is = c.status_found.ensures;
       wrote = search rules;
     }

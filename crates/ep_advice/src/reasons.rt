@@ -1,7 +1,7 @@
 //! Reasons: lines of words.
 
-ghost use Rattle.std.specs.Prelude.{◌≡◌, ◌++◌, [], IfOk, OnOk, codes, filter, map};
-ghost use Rattle.ep_explain.specs.Sections.{is_plain, reason_line, section};
+ghost use Rattle.std.specs.Prelude.{◌≡◌, ◌++◌, ◌∷◌, [], OnOk, OnErr, codes, filter, map};
+ghost use Rattle.ep_advice.specs.Sections.{is_plain, reason_line, section};
 ghost use Rattle.ep_report.specs.Reports.{text_of};
 
 use std::alloc::{AllocError, Global};
@@ -31,7 +31,7 @@ impl Reason {
 
 /// Why something is refused: lines of words, in order.
 #[derive(Drop)]
-pub(crate) struct Reasons {
+pub struct Reasons {
     lines: Vec<Reason>,
 }
 
@@ -45,7 +45,7 @@ impl Model for Reasons {
 
 impl Reasons {
     /// No reasons yet.
-    pub(crate) fn new(alloc: Global) -> Reasons
+    pub fn new(alloc: Global) -> Reasons
         ensures { result ≡ [] }
     {
         Reasons {
@@ -53,19 +53,22 @@ impl Reasons {
         }
     }
 
-    /// Adds a line of these words.
-    pub(crate) fn add(&mut self, words: Vec<u8>) -> Result<(), AllocError> {
+    /// Adds a line of these words at the end. At an `Err` nothing has changed.
+    pub fn add(&mut self, words: Vec<u8>) -> Result<(), AllocError>
+        ensures ok { OnOk result (self.new ≡ self.old ++ words.items ∷ []) }
+        ensures err { OnErr result (self.new ≡ self.old) }
+    {
         self.lines.push(Reason { words })?;
         Ok(())
     }
 
     /// Adds a line of this text.
-    pub(crate) fn tell(&mut self, text: String) -> Result<(), AllocError> {
+    pub fn tell(&mut self, text: String) -> Result<(), AllocError> {
         self.add(text.into_bytes())
     }
 
     /// Adds a line of these words.
-    pub(crate) fn say(&mut self, words: &[u8]) -> Result<(), AllocError> {
+    pub fn say(&mut self, words: &[u8]) -> Result<(), AllocError> {
         let alloc = *self.lines.allocator();
         self.add(Vec::from_slice(alloc, words)?)
     }
@@ -102,11 +105,7 @@ fn push_reasons(text: &mut Vec<u8>, reasons: &Reasons) -> Result<(), AllocError>
 }
 
 /// Appends a line, and under it the reasons, each of which is an indented line.
-pub(crate) fn push_section(
-    text: &mut Vec<u8>,
-    line: &[u8],
-    reasons: &Reasons,
-) -> Result<(), AllocError>
+pub fn push_section(text: &mut Vec<u8>, line: &[u8], reasons: &Reasons) -> Result<(), AllocError>
     ensures { OnOk result (text.new.items ≡ text.old.items ++ text_of (section line.now reasons.now)) }
 {
     text.extend_from_slice(line)?;

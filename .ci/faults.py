@@ -1,0 +1,124 @@
+"""Scripts that `epaxos explain` tells the faults of, and text that it is given for a bundle: as dictionaries of a row's parts.
+
+What is wanted is written out from docs/FORMATS.md: lines, words, numbers and ranges by section 4, and how a fault is told by section 5.2."""
+
+S = b"replicas 3\n"
+# what is told of text that is no bundle, before what it is
+TEXT = "bundle refused E12 at byte 0\n  do: give explain a bundle, as `epaxos replay --emit bundle` and `epaxos collect` write it, or a script\n  likely: another file or another program's output was given\n  found: "
+BOTH = "replay, as no line near its beginning is one of run alone"
+
+
+def told(line, rest, size="line 1", taken=BOTH):
+    """What is told of a line that is refused, behind its number."""
+    cluster = f"  {size}: there are 3 replicas, 0 to 2\n" if size else ""
+    return f"script refused at line {line}\n  line {line}{rest}\n{cluster}  it is taken for a script for {taken}; docs/FORMATS.md, section 4, has all lines\n"
+
+
+def replay(line):
+    return f"replay, by line {line}"
+
+
+def run(line):
+    return f"run, by line {line}"
+
+
+def firsts():
+    """Faults of the first line, and of the line after the last one."""
+    yield "comments alone", b"# nothing\n", told(2, ": the script is over, and has no line replicas N, with N 3, 5 or 7", None)
+    yield "no replicas", b"# a put\npropose 0 1 put x 1\nflush\n", told(2, ", word 1: propose isn't replicas: the first line is replicas 3, replicas 5 or replicas 7", None, replay(3))
+    yield "no number of replicas", b"replicas\nflush\n", told(1, ", word 2: nothing stands here: how many replicas there are, 3, 5 or 7", None, replay(2))
+    yield "four replicas", b"replicas 4\n", told(1, ", word 2: 4 is out of range: how many replicas there are, 3, 5 or 7", None)
+    yield "replicas in letters", b"replicas five\n", told(1, ", word 2: five is no number: how many replicas there are, 3, 5 or 7", None)
+    yield "a word behind the replicas", b"replicas 3 5\n", told(1, ", word 3: 5 is one word more than the line has: replicas N", None)
+    yield "replicas twice", S + b"\nreplicas 3\n", told(3, ", word 1: replicas stands once, before all other lines")
+
+
+def words():
+    """Words that don't stand there, and words that are missing or too many."""
+    yield "another command", S + b"propose 0 1 set x 1\n", told(2, ", word 4: set is no command: get, put, del or swap")
+    yield "another line", S + b"flush\nexecutes 0 0.1\n", told(3, ", word 1: executes is no line: propose, giveup, recover, execute, deliver or flush", taken=replay(2))
+    yield "a section in a replay", S + b"flush\nsection\n", told(3, ", word 1: section is a line of run alone: here may stand propose, giveup, recover, execute, deliver or flush", taken=replay(2))
+    yield "a flush in a run", S + b"section\nflush\n", told(3, ", word 1: flush is a line of replay alone: here may stand propose, giveup, recover, section, drop, hold or repeat", taken=run(2))
+    yield "another line of a run", S + b"section\nlose 0 1 1\n", told(3, ", word 1: lose is no line: propose, giveup, recover, section, drop, hold or repeat", taken=run(2))
+    yield "no client", S + b"propose 0\n", told(2, ", word 3: nothing stands here: a client, 1 to 4294967295")
+    yield "no command", S + b"propose 0 1\n", told(2, ", word 4: nothing stands here: a command, get, put, del or swap")
+    yield "no value", S + b"propose 0 1 put x\n", told(2, ", word 6: nothing stands here: a value")
+    yield "a get with a value", S + b"propose 0 1 get x 1\n", told(2, ", word 6: 1 is one word more than the line has: propose R C get K")
+    yield "a flush with a number", S + b"flush 2\n", told(2, ", word 2: 2 is one word more than the line has: flush", taken=replay(2))
+    yield "a section with a name", S + b"section one\n", told(2, ", word 2: one is one word more than the line has: section", taken=run(2))
+    yield "a deliver of nothing", S + b"deliver\n", told(2, ", word 2: nothing stands here: a message, 1 to 4294967295", taken=replay(2))
+
+
+def numbers():
+    """Numbers that are none, or out of their range."""
+    yield "a replica too high", S + b"propose 3 1 put x 1\n", told(2, ", word 2: 3 is out of range: a replica, 0 to 2")
+    yield "a replica in letters", S + b"propose zero 1 put x 1\n", told(2, ", word 2: zero is no number: a replica, 0 to 2")
+    yield "client 0", S + b"propose 0 0 put x 1\n", told(2, ", word 3: 0 is out of range: a client, 1 to 4294967295")
+    yield "a number of 11 digits", S + b"propose 0 12345678901 put x 1\n", told(2, ", word 3: 12345678901 has no number of 1 to 10 digits: a client, 1 to 4294967295")
+    yield "message 0", S + b"deliver 1 0\n", told(2, ", word 3: 0 is out of range: a message, 1 to 4294967295", taken=replay(2))
+    yield "an instance without a dot", S + b"execute 0 1\n", told(2, ", word 3: 1 is no instance: R.I, a replica R, a dot and a number I, 1 to 2000", taken=replay(2))
+    yield "an instance with two dots", S + b"execute 0 0.1.1\n", told(2, ", word 3: 0.1.1 is no instance: R.I, a replica R, a dot and a number I, 1 to 2000", taken=replay(2))
+    yield "an instance of no replica", S + b"giveup 0 3.1\n", told(2, ", word 3: 3.1 is out of range: the replica before its dot, 0 to 2")
+    yield "an instance too high", S + b"recover 0 1.2001\n", told(2, ", word 3: 1.2001 is out of range: the number behind its dot, 1 to 2000")
+
+
+def keys():
+    """Keys and values."""
+    yield "an escape that is none", S + b"propose 0 1 put a%zzb 1\n", told(2, ", word 5: a%zzb has %zz, which is no escape: % and two hexadecimal digits; %- stands alone, for no bytes")
+    yield "an odd byte", S + b"propose 0 1 put \xc3\xa9 1\n", told(2, ", word 5: ?? has the byte c3: bytes outside 21 to 7e (hexadecimal) are written %c3")
+    yield "an empty key", S + b"propose 0 1 get %-\n", told(2, ", word 5: %- spells 0 bytes: the length of a key, 1 to 255")
+    yield "a key too long", S + b"propose 0 1 get " + b"k" * 256 + b"\n", told(2, ", word 5: " + "k" * 60 + "... spells 256 bytes: the length of a key, 1 to 255")
+    yield "a value too long", S + b"propose 0 1 put k " + b"v" * 1025 + b"\n", told(2, ", word 6: " + "v" * 60 + "... spells 1025 bytes: the length of a value, 0 to 1024")
+    yield "a swap of one key", S + b"propose 0 1 swap a %61\n", told(2, ", word 6: %61 spells the bytes of the first key: a swap has two different keys")
+
+
+def weather():
+    """Lines of a weather, and lines that are too long."""
+    yield "a frame for itself", S + b"drop 1 1 1\n", told(2, ", word 3: 1 is the sender too: no replica puts a frame for itself", taken=run(2))
+    yield "a frame held twice", S + b"drop 0 1 1\nsection\ndrop 0 1 1\npropose 0 1 put x 1\nhold 00 1 01\n", told(6, ", word 1: hold is the section's second line for this frame, after line 4", taken=run(2))
+    yield "frame 0", S + b"repeat 0 1 0\n", told(2, ", word 4: 0 is out of range: the place of a frame, 1 to 4294967295", taken=run(2))
+    yield "a line too long", S + b"# " + b"x" * 8191 + b"\n", told(2, ": a line has at most 8192 bytes, and this one has more")
+
+
+def endless():
+    """What gives bytes without an end, and what is told of it."""
+    yield "yes", "yes", TEXT + "text, of which no line near its beginning begins with a word of scripts, as replicas or propose\n"
+    yield "yes replicas 3", "yes replicas 3", told(2, ", word 1: replicas stands once, before all other lines")
+    yield "comments", "yes '#'", told(100001, ": a script has at most 100000 lines", None)
+    yield "one line", "{ printf 'replicas 3\\n'; yes | tr -d '\\n'; }", told(2, ": a line has at most 8192 bytes, and this one has more")
+    yield "zeros", "cat /dev/zero", """bundle refused E12 at byte 0
+  do: copy the bundle again from where it was made, or make it anew from the logs by `epaxos collect`
+  likely: the bundle was changed here, or a length or a count before this place was
+  field: magic, in the header
+  allowed: EPJB
+  found: %00%00%00%00
+"""
+    yield "zeros behind a bundle", r"{ printf 'EPJB\x02\x03\0\0\0\0\0\0\0\0\0\x01\0\0\0\0\x02\0\0\0\0'; cat /dev/zero; }", """bundle refused E12 at byte 25
+  do: copy the bundle again from where it was made, or make it anew from the logs by `epaxos collect`
+  likely: something was appended to the bundle, or a count before this place was changed
+  found: a byte or more after the last receipt, where the bundle is over
+"""
+
+
+def texts():
+    """Text that is given for a bundle, and what it is."""
+    yield "a report", b"verdict accepted\ncommitted 0\nhistory 0\nreceipts 0\nrefused 0\n", "a report, as replay, run and audit print it\n"
+    yield "a trace", b"line 2  stamp 1  replica 0 entry 1  propose put x 1 (client 1 request 1 seen 0); took 0.1\n", "a trace, as replay --emit trace prints it\n"
+    yield "what is shown", b"stamp 1  replica 0 entry 1  execute 0.1\n", "entries in words, as show prints them\n"
+    yield "a letter", b"Dear replica,\n\nyours\n", "text, of which no line near its beginning begins with a word of scripts, as replicas or propose\n"
+
+
+def every():
+    """All of them."""
+    for name, script, wanted in (*firsts(), *words(), *numbers(), *keys(), *weather()):
+        yield dict(name=f"explain a script: {name}", words=["explain"], given=script, wanted=wanted.encode(), status=2)
+    for name, command, wanted in endless():
+        yield dict(name=f"explain input without an end: {name}", words=["explain"], redirect=f"< <({command})", wanted=wanted.encode(), status=2)
+    for name, given, what in texts():
+        yield dict(name=f"explain text for a bundle: {name}", words=["explain"], given=given, wanted=(TEXT + what).encode(), status=2)
+    for name, script, subcommand in (
+        ("replay", S + b"propose 0 1 put x 1\nflush\n", "replay"),
+        ("run", S + b"propose 0 1 put x 1\nsection\n", "run"),
+        ("both", S + b"propose 0 1 put x 1", "replay"),
+    ):
+        yield dict(name=f"explain a script for {name}", words=["explain"], given=script, wanted=f"script read, for {subcommand}\n".encode())

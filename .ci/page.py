@@ -1,0 +1,140 @@
+#!/usr/bin/env python3
+"""Pages and trace events of runs, looked at from outside.
+
+  .ci/page.py PROGRAM     PROGRAM is ep_main as it was built, beside which ep_viewer was built
+
+Of each run the trace events are read as JSON, and counted against what `show` prints; and its page is opened in headless Chromium, where there is
+one: it has to say how many events and instances there are, to list the instances with their commands as `show` has them, and to raise no error.
+The runs are worked scripts, a run whose keys and values are odd bytes, and one of 10,800 events at five replicas.
+The last line is 'pages: N passed, M failed'.
+"""
+
+import html
+import json
+import os
+import re
+import shutil
+import subprocess
+import sys
+import tempfile
+
+sys.dont_write_bytecode = True
+TOP = os.path.dirname(os.path.dirname(os.path.abspath(__file__)))
+sys.path.insert(0, f"{TOP}/.ci")
+import odd
+import rows
+
+BROWSER = shutil.which("chromium") or shutil.which("chromium-browser") or shutil.which("google-chrome")
+SECONDS = 120
+EXAMPLES = ("one_put", "slow_path", "recovery", "two_swaps", "stale_answer_then_chosen", "empty")
+INSTANCE = r"[0-6]\.[1-9][0-9]{0,3}"
+
+
+def large():
+    """A script whose run has 10,800 events."""
+    lines = ["replicas 5"]
+    for at in range(900):
+        lines.append(f"propose {at % 5} {at % 7 + 1} put k{at % 20} v{at}")
+        lines += ["flush"] * 4 * (at % 5 == 4)
+    lines += [f"execute {at % 5} {at % 5}.{at // 5 + 1}" for at in range(900)]
+    return "\n".join(lines).encode()
+
+
+def strange():
+    """A script with all keys and values of odd bytes."""
+    text, client = b"replicas 3\n", 0
+    for _, key, _, value, _, *_ in odd.ODD:
+        client += 1
+        text += f"propose 0 {client} put {odd.escaped(key)} {odd.escaped(value)}\nflush\nflush\nflush\nexecute 0 0.{client}\n".encode()
+    # what would end a script, were it not escaped
+    return text + b"propose 1 9 put </script><script>alert(1)</script> <!--<script>\nflush\nflush\nflush\n"
+
+
+def scripts():
+    """The runs, by name."""
+    for name in EXAMPLES:
+        with open(f"{TOP}/examples/{name}.script", "rb") as it:
+            yield name, it.read()
+    yield "odd bytes", strange()
+    yield "10,800 events", large()
+
+
+def ran(program, words, given):
+    """What a run writes."""
+    ended = subprocess.run([rows.program_of(program, words), *words], input=given, capture_output=True, timeout=SECONDS)
+    if ended.returncode:
+        raise ValueError(f"{' '.join(words)} ended with status {ended.returncode}: {ended.stderr[:200]!r}")
+    return ended.stdout
+
+
+def events_fault(shown, made):
+    """What is wrong with trace events, by the lines that are shown; nothing where all is right."""
+    events = json.loads(made)["traceEvents"]
+    of = lambda phase: [it for it in events if it["ph"] == phase]
+    slices = of("X")
+    if len(slices) != len(shown):
+        return f"{len(slices)} slices of {len(shown)} entries"
+    for line, it in zip(shown, slices):
+        head = f"stamp {it['ts']}  replica {it['pid']} entry {it['args']['entry']}  "
+        if not line.startswith(head) or not line[len(head) :].startswith(it["args"]["words"].partition("; executed ")[0]):
+            return f"a slice is {it}, and the line {line[:200]}"
+    handled = sum("  handle " in line for line in shown)
+    starts, ends = of("s"), of("f")
+    if not len(starts) == len(ends) == handled or {it["id"] for it in starts} != {it["id"] for it in ends} or len({it["id"] for it in starts}) != handled:
+        return f"{len(starts)} and {len(ends)} ends of arrows, of {handled} frames that are handled"
+    places = {(it["pid"], it["ts"]) for it in slices}
+    if not all((it["pid"], it["ts"]) in places for it in (*starts, *ends)):
+        return "an arrow's end is at no slice"
+    lost = sum(it["name"].startswith("never handled: ") for it in of("i"))
+    if lost != sum(line.count(" NEVER HANDLED") for line in shown):
+        return f"{lost} frames that were never handled"
+    return ""
+
+
+def page_fault(shown, page):
+    """What is wrong with a page in a browser, by the lines that are shown; nothing where all is right."""
+    with tempfile.TemporaryDirectory() as folder:
+        with open(f"{folder}/page.html", "wb") as it:
+            it.write(page)
+        words = [BROWSER, "--headless=new", "--no-sandbox", "--disable-gpu", f"--user-data-dir={folder}/own", "--enable-logging=stderr", "--window-size=1400,900"]
+        ended = subprocess.run([*words, "--dump-dom", f"file://{folder}/page.html"], capture_output=True, timeout=SECONDS)
+    told, dom = ended.stderr.decode(errors="replace"), ended.stdout.decode(errors="replace")
+    if "Uncaught" in told or "CONSOLE" in told and "rror" in told:
+        return f"the browser says {told[:500]}"
+    instances = sorted({it for line in shown for it in re.findall(rf"(?:took|give up|recover|execute|executed|PreAccept|PreAcceptOK|Accept|AcceptOK|Commit|Prepare|PrepareOK|Nack) ({INSTANCE})", line)}, key=lambda it: [*map(int, it.split("."))])
+    wanted = f"{len(shown)} of {len(shown)} events, {len(instances)} instances"
+    if wanted not in dom:
+        found = re.search(r'id="count"[^>]*>([^<]*)', dom)
+        return f"it has {found and found[1]!r} and not {wanted!r}"
+    commands = {took[1]: command for line in shown for command, took in [(re.search(r"  propose (.*) \(client ", line), re.search(rf"; took ({INSTANCE})", line))] if command and took}
+    # (the list has rows for what is in sight alone)
+    for name in instances[:10]:
+        cells = re.search(rf'data-name="{re.escape(name)}"[^>]*>(.*?)</div>', dom, re.S)
+        texts = [html.unescape(it) for it in re.findall(r"<span[^>]*>([^<]*)</span>", cells[1])] if cells else []
+        if not texts or texts[0] != name or name in commands and texts[1] != commands[name][1]:
+            return f"of {name} it lists {texts[:3]}"
+    return ""
+
+
+def tried(program):
+    """Looks at all runs, prints a line for each that is wrong, and returns how many passed and how many failed."""
+    passed = failed = 0
+    if not BROWSER:
+        print("pages: there is no chromium here, so no page is opened", flush=True)
+    for name, script in scripts():
+        bundle = ran(program, ["replay", "--emit", "bundle"], script)
+        shown = ran(program, ["show"], bundle).decode().splitlines()
+        looks = [("trace events", events_fault, ["trace-events"])] + [("a page", page_fault, ["draw", "--page"])] * bool(BROWSER)
+        for what, look, words in looks:
+            wrong = look(shown, ran(program, words, bundle))
+            passed, failed = passed + (not wrong), failed + bool(wrong)
+            if wrong:
+                print(f"{name}, {what}: {wrong}", flush=True)
+    print(f"pages: {passed} passed, {failed} failed", flush=True)
+    return passed, failed
+
+
+if __name__ == "__main__":
+    if len(sys.argv) != 2 or not os.path.isfile(sys.argv[1]):
+        sys.exit(__doc__)
+    sys.exit(1 if tried(os.path.abspath(sys.argv[1]))[1] else 0)

@@ -1,0 +1,1 @@
+-- What is left of a source that keeps what it gave.

@@ -1,0 +1,85 @@
+//! The parts of trace events.
+
+ghost use Rattle.std.specs.Prelude.{◌≡◌, ◌++◌, OnOk};
+ghost use Rattle.ep_events.specs.Events.{begun, named, instant_text, arrow_id, process_text};
+
+use ep_base::ReplicaId;
+use ep_frame::Frame;
+use ep_journal::Entry;
+use ep_json::push_string;
+use ep_report::push_number;
+use ep_words::push_origin;
+use std::alloc::AllocError;
+
+/// Appends the beginning of an event of this replica's process, at this time.
+pub(crate) fn push_begun(
+    text: &mut Vec<u8>,
+    start: &[u8],
+    replica: ReplicaId,
+    time: u64,
+) -> Result<(), AllocError>
+    ensures { OnOk result (text.new.items ≡ text.old.items ++ begun start.now replica time) }
+{
+    text.extend_from_slice(b",\n{")?;
+    text.extend_from_slice(start)?;
+    text.extend_from_slice(b",\"tid\":0,\"pid\":")?;
+    push_number(text, u64::from(replica.index()))?;
+    text.extend_from_slice(b",\"ts\":")?;
+    push_number(text, time)
+}
+
+/// Appends the name of an event.
+pub(crate) fn push_named(text: &mut Vec<u8>, words: &[u8]) -> Result<(), AllocError>
+    ensures { OnOk result (text.new.items ≡ text.old.items ++ named words.now) }
+{
+    text.extend_from_slice(b",\"name\":")?;
+    push_string(text, words)
+}
+
+/// Appends an instant, where something is so.
+pub(crate) fn push_instant(
+    text: &mut Vec<u8>,
+    replica: ReplicaId,
+    entry: &Entry,
+    words: &[u8],
+) -> Result<(), AllocError>
+    ensures { OnOk result (text.new.items ≡ text.old.items ++ instant_text replica entry.now words.now) }
+{
+    push_begun(
+        text,
+        b"\"ph\":\"i\",\"s\":\"t\",\"cat\":\"instant\"",
+        replica,
+        entry.stamp.ticks(),
+    )?;
+    push_named(text, words)?;
+    text.extend_from_slice(b"}")
+}
+
+/// Appends which arrow it is: of which frame, to which entry.
+pub(crate) fn push_arrow_id(
+    text: &mut Vec<u8>,
+    replica: ReplicaId,
+    entry: &Entry,
+    frame: &Frame,
+) -> Result<(), AllocError>
+    ensures { OnOk result (text.new.items ≡ text.old.items ++ arrow_id replica entry.now frame.now) }
+{
+    text.extend_from_slice(b",\"id\":\"")?;
+    push_origin(text, frame)?;
+    text.extend_from_slice(b" by ")?;
+    push_number(text, u64::from(replica.index()))?;
+    text.extend_from_slice(b":")?;
+    push_number(text, u64::from(entry.number))?;
+    text.extend_from_slice(b"\"}")
+}
+
+/// Appends the process of the replica of this number.
+pub(crate) fn push_process(text: &mut Vec<u8>, replica: u8) -> Result<(), AllocError>
+    ensures { OnOk result (text.new.items ≡ text.old.items ++ process_text replica) }
+{
+    text.extend_from_slice(b",\n{\"ph\":\"M\",\"name\":\"process_name\",\"pid\":")?;
+    push_number(text, u64::from(replica))?;
+    text.extend_from_slice(b",\"tid\":0,\"args\":{\"name\":\"replica ")?;
+    push_number(text, u64::from(replica))?;
+    text.extend_from_slice(b"\"}}")
+}
