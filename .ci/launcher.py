@@ -23,7 +23,7 @@ FOUR = "replicas 4\n"
 CUT = b"EPJB\2\3"
 # a bundle in which replica 1 handled a frame that nobody sent: .ci/rows/audit-unsent-frame
 UNSENT = f"{TOP}/.ci/rows/audit-unsent-frame/stdin.hex"
-NINE = ("replay", "run", "audit", "show", "explain", "draw", "upgrade", "node", "collect")
+COMMANDS = ("replay", "run", "audit", "show", "explain", "draw", "trace-events", "upgrade", "node", "collect")
 
 
 class Room:
@@ -122,10 +122,10 @@ def fixed(room):
     room.place()
     for words in ("--help", "-h", "help"):
         yield words, room.run(words), (0, text("epaxos"), "")
-    for command in NINE:
+    for command in COMMANDS:
         for words in (f"help {command}", f"{command} --help", f"{command} -h"):
             yield words, room.run(words), (0, text(command), "")
-    listed = f"'epaxos' requires a subcommand but one was not provided\n  [subcommands: {', '.join(NINE)}, help]"
+    listed = f"'epaxos' requires a subcommand but one was not provided\n  [subcommands: {', '.join(COMMANDS)}, help]"
     for words, wanted in (
         ("", refused(listed)),
         ("frob", refused("unrecognized subcommand 'frob'")),
@@ -157,7 +157,7 @@ def chosen(room):
     yield "unproved", room.run("replay", SCRIPT), (0, REPORT, UNPROVED)
     yield "--quiet", room.run("--quiet replay", SCRIPT), (0, REPORT, "")
     yield "EPAXOS_QUIET=1", room.run("replay", SCRIPT, quiet="1"), (0, REPORT, "")
-    yield "unproved, no words", room.run(""), refused(f"'epaxos' requires a subcommand but one was not provided\n  [subcommands: {', '.join(NINE)}, help]")
+    yield "unproved, no words", room.run(""), refused(f"'epaxos' requires a subcommand but one was not provided\n  [subcommands: {', '.join(COMMANDS)}, help]")
     yield "unproved, --version", room.run("--version"), (0, "epaxos 0.1.0\nthe kit of the unproved\nnot proved: built with --unproved\n", "")
     yield "unproved, a trace", room.run("--quiet replay --emit trace", FOUR), (2, "", "script refused at line 1\n")
     yield "unproved, a file as a word", room.run("replay put.script"), (2, "", f"{REFUSED}unexpected argument 'put.script' found\n\n  tip: epaxos reads standard input: epaxos replay < put.script\n\nUsage: epaxos replay [OPTIONS]{MORE}")

@@ -268,6 +268,7 @@ VALUES = {
     ),
     "show": PART,
     "draw": PART,
+    "trace-events": PART,
     "node": (("replicas", *listed("N", "3", "5", "7")), ("sync", *listed("WHEN", "each", "asked"))),
 }
 
