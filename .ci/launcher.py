@@ -148,6 +148,17 @@ def fixed(room):
     yield "collect, not built", (status, wrote, "./epaxos --build --unproved" in told), (70, "", True)
     status, shown = room.seen("./epaxos collect one.log", b"n\n")
     yield "collect, not built, on a terminal", (status, "[Y/n]" in shown, "./epaxos --build --unproved" in shown), (70, True, True)
+    # (in the place of the build stands what leaves the programs that it would)
+    os.rename(f"{room.top}/tools/unproved", f"{room.top}/tools/unproved.kept")
+    room.write("tools/unproved", f"#!/bin/bash\nmkdir -p '{room.top}/out' && cp -r '{room.top}/built' '{room.top}/out/unproved' && touch '{room.top}/out/unproved/stamp'\n")
+    os.chmod(f"{room.top}/tools/unproved", 0o755)
+    os.makedirs(f"{room.top}/built")
+    for name in PROGRAMS:
+        shutil.copy2(f"{TOP}/crates/{name}/out/{name}", f"{room.top}/built")
+    status, shown = room.seen("./epaxos collect one.log", b"y\n")
+    yield "collect, built when it was offered", (status, shown.endswith(UNPROVED + "reading one.log failed\n")), (4, True)
+    os.rename(f"{room.top}/tools/unproved.kept", f"{room.top}/tools/unproved")
+    room.place()
     yield "--version, not built", room.run("--version")[1].splitlines()[0::2], ["epaxos 0.1.0", "nothing is built: ./epaxos --build --unproved, or --build"]
 
 
