@@ -54,7 +54,6 @@ struct rule {
 /* A thread of the program, and the call that it is in. */
 struct task {
     pid_t id;
-    int inside;                /* between the two stops of a call */
     const char *kind;          /* of a call that is told; NULL for others */
     enum action action;
     long error;
@@ -390,9 +389,11 @@ int main(int count, char **words) {
         }
         int signal = WSTOPSIG(status);
         if (signal == (SIGTRAP | 0x80)) {
-            t->inside = !t->inside;
-            if (t->inside) begins(t);
-            else ends(t);
+            struct __ptrace_syscall_info info = {0};
+            if (ptrace(PTRACE_GET_SYSCALL_INFO, id, sizeof info, &info) > 0) {
+                if (info.op == PTRACE_SYSCALL_INFO_ENTRY) begins(t);
+                if (info.op == PTRACE_SYSCALL_INFO_EXIT) ends(t);
+            }
             signal = 0;
         } else if (signal == SIGTRAP || (signal == SIGSTOP && id != first)) {
             /* a step of the tracing itself */
