@@ -1,0 +1,221 @@
+"""Runs of ./epaxos itself: what it says without a program, which program it takes, and what it adds on a terminal.
+
+They are made in a folder of their own, which has the launcher, its tools and the sources, and built programs in the places of proved and unproved ones.
+"""
+
+import os
+import pty
+import shutil
+import subprocess
+import sys
+import tempfile
+import time
+
+TOP = os.path.dirname(os.path.dirname(os.path.abspath(__file__)))
+PROGRAMS = ("ep_main", "ep_viewer", "ep_server")
+UNPROVED = "not proved: built with --unproved\n"
+STALE = "not proved: built with --unproved, before a source was changed; ./epaxos --build --unproved builds it again\n"
+REFUSED = "command line refused\nerror: "
+MORE = "\n\nFor more information, try '--help'.\n"
+SCRIPT = "replicas 3\npropose 0 1 put x 1\nflush\nflush\nexecute 0 0.1\n"
+REPORT = "verdict accepted\ncommitted 1\n0.1 seq 1 deps - put x 1\nhistory 1\n1 0.1 put x 1 -> absent\nreceipts 1\nclient 1 request 1 0.1 absent\nrefused 0\n"
+FOUR = "replicas 4\n"
+CUT = b"EPJB\2\3"
+# a bundle in which replica 1 handled a frame that nobody sent: .ci/rows/audit-unsent-frame
+UNSENT = f"{TOP}/.ci/rows/audit-unsent-frame/stdin.hex"
+NINE = ("replay", "run", "audit", "show", "explain", "draw", "upgrade", "node", "collect")
+
+
+class Room:
+    """A folder with the launcher."""
+
+    def __init__(self, top):
+        self.top, self.places = top, {}
+        for name in ("epaxos", "crates.txt"):
+            shutil.copy2(f"{TOP}/{name}", f"{top}/{name}")
+        shutil.copytree(f"{TOP}/tools", f"{top}/tools", ignore=shutil.ignore_patterns("target", "__pycache__"))
+        for name in os.listdir(f"{TOP}/crates"):
+            if os.path.isdir(f"{TOP}/crates/{name}/src"):
+                shutil.copytree(f"{TOP}/crates/{name}/src", f"{top}/crates/{name}/src")
+        for name, held in (("put.script", SCRIPT.encode()), ("four.script", FOUR.encode()), ("cut.bundle", CUT), ("no.run", SCRIPT.encode())):
+            with open(f"{top}/{name}", "wb") as file:
+                file.write(held)
+        with open(UNSENT, encoding="utf-8") as file, open(f"{top}/unsent.bundle", "wb") as bundle:
+            bundle.write(bytes.fromhex("".join(line.partition("#")[0] for line in file)))
+
+    def place(self, *kinds):
+        """Has the programs stand where proved or unproved ones do, and nowhere else."""
+        shutil.rmtree(f"{self.top}/out", ignore_errors=True)
+        for name in PROGRAMS:
+            shutil.rmtree(f"{self.top}/crates/{name}/out", ignore_errors=True)
+        if "unproved" in kinds:
+            os.makedirs(f"{self.top}/out/unproved")
+            for name in PROGRAMS:
+                shutil.copy2(f"{TOP}/crates/{name}/out/{name}", f"{self.top}/out/unproved")
+            self.write("out/unproved/kit", "the kit of the unproved\n")
+            self.write("out/unproved/stamp", "")
+        if "proved" in kinds:
+            for name in PROGRAMS:
+                out = f"{self.top}/crates/{name}/out"
+                os.makedirs(out)
+                shutil.copy2(f"{TOP}/crates/{name}/out/{name}", out)
+                self.write(f"crates/{name}/out/{name}.stamp", "")
+                self.write(f"crates/{name}/out/{name}.kit", "the kit of the proved\n")
+
+    def write(self, name, text):
+        with open(f"{self.top}/{name}", "w", encoding="utf-8") as file:
+            file.write(text)
+
+    def edit(self, name):
+        """Has this file be newer than all that is built."""
+        later = time.time() + 60
+        os.utime(f"{self.top}/{name}", (later, later))
+
+    def restore(self, name):
+        earlier = time.time() - 3600
+        os.utime(f"{self.top}/{name}", (earlier, earlier))
+
+    def run(self, words, given="", redirect="", quiet=None):
+        """The status, the output and the fault output of a call in the shell."""
+        how = {"shell": True, "executable": "/bin/bash", "cwd": self.top, "timeout": 60, "stdout": subprocess.PIPE, "stderr": subprocess.PIPE}
+        environment = {it: value for it, value in os.environ.items() if it != "EPAXOS_QUIET"}
+        if quiet is not None:
+            environment["EPAXOS_QUIET"] = quiet
+        ran = subprocess.run(f"./epaxos {words} {redirect}", input=given.encode(), env=environment, **how)
+        return ran.returncode, ran.stdout.decode(errors="replace"), ran.stderr.decode(errors="replace")
+
+    def seen(self, command, typed=b""):
+        """The status, and what a terminal shows, on which the fault output of the command comes."""
+        child, terminal = pty.fork()
+        if not child:
+            os.chdir(self.top)
+            os.environ.pop("EPAXOS_QUIET", None)
+            os.execv("/bin/bash", ["bash", "-c", command])
+        if typed:
+            os.write(terminal, typed)
+        shown = b""
+        while True:
+            try:
+                part = os.read(terminal, 4096)
+            except OSError:
+                break
+            if not part:
+                break
+            shown += part
+        status = os.waitstatus_to_exitcode(os.waitpid(child, 0)[1])
+        os.close(terminal)
+        return status, shown.decode(errors="replace").replace("\r\n", "\n")
+
+
+def text(name):
+    with open(f"{TOP}/tools/help/{name}", encoding="utf-8") as file:
+        return file.read()
+
+
+def refused(reason, tip=""):
+    """A refusal of the first word."""
+    return 2, "", f"{REFUSED}{reason}\n" + (f"\n  tip: {tip}\n" if tip else "") + f"\nUsage: epaxos <COMMAND>{MORE}"
+
+
+def fixed(room):
+    """Where nothing is built: the words, what came of them, and what is wanted."""
+    room.place()
+    for words in ("--help", "-h", "help"):
+        yield words, room.run(words), (0, text("epaxos"), "")
+    for command in NINE:
+        for words in (f"help {command}", f"{command} --help", f"{command} -h"):
+            yield words, room.run(words), (0, text(command), "")
+    listed = f"'epaxos' requires a subcommand but one was not provided\n  [subcommands: {', '.join(NINE)}, help]"
+    for words, wanted in (
+        ("", refused(listed)),
+        ("frob", refused("unrecognized subcommand 'frob'")),
+        ("replya", refused("unrecognized subcommand 'replya'", "a similar subcommand exists: 'replay'")),
+        ("--biuld", refused("unexpected argument '--biuld' found", "a similar argument exists: '--build'")),
+        ("-build", refused("unexpected argument '-build' found", "a similar argument exists: '--build'")),
+        ("build --unproved", refused("unrecognized subcommand 'build'", "a similar argument exists: '--build'")),
+        ("--build now", (2, "", "epaxos: --build takes at most --unproved and --jobs N, with N from 1 to 99\n")),
+        ("--build --unproved now", (2, "", "epaxos: --build --unproved takes at most --jobs N, with N from 1 to 99\n")),
+        ("put.script", refused("unrecognized subcommand 'put.script'", "epaxos reads standard input: epaxos replay < put.script")),
+        ("no.run", refused("unrecognized subcommand 'no.run'", "epaxos reads standard input: epaxos run < no.run")),
+        ("cut.bundle", refused("unrecognized subcommand 'cut.bundle'", "epaxos reads standard input: epaxos audit < cut.bundle")),
+        ("node --replicas 3 --replica 0", (2, "", f"{REFUSED}the following required arguments were not provided:\n  --log <FILE>\n\nUsage: epaxos node --replicas <N> --replica <R> --log <FILE>{MORE}")),
+    ):
+        yield words, room.run(words), wanted
+    for words in ("--help", "help node"):
+        yield f"{words} to a full device", room.run(words, redirect="> /dev/full"), (4, "", "writing failed\n")
+        yield f"{words} with the output closed", room.run(words, redirect=">&-"), (4, "", "writing failed\n")
+    status, wrote, told = room.run("collect one.log")
+    yield "collect, not built", (status, wrote, "./epaxos --build --unproved" in told), (70, "", True)
+    status, shown = room.seen("./epaxos collect one.log", b"n\n")
+    yield "collect, not built, on a terminal", (status, "[Y/n]" in shown, "./epaxos --build --unproved" in shown), (70, True, True)
+    yield "--version, not built", room.run("--version")[1].splitlines()[0::2], ["epaxos 0.1.0", "nothing is built: ./epaxos --build --unproved, or --build"]
+
+
+def chosen(room):
+    """Which program is taken."""
+    room.place("unproved")
+    yield "unproved", room.run("replay", SCRIPT), (0, REPORT, UNPROVED)
+    yield "--quiet", room.run("--quiet replay", SCRIPT), (0, REPORT, "")
+    yield "EPAXOS_QUIET=1", room.run("replay", SCRIPT, quiet="1"), (0, REPORT, "")
+    yield "unproved, no words", room.run(""), refused(f"'epaxos' requires a subcommand but one was not provided\n  [subcommands: {', '.join(NINE)}, help]")
+    yield "unproved, --version", room.run("--version"), (0, "epaxos 0.1.0\nthe kit of the unproved\nnot proved: built with --unproved\n", "")
+    yield "unproved, a trace", room.run("--quiet replay --emit trace", FOUR), (2, "", "script refused at line 1\n")
+    yield "unproved, a file as a word", room.run("replay put.script"), (2, "", f"{REFUSED}unexpected argument 'put.script' found\n\n  tip: epaxos reads standard input: epaxos replay < put.script\n\nUsage: epaxos replay [OPTIONS]{MORE}")
+    yield "unproved, an option's value", room.run("--quiet replay --emit trace --emit trace", SCRIPT)[0], 2
+    yield "unproved, a node", room.run("--quiet node --replicas 3 --replica 0 --log it.log"), (0, "", "")
+    room.edit("crates/ep_base/src/lib.rt")
+    yield "unproved, a source is newer", room.run("replay", SCRIPT), (0, REPORT, STALE)
+    yield "unproved, a source is newer, --quiet", room.run("--quiet replay", SCRIPT), (0, REPORT, STALE)
+    room.restore("crates/ep_base/src/lib.rt")
+    room.edit("crates/ep_server/src/main.rt")
+    yield "unproved, a source of another program is newer", room.run("replay", SCRIPT), (0, REPORT, UNPROVED)
+    room.restore("crates/ep_server/src/main.rt")
+    room.place("proved", "unproved")
+    yield "proved", room.run("replay", SCRIPT), (0, REPORT, "")
+    yield "proved, --version", room.run("--version"), (0, "epaxos 0.1.0\nthe kit of the proved\nproved\n", "")
+    room.edit("crates.txt")
+    yield "both, crates.txt is newer", room.run("replay", SCRIPT), (0, REPORT, STALE)
+    room.restore("crates.txt")
+
+
+def shown(room):
+    """What a terminal shows."""
+    room.place("proved")
+    for words, given, status, said in (
+        ("replay", "four.script", 2, "script refused at line 1\nsee: epaxos explain < four.script\n"),
+        ("audit", "cut.bundle", 2, "bundle refused E12 at byte 6\nsee: epaxos explain < cut.bundle\n"),
+        ("show", "cut.bundle", 2, "bundle refused E12 at byte 6\nsee: epaxos explain < cut.bundle\n"),
+        ("audit", "unsent.bundle", 1, "see: epaxos explain < unsent.bundle\n"),
+        ("replay", "put.script", 0, ""),
+    ):
+        yield f"{words} {given}, on a terminal", room.seen(f"./epaxos {words} < {given} > it.out"), (status, said)
+        status_elsewhere, _, told = room.run(words, redirect=f"< {given}")
+        yield f"{words} {given}, not on a terminal", (status_elsewhere, told), (status, "".join(line for line in said.splitlines(True) if not line.startswith("see: ")))
+    yield "from a pipe, on a terminal", room.seen("cat four.script | ./epaxos replay"), (2, "script refused at line 1\nsee: epaxos explain < FILE\n")
+    many = SCRIPT + "#\n" * 20000
+    room.write("many.script", many)
+    closed = "(./epaxos {} < {}; echo $? > it.status) | (exec <&-; sleep 0.3); cat it.status"
+    for words, given in (("replay", "put.script"), ("show", "unsent.bundle"), ("help replay", "/dev/null")):
+        yield f"{words}, its pipe closed, on a terminal", room.seen(closed.format(words, given)), (0, "4\n")
+        told = subprocess.run(["bash", "-c", closed.format(words, given)], cwd=room.top, stdout=subprocess.PIPE, stderr=subprocess.PIPE)
+        yield f"{words}, its pipe closed", (told.stdout, told.stderr), (b"4\n", b"writing failed\n")
+    yield "replay to a full device, on a terminal", room.seen("./epaxos replay < put.script > /dev/full"), (4, "writing failed\n")
+
+
+def tried():
+    """Makes all runs, prints a line for each that fails, and returns how many passed and how many failed."""
+    passed = failed = 0
+    with tempfile.TemporaryDirectory() as top:
+        room = Room(top)
+        for part in (fixed, chosen, shown):
+            for name, found, wanted in part(room):
+                is_well = found == wanted
+                passed, failed = passed + is_well, failed + (not is_well)
+                if not is_well:
+                    print(f"launcher, {name}: {found!r} and not {wanted!r}", flush=True)
+    print(f"launcher: {passed} passed, {failed} failed", flush=True)
+    return passed, failed
+
+
+if __name__ == "__main__":
+    sys.exit(int(tried()[1] > 0))

@@ -1,0 +1,303 @@
+#!/usr/bin/env python3
+"""What the words of a command line come to before any program is run: as the programs themselves read them, by what their help tells.
+
+tools/help/NAME is what `epaxos NAME --help` prints, and `tools/help/commands` which program each command is of. tools/help-texts looks whether those
+texts, and what is refused here, are the programs' own.
+"""
+
+import os
+import re
+import shlex
+import sys
+
+TOP = os.path.dirname(os.path.dirname(os.path.realpath(__file__)))
+HELP = f"{TOP}/tools/help"
+REFUSED = 2
+# The words that `./epaxos` itself takes in place of a command.
+OWN = ("--build", "--quiet", "--help", "--version")
+MORE = "\nFor more information, try '--help'.\n"
+
+
+def commands():
+    """The commands, in the order of use, and the program of each."""
+    with open(f"{HELP}/commands", encoding="utf-8") as file:
+        return dict(line.split() for line in file)
+
+
+def help_of(command):
+    """The help of a command."""
+    with open(f"{HELP}/{command}", encoding="utf-8") as file:
+        return file.read()
+
+
+def program_of(words):
+    """The program that takes these words, or none."""
+    every = commands()
+    if words[:1] == ["replay"] and not {*emitted(words)} <= {"report", "bundle"}:
+        return every["show"]
+    return every.get(words[0]) if words else None
+
+
+def emitted(words):
+    """What is asked for by `--emit`."""
+    yield from (it.removeprefix("--emit=") for it in words if it.startswith("--emit="))
+    yield from (after for it, after in zip(words, words[1:]) if it == "--emit")
+
+
+class Refused(Exception):
+    """The words are refused: what is said of them."""
+
+
+class Helped(Exception):
+    """The words ask for help, before any that would be refused."""
+
+
+class Option:
+    """An option of a command, as its help tells it."""
+
+    def __init__(self, name, value):
+        self.name, self.value = name, value
+        self.shown = f"--{name} <{value}>" if value else f"--{name}"
+
+
+class Command:
+    """A command as its help tells it: its options, those that can't be left out, and whether it takes other words."""
+
+    def __init__(self, name):
+        self.name, text = name, help_of(name)
+        usage = re.search(r"^Usage: (.*)$", text, re.M)[1]
+        found = re.findall(r"^  (?:    |-\w, )--([\w-]+)(?: <([^>]+)>)?(?:\.\.\.)?(?:  .*)?$", text, re.M)
+        self.options = {option: Option(option, value) for option, value in found}
+        self.usage, self.needed = usage, re.findall(r"(?<!\[)--([\w-]+)", usage)
+        self.words = re.findall(r"(<\w+>)\.\.\.$", usage)
+        self.repeated = {"receipts"}
+
+    def usage_with(self, given):
+        """The usage where these options are given, in the order of the help."""
+        wanted = [it.shown for name, it in self.options.items() if name != "help" and (name in given or name in self.needed)]
+        return " ".join([f"epaxos {self.name}", *wanted, *(f"{it}..." for it in self.words)])
+
+    def read(self, words):
+        """Reads the words and returns the value of each option, or refuses them."""
+        given, plain, at = {}, [], 0
+        while at < len(words):
+            word, at = words[at], at + 1
+            if word == "--":
+                plain += words[at:]
+                break
+            if word in ("--help", "-h"):
+                raise Helped
+            if is_option(word):
+                at = self.read_option(word, words, at, given, plain)
+            else:
+                plain.append(word)
+                if not self.words:
+                    raise unexpected(word, self.usage, tip_of_file(self.name, word))
+        if not self.words and plain:
+            raise unexpected(plain[0], self.usage)
+        lacking = [self.options[it].shown for it in self.needed if it not in given] + [f"{it}..." for it in self.words if not plain]
+        if lacking:
+            raise Refused("the following required arguments were not provided:\n" + "".join(f"  {it}\n" for it in lacking) + f"\nUsage: {self.usage_with(given)}\n")
+        return given
+
+    def read_option(self, word, words, at, given, plain):
+        """Reads an option, and its value where it has one, and returns the place of the next word."""
+        name, equals, value = word[2:].partition("=")
+        option = self.known(word)
+        if not option:
+            raise self.unknown(word, given, plain)
+        if option.value and not equals:
+            if at < len(words) and is_option(words[at]) and not self.known(words[at]) and words[at] != "-h":
+                raise self.unknown(words[at], given, plain)
+            if at == len(words) or is_option(words[at]):
+                raise Refused(f"a value is required for '{option.shown}' but none was supplied\n")
+            value, at = words[at], at + 1
+        elif equals and not option.value:
+            raise Refused(f"unexpected value '{value}' for '{option.shown}' found; no more were expected\n\nUsage: {self.usage_with({*given, name})}\n")
+        if name in given and name not in self.repeated:
+            raise Refused(f"the argument '{option.shown}' cannot be used multiple times\n\nUsage: {self.usage}\n")
+        given[name] = value
+        return at
+
+    def known(self, word):
+        """The option that a word of the command line names, or none."""
+        return self.options.get(word[2:].partition("=")[0]) if word.startswith("--") else None
+
+    def unknown(self, word, given, plain):
+        """The refusal of an option that the command hasn't."""
+        word = word.partition("=")[0] if word.startswith("--") else word[:2]
+        near = nearest(word[2:], list(self.options)) if word.startswith("--") else None
+        if near:
+            return unexpected(word, self.usage_with({*given, near}), f"a similar argument exists: '--{near}'")
+        tip = f"to pass '{word}' as a value, use '-- {word}'" if self.words else ""
+        return unexpected(word, self.usage_with(given) if plain else self.usage, tip)
+
+
+def is_option(word):
+    """Whether a word of a command line is an option."""
+    return word.startswith("-") and len(word) > 1
+
+
+def unexpected(word, usage, tip=""):
+    """The refusal of a word."""
+    return Refused(f"unexpected argument '{word}' found\n" + (f"\n  tip: {tip}\n" if tip else "") + f"\nUsage: {usage}\n")
+
+
+def tip_of_file(command, word):
+    """What to say of a word that names a file, or nothing."""
+    return f"epaxos reads standard input: epaxos {command} < {word}" if os.path.isfile(word) else ""
+
+
+def command_for(path):
+    """The command that reads a file like this one."""
+    try:
+        with open(path, "rb") as file:
+            is_bundle = file.read(4) == b"EPJB"
+    except OSError:
+        is_bundle = False
+    return "audit" if is_bundle else "run" if path.endswith(".run") else "replay"
+
+
+def nearest(word, names):
+    """The name that is most like the word, or none."""
+    likeness, name = max(((jaro(word, it), it) for it in names), default=(0, None))
+    return name if likeness > 0.7 else None
+
+
+def jaro(one, two):
+    """How much two words are alike, from 0 to 1, by Jaro."""
+    if not one or not two:
+        return float(one == two)
+    reach = max(max(len(one), len(two)) // 2 - 1, 0)
+    taken, met = set(), []
+    for place, letter in enumerate(one):
+        for other in range(max(place - reach, 0), min(place + reach + 1, len(two))):
+            if other not in taken and two[other] == letter:
+                taken.add(other)
+                met.append(letter)
+                break
+    if not met:
+        return 0.0
+    turned = sum(a != b for a, b in zip(met, (two[it] for it in sorted(taken)))) / 2
+    return (len(met) / len(one) + len(met) / len(two) + (len(met) - turned) / len(met)) / 3
+
+
+def of_top(words):
+    """The refusal of words of which the first is no command."""
+    every = [*commands(), "help"]
+    if not words:
+        return f"'epaxos' requires a subcommand but one was not provided\n  [subcommands: {', '.join(every)}]\n\nUsage: epaxos <COMMAND>\n"
+    word = words[0]
+    first = f"unexpected argument '{word}' found" if is_option(word) else f"unrecognized subcommand '{word}'"
+    command, own = nearest(word, every), nearest(word.strip("-"), [it[2:] for it in OWN])
+    if os.path.isfile(word):
+        tip = tip_of_file(command_for(word), word)
+    elif command and not is_option(word):
+        tip = f"a similar subcommand exists: '{command}'"
+    else:
+        tip = f"a similar argument exists: '--{own}'" if own else ""
+    return f"{first}\n" + (f"\n  tip: {tip}\n" if tip else "") + "\nUsage: epaxos <COMMAND>\n"
+
+
+def refusal(words):
+    """What is said of these words where they are refused, or nothing; where they ask for help, `Helped` is raised."""
+    try:
+        if not words or words[0] not in commands():
+            raise Refused(of_top(words))
+        check(words[0], Command(words[0]).read(words[1:]))
+    except Refused as why:
+        return f"command line refused\nerror: {why}{MORE}"
+    return ""
+
+
+def check(command, given):
+    """Refuses a value that an option hasn't."""
+    if "graph" in given and {*given} & {it for it, *_ in PART}:
+        raise Refused("with '--graph' no part is kept\n")
+    for option, is_value, wanted in VALUES.get(command, ()):
+        if option in given and not is_value(given[option]):
+            raise Refused(wanted.format(value=quoted(given[option]), shown=f"--{option}"))
+
+
+def quoted(word):
+    """A word as the programs quote it."""
+    return '"' + word.replace("\\", "\\\\").replace('"', '\\"') + '"'
+
+
+def among(*values):
+    """One of these values."""
+    return lambda it: it in values
+
+
+def number(least, most, digits=10):
+    """A number of so many digits at most."""
+    return lambda it: bool(re.fullmatch(rf"[0-9]{{1,{digits}}}", it)) and least <= int(it) <= most
+
+
+def listed(value, *values):
+    """An option of one of these values, as VALUES has it."""
+    return among(*values), f"invalid value {{value}} for '{{shown}} <{value}>'\n  [possible values: {', '.join(values)}]\n"
+
+
+def counted(most):
+    return number(1, most), f"invalid value {{value}} for '{{shown}}': it takes a number from 1 to {most}\n"
+
+
+def is_instance(word):
+    replica, dot, at = word.partition(".")
+    return bool(dot) and number(0, 6)(replica) and number(1, 2000)(at)
+
+
+STAMP = (number(0, 10**15, 15), "invalid value {value} for '{shown} <STAMP>': it takes a number of 1 to 15 digits\n")
+PART = (
+    ("instance", is_instance, "invalid value {value} for '{shown} <R.N>': it takes an instance, as 0.1: a replica from 0 to 6, and a number from 1 to 2000\n"),
+    ("replica", number(0, 6), "invalid value {value} for '{shown} <R>': it takes a number from 0 to 6\n"),
+    ("from", *STAMP),
+    ("to", *STAMP),
+)
+# The values that a command's options have, in the order in which its program looks at them. (The others it looks at itself.)
+VALUES = {
+    "replay": (("emit", *listed("WHAT", "report", "bundle", "trace")),),
+    "run": (
+        ("emit", *listed("WHAT", "report", "bundle")),
+        ("host", *listed("HOST", "lock", "ring")),
+        ("capacity", *counted(4096)),
+        ("turns", *counted(10_000_000)),
+    ),
+    "show": PART,
+    "draw": PART,
+    "node": (("replicas", *listed("N", "3", "5", "7")), ("sync", *listed("WHEN", "each", "asked"))),
+}
+
+
+def explained(words, status, said):
+    """The line that leads to `explain`, where a script, a bundle or an audit refuses, as `./epaxos` adds it on a terminal; else nothing."""
+    is_refused = words[0] != "explain" and re.match("(script|bundle) refused", said)
+    if not os.isatty(2) or not (is_refused or words[0] == "audit" and status == 1):
+        return ""
+    path = os.path.realpath("/dev/stdin")
+    file = os.path.relpath(path) if os.path.isfile(path) else "FILE"
+    return f"see: epaxos explain < {shlex.quote(file)}\n"
+
+
+def tell(text, status):
+    """Says the text on standard error, where that can be written, and ends."""
+    try:
+        os.write(2, os.fsencode(text))
+    except OSError:
+        pass
+    sys.exit(status)
+
+
+def main(words):
+    """Refuses the words, or says nothing of them."""
+    try:
+        said = refusal(words)
+    except Helped:
+        said = ""
+    if said:
+        tell(said, REFUSED)
+
+
+if __name__ == "__main__":
+    main(sys.argv[1:])
