@@ -21,6 +21,7 @@ sys.path.insert(0, f"{TOP}/.ci")
 
 import clock
 import lanes
+import launcher
 import rows
 import store
 
@@ -29,6 +30,8 @@ PROGRAM = f"{TOP}/crates/ep_main/out/ep_main"
 PROGRAMS = {PROGRAM: "", f"{PROGRAM}.by-rattle": " (built by Rattle's own compiler)"}
 # the most runs that one test gets so
 MOST = "500"
+# what the names of tests have that are run with each allocation refused, or MOST of them
+TESTS = ("played_on",)
 # scripts that are played, made into a bundle, and audited so
 SCRIPTS = ("examples/one_put.script", "examples/crossing_puts.script", "examples/swap.script", ".ci/scripts/seven.script")
 # what the names of rows begin with whose last run is made again so
@@ -46,6 +49,8 @@ DEVICES = (("replay",), ("replay", "--emit", "bundle"), ("run",), ("run", "--hos
 PUT = b"replicas 3\npropose 0 1 put x 1\n"
 # a script whose bundle has over 16 KiB, so that it takes several reads, and is audited and upgraded, shown and drawn on devices that fail
 LONG = b"replicas 3\n" + b"propose 0 1 put x 1\nflush\nflush\n" * 40
+# what looks whether something that is written is up to date
+LOOKS = (["tools/make-rows", "check"], ["tools/wrong-bodies", "--look"], ["tools/pages"])
 # how ep_viewer looks at a bundle
 VIEWS = (["show"], ["show", "--columns"], ["explain"], ["draw"], ["draw", "--graph"])
 TRACE = ["replay", "--emit", "trace"]
@@ -56,7 +61,7 @@ ROWS_VIEWED = ("audit-of-another-value", "audit-of-another-entry", "audit-cut", 
 
 def looks():
     """Whether what tools write is up to date, and what pages and edits name is there: counts what isn't."""
-    return 0, sum(subprocess.run(it).returncode != 0 for it in (["tools/make-rows", "check"], ["tools/wrong-bodies", "--look"]))
+    return 0, sum(subprocess.run(it).returncode != 0 for it in LOOKS)
 
 
 def test_command():
@@ -84,7 +89,7 @@ def counted(*words):
     print(f"{words[0]}: {ran.stdout}", end="", flush=True)
     counts = re.search(r"(\d+) passed, (\d+) failed\n\Z", ran.stdout)
     passed, failed = map(int, counts.groups()) if counts else (0, 0)
-    return passed, failed or int(ran.returncode != 0)
+    return passed, failed or int(ran.returncode != 0 or not counts)
 
 
 def tests():
@@ -134,6 +139,8 @@ def rows_named(name):
 
 def refused_memory():
     """Refuses allocations, and says of each of these sweeps whether it passed."""
+    for word in TESTS:
+        yield swept("refused-memory", ["tests", word, MOST])
     for name in SCRIPTS:
         script = read(name)
         print(f"{name}, with each allocation refused:", flush=True)
@@ -219,6 +226,8 @@ PARTS = (
     Part("wrong bodies", wrong_bodies, is_of_built=False),
     Part("tests/", tests, is_of_built=False),
     Part("rows", both_programs),
+    Part("launcher", launcher.tried),
+    Part("help", lambda: counted("tools/help-texts", "check")),
     Part("refused memory", lambda: sweeps(refused_memory, refused_views)),
     Part("failing devices", lambda: sweeps(failing_devices)),
     Part("turned bundles", lambda: sweeps(lambda: [swept("turned-bundles", [])])),

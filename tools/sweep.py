@@ -55,11 +55,16 @@ def tell(head, kinds, found):
     return not other
 
 
+# what `tools/tests` left, and how it is called here
+TESTS = {"tests": f"{TOP}/out/tests/ep_all_tests"}
+
+
 def built(crate, ending=""):
-    """The program, or the tests, of a crate that rt left in its out/; without it the sweep ends."""
-    program = f"{TOP}/crates/{crate}/out/{crate}{ending}"
+    """The program, or the tests, of a crate that rt left in its out/, or what `tools/tests` left; without it the sweep ends."""
+    program = TESTS.get(crate) or f"{TOP}/crates/{crate}/out/{crate}{ending}"
     if not os.path.isfile(program):
-        print(f"there is no {os.path.relpath(program, TOP)}: run `rt {'test' if ending else 'run'}` in crates/{crate} first", file=sys.stderr)
+        how = "tools/tests" if crate in TESTS else f"`rt {'test' if ending else 'run'}` in crates/{crate}"
+        print(f"there is no {os.path.relpath(program, TOP)}: run {how} first", file=sys.stderr)
         sys.exit(2)
     return program
 
