@@ -1,13 +1,10 @@
 """The gate.
 
-  .ci/run             first looks whether the copies that tools write are up to date, and whether the edits of wrong/ still fit. Then
-                      runs the test command of README.md, `rt ci`, and the tests in tests/ (tools/tests); and then what was built: the rows of .ci/rows.py by both compilers,
-                      some of them, and runs of ep_viewer, with each allocation refused in turn (tools/refused-memory), and runs of both
-                      programs with each read and each write failed in turn (tools/failing-devices); bundles with one byte turned
-                      (tools/turned-bundles); and last the host in hosts/store, where cargo is (.ci/store.py)
-  .ci/run --built     runs only what an earlier `rt ci` built
+  .ci/run             runs the parts that PARTS lists, one after the other; docs/GATE.md tells what each is for and what it takes. Where the first,
+                      which looks whether pages and copies are up to date, fails, no other is run
+  .ci/run --built     runs only the parts that go over the programs that an earlier `rt ci` built
 
-At its end it says what processor time it took, and its last line is 'N passed, M failed'. The status is 0 where M is 0.
+At its end it says what processor time each part took, and its last line is 'N passed, M failed'. The status is 0 where M is 0.
 """
 
 import os
@@ -15,6 +12,8 @@ import re
 import signal
 import subprocess
 import sys
+import time
+from dataclasses import dataclass
 
 sys.dont_write_bytecode = True
 TOP = os.path.dirname(os.path.dirname(os.path.abspath(__file__)))
@@ -22,6 +21,7 @@ sys.path.insert(0, f"{TOP}/.ci")
 
 import clock
 import lanes
+import launcher
 import rows
 import store
 
@@ -30,10 +30,8 @@ PROGRAM = f"{TOP}/crates/ep_main/out/ep_main"
 PROGRAMS = {PROGRAM: "", f"{PROGRAM}.by-rattle": " (built by Rattle's own compiler)"}
 # the most runs that one test gets so
 MOST = "500"
-# tests that are run with each allocation refused, or MOST of them: the crate, and a word of their names
-TESTS = (
-    ("ep_world_tests", "played_on"),
-)
+# what the names of tests have that are run with each allocation refused, or MOST of them
+TESTS = ("played_on",)
 # scripts that are played, made into a bundle, and audited so
 SCRIPTS = ("examples/one_put.script", "examples/crossing_puts.script", "examples/swap.script", ".ci/scripts/seven.script")
 # what the names of rows begin with whose last run is made again so
@@ -51,6 +49,8 @@ DEVICES = (("replay",), ("replay", "--emit", "bundle"), ("run",), ("run", "--hos
 PUT = b"replicas 3\npropose 0 1 put x 1\n"
 # a script whose bundle has over 16 KiB, so that it takes several reads, and is audited and upgraded, shown and drawn on devices that fail
 LONG = b"replicas 3\n" + b"propose 0 1 put x 1\nflush\nflush\n" * 40
+# what looks whether something that is written is up to date
+LOOKS = (["tools/make-rows", "check"], ["tools/wrong-bodies", "--look"], ["tools/pages"])
 # how ep_viewer looks at a bundle
 VIEWS = (["show"], ["show", "--columns"], ["explain"], ["draw"], ["draw", "--graph"])
 TRACE = ["replay", "--emit", "trace"]
@@ -60,8 +60,8 @@ ROWS_VIEWED = ("audit-of-another-value", "audit-of-another-entry", "audit-cut", 
 
 
 def looks():
-    """Whether what tools write is up to date, and what pages and edits name is there."""
-    return all([not subprocess.run(it).returncode for it in (["tools/make-rows", "check"], ["tools/wrong-bodies", "--look"])])
+    """Whether what tools write is up to date, and what pages and edits name is there: counts what isn't."""
+    return 0, sum(subprocess.run(it).returncode != 0 for it in LOOKS)
 
 
 def test_command():
@@ -83,13 +83,24 @@ def test_command():
     return passed, failed or int(status != 0)
 
 
-def tests():
-    """Runs the tests that `rt ci` doesn't prove, and returns how many passed and how many failed."""
-    ran = subprocess.run(["tools/tests"], stdin=subprocess.DEVNULL, stdout=subprocess.PIPE, text=True, errors="replace")
-    print("tests/: ", ran.stdout, sep="", end="", flush=True)
+def counted(*words):
+    """Runs a tool whose last line counts what it tried, shows what it says, and returns the two numbers."""
+    ran = subprocess.run(words, stdin=subprocess.DEVNULL, stdout=subprocess.PIPE, text=True, errors="replace")
+    print(f"{words[0]}: {ran.stdout}", end="", flush=True)
     counts = re.search(r"(\d+) passed, (\d+) failed\n\Z", ran.stdout)
     passed, failed = map(int, counts.groups()) if counts else (0, 0)
-    return passed, failed or int(ran.returncode != 0)
+    return passed, failed or int(ran.returncode != 0 or not counts)
+
+
+def tests():
+    """The tests that `rt ci` doesn't prove."""
+    return counted("tools/tests")
+
+
+def wrong_bodies():
+    """The wrong bodies that each gate has the prover refuse, and some that the commit draws."""
+    commit = subprocess.run(["git", "rev-parse", "HEAD"], stdout=subprocess.PIPE, stderr=subprocess.DEVNULL, text=True).stdout.strip()
+    return counted("tools/wrong-bodies", "--gate", commit or "none")
 
 
 def swept(tool, words, given=None):
@@ -128,8 +139,8 @@ def rows_named(name):
 
 def refused_memory():
     """Refuses allocations, and says of each of these sweeps whether it passed."""
-    for crate, word in TESTS:
-        yield swept("refused-memory", [crate, word, MOST])
+    for word in TESTS:
+        yield swept("refused-memory", ["tests", word, MOST])
     for name in SCRIPTS:
         script = read(name)
         print(f"{name}, with each allocation refused:", flush=True)
@@ -180,8 +191,8 @@ def failing_devices():
     yield swept("failing-devices", ["ep_viewer", "--", *TRACE], b"replicas 4\n")
 
 
-def built():
-    """Runs what `rt ci` built, and returns how many runs passed and how many failed."""
+def both_programs():
+    """The rows, by both compilers."""
     passed = failed = 0
     for program, by in PROGRAMS.items():
         if not os.path.isfile(program):
@@ -191,11 +202,42 @@ def built():
             continue
         counts = rows.tried(program, by=by)
         passed, failed = passed + counts[0], failed + counts[1]
-    if os.path.isfile(PROGRAM):
-        well = [*refused_memory(), *refused_views(), *failing_devices(), swept("turned-bundles", [])]
-        passed, failed = passed + well.count(True), failed + well.count(False)
-    counts = store.tried()
-    return passed + counts[0], failed + counts[1]
+    return passed, failed
+
+
+def sweeps(*sweeps):
+    """How many of the sweeps passed, and how many failed: none where there is no program, which the rows count."""
+    well = [it for sweep in sweeps for it in sweep()] if os.path.isfile(PROGRAM) else []
+    return well.count(True), well.count(False)
+
+
+@dataclass
+class Part:
+    """A part of the gate: what it is, what runs it and gives how many passed and how many failed, and whether it goes over the programs that `rt ci` built."""
+
+    name: str
+    call: object
+    is_of_built: bool = True
+
+
+PARTS = (
+    Part("pages and copies", looks, is_of_built=False),
+    Part("rt ci", test_command, is_of_built=False),
+    Part("wrong bodies", wrong_bodies, is_of_built=False),
+    Part("tests/", tests, is_of_built=False),
+    Part("rows", both_programs),
+    Part("launcher", launcher.tried),
+    Part("help", lambda: counted("tools/help-texts", "check")),
+    Part("refused memory", lambda: sweeps(refused_memory, refused_views)),
+    Part("failing devices", lambda: sweeps(failing_devices)),
+    Part("turned bundles", lambda: sweeps(lambda: [swept("turned-bundles", [])])),
+    Part("hosts/store", store.tried),
+)
+
+
+def processor_time():
+    """The processor time of this process and of those that it has waited for, in seconds."""
+    return sum(os.times()[:4])
 
 
 def main(words):
@@ -208,14 +250,19 @@ def main(words):
     os.chdir(TOP)
     signal.signal(signal.SIGTERM, lambda *_: sys.exit(143))
     lanes.one_processor_a_check()
+    told, passed, failed = [], 0, 0
     with clock.Clock() as spent:
-        passed = failed = 0
-        fits = bool(words) or looks()
-        for part in ([test_command, tests] * (not words) + [built]) * fits:
-            counts = part()
+        for part in PARTS:
+            if words and not part.is_of_built:
+                continue
+            processor, began = processor_time(), time.monotonic()
+            counts = part.call()
             passed, failed = passed + counts[0], failed + counts[1]
-        failed += not fits
-    print(*spent.lines(), sep="\n")
+            minutes = (processor_time() - processor) / 60, (time.monotonic() - began) / 60
+            told.append("%s: %d passed, %d failed, %.1f minutes of processor time, %.1f by the clock" % (part.name, *counts, *minutes))
+            if part.call is looks and failed:
+                break
+    print(*told, *spent.lines(), sep="\n")
     print(f"{passed} passed, {failed} failed", flush=True)
     return 1 if failed else 0
 
