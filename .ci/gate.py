@@ -20,8 +20,10 @@ TOP = os.path.dirname(os.path.dirname(os.path.abspath(__file__)))
 sys.path.insert(0, f"{TOP}/.ci")
 
 import clock
+import disks
 import lanes
 import launcher
+import page
 import rows
 import store
 
@@ -50,7 +52,7 @@ PUT = b"replicas 3\npropose 0 1 put x 1\n"
 # a script whose bundle has over 16 KiB, so that it takes several reads, and is audited and upgraded, shown and drawn on devices that fail
 LONG = b"replicas 3\n" + b"propose 0 1 put x 1\nflush\nflush\n" * 40
 # what looks whether something that is written is up to date
-LOOKS = (["tools/make-rows", "check"], ["tools/wrong-bodies", "--look"], ["tools/pages"])
+LOOKS = (["tools/make-rows", "check"], ["tools/wrong-bodies", "--look"], ["tools/pages"], ["tools/make-page", "--check"])
 # how ep_viewer looks at a bundle
 VIEWS = (["show"], ["show", "--columns"], ["explain"], ["draw"], ["draw", "--graph"])
 TRACE = ["replay", "--emit", "trace"]
@@ -228,6 +230,8 @@ PARTS = (
     Part("rows", both_programs),
     Part("launcher", launcher.tried),
     Part("help", lambda: counted("tools/help-texts", "check")),
+    Part("disks", disks.tried),
+    Part("page", lambda: page.tried(PROGRAM)),
     Part("refused memory", lambda: sweeps(refused_memory, refused_views)),
     Part("failing devices", lambda: sweeps(failing_devices)),
     Part("turned bundles", lambda: sweeps(lambda: [swept("turned-bundles", [])])),
