@@ -45,7 +45,6 @@ pub fn serve_log<D: Device + Drop, S: Source, W: Sink, F: Sink>(
 }
 
 /// Serves with a node that is opened.
-#[tactic(auto, using(crate::proofs::Serving::has_served))]
 fn served<D: Device + Drop, S: Source, W: Sink>(
     alloc: Global,
     node: Node<D>,
@@ -58,11 +57,15 @@ fn served<D: Device + Drop, S: Source, W: Sink>(
         (output (W.held writer.old) (W.held writer.new) (W.has_failed writer.old) (W.has_failed writer.new)) }
 {
     let mut node = node;
-    let outcome = serve(alloc, &mut node, reader, writer, mode);
-    drop(node);
-    match outcome {
-        Ok(()) => Ok(()),
-        Err(fault) => Err(Fault::Serve(fault)),
+    match serve(alloc, &mut node, reader, writer, mode) {
+        Ok(()) => {
+            drop(node);
+            Ok(())
+        }
+        Err(fault) => {
+            drop(node);
+            Err(Fault::Serve(fault))
+        }
     }
 }
 
