@@ -57,7 +57,7 @@ serves_on mode n w w' s k k' l l' old new p e h = record {
 same_extends : (k : Kept) → Extends k k
 same_extends k = ([], λ t. record k { entries = sym (append-nil k.entries) t })
 
-pub service_on : (mode : Mode) (n : ℕ) (w w' : Crashes) (k k' : Kept) (l l' : Left) (old new : Option (List ℕ)) (ds : List Due) (s : InService mode n w k l old new k' l' ds) → Passes w w' s.replica → InService mode n w' k l old new k' l' ds
+abbrev pub service_on : (mode : Mode) (n : ℕ) (w w' : Crashes) (k k' : Kept) (l l' : Left) (old new : Option (List ℕ)) (ds : List Due) (s : InService mode n w k l old new k' l' ds) → Passes w w' s.replica → InService mode n w' k l old new k' l' ds
 service_on mode n w w' k k' l l' old new ds s p = record {
   replica = s.replica;
   from = s.from;
@@ -65,7 +65,7 @@ service_on mode n w w' k k' l l' old new ds s p = record {
   waiting = s.waiting;
 }
 
-pub begins : (mode : Mode) (n : ℕ) (w : Crashes) (k : Kept) (l : Left) (old : Option (List ℕ)) → LastsFrom w w.start k → InService mode n w k l old old k l []
+abbrev pub begins : (mode : Mode) (n : ℕ) (w : Crashes) (k : Kept) (l : Left) (old : Option (List ℕ)) → LastsFrom w w.start k → InService mode n w k l old old k l []
 begins mode n w k l old begun = record {
   replica = k;
   from = l;
@@ -74,7 +74,7 @@ begins mode n w k l old begun = record {
 }
 
 -- its answer waits
-pub one_waits : (mode : Mode) (n : ℕ) (w : Crashes) (k k' m : Kept) (l l' l'' : Left) (old new : Option (List ℕ)) (ds : List Due) (r : Request) (d : Due) (s : InService mode n w k l old new k' l' ds)
+abbrev pub one_waits : (mode : Mode) (n : ℕ) (w : Crashes) (k k' m : Kept) (l l' l'' : Left) (old new : Option (List ℕ)) (ds : List Due) (r : Request) (d : Due) (s : InService mode n w k l old new k' l' ds)
     → next_request n l' ≡ Ok (Some r, l'') → Acts k' r d m → MayWait mode (length s.replica.entries) r m → InService mode n w k l old new m l'' (ds ++ d ∷ [])
 one_waits mode n w k k' m l l' l'' old new ds r d s next a may = record {
   replica = s.replica;
@@ -156,3 +156,7 @@ ends_badly mode n n' w k k' l l' old new f e p left size_is all read is = subst 
     go request.Memory h = inr (l', all)
     go request.ReadFailed h = (l', all)
     go (request.BadRequest at) h = (l', all, h.0, h.1)
+
+-- the loop's end, which no input reaches
+pub ends_never : (mode : Mode) (n : ℕ) (w : Crashes) (k k' m : Kept) (l l' : Left) (old held : Option (List ℕ)) (ds : List Due) → InService mode n w k l old held k' l' ds → Ends mode n w k l old held (Err Memory) m
+ends_never mode n w k k' m l l' old held ds s = inl (s.replica, s.from, s.served)

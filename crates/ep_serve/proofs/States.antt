@@ -1,6 +1,6 @@
 -- The loop, from one request to the next.
 use Rattle.std.proofs.Common.{◌≡◌, ◌⊎◌, ℕ, ◌+◌, ◌≤◌, Bool, true, false, ◌||◌, length, length-append, List, [], ◌∷◌, ◌++◌, Option, Some, None, Result, Ok, Err, inl, inr, refl, sym, ap, ◌∙◌, subst, arith}
-use Rattle.ep_base.specs.Devices.{FailsAsTold}
+use Rattle.std.specs.Prelude.{IsErrAnd}
 use Rattle.ep_base.specs.Quorums.{size}
 use Rattle.ep_bundle.specs.Reading.{Left}
 use Rattle.ep_device.specs.Device.{LeavesOnly}
@@ -11,12 +11,14 @@ use Rattle.ep_wire.specs.declared.request.Request.{Request}
 use Rattle.ep_serve.specs.Acting.{Acts}
 use Rattle.ep_serve.specs.Answering.{Tell}
 use Rattle.ep_serve.specs.Lasting.{crashes, Crashes, GoesOn, IsKept, Lasts, StaysKnown}
-use Rattle.ep_serve.specs.Serving.{InService, MayWait, ServesAll, Waits}
+use Rattle.ep_serve.specs.Serving.{Ends, IfSettled, IfUnwritten, InService, IsSilent, MayWait, ServesAll, Waits}
 use Rattle.ep_serve.specs.declared.due.Due.{Due}
 use Rattle.ep_serve.specs.declared.mode.Mode.{Mode}
+use Rattle.ep_serve.specs.declared.serve_fault.ServeFault.{ServeFault}
+use Rattle.ep_serve.specs.declared.serve_fault.ServeFault.TheVariants.{WriteFailed}
 use Rattle.ep_serve.proofs.Growing.{Extends, acts_more, waiting_more}
 use Rattle.ep_serve.proofs.Keeping.{lasts_first, lasts_now, passes, rests}
-use Rattle.ep_serve.proofs.Runs.{all_served, begins, one_is_written, one_waits, service_on}
+use Rattle.ep_serve.proofs.Runs.{all_served, begins, cut_short, one_is_written, one_waits, service_on}
 
 -- what stands between two requests: those before are served, or wait, and the replica that told the last batch is on the disk
 pub record Stands {D : Type 0} (seen : D → Option (List ℕ)) (moment : D → ℕ) (left_since : D → ℕ → List ℕ → Type 0) (mode : Mode) (start node : Logged D) (zs : List ℕ) (old held : Option (List ℕ)) (place : ℕ) (left : Option (List ℕ)) (dues : List Due) : Type 0 where
@@ -74,9 +76,10 @@ written_on seen moment left_since mode start node node' zs old held new left p q
 
 pub stands_next : {D : Type 0} (seen : D → Option (List ℕ)) (moment : D → ℕ) (left_since : D → ℕ → List ℕ → Type 0) (mode : Mode) (start node node' : Logged D) (zs : List ℕ) (old held new left left' : Option (List ℕ)) (p q n : ℕ) (before after : List Due) (found : Option Request) (r : Request)
     → (s : Stands seen moment left_since mode start node zs old held p left before) → n ≡ size start.replica.faults → ReadsRequest n (record { at = p; bytes = s.ys }) (Ok found) q left' → found ≡ Some r
-    → Waits mode node r before held node' after new (IsKept seen moment left_since node.device node'.device node'.replica) → GoesOn seen moment left_since node.device node'.device node.replica node.synced → StaysKnown seen start.device node.device
+    → (m : Mode) → m ≡ mode → Waits m node r before held node' after new (IsKept seen moment left_since node.device node'.device node'.replica) → GoesOn seen moment left_since node.device node'.device node.replica node.synced → StaysKnown seen start.device node.device
     → Stands seen moment left_since mode start node' zs old new q left' after
-stands_next {D = D} seen moment left_since mode start node node' zs old held new left left' p q n before after found r s same read is w goes known =
+stands_next {D = D} seen moment left_since mode start node node' zs old held new left left' p q n before after found r s same read is m mode_is w' goes known =
+    let w : Waits mode node r before held node' after new (IsKept seen moment left_since node.device node'.device node'.replica) = subst (λ (x : Mode). Waits x node r before held node' after new (IsKept seen moment left_since node.device node'.device node'.replica)) mode_is w' in
     subst (λ (x : Option (List ℕ)). Stands seen moment left_since mode start node' zs old new q x after) (sym read.1) (elim w.2 [
       | inl a ↦
           subst (λ (x : Logged D). Stands seen moment left_since mode start x zs old new q (Some read.0) after) (sym a.3)
@@ -99,6 +102,33 @@ goes_on_to seen moment left_since mode start node node' zs old held left p befor
     let n : ℕ = size start.replica.faults in
     service_on mode n (crashes seen moment left_since start.device node.device) (crashes seen moment left_since start.device node'.device) start.replica node.replica (record { at = 0; bytes = zs }) (record { at = p; bytes = s.ys }) old held before s.service
     (passes seen moment left_since start.device node.device node'.device node.replica s.service.replica node.synced known s.synced (waiting_more mode n s.service.replica node.replica s.service.from (record { at = p; bytes = s.ys }) before s.service.waiting) goes)
+
+unwritten_so : (e : ServeFault) (P : Type 0) → IfUnwritten (Err e) P → e ≡ WriteFailed → P
+unwritten_so e P h is = subst (λ (x : ServeFault). IfUnwritten (Err x) P) is h
+
+settled_so : (e : ServeFault) (P : Type 0) → IfSettled (Err e) P → e ≡ WriteFailed → P
+settled_so e P h is = subst (λ (x : ServeFault). IfSettled (Err x) P) is h
+
+-- a fault at a request
+pub stopped : {D : Type 0} (seen : D → Option (List ℕ)) (moment : D → ℕ) (left_since : D → ℕ → List ℕ → Type 0) (mode : Mode) (start node node' : Logged D) (zs : List ℕ) (old held new left : Option (List ℕ)) (p : ℕ) (before : List Due) (e : ServeFault) (r : Result Unit ServeFault)
+    (s : Stands seen moment left_since mode start node zs old held p left before) → IsSilent e held new → IfUnwritten (Err e) (IsQuiet node' × IsKept seen moment left_since node.device node'.device node'.replica)
+    → GoesOn seen moment left_since node.device node'.device node.replica node.synced → StaysKnown seen start.device node.device → IsErrAnd r (λ x. x ≡ e)
+    → Ends mode (size start.replica.faults) (crashes seen moment left_since start.device node'.device) start.replica (record { at = 0; bytes = zs }) old new r node'.replica
+stopped seen moment left_since mode start node node' zs old held new left p before e r s silent unwritten goes known is =
+    cut_short mode (size start.replica.faults) (crashes seen moment left_since start.device node'.device) start.replica node.replica node'.replica (record { at = 0; bytes = zs }) (record { at = p; bytes = s.ys }) old held new before r e
+    (goes_on_to seen moment left_since mode start node node' zs old held left p before s goes known) silent
+    (λ failed. lasts_now seen moment left_since start.device node.device node'.device node'.replica known ((unwritten_so e (IsQuiet node' × IsKept seen moment left_since node.device node'.device node'.replica) unwritten failed).1)) is
+
+-- a fault where all that waits was to be written
+pub stopped_settling : {D : Type 0} (seen : D → Option (List ℕ)) (moment : D → ℕ) (left_since : D → ℕ → List ℕ → Type 0) (mode : Mode) (start node node' : Logged D) (zs : List ℕ) (old held new left : Option (List ℕ)) (p : ℕ) (before : List Due) (e : ServeFault) (r : Result Unit ServeFault)
+    (s : Stands seen moment left_since mode start node zs old held p left before) → node'.replica ≡ node.replica → IsSilent e held new → IfSettled (Err e) (IsKept seen moment left_since node.device node'.device node.replica)
+    → GoesOn seen moment left_since node.device node'.device node.replica node.synced → StaysKnown seen start.device node.device → IsErrAnd r (λ x. x ≡ e)
+    → Ends mode (size start.replica.faults) (crashes seen moment left_since start.device node'.device) start.replica (record { at = 0; bytes = zs }) old new r node'.replica
+stopped_settling seen moment left_since mode start node node' zs old held new left p before e r s same silent kept goes known is =
+    cut_short mode (size start.replica.faults) (crashes seen moment left_since start.device node'.device) start.replica node.replica node'.replica (record { at = 0; bytes = zs }) (record { at = p; bytes = s.ys }) old held new before r e
+    (goes_on_to seen moment left_since mode start node node' zs old held left p before s goes known) silent
+    (λ failed. subst (λ (x : Kept). Lasts (crashes seen moment left_since start.device node'.device) x) (sym same)
+        (lasts_now seen moment left_since start.device node.device node'.device node.replica known (settled_so e (IsKept seen moment left_since node.device node'.device node.replica) kept failed))) is
 
 -- all that waited was written
 pub all_settled : {D : Type 0} (seen : D → Option (List ℕ)) (moment : D → ℕ) (left_since : D → ℕ → List ℕ → Type 0) (mode : Mode) (start node node' : Logged D) (zs : List ℕ) (old held new left : Option (List ℕ)) (p : ℕ) (before after : List Due)
