@@ -8,14 +8,20 @@ use Rattle.ep_assemble.specs.declared.assembled.End.{End}
 use Rattle.ep_assemble.specs.declared.assemble_fault.AssembleFault.{AssembleFault}
 use Rattle.ep_assemble.specs.declared.assemble_fault.AssembleFault.TheVariants.{Memory, Log, Collect, Receipts, TooManyReceipts}
 
+-- what was on the disk at one offset, as the record at another says, isn't there any more
+abbrev pub turned_text : ℕ → ℕ → List ℕ
+turned_text at by = (codes "damaged at byte " ++ decimal at) ++ (codes ", which was on the disk by the record at byte " ++ decimal by)
+
 abbrev pub log_text : LogFault → List ℕ
 log_text log.Memory = codes "out of memory"
 log_text log.NoHeader = codes "no header of a log"
 log_text log.OtherVersion = codes "another version"
+log_text log.OtherGeneration = codes "another generation"
 log_text (log.BadLength at) = codes "bad length at byte " ++ decimal at
 log_text (log.BadChecksum at) = codes "bad checksum at byte " ++ decimal at
 log_text (log.BadEntry at) = codes "bad entry at byte " ++ decimal at
 log_text (log.NotNext at) = codes "not the next entry at byte " ++ decimal at
+log_text (log.Turned at by) = turned_text at by
 
 abbrev pub log_line : List ℕ → LogFault → List ℕ
 log_line name fault = codes "log refused " ++ name ++ codes ": " ++ log_text fault ++ codes "\n"

@@ -1,5 +1,5 @@
 -- The bundle that logs make, and the first fault of those that make none.
-use Rattle.std.specs.Prelude.{◌≡◌, ℕ, List, [], ◌∷◌, Some, map, take, slice_get}
+use Rattle.std.specs.Prelude.{◌≡◌, ℕ, ltb, List, [], ◌∷◌, Some, map, take, slice_get}
 use Rattle.std.specs.Global.{Vec}
 use Rattle.ep_base.specs.Quorums.{size}
 use Rattle.ep_bundle.specs.Bytes.{bundle_bytes}
@@ -11,6 +11,7 @@ use Rattle.ep_log.specs.Reading.{IsRead}
 use Rattle.ep_log.specs.Refusing.{IsRefused as IsNoLog}
 use Rattle.ep_log.specs.declared.log_fault.LogFault.{LogFault}
 use Rattle.ep_log.specs.declared.log_fault.LogFault.TheVariants as log
+use Rattle.ep_log.specs.declared.log_version.LogVersion.{LogVersion}
 use Rattle.ep_rules.specs.declared.receipt.Receipt.{Receipt}
 use Rattle.ep_assemble.specs.Receipts.{AreHeld, AreTooMany, IsFirstSpoiled}
 use Rattle.ep_assemble.specs.declared.assembled.End.{End}
@@ -21,10 +22,17 @@ use Rattle.ep_assemble.specs.declared.assemble_fault.AssembleFault.TheVariants.{
 abbrev pub contents : List (Vec ℕ) → List (List ℕ)
 contents vs = map (λ v. v.items) vs
 
+-- a log, of either version, of this journal; it ends here, and is torn where bytes stand behind that
+pub record IsReadTo (bytes : List ℕ) (j : Journal) (end : End) : Type 0 where
+  pub version : LogVersion
+  pub behind : ℕ
+  pub read : IsRead bytes version j end.whole behind
+  pub torn : end.is_torn ≡ ltb 0 behind
+
 -- each is a log, of this journal, up to its torn end where it has one
 abbrev pub AreRead : List (List ℕ) → List Journal → List End → Type 0
 AreRead [] [] [] = Unit {0}
-AreRead (bytes ∷ logs) (journal ∷ journals) (end ∷ ends) = IsRead bytes journal end.whole end.is_torn × AreRead logs journals ends
+AreRead (bytes ∷ logs) (journal ∷ journals) (end ∷ ends) = IsReadTo bytes journal end × AreRead logs journals ends
 AreRead _ _ _ = ⊥
 
 -- the text is the bundle of these journals and of the receipts that the files hold
@@ -46,10 +54,12 @@ abbrev pub IsOfLog : LogFault → Type 0
 IsOfLog log.Memory = ⊥
 IsOfLog log.NoHeader = Unit {0}
 IsOfLog log.OtherVersion = Unit {0}
+IsOfLog log.OtherGeneration = Unit {0}
 IsOfLog (log.BadLength at) = Unit {0}
 IsOfLog (log.BadChecksum at) = Unit {0}
 IsOfLog (log.BadEntry at) = Unit {0}
 IsOfLog (log.NotNext at) = Unit {0}
+IsOfLog (log.Turned at by) = Unit {0}
 
 -- these are the bytes at the place, they are no log for this reason, and those before them are logs
 pub record IsFirstRefused (place : ℕ) (fault : LogFault) (logs : List (List ℕ)) : Type 0 where
@@ -105,7 +115,9 @@ abbrev pub of_log : ℕ → LogFault → AssembleFault
 of_log place log.Memory = Memory
 of_log place log.NoHeader = Log place log.NoHeader
 of_log place log.OtherVersion = Log place log.OtherVersion
+of_log place log.OtherGeneration = Log place log.OtherGeneration
 of_log place (log.BadLength at) = Log place (log.BadLength at)
 of_log place (log.BadChecksum at) = Log place (log.BadChecksum at)
 of_log place (log.BadEntry at) = Log place (log.BadEntry at)
 of_log place (log.NotNext at) = Log place (log.NotNext at)
+of_log place (log.Turned at by) = Log place (log.Turned at by)

@@ -1,7 +1,7 @@
 //! The lines that are told of logs and receipts, by the names of their files.
 
 ghost use Rattle.std.specs.Prelude.{◌≡◌, ◌++◌, codes, decimal, map, string_bytes, OnOk};
-ghost use Rattle.ep_assemble.specs.Lines.{collect_line, end_line, log_line, log_text, name_at, receipts_line, refusal_line, torn_line, torn_lines, unread_line};
+ghost use Rattle.ep_assemble.specs.Lines.{collect_line, end_line, log_line, log_text, name_at, receipts_line, refusal_line, torn_line, torn_lines, turned_text, unread_line};
 
 use crate::assemble_fault::AssembleFault;
 use crate::assembled::End;
@@ -20,6 +20,14 @@ fn push_number(name: &[u8], number: u64, out: &mut Vec<u8>) -> Result<(), AllocE
     out.extend_from_slice(digits.format(number).as_bytes())
 }
 
+/// Appends which bytes of a log the device has turned, by which record.
+fn push_turned(at: u64, by: u64, out: &mut Vec<u8>) -> Result<(), AllocError>
+    ensures { OnOk result (out.new.items ≡ out.old.items ++ turned_text at by) }
+{
+    push_number(b"damaged at byte ", at, out)?;
+    push_number(b", which was on the disk by the record at byte ", by, out)
+}
+
 /// Appends why a log was not read.
 fn push_log_text(fault: LogFault, out: &mut Vec<u8>) -> Result<(), AllocError>
     ensures { OnOk result (out.new.items ≡ out.old.items ++ log_text fault) }
@@ -28,10 +36,12 @@ fn push_log_text(fault: LogFault, out: &mut Vec<u8>) -> Result<(), AllocError>
         LogFault::Memory => out.extend_from_slice(b"out of memory"),
         LogFault::NoHeader => out.extend_from_slice(b"no header of a log"),
         LogFault::OtherVersion => out.extend_from_slice(b"another version"),
+        LogFault::OtherGeneration => out.extend_from_slice(b"another generation"),
         LogFault::BadLength(at) => push_number(b"bad length at byte ", at, out),
         LogFault::BadChecksum(at) => push_number(b"bad checksum at byte ", at, out),
         LogFault::BadEntry(at) => push_number(b"bad entry at byte ", at, out),
         LogFault::NotNext(at) => push_number(b"not the next entry at byte ", at, out),
+        LogFault::Turned(at, by) => push_turned(at, by, out),
     }
 }
 

@@ -28,7 +28,7 @@ pub(crate) fn read_logs(alloc: Global, logs: &[Vec<u8>]) -> Result<Logs, Assembl
         let log = read_one(alloc, place, bytes)?;
         ends.push(End {
             whole: log.whole,
-            is_torn: log.is_torn,
+            is_torn: log.behind > 0,
         })?;
         journals.push(log.journal)?;
     }
@@ -37,7 +37,7 @@ pub(crate) fn read_logs(alloc: Global, logs: &[Vec<u8>]) -> Result<Logs, Assembl
 
 /// Reads the log at this place.
 fn read_one(alloc: Global, place: usize, bytes: &[u8]) -> Result<ReadLog, AssembleFault>
-    ensures ok { IfOk result (λ log. IsRead bytes.now log.journal log.whole log.is_torn) }
+    ensures ok { IfOk result (λ log. IsRead bytes.now log.version log.journal log.whole log.behind) }
     ensures err { IfErr result (λ e. IsNotRead e place bytes.now) }
 {
     match read_log(alloc, bytes) {

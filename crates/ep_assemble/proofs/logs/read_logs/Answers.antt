@@ -1,6 +1,6 @@
-use Rattle.std.proofs.Common.{rules, ◌<◌, ◌+◌, ℕ, List, ◌++◌, ◌∷◌, [], take, length, sym, subst}
+use Rattle.std.proofs.Common.{rules, ◌<◌, ◌+◌, ℕ, List, ◌++◌, ◌∷◌, [], ltb, take, length, refl, sym, subst}
 use Rattle.std.proofs.lemmas.Result.{err_from_is_err_and}
-use Rattle.ep_assemble.specs.Logs.{AreRead, IsNotRead, contents}
+use Rattle.ep_assemble.specs.Logs.{AreRead, IsNotRead, IsReadTo, contents}
 use Rattle.ep_assemble.specs.declared.assembled.End.{End}
 use Rattle.ep_journal.specs.Entries.{Log as Journal}
 use Rattle.ep_log.specs.Reading.{IsRead}
@@ -22,9 +22,10 @@ returns-in_err-push-clause-err c =
 pub loop-place-preserved : goal.loop-place-preserved
 loop-place-preserved c =
     let less : c.loop-place.place < length c.args.logs.now = search rules in
-    let read : IsRead c.index-logs-place.result.items c.in_ok-log.log.journal c.in_ok-log.log.whole c.in_ok-log.log.is_torn =
-    subst (λ (bs : List ℕ). IsRead bs c.in_ok-log.log.journal c.in_ok-log.log.whole c.in_ok-log.log.is_torn) c.deref.ensures.value c.in_ok-log.ensures.ok in
+    let log = c.in_ok-log.log in
+    let read : IsRead c.index-logs-place.result.items log.version log.journal log.whole log.behind = subst (λ (bs : List ℕ). IsRead bs log.version log.journal log.whole log.behind) c.deref.ensures.value c.in_ok-log.ensures.ok in
+    let to : IsReadTo c.index-logs-place.result.items log.journal (record { whole = log.whole; is_torn = ltb 0 log.behind }) = record { version = log.version; behind = log.behind; read = read; torn = refl } in
     let all = one_read c.loop-place.place c.args.logs.now c.index-logs-place.result _ c.loop-place.journals.items c.loop-place.ends.items c.in_ok-log.log.journal
-    (record { whole = c.in_ok-log.log.whole; is_torn = c.in_ok-log.log.is_torn }) less c.index-logs-place.is c.loop-place.invariant read in
+    (record { whole = c.in_ok-log.log.whole; is_torn = ltb 0 c.in_ok-log.log.behind }) less c.index-logs-place.is c.loop-place.invariant to in
     subst (λ (js : List Journal). AreRead (contents (take (c.loop-place.place + 1) c.args.logs.now)) js c.push.new.self.items) (sym c.in_ok-push-2.ensures.items)
     (subst (λ (es : List End). AreRead (contents (take (c.loop-place.place + 1) c.args.logs.now)) (c.loop-place.journals.items ++ c.in_ok-log.log.journal ∷ []) es) (sym c.in_ok-push.ensures.items) all)
