@@ -23,11 +23,11 @@ use Rattle.ep_serve.proofs.Growing.{Extends, served_more_entries, waiting_more, 
 use Rattle.ep_serve.proofs.Keeping.{Passes, lasts_on, lasts_from_on}
 use Rattle.ep_serve.proofs.Lists.{take_more}
 
-read_more : (n : ℕ) (l l' m : Left) (rs : List Request) (r : Request) → AreRead n l rs l' → next_request n l' ≡ Ok (Some r, m) → AreRead n l (rs ++ r ∷ []) m
+pub read_more : (n : ℕ) (l l' m : Left) (rs : List Request) (r : Request) → AreRead n l rs l' → next_request n l' ≡ Ok (Some r, m) → AreRead n l (rs ++ r ∷ []) m
 read_more n l l' m [] r e next = (m, subst (λ (x : Left). next_request n x ≡ Ok (Some r, m)) e next, refl)
 read_more n l l' m (q ∷ rs) r h next = (h.0, h.1, read_more n h.0 l' m rs r h.2 next)
 
-wait_more : (mode : Mode) (n : ℕ) (k k' m : Kept) (rs : List Request) (ds : List Due) (r : Request) (d : Due) → AllWait mode n k rs ds k' → Acts k' r d m → MayWait mode n r m → AllWait mode n k (rs ++ r ∷ []) (ds ++ d ∷ []) m
+pub wait_more : (mode : Mode) (n : ℕ) (k k' m : Kept) (rs : List Request) (ds : List Due) (r : Request) (d : Due) → AllWait mode n k rs ds k' → Acts k' r d m → MayWait mode n r m → AllWait mode n k (rs ++ r ∷ []) (ds ++ d ∷ []) m
 wait_more mode n k k' m [] ds r d h a w = (d, [], m, subst (λ (x : Kept). Acts x r d m) h.1 a, w, (refl, refl), ap (λ (x : List Due). x ++ d ∷ []) h.0)
 wait_more mode n k k' m (q ∷ rs) ds r d h a w = (h.0, h.1 ++ d ∷ [], h.2, h.3, h.4, wait_more mode n h.2 k' m rs h.1 r d h.5 a w, ap (λ (x : List Due). x ++ d ∷ []) h.6)
 
@@ -54,7 +54,7 @@ serves_on mode n w w' s k k' l l' old new p e h = record {
   appended = h.appended;
 }
 
-same_extends : (k : Kept) → Extends k k
+pub same_extends : (k : Kept) → Extends k k
 same_extends k = ([], λ t. record k { entries = sym (append-nil k.entries) t })
 
 abbrev pub service_on : (mode : Mode) (n : ℕ) (w w' : Crashes) (k k' : Kept) (l l' : Left) (old new : Option (List ℕ)) (ds : List Due) (s : InService mode n w k l old new k' l' ds) → Passes w w' s.replica → InService mode n w' k l old new k' l' ds

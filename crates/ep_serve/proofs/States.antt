@@ -128,7 +128,7 @@ stopped_settling seen moment left_since mode start node node' zs old held new le
     cut_short mode (size start.replica.faults) (crashes seen moment left_since start.device node'.device) start.replica node.replica node'.replica (record { at = 0; bytes = zs }) (record { at = p; bytes = s.ys }) old held new before r e
     (goes_on_to seen moment left_since mode start node node' zs old held left p before s goes known) silent
     (λ failed. subst (λ (x : Kept). Lasts (crashes seen moment left_since start.device node'.device) x) (sym same)
-        (lasts_now seen moment left_since start.device node.device node'.device node.replica known (settled_so e (IsKept seen moment left_since node.device node'.device node.replica) kept failed))) is
+    (lasts_now seen moment left_since start.device node.device node'.device node.replica known (settled_so e (IsKept seen moment left_since node.device node'.device node.replica) kept failed))) is
 
 -- all that waited was written
 pub all_settled : {D : Type 0} (seen : D → Option (List ℕ)) (moment : D → ℕ) (left_since : D → ℕ → List ℕ → Type 0) (mode : Mode) (start node node' : Logged D) (zs : List ℕ) (old held new left : Option (List ℕ)) (p : ℕ) (before after : List Due)

@@ -19,7 +19,7 @@ loop-init g c = record {
 
 pub returns-in_err-serve-in-Ok-Some-clause-served : goal.returns-in_err-serve-in-Ok-Some-clause-served
 returns-in_err-serve-in-Ok-Some-clause-served g c = λ zs h.
-    stopped g.D.Device.seen g.D.Device.moment g.D.Device.left_since _ _ _ _ zs _ _ _ _ _ _ _ _ (c.loop.invariant.served _ c.new-queue.ensures.1 zs h) c.in_err-serve-in-Ok-Some.ensures.silent c.in_err-serve-in-Ok-Some.ensures.unwritten c.serve-in-Ok-Some.ensures.onward c.loop.invariant.known c.from_residual.ensures.1
+    stopped g.D.Device.seen g.D.Device.moment g.D.Device.left_since _ _ _ _ zs _ _ _ _ _ _ _ _ (c.loop.invariant.served _ c.new-queue.ensures.1 zs h) c.in_err-serve-in-Ok-Some.ensures.silent c.in_err-serve-in-Ok-Some.ensures.unwritten c.serve.ensures.onward c.loop.invariant.known c.from_residual.ensures.1
 
 pub returns-in_err-settle-in-Ok-None-clause-served : goal.returns-in_err-settle-in-Ok-None-clause-served
 returns-in_err-settle-in-Ok-None-clause-served g c = λ zs h.
@@ -45,14 +45,17 @@ returns-in-Err-clause-served g c = λ zs h.
 
 pub loop-preserved : goal.loop-preserved
 loop-preserved g c = record {
-  mode = c.serve-in-Ok-Some.ensures.mode ∙ c.loop.invariant.mode;
+  mode = c.serve.ensures.mode ∙ c.loop.invariant.mode;
   works = works_on _ _ _ _ _ _ _ _ _ c.loop.invariant.works c.in_ok-serve-in-Ok-Some.ensures.ok;
   within = within_on _ _ _ _ _ _ _ _ _ c.loop.invariant.within c.in_ok-serve-in-Ok-Some.ensures.ok;
   known = known_on g.D.Device.seen _ _ _ c.loop.invariant.known c.in_ok-serve-in-Ok-Some.ensures.known;
-  sink = c.serve-in-Ok-Some.ensures.sink_cause ∙ c.loop.invariant.sink;
-  log = c.serve-in-Ok-Some.ensures.log_cause ∙ c.loop.invariant.log;
-  source = c.read_request.ensures.told ∙ c.loop.invariant.source;
+  sink = c.in_ok-serve-in-Ok-Some.ensures.sink_cause ∙ c.loop.invariant.sink;
+  log = c.in_ok-serve-in-Ok-Some.ensures.log_cause ∙ c.loop.invariant.log;
+  source = c.in-Ok-Some.ensures.told ∙ c.loop.invariant.source;
   served = λ mode is zs h.
       let i = c.loop.invariant.served mode is zs h in
-      stands_next g.D.Device.seen g.D.Device.moment g.D.Device.left_since mode _ _ _ zs _ _ _ _ _ _ _ _ _ _ _ _ i (ap size c.size-size.ensures) (c.in-Ok-Some.ensures.bytes i.ys i.left_is) c.in-Ok-Some.field-0-is _ (c.loop.invariant.mode ∙ is) c.in_ok-serve-in-Ok-Some.ensures.ok c.serve-in-Ok-Some.ensures.onward c.loop.invariant.known;
+      stands_next g.D.Device.seen g.D.Device.moment g.D.Device.left_since mode _ _ _ zs _ _ _ _ _ _ _ _ _ _ _ _ i (ap size c.size-size.ensures) (c.in-Ok-Some.ensures.bytes i.ys i.left_is) c.in-Ok-Some.field-0-is _ (c.loop.invariant.mode ∙ is) c.in_ok-serve-in-Ok-Some.ensures.ok c.serve.ensures.onward c.loop.invariant.known;
 }
+
+pub returns-clause-served : goal.returns-clause-served
+returns-clause-served g c = λ zs h. ends_never _ _ _ _ _ _ _ _ _ _ _ ((c.loop.invariant.served _ c.new-queue.ensures.1 zs h).service)
