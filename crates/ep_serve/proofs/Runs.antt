@@ -31,7 +31,7 @@ pub wait_more : (mode : Mode) (n : ℕ) (k k' m : Kept) (rs : List Request) (ds 
 wait_more mode n k k' m [] ds r d h a w = (d, [], m, subst (λ (x : Kept). Acts x r d m) h.1 a, w, (refl, refl), ap (λ (x : List Due). x ++ d ∷ []) h.0)
 wait_more mode n k k' m (q ∷ rs) ds r d h a w = (h.0, h.1 ++ d ∷ [], h.2, h.3, h.4, wait_more mode n h.2 k' m rs h.1 r d h.5 a w, ap (λ (x : List Due). x ++ d ∷ []) h.6)
 
-served_more : (b : ℕ) (mode : Mode) (n : ℕ) (w : Crashes) (k m k' : Kept) (l l1 l' : Left) (out more : List ℕ) → AreServed b mode n w k l out m l1 → IsBatch mode n m l1 more k' l' → Lasts w k' → AreServed (suc b) mode n w k l (out ++ more) k' l'
+pub served_more : (b : ℕ) (mode : Mode) (n : ℕ) (w : Crashes) (k m k' : Kept) (l l1 l' : Left) (out more : List ℕ) → AreServed b mode n w k l out m l1 → IsBatch mode n m l1 more k' l' → Lasts w k' → AreServed (suc b) mode n w k l (out ++ more) k' l'
 served_more zero mode n w k m k' l l1 l' out more h batch lasts =
     (more, [], k', l', subst (λ (x : Kept). IsBatch mode n x l more k' l') h.1 (subst (λ (x : Left). IsBatch mode n m x more k' l') h.2 batch), lasts, (refl, refl, refl), ap (λ (x : List ℕ). x ++ more) h.0 ∙ sym (append-nil more))
 served_more (suc b) mode n w k m k' l l1 l' out more h batch lasts =
@@ -88,7 +88,7 @@ one_waits mode n w k k' m l l' l'' old new ds r d s next a may = record {
 }
 
 -- its answer is written, and all that waited
-pub one_is_written : (mode : Mode) (n : ℕ) (w : Crashes) (k k' m : Kept) (l l' l'' : Left) (old mid new : Option (List ℕ)) (ds : List Due) (r : Request) (d : Due) (s : InService mode n w k l old mid k' l' ds)
+abbrev pub one_is_written : (mode : Mode) (n : ℕ) (w : Crashes) (k k' m : Kept) (l l' l'' : Left) (old mid new : Option (List ℕ)) (ds : List Due) (r : Request) (d : Due) (s : InService mode n w k l old mid k' l' ds)
     → next_request n l' ≡ Ok (Some r, l'') → Acts k' r d m → ¬ MayWait mode (length s.replica.entries) r m → Tell m (ds ++ d ∷ []) mid new → Lasts w m → InService mode n w k l old new m l'' []
 one_is_written mode n w k k' m l l' l'' old mid new ds r d s next a may t lasts = record {
   replica = m;

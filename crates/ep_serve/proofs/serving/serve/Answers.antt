@@ -23,24 +23,24 @@ returns-in_err-serve-in-Ok-Some-clause-served g c = λ zs h.
 
 pub returns-in_err-settle-in-Ok-None-clause-served : goal.returns-in_err-settle-in-Ok-None-clause-served
 returns-in_err-settle-in-Ok-None-clause-served g c = λ zs h.
-    stopped_settling g.D.Device.seen g.D.Device.moment g.D.Device.left_since _ _ _ _ zs _ _ _ _ _ _ _ _ (c.loop.invariant.served _ c.new-queue.ensures.1 zs h) c.settle.ensures.replica c.in_err-settle-in-Ok-None.ensures.silent c.in_err-settle-in-Ok-None.ensures.kept c.settle.ensures.onward c.loop.invariant.known c.from_residual-in_err-settle-in-Ok-None.ensures.1
+    stopped_settling g.D.Device.seen g.D.Device.moment g.D.Device.left_since _ _ _ c.settle.new.node zs _ _ _ _ _ _ _ _ (c.loop.invariant.served _ c.new-queue.ensures.1 zs h) c.settle.ensures.replica c.in_err-settle-in-Ok-None.ensures.silent c.in_err-settle-in-Ok-None.ensures.kept c.settle.ensures.onward c.loop.invariant.known c.from_residual-in_err-settle-in-Ok-None.ensures.1
 
 pub returns-in-Ok-None-clause-served : goal.returns-in-Ok-None-clause-served
 returns-in-Ok-None-clause-served g c = λ zs h.
     let i = c.loop.invariant.served _ c.new-queue.ensures.1 zs h in
     ends_well _ _ _ _ _ _ _ _ _ _ _ _ _ (ap size c.size-size.ensures)
-    (all_settled g.D.Device.seen g.D.Device.moment g.D.Device.left_since _ _ _ _ zs _ _ _ _ _ _ _ i c.settle.ensures.replica c.in_ok-settle-in-Ok-None.ensures.ok c.in_ok-settle-in-Ok-None.ensures.kept c.settle.ensures.onward c.loop.invariant.known)
+    (all_settled g.D.Device.seen g.D.Device.moment g.D.Device.left_since _ _ _ c.settle.new.node zs _ _ _ _ _ _ _ i c.settle.ensures.replica c.in_ok-settle-in-Ok-None.ensures.ok c.in_ok-settle-in-Ok-None.ensures.kept c.settle.ensures.onward c.loop.invariant.known)
     (c.in-Ok-None.ensures.bytes i.ys i.left_is) c.in-Ok-None.field-0-is
 
 pub returns-in_err-settle-in-Err-clause-served : goal.returns-in_err-settle-in-Err-clause-served
 returns-in_err-settle-in-Err-clause-served g c = λ zs h.
-    stopped_settling g.D.Device.seen g.D.Device.moment g.D.Device.left_since _ _ _ _ zs _ _ _ _ _ _ _ _ (c.loop.invariant.served _ c.new-queue.ensures.1 zs h) c.settle-in-Err.ensures.replica c.in_err-settle-in-Err.ensures.silent c.in_err-settle-in-Err.ensures.kept c.settle-in-Err.ensures.onward c.loop.invariant.known c.from_residual-in_err-settle-in-Err.ensures.1
+    stopped_settling g.D.Device.seen g.D.Device.moment g.D.Device.left_since _ _ _ c.settle-in-Err.new.node zs _ _ _ _ _ _ _ _ (c.loop.invariant.served _ c.new-queue.ensures.1 zs h) c.settle-in-Err.ensures.replica c.in_err-settle-in-Err.ensures.silent c.in_err-settle-in-Err.ensures.kept c.settle-in-Err.ensures.onward c.loop.invariant.known c.from_residual-in_err-settle-in-Err.ensures.1
 
 pub returns-in-Err-clause-served : goal.returns-in-Err-clause-served
 returns-in-Err-clause-served g c = λ zs h.
     let i = c.loop.invariant.served _ c.new-queue.ensures.1 zs h in
     ends_badly _ _ _ _ _ _ _ _ _ _ _ _ _ _ (ap size c.size-size.ensures)
-    (all_settled g.D.Device.seen g.D.Device.moment g.D.Device.left_since _ _ _ _ zs _ _ _ _ _ _ _ i c.settle-in-Err.ensures.replica c.in_ok-settle-in-Err.ensures.ok c.in_ok-settle-in-Err.ensures.kept c.settle-in-Err.ensures.onward c.loop.invariant.known)
+    (all_settled g.D.Device.seen g.D.Device.moment g.D.Device.left_since _ _ _ c.settle-in-Err.new.node zs _ _ _ _ _ _ _ i c.settle-in-Err.ensures.replica c.in_ok-settle-in-Err.ensures.ok c.in_ok-settle-in-Err.ensures.kept c.settle-in-Err.ensures.onward c.loop.invariant.known)
     (c.in-Err.ensures.bytes i.ys i.left_is) c.into.ensures
 
 pub loop-preserved : goal.loop-preserved
