@@ -46,8 +46,8 @@ returns-in-Err-clause-served g c = λ zs h.
 pub loop-preserved : goal.loop-preserved
 loop-preserved g c = record {
   mode = c.serve.ensures.mode ∙ c.loop.invariant.mode;
-  works = works_on _ _ _ _ _ _ _ _ _ c.loop.invariant.works c.in_ok-serve-in-Ok-Some.ensures.ok;
-  within = within_on _ _ _ _ _ _ _ _ _ c.loop.invariant.within c.in_ok-serve-in-Ok-Some.ensures.ok;
+  works = works_on _ c.loop.node c.serve.new.node _ _ _ _ _ _ c.loop.invariant.works c.in_ok-serve-in-Ok-Some.ensures.ok;
+  within = within_on _ c.loop.node c.serve.new.node _ _ _ _ _ _ c.loop.invariant.within c.in_ok-serve-in-Ok-Some.ensures.ok;
   known = known_on g.D.Device.seen _ _ _ c.loop.invariant.known c.in_ok-serve-in-Ok-Some.ensures.known;
   sink = c.in_ok-serve-in-Ok-Some.ensures.sink_cause ∙ c.loop.invariant.sink;
   log = c.in_ok-serve-in-Ok-Some.ensures.log_cause ∙ c.loop.invariant.log;
