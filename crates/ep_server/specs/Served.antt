@@ -35,6 +35,12 @@ pub record Shown (D : Type 0) : Type 1 where
   pub moment : D → ℕ
   pub left_since : D → ℕ → List ℕ → Type 0
 
+-- Which device failed: the output, the log, and the reader, each where that is told.
+pub record Fails {D : Type 0} (shown : Shown D) (first last : D) (outcome : Result Unit ServeFault) (reader out : Output) : Type 0 where
+  pub written : FailsAsTold is_write_failed outcome out.had_failed out.failed
+  pub logged : FailsAsTold is_log_failed outcome (shown.has_failed first) (shown.has_failed last)
+  pub read : IsReadTo outcome reader.had_failed reader.failed
+
 -- The log holds this replica, and from there the requests in zs were served, as `serve` tells, on a device whose bytes were known when the log had been
 -- written anew.
 pub record HasServed {D : Type 0} (shown : Shown D) (role : Role) (bytes zs : List ℕ) (cut : Option Cut) (outcome : Result Unit ServeFault) (reader out : Output) : Type 0 where
@@ -53,12 +59,6 @@ pub record HasServed {D : Type 0} (shown : Shown D) (role : Role) (bytes zs : Li
 abbrev pub of_serve : Result Unit ServeFault → Result Unit Fault
 of_serve (Ok x) = Ok x
 of_serve (Err why) = Err (Serve why)
-
--- Which device failed: the output, the log, and the reader, each where that is told.
-pub record Fails {D : Type 0} (shown : Shown D) (first last : D) (outcome : Result Unit ServeFault) (reader out : Output) : Type 0 where
-  pub written : FailsAsTold is_write_failed outcome out.had_failed out.failed
-  pub logged : FailsAsTold is_log_failed outcome (shown.has_failed first) (shown.has_failed last)
-  pub read : IsReadTo outcome reader.had_failed reader.failed
 
 -- a node that was opened has served so, on a device that is then this one
 abbrev pub IsOver : {D : Type 0} → Shown D → Mode → Logged D → List ℕ → Result Unit Fault → Output → Output → Type 0
