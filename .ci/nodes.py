@@ -205,7 +205,6 @@ def closed_streams(program, folder):
     run(node(program, log, "--new"), PROPOSE + SYNC)
     held = open(log, "rb").read()
     requests = PROPOSE + SYNC
-    failed = [4, b"", b"reading failed\n"]
     for name, redirect, wanted, left in (
         ("output", ">&-", (4, b"", b"writing failed\n"), held),
         ("input", "<&-", (4, b"", b"reading failed\n"), held[:43]),
@@ -215,7 +214,7 @@ def closed_streams(program, folder):
         ("every stream", "<&- >&- 2>&-", (4, b"", b""), held[:43]),
     ):
         log = f"{folder}/{name.replace(' ', '-')}"
-        given = PROPOSE + NONE if "fault," in name else requests
+        given = PROPOSE + NONE if "at a fault" in name else requests
         got = run(node(program, log, "--new"), given, redirect)
         yield f"node, {name} closed", differs(got, wanted)
         yield f"node, {name} closed: its log", differs(open(log, "rb").read() if os.path.exists(log) else None, left)
@@ -223,10 +222,26 @@ def closed_streams(program, folder):
         yield f"node, {name} closed: come back", differs(run(node(program, log), SYNC)[0::2], (0, b""))
 
 
+def closed_for_a_collection(program, folder):
+    """Nor is it a log's that is read."""
+    logs = [f"{folder}/{replica}" for replica in range(3)]
+    for replica, log in enumerate(logs):
+        run(node(program, log, "--new", replica=replica), PROPOSE + SYNC if not replica else b"")
+    held = [open(log, "rb").read() for log in logs]
+    for name, redirect, wanted in (
+        ("output", ">&-", (4, b"", b"writing failed\n")),
+        ("input", "<&-", (0, BUNDLE, b"")),
+        ("fault output", "2>&-", (0, BUNDLE, b"")),
+        ("every stream", "<&- >&- 2>&-", (4, b"", b"")),
+    ):
+        yield f"collect, {name} closed", differs(run([program, "collect", *logs], b"", redirect), wanted)
+        yield f"collect, {name} closed: the logs", differs([open(log, "rb").read() for log in logs], held)
+
+
 def every(program):
     """The name of each run, and what is wrong with it, or nothing."""
     with tempfile.TemporaryDirectory() as folder:
-        for rows in (first_starts, odd_requests, request_by_request, closed_streams):
+        for rows in (first_starts, odd_requests, request_by_request, closed_streams, closed_for_a_collection):
             place = f"{folder}/{rows.__name__}"
             os.mkdir(place)
             yield from rows(program, place)

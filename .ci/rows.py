@@ -11,7 +11,7 @@ A row is a folder .ci/rows/NAME with files, each of which may lack:
   files      a folder: files that lie where the runs are; NAME.hex is NAME, in hexadecimal
   stdout stderr status     what is wanted: nothing, nothing and 0 where there is no such file; stdout.gz: packed
 PROGRAM is ep_main as it was built; what begins with `node` or `collect` is run by ep_server, and what begins with `show`, `explain`,
-`draw` or `trace-events`, and traces, by ep_viewer, which were built as it was. Runs of `epaxos node` on one log, and its bundle, are made here.
+`draw` or `trace-events`, and traces, by ep_viewer, which were built as it was. Runs of `epaxos node`, and of `collect` on its logs, are in .ci/nodes.py.
 More rows are made of the scripts and reports in docs/FORMATS.md, examples/ and .ci/scripts/ (NAME.script is played, NAME.run is run
 by both hosts, and where there is a NAME.trace or a NAME.svg, NAME.script is traced
 or drawn), and by .ci/made.py, .ci/words.py, .ci/cases.py, .ci/odd.py and .ci/faults.py.
@@ -236,34 +236,12 @@ def every():
             yield Row(name, [subcommand], script, told=b"script refused at line %d\n" % line, status=2)
 
 
-# A node's requests: client 1 proposes `put x 1` as its request 1; a sync; the leads of 0.1; and bytes that are none.
-PROPOSE = bytes.fromhex("00000017 01 00000001 00000001 0000000000000000 03 01 0001 78 31")
-SYNC, LEADS, NONE = bytes.fromhex("00000001 0a"), bytes.fromhex("00000004 09 000001"), bytes.fromhex("00000001 0b")
-# Entry 1 of stamp 1, which took 0.1, with one frame, to 1, and no receipts; that one entry is on the disk; and phase 1, with no answer so far.
-FRAME = "45500201 0001 000000000001 0000000000000001 000001 0000000000000000000001 03 01 0001 0000 7831"
-TAKEN = bytes.fromhex(f"00000047 01 00000001 00000001 0000000000000001 000001 0001 01 0000002a {FRAME} 0000")
-SYNCED, LEADING = bytes.fromhex("00000005 06 00000001"), bytes.fromhex("00000004 05 01 01 00")
-# The logs of replicas 1 and 2 without entries, and the bundle of the three logs.
-ONE, TWO = bytes.fromhex("45504c47 02 03 01"), bytes.fromhex("45504c47 02 03 02")
-ENTRY = f"01 0000000000000001 00000001 00000001 0000000000000000 03 01 0001 78 31 0001 0000002a {FRAME} 0000"
-BUNDLE = bytes.fromhex(f"45504a42 02 03 00000000 00 00000001 {ENTRY} 01 00000000 02 00000000")
-
 def noded(program):
-    """Runs `epaxos node` four times on one log and makes its bundle, and gives the name of each run and what is wrong with it, or nothing."""
-    with tempfile.TemporaryDirectory() as folder:
-        logs = [f"{folder}/{it}" for it in ("zero", "one", "two")]
-        for log, held in ((logs[1], ONE), (logs[2], TWO)):
-            with open(log, "wb") as it:
-                it.write(held)
-        words = ["node", "--replicas", "3", "--replica", "0", "--log", logs[0]]
-        for row in (
-            Row("node, a proposal", words, PROPOSE + SYNC, TAKEN + SYNCED),
-            Row("node, come back", words, SYNC + LEADS, SYNCED + LEADING),
-            Row("node, no request", words, SYNC + NONE, SYNCED, b"request refused at byte 5\n", 2),
-            Row("node, the log of another", words[:4] + ["1"] + words[5:], SYNC, b"", b"log refused: a log of another cluster or replica\n", 2),
-            Row("node, its log collected", ["collect", *logs], b"", BUNDLE),
-        ):
-            yield row.name, row.run(program)
+    """The runs of .ci/nodes.py: the name of each, and what is wrong with it, or nothing."""
+    sys.path.insert(0, f"{TOP}/.ci")
+    import nodes
+
+    return nodes.every(program_of(program, ["node"]))
 
 
 def tried(program, word="", by=""):

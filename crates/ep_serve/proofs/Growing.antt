@@ -1,5 +1,5 @@
 -- What a replica takes, it has behind what it had.
-use Rattle.std.proofs.Common.{◌≡◌, ℕ, zero, suc, ◌≤◌, Bool, true, false, length, take, List, [], ◌∷◌, ◌++◌, append-nil, append_assoc, take_all, Option, Some, None, Result, Ok, Err, refl, sym, ap, ◌∙◌, subst, arith}
+use Rattle.std.proofs.Common.{◌≡◌, ℕ, zero, suc, ◌≤◌, Bool, true, false, length, take, List, [], ◌∷◌, ◌++◌, append-nil, append_assoc, take_all, Option, Some, None, Result, Ok, Err, inl, inr, refl, sym, ap, ◌∙◌, subst, arith}
 use Rattle.std.specs.Prelude.{MatchResult}
 use Rattle.std.proofs.lemmas.List.{take-append-le}
 use Rattle.ep_frame.specs.Faults.{fault_of}

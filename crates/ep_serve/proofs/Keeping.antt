@@ -127,10 +127,13 @@ lasts_on w w' s k p h l = (l.0, lasts_from_on w w' s k l.0 p h l.1)
 -- all is on the disk, from now on
 pub lasts_now : {D : Type 0} (seen : D → Option (List ℕ)) (moment : D → ℕ) (left_since : D → ℕ → List ℕ → Type 0) (start old new : D) (k : Kept) → StaysKnown seen start old → IsKept seen moment left_since old new k
     → Lasts (crashes seen moment left_since start new) k
-lasts_now seen moment left_since start old new k known kept = (moment new, record {
-  by_now = λ p. omega arith;
-  keeps = λ p c left. let after = known p.0 p.1 in kept after.0 after.1 c left;
-})
+lasts_now seen moment left_since start old new k known kept = (
+  moment new,
+  record {
+    by_now = λ p. omega arith;
+    keeps = λ p c left. let after = known p.0 p.1 in kept after.0 after.1 c left;
+  },
+)
 
 -- it was at the beginning
 pub lasts_first : {D : Type 0} (seen : D → Option (List ℕ)) (moment : D → ℕ) (left_since : D → ℕ → List ℕ → Type 0) (start : D) (k : Kept) → IsKept seen moment left_since start start k

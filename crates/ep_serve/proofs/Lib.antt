@@ -3,3 +3,4 @@ pub mod Advancing
 pub mod Growing
 pub mod Keeping
 pub mod Runs
+pub mod States

@@ -23,15 +23,15 @@ use Rattle.ep_serve.proofs.Growing.{Extends, served_more_entries, waiting_more, 
 use Rattle.ep_serve.proofs.Keeping.{Passes, lasts_on, lasts_from_on}
 use Rattle.ep_serve.proofs.Lists.{take_more}
 
-read_more : (n : ℕ) (l l' m : Left) (rs : List Request) (r : Request) → AreRead n l rs l' → next_request n l' ≡ Ok (Some r, m) → AreRead n l (rs ++ r ∷ []) m
+pub read_more : (n : ℕ) (l l' m : Left) (rs : List Request) (r : Request) → AreRead n l rs l' → next_request n l' ≡ Ok (Some r, m) → AreRead n l (rs ++ r ∷ []) m
 read_more n l l' m [] r e next = (m, subst (λ (x : Left). next_request n x ≡ Ok (Some r, m)) e next, refl)
 read_more n l l' m (q ∷ rs) r h next = (h.0, h.1, read_more n h.0 l' m rs r h.2 next)
 
-wait_more : (mode : Mode) (n : ℕ) (k k' m : Kept) (rs : List Request) (ds : List Due) (r : Request) (d : Due) → AllWait mode n k rs ds k' → Acts k' r d m → MayWait mode n r m → AllWait mode n k (rs ++ r ∷ []) (ds ++ d ∷ []) m
+pub wait_more : (mode : Mode) (n : ℕ) (k k' m : Kept) (rs : List Request) (ds : List Due) (r : Request) (d : Due) → AllWait mode n k rs ds k' → Acts k' r d m → MayWait mode n r m → AllWait mode n k (rs ++ r ∷ []) (ds ++ d ∷ []) m
 wait_more mode n k k' m [] ds r d h a w = (d, [], m, subst (λ (x : Kept). Acts x r d m) h.1 a, w, (refl, refl), ap (λ (x : List Due). x ++ d ∷ []) h.0)
 wait_more mode n k k' m (q ∷ rs) ds r d h a w = (h.0, h.1 ++ d ∷ [], h.2, h.3, h.4, wait_more mode n h.2 k' m rs h.1 r d h.5 a w, ap (λ (x : List Due). x ++ d ∷ []) h.6)
 
-served_more : (b : ℕ) (mode : Mode) (n : ℕ) (w : Crashes) (k m k' : Kept) (l l1 l' : Left) (out more : List ℕ) → AreServed b mode n w k l out m l1 → IsBatch mode n m l1 more k' l' → Lasts w k' → AreServed (suc b) mode n w k l (out ++ more) k' l'
+pub served_more : (b : ℕ) (mode : Mode) (n : ℕ) (w : Crashes) (k m k' : Kept) (l l1 l' : Left) (out more : List ℕ) → AreServed b mode n w k l out m l1 → IsBatch mode n m l1 more k' l' → Lasts w k' → AreServed (suc b) mode n w k l (out ++ more) k' l'
 served_more zero mode n w k m k' l l1 l' out more h batch lasts =
     (more, [], k', l', subst (λ (x : Kept). IsBatch mode n x l more k' l') h.1 (subst (λ (x : Left). IsBatch mode n m x more k' l') h.2 batch), lasts, (refl, refl, refl), ap (λ (x : List ℕ). x ++ more) h.0 ∙ sym (append-nil more))
 served_more (suc b) mode n w k m k' l l1 l' out more h batch lasts =
@@ -54,10 +54,10 @@ serves_on mode n w w' s k k' l l' old new p e h = record {
   appended = h.appended;
 }
 
-same_extends : (k : Kept) → Extends k k
+pub same_extends : (k : Kept) → Extends k k
 same_extends k = ([], λ t. record k { entries = sym (append-nil k.entries) t })
 
-pub service_on : (mode : Mode) (n : ℕ) (w w' : Crashes) (k k' : Kept) (l l' : Left) (old new : Option (List ℕ)) (ds : List Due) (s : InService mode n w k l old new k' l' ds) → Passes w w' s.replica → InService mode n w' k l old new k' l' ds
+abbrev pub service_on : (mode : Mode) (n : ℕ) (w w' : Crashes) (k k' : Kept) (l l' : Left) (old new : Option (List ℕ)) (ds : List Due) (s : InService mode n w k l old new k' l' ds) → Passes w w' s.replica → InService mode n w' k l old new k' l' ds
 service_on mode n w w' k k' l l' old new ds s p = record {
   replica = s.replica;
   from = s.from;
@@ -65,7 +65,7 @@ service_on mode n w w' k k' l l' old new ds s p = record {
   waiting = s.waiting;
 }
 
-pub begins : (mode : Mode) (n : ℕ) (w : Crashes) (k : Kept) (l : Left) (old : Option (List ℕ)) → LastsFrom w w.start k → InService mode n w k l old old k l []
+abbrev pub begins : (mode : Mode) (n : ℕ) (w : Crashes) (k : Kept) (l : Left) (old : Option (List ℕ)) → LastsFrom w w.start k → InService mode n w k l old old k l []
 begins mode n w k l old begun = record {
   replica = k;
   from = l;
@@ -74,7 +74,7 @@ begins mode n w k l old begun = record {
 }
 
 -- its answer waits
-pub one_waits : (mode : Mode) (n : ℕ) (w : Crashes) (k k' m : Kept) (l l' l'' : Left) (old new : Option (List ℕ)) (ds : List Due) (r : Request) (d : Due) (s : InService mode n w k l old new k' l' ds)
+abbrev pub one_waits : (mode : Mode) (n : ℕ) (w : Crashes) (k k' m : Kept) (l l' l'' : Left) (old new : Option (List ℕ)) (ds : List Due) (r : Request) (d : Due) (s : InService mode n w k l old new k' l' ds)
     → next_request n l' ≡ Ok (Some r, l'') → Acts k' r d m → MayWait mode (length s.replica.entries) r m → InService mode n w k l old new m l'' (ds ++ d ∷ [])
 one_waits mode n w k k' m l l' l'' old new ds r d s next a may = record {
   replica = s.replica;
@@ -88,7 +88,7 @@ one_waits mode n w k k' m l l' l'' old new ds r d s next a may = record {
 }
 
 -- its answer is written, and all that waited
-pub one_is_written : (mode : Mode) (n : ℕ) (w : Crashes) (k k' m : Kept) (l l' l'' : Left) (old mid new : Option (List ℕ)) (ds : List Due) (r : Request) (d : Due) (s : InService mode n w k l old mid k' l' ds)
+abbrev pub one_is_written : (mode : Mode) (n : ℕ) (w : Crashes) (k k' m : Kept) (l l' l'' : Left) (old mid new : Option (List ℕ)) (ds : List Due) (r : Request) (d : Due) (s : InService mode n w k l old mid k' l' ds)
     → next_request n l' ≡ Ok (Some r, l'') → Acts k' r d m → ¬ MayWait mode (length s.replica.entries) r m → Tell m (ds ++ d ∷ []) mid new → Lasts w m → InService mode n w k l old new m l'' []
 one_is_written mode n w k k' m l l' l'' old mid new ds r d s next a may t lasts = record {
   replica = m;
@@ -156,3 +156,7 @@ ends_badly mode n n' w k k' l l' old new f e p left size_is all read is = subst 
     go request.Memory h = inr (l', all)
     go request.ReadFailed h = (l', all)
     go (request.BadRequest at) h = (l', all, h.0, h.1)
+
+-- the loop's end, which no input reaches
+pub ends_never : (mode : Mode) (n : ℕ) (w : Crashes) (k k' m : Kept) (l l' : Left) (old held : Option (List ℕ)) (ds : List Due) → InService mode n w k l old held k' l' ds → Ends mode n w k l old held (Err Memory) m
+ends_never mode n w k k' m l l' old held ds s = inl (s.replica, s.from, s.served)

@@ -3,7 +3,7 @@ use Rattle.std.proofs.Common.{◌≡◌, ℕ, Bool, List, ◌++◌, Option, Some
 use Rattle.std.specs.Io.KnownBytes.{Appends}
 use Rattle.ep_base.specs.Devices.{Puts}
 
-appends_twice : (a b c : Option (List ℕ)) (xs ys : List ℕ) → Appends a b xs → Appends b c ys → Appends a c (xs ++ ys)
+pub appends_twice : (a b c : Option (List ℕ)) (xs ys : List ℕ) → Appends a b xs → Appends b c ys → Appends a c (xs ++ ys)
 appends_twice None b c xs ys p q = tt
 appends_twice (Some k) None c xs ys p q = absurd p
 appends_twice (Some k) (Some l) None xs ys p q = absurd q

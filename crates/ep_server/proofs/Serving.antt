@@ -1,22 +1,75 @@
 -- A node that is opened has served.
-use Rattle.std.proofs.Common.{◌≡◌, ℕ, Bool, List, Option, Result, subst}
+use Rattle.std.proofs.Common.{◌≡◌, ◌⊎◌, inl, inr, ℕ, Bool, true, List, [], ◌++◌, Option, Some, None, Result, Ok, Err, append-nil, refl, sym, subst}
+use Rattle.std.specs.Io.KnownBytes.{Appends}
+use Rattle.ep_base.specs.Devices.{Puts}
 use Rattle.ep_base.specs.Quorums.{size}
-use Rattle.ep_node.specs.Opening.{IsOpened}
-use Rattle.ep_replica.specs.Kept.{Kept}
+use Rattle.ep_node.specs.Nodes.{Logged}
+use Rattle.ep_node.specs.Opening.{IsOpened, IsWrittenAnew}
+use Rattle.ep_device.specs.declared.cause.Cause.{Cause}
+use Rattle.ep_node.specs.declared.cut.Cut.{Cut}
+use Rattle.ep_node.specs.declared.open_fault.OpenFault.{OpenFault}
+use Rattle.ep_node.specs.declared.open_fault.OpenFault.TheVariants as open_
+use Rattle.ep_serve.specs.Lasting.{crashes}
 use Rattle.ep_serve.specs.Serving.{Ends}
+use Rattle.ep_serve.specs.declared.mode.Mode.{Mode}
 use Rattle.ep_serve.specs.declared.serve_fault.ServeFault.{ServeFault}
-use Rattle.ep_server.specs.Outputs.{output}
-use Rattle.ep_server.specs.Served.{HasServed}
+use Rattle.ep_server.proofs.Puts.{appends_twice}
+use Rattle.ep_server.specs.Faults.{line_of}
+use Rattle.ep_server.specs.Outputs.{Output, output, Told}
+use Rattle.ep_server.specs.Served.{told_first, of_serve, Concludes, Fails, Happens, HasServed, IsFailure, IsOver, Role, Shown}
+use Rattle.ep_server.specs.declared.fault.Fault.{Fault}
+use Rattle.ep_server.specs.declared.status.Status.{Status}
 
 pub has_served :
-    (f me : ℕ) (start end : Kept) (bytes zs : List ℕ) (outcome : Result Unit ServeFault) (before after : Option (List ℕ)) (had_failed failed : Bool) →
-    start.faults ≡ f → start.me ≡ me → IsOpened f me bytes start.entries → Ends (size start.faults) start (record { at = 0; bytes = zs }) before after outcome end →
-    HasServed f me bytes zs outcome (output before after had_failed failed)
-has_served f me start end bytes zs outcome before after had_failed failed cluster replica opened ends = record {
-  start = start;
-  cluster = cluster;
-  replica = replica;
-  opened = opened;
-  end = end;
-  ends = subst (λ (n : ℕ). Ends (size n) start (record { at = 0; bytes = zs }) before after outcome end) cluster ends;
-}
+    {D : Type 0} (shown : Shown D) (role : Role) (start : Logged D) (bytes zs log : List ℕ) (cut : Option Cut) (outcome : Result Unit Fault) (reader out : Output) →
+    start.replica.faults ≡ role.faults → start.replica.me ≡ role.me → IsOpened role.begin role.faults role.me bytes start.replica.entries cut →
+    shown.seen start.device ≡ Some log → IsWrittenAnew role.begin role.faults role.me bytes log → IsOver shown role.mode start zs outcome reader out → Happens shown role bytes zs cut outcome reader out
+has_served {D = D} shown role start bytes zs log cut outcome reader out cluster replica opened known anew over =
+    subst (λ (x : Result Unit Fault). Happens shown role bytes zs cut x reader out) (sym over.2) (go over.1 over.3 over.4)
+  where
+    served : (ended : Result Unit ServeFault) → Ends role.mode (size start.replica.faults) (crashes shown.seen shown.moment shown.left_since start.device over.0.device) start.replica (record { at = 0; bytes = zs }) out.before out.after ended over.0.replica
+        → Fails shown start.device over.0.device ended reader out → HasServed shown role bytes zs cut ended reader out
+    served ended ends fails = record {
+      start = start;
+      cluster = cluster;
+      replica = replica;
+      opened = opened;
+      log = log;
+      known = known;
+      anew = anew;
+      end = over.0;
+      ends = subst (λ (n : ℕ). Ends role.mode (size n) (crashes shown.seen shown.moment shown.left_since start.device over.0.device) start.replica (record { at = 0; bytes = zs }) out.before out.after ended over.0.replica) cluster ends;
+      fails = fails;
+    }
+
+    go : (ended : Result Unit ServeFault) → Ends role.mode (size start.replica.faults) (crashes shown.seen shown.moment shown.left_since start.device over.0.device) start.replica (record { at = 0; bytes = zs }) out.before out.after ended over.0.replica
+        → Fails shown start.device over.0.device ended reader out → Happens shown role bytes zs cut (of_serve ended) reader out
+    go (Ok x) ends fails = served (Ok x) ends fails
+    go (Err why) ends fails = served (Err why) ends fails
+
+-- What was cut off is told, and then how it ended.
+
+told_after : {E : Type 0} (a b c : Option (List ℕ)) (first second third : Bool) (xs ys : List ℕ) (r : Result Unit E) → Puts a b first second r xs → (second ≡ true → third ≡ true) → Told (output b c second third) ys → Told (output a c first third) (xs ++ ys)
+told_after a b c first second third xs ys (Ok x) p stays t = elim t [
+  | inl failed ↦ inl failed
+  | inr wrote ↦ inr (appends_twice a b c xs ys p.0 wrote)
+]
+told_after a b c first second third xs ys (Err e) p stays t = inl (stays p)
+
+pub concludes_after :
+    {E : Type 0} (cut : Option Cut) (outcome : Result Unit Fault) (status : Status) (a b c : Option (List ℕ)) (first second third : Bool) (r : Result Unit E) → Puts a b first second r (told_first cut) →
+    (second ≡ true → third ≡ true) → Concludes None outcome status (output b c second third) → Concludes cut outcome status (output a c first third)
+concludes_after cut (Ok x) status a b c first second third r p stays h =
+    (h.0, subst (λ (l : List ℕ). Told (output a c first third) l) (append-nil (told_first cut)) (told_after a b c first second third (told_first cut) [] r p stays h.1))
+concludes_after cut (Err e) status a b c first second third r p stays h = (h.0, told_after a b c first second third (told_first cut) (line_of e) r p stays h.1)
+
+-- where the device is said to have failed, it has
+pub is_failure : {D : Type 0} (shown : Shown D) (device : D) (why : OpenFault) → ((cause : Cause) → why ≡ open_.Failed cause → shown.has_failed device ≡ true) → IsFailure shown why
+is_failure shown device open_.OutOfRange h = tt
+is_failure shown device open_.Memory h = tt
+is_failure shown device (open_.Failed cause) h = (device, h cause refl)
+is_failure shown device open_.NoLog h = tt
+is_failure shown device open_.LogExists h = tt
+is_failure shown device open_.OtherLog h = tt
+is_failure shown device (open_.Log fault) h = tt
+is_failure shown device (open_.NotClocked number) h = tt

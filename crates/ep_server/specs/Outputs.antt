@@ -1,8 +1,9 @@
--- What is written on an output.
+-- What becomes of an input, and what is written on an output.
 use Rattle.std.specs.Prelude.{◌≡◌, ◌⊎◌, ℕ, Bool, true, List, [], Option}
 use Rattle.std.specs.Io.KnownBytes.{Appends}
 
--- an output: the bytes that it held before and holds after, where these are known, and whether it had failed before, and has after
+-- an output, or an input: the bytes that it held before and holds after, where these are known (of an input those that are left), and whether it had failed
+-- before, and has after
 pub record Output : Type 0 where
   pub before : Option (List ℕ)
   pub after : Option (List ℕ)

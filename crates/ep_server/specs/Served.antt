@@ -1,12 +1,15 @@
 -- What the program does, by the status that it answers: of the bytes of its log and those that it reads, its output and its fault output.
-use Rattle.std.specs.Prelude.{◌≡◌, ◌++◌, ℕ, List, [], Option, Some, None, Result, Ok, Err, string_bytes}
+use Rattle.std.specs.Prelude.{◌≡◌, ◌++◌, ℕ, Bool, true, List, [], Option, Some, None, Result, Ok, Err, string_bytes}
+use Rattle.ep_base.specs.Devices.{FailsAsTold}
 use Rattle.ep_base.specs.Quorums.{size}
 use Rattle.ep_node.specs.Nodes.{Logged}
 use Rattle.ep_node.specs.Opening.{IsOpened, IsUnopened, IsWrittenAnew}
 use Rattle.ep_node.specs.declared.begin.Begin.{Begin}
 use Rattle.ep_node.specs.declared.cut.Cut.{Cut}
+use Rattle.ep_node.specs.declared.open_fault.OpenFault.{OpenFault}
+use Rattle.ep_node.specs.declared.open_fault.OpenFault.TheVariants as open_
 use Rattle.ep_serve.specs.Lasting.{crashes}
-use Rattle.ep_serve.specs.Serving.{Ends}
+use Rattle.ep_serve.specs.Serving.{Ends, IsReadTo, is_log_failed, is_write_failed}
 use Rattle.ep_serve.specs.declared.mode.Mode.{Mode}
 use Rattle.ep_serve.specs.declared.serve_fault.ServeFault.{ServeFault}
 use Rattle.ep_server.specs.Faults.{command_line_refused, line_of, line_of_cut, status_of}
@@ -25,15 +28,22 @@ pub record Role : Type 0 where
   pub faults : ℕ
   pub me : ℕ
 
--- What is known of a type of devices: the bytes that a read returns, the moment, and what a crash from a moment on might have left.
+-- What is known of a type of devices: the bytes that a read returns, the moment, what a crash from a moment on might have left, and whether it has failed.
 pub record Shown (D : Type 0) : Type 1 where
+  pub has_failed : D → Bool
   pub seen : D → Option (List ℕ)
   pub moment : D → ℕ
   pub left_since : D → ℕ → List ℕ → Type 0
 
+-- Which device failed: the output, the log, and the reader, each where that is told.
+pub record Fails {D : Type 0} (shown : Shown D) (first last : D) (outcome : Result Unit ServeFault) (reader out : Output) : Type 0 where
+  pub written : FailsAsTold is_write_failed outcome out.had_failed out.failed
+  pub logged : FailsAsTold is_log_failed outcome (shown.has_failed first) (shown.has_failed last)
+  pub read : IsReadTo outcome reader.had_failed reader.failed
+
 -- The log holds this replica, and from there the requests in zs were served, as `serve` tells, on a device whose bytes were known when the log had been
 -- written anew.
-pub record HasServed {D : Type 0} (shown : Shown D) (role : Role) (bytes zs : List ℕ) (cut : Option Cut) (outcome : Result Unit ServeFault) (out : Output) : Type 0 where
+pub record HasServed {D : Type 0} (shown : Shown D) (role : Role) (bytes zs : List ℕ) (cut : Option Cut) (outcome : Result Unit ServeFault) (reader out : Output) : Type 0 where
   pub start : Logged D
   pub cluster : start.replica.faults ≡ role.faults
   pub replica : start.replica.me ≡ role.me
@@ -43,25 +53,38 @@ pub record HasServed {D : Type 0} (shown : Shown D) (role : Role) (bytes zs : Li
   pub anew : IsWrittenAnew role.begin role.faults role.me bytes log
   pub end : Logged D
   pub ends : Ends role.mode (size role.faults) (crashes shown.seen shown.moment shown.left_since start.device end.device) start.replica (record { at = 0; bytes = zs }) out.before out.after outcome end.replica
+  pub fails : Fails shown start.device end.device outcome reader out
 
 -- how serving ended, as the program has it
 abbrev pub of_serve : Result Unit ServeFault → Result Unit Fault
 of_serve (Ok x) = Ok x
 of_serve (Err why) = Err (Serve why)
 
--- a node that was opened has served so
-abbrev pub IsOver : {D : Type 0} → Shown D → Mode → Logged D → List ℕ → Result Unit Fault → Output → Type 0
-IsOver {D = D} shown mode start zs outcome out =
+-- a node that was opened has served so, on a device that is then this one
+abbrev pub IsOver : {D : Type 0} → Shown D → Mode → Logged D → List ℕ → Result Unit Fault → Output → Output → Type 0
+IsOver {D = D} shown mode start zs outcome reader out =
     (end : Logged D) × (ended : Result Unit ServeFault) × (outcome ≡ of_serve ended)
     × Ends mode (size start.replica.faults) (crashes shown.seen shown.moment shown.left_since start.device end.device) start.replica (record { at = 0; bytes = zs }) out.before out.after ended end.replica
+    × Fails shown start.device end.device ended reader out
+
+-- where the log's device failed, there is one that did
+abbrev pub IsFailure : {D : Type 0} → Shown D → OpenFault → Type 0
+IsFailure shown open_.OutOfRange = Unit {0}
+IsFailure shown open_.Memory = Unit {0}
+IsFailure {D = D} shown (open_.Failed cause) = (device : D) × (shown.has_failed device ≡ true)
+IsFailure shown open_.NoLog = Unit {0}
+IsFailure shown open_.LogExists = Unit {0}
+IsFailure shown open_.OtherLog = Unit {0}
+IsFailure shown (open_.Log fault) = Unit {0}
+IsFailure shown (open_.NotClocked number) = Unit {0}
 
 -- before a fault is told: where the log isn't opened, why, and that nothing was written
-abbrev pub Happens : {D : Type 0} → Shown D → Role → List ℕ → List ℕ → Option Cut → Result Unit Fault → Output → Type 0
-Happens shown role bytes zs cut (Ok x) out = HasServed shown role bytes zs cut (Ok x) out
-Happens shown role bytes zs cut (Err (Open why)) out = IsUnopened role.begin role.faults role.me bytes why × WroteNothing out × (cut ≡ None)
-Happens shown role bytes zs cut (Err (Serve why)) out = HasServed shown role bytes zs cut (Err why) out
-Happens shown role bytes zs cut (Err Memory) out = ⊥
-Happens shown role bytes zs cut (Err Write) out = ⊥
+abbrev pub Happens : {D : Type 0} → Shown D → Role → List ℕ → List ℕ → Option Cut → Result Unit Fault → Output → Output → Type 0
+Happens shown role bytes zs cut (Ok x) reader out = HasServed shown role bytes zs cut (Ok x) reader out
+Happens shown role bytes zs cut (Err (Open why)) reader out = IsUnopened role.begin role.faults role.me bytes why × IsFailure shown why × WroteNothing out × (cut ≡ None)
+Happens shown role bytes zs cut (Err (Serve why)) reader out = HasServed shown role bytes zs cut (Err why) reader out
+Happens shown role bytes zs cut (Err Memory) reader out = ⊥
+Happens shown role bytes zs cut (Err Write) reader out = ⊥
 
 -- what was cut off the log is told first
 abbrev pub told_first : Option Cut → List ℕ
@@ -74,10 +97,10 @@ Concludes cut (Ok x) status fault = (status ≡ Done) × Told fault (told_first 
 Concludes cut (Err e) status fault = (status ≡ status_of e) × Told fault (told_first cut ++ line_of e)
 
 -- at the status Done all requests were read and answered; at any other the line says what stopped that
-pub record IsNode {D : Type 0} (shown : Shown D) (role : Role) (bytes zs : List ℕ) (status : Status) (out fault : Output) : Type 0 where
+pub record IsNode {D : Type 0} (shown : Shown D) (role : Role) (bytes zs : List ℕ) (status : Status) (reader out fault : Output) : Type 0 where
   pub cut : Option Cut
   pub outcome : Result Unit Fault
-  pub happens : Happens shown role bytes zs cut outcome out
+  pub happens : Happens shown role bytes zs cut outcome reader out
   pub concluded : Concludes cut outcome status fault
 
 -- why nothing is done is told, and decides on the status

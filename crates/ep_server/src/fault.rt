@@ -40,7 +40,9 @@ impl Fault {
                 Status::OutOfMemory
             }
             Fault::Open(OpenFault::Failed(_))
-            | Fault::Serve(ServeFault::ReadFailed | ServeFault::WriteFailed | ServeFault::LogFailed(_))
+            | Fault::Serve(
+                ServeFault::ReadFailed | ServeFault::WriteFailed | ServeFault::LogFailed(_),
+            )
             | Fault::Write => Status::Failed,
         }
     }

@@ -5,7 +5,7 @@ ghost use Rattle.ep_base.specs.Devices.{Puts};
 ghost use Rattle.ep_node.specs.Nodes.{IsQuiet};
 ghost use Rattle.ep_node.specs.Opening.{IsOpened, IsUnopened, IsWrittenAnew};
 ghost use Rattle.ep_server.specs.Outputs.{output};
-ghost use Rattle.ep_server.specs.Served.{told_first, Concludes, IsNode, IsOver, TellsWhy};
+ghost use Rattle.ep_server.specs.Served.{told_first, Concludes, IsFailure, IsNode, IsOver, TellsWhy};
 
 use crate::declined::Declined;
 use crate::fault::Fault;
@@ -29,8 +29,9 @@ pub fn serve_log<D: Device + Drop, S: Source, W: Sink, F: Sink>(
     writer: &mut W,
     fault_writer: &mut F,
 ) -> Status
-    ensures { (bytes zs : List ℕ) → D.seen device ≡ Some bytes → S.left reader.old ≡ Some zs → IsNode (record { seen = D.seen; moment = D.moment; left_since = D.left_since })
+    ensures { (bytes zs : List ℕ) → D.seen device ≡ Some bytes → S.left reader.old ≡ Some zs → IsNode (record { has_failed = D.has_failed; seen = D.seen; moment = D.moment; left_since = D.left_since })
         (record { begin = options.now.begin; mode = options.now.mode; faults = options.now.size; me = options.now.me }) bytes zs result
+        (output (S.left reader.old) (S.left reader.new) (S.has_failed reader.old) (S.has_failed reader.new))
         (output (W.held writer.old) (W.held writer.new) (W.has_failed writer.old) (W.has_failed writer.new))
         (output (F.held fault_writer.old) (F.held fault_writer.new) (F.has_failed fault_writer.old) (F.has_failed fault_writer.new)) }
 {
@@ -45,7 +46,6 @@ pub fn serve_log<D: Device + Drop, S: Source, W: Sink, F: Sink>(
 }
 
 /// Serves with a node that is opened.
-#[tactic(auto, using(crate::proofs::Serving::has_served))]
 fn served<D: Device + Drop, S: Source, W: Sink>(
     alloc: Global,
     node: Node<D>,
@@ -54,15 +54,20 @@ fn served<D: Device + Drop, S: Source, W: Sink>(
     mode: Mode,
 ) -> Result<(), Fault>
     requires { IsQuiet node }
-    ensures { (zs : List ℕ) → S.left reader.old ≡ Some zs → IsOver (record { seen = D.seen; moment = D.moment; left_since = D.left_since }) mode node zs result
+    ensures { (zs : List ℕ) → S.left reader.old ≡ Some zs → IsOver (record { has_failed = D.has_failed; seen = D.seen; moment = D.moment; left_since = D.left_since }) mode node zs result
+        (output (S.left reader.old) (S.left reader.new) (S.has_failed reader.old) (S.has_failed reader.new))
         (output (W.held writer.old) (W.held writer.new) (W.has_failed writer.old) (W.has_failed writer.new)) }
 {
     let mut node = node;
-    let outcome = serve(alloc, &mut node, reader, writer, mode);
-    drop(node);
-    match outcome {
-        Ok(()) => Ok(()),
-        Err(fault) => Err(Fault::Serve(fault)),
+    match serve(alloc, &mut node, reader, writer, mode) {
+        Ok(()) => {
+            drop(node);
+            Ok(())
+        }
+        Err(fault) => {
+            drop(node);
+            Err(Fault::Serve(fault))
+        }
     }
 }
 
@@ -76,7 +81,8 @@ fn opened<D: Device + Drop>(
         × ((bytes : List ℕ) → D.seen device ≡ Some bytes → IsOpened options.now.begin options.now.size options.now.me bytes node.replica.entries node.cut)) }
     ensures written { IfOk result (λ node. (bytes : List ℕ) → D.seen device ≡ Some bytes
         → (log : List ℕ) × (D.seen node.device ≡ Some log) × IsWrittenAnew options.now.begin options.now.size options.now.me bytes log) }
-    ensures err { IfErr result (λ fault. (bytes : List ℕ) → D.seen device ≡ Some bytes → IsUnopened options.now.begin options.now.size options.now.me bytes fault) }
+    ensures err { IfErr result (λ fault. ((bytes : List ℕ) → D.seen device ≡ Some bytes → IsUnopened options.now.begin options.now.size options.now.me bytes fault)
+        × IsFailure (record { has_failed = D.has_failed; seen = D.seen; moment = D.moment; left_since = D.left_since }) fault) }
 {
     match Node::open(alloc, device, options.size, options.me, options.begin) {
         Ok(node) => Ok(node),

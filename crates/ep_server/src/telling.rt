@@ -2,6 +2,7 @@
 
 ghost use Rattle.std.specs.Prelude.{◌++◌, decimal};
 ghost use Rattle.ep_base.specs.Devices.{Puts};
+ghost use Rattle.ep_log.specs.declared.log_fault.LogFault.TheVariants.{Turned};
 ghost use Rattle.ep_server.specs.Faults.{command_line_refused, line_of, line_of_cut, line_of_log, line_of_open, line_of_serve, log_failed, record_line, words_of};
 
 use crate::fault::Fault;
@@ -113,34 +114,22 @@ fn tell_cause<F: Sink>(cause: Cause, sink: &mut F) -> Result<(), WriteFailed>
 pub(crate) fn tell_cut<F: Sink>(cut: Cut, sink: &mut F) -> Result<(), WriteFailed>
     ensures { Puts (F.held sink.old) (F.held sink.new) (F.has_failed sink.old) (F.has_failed sink.new) result (line_of_cut cut) }
 {
-    tell_place(b"log cut at byte ", cut.at as u64, b": ", sink)?;
-    tell_end(
-        cut.behind as u64,
-        b" bytes behind it were no whole record\n",
-        sink,
-    )
+    tell_number(b"log cut at byte ", cut.at as u64, sink)?;
+    tell_number(b": ", cut.behind as u64, sink)?;
+    sink.put(b" bytes behind it were no whole record\n")
 }
 
 /// Writes that a record is damaged which another one says was on the disk.
 fn tell_turned<F: Sink>(at: u64, by: u64, sink: &mut F) -> Result<(), WriteFailed>
-    ensures { Puts (F.held sink.old) (F.held sink.new) (F.has_failed sink.old) (F.has_failed sink.new) result (line_of_log (LogFault.Turned at by)) }
+    ensures { Puts (F.held sink.old) (F.held sink.new) (F.has_failed sink.old) (F.has_failed sink.new) result (line_of_log (Turned at by)) }
 {
-    tell_place(
-        b"log refused: the record at byte ",
-        at,
+    tell_number(b"log refused: the record at byte ", at, sink)?;
+    tell_number(
         b" is damaged, and was on the disk by the record at byte ",
+        by,
         sink,
     )?;
-    tell_end(by, b"\n", sink)
-}
-
-/// Writes a number, and what stands after it.
-fn tell_end<F: Sink>(number: u64, after: &[u8], sink: &mut F) -> Result<(), WriteFailed>
-    ensures { Puts (F.held sink.old) (F.held sink.new) (F.has_failed sink.old) (F.has_failed sink.new) result (decimal number ++ after.now) }
-{
-    let mut digits = Buffer::new();
-    sink.put(digits.format(number).as_bytes())?;
-    sink.put(after)
+    sink.put(b"\n")
 }
 
 /// Writes a number, and what stands before it.

@@ -290,6 +290,8 @@ pub enum Answer {
     Open(Option<Instance>),
     Leads(Option<Leading>),
     Synced(u32),
+    /// A request of this host is none: its first field that is wrong, and its offset in the request.
+    Malformed { field: u8, at: u64 },
 }
 
 impl Answer {
@@ -309,6 +311,7 @@ impl Answer {
             4 => Answer::Open(read_option(&mut fields, Instance::read)?),
             5 => Answer::Leads(read_option(&mut fields, read_leading)?),
             6 => Answer::Synced(fields.u32()?),
+            7 => Answer::Malformed { field: fields.u8()?, at: fields.u64()? },
             _ => return None,
         };
         (fields.left() == 0).then_some(answer)
@@ -406,6 +409,8 @@ mod tests {
         let leading = Leading { phase: Phase::Accepting, answers: 3 };
         assert_eq!(Answer::read(&[5, 1, 2, 3]), Some(Answer::Leads(Some(leading))));
         assert_eq!(Answer::read(&[6, 0, 0, 1, 0]), Some(Answer::Synced(256)));
+        let malformed = Answer::Malformed { field: 5, at: 21 };
+        assert_eq!(Answer::read(&[7, 5, 0, 0, 0, 0, 0, 0, 0, 21]), Some(malformed));
         for bytes in [&[][..], &[0], &[7], &[3, 2], &[5, 1, 4, 0], &[6, 0, 0, 1]] {
             assert_eq!(Answer::read(bytes), None);
         }

@@ -1,0 +1,163 @@
+-- The loop, from one request to the next.
+use Rattle.std.proofs.Common.{◌≡◌, ◌⊎◌, ℕ, ◌+◌, ◌≤◌, Bool, true, false, ◌||◌, length, length-append, List, [], ◌∷◌, ◌++◌, Option, Some, None, Result, Ok, Err, inl, inr, refl, sym, ap, ◌∙◌, subst, arith}
+use Rattle.std.specs.Prelude.{IsErrAnd}
+use Rattle.ep_base.specs.Quorums.{size}
+use Rattle.ep_bundle.specs.Reading.{Left}
+use Rattle.ep_device.specs.Device.{LeavesOnly}
+use Rattle.ep_node.specs.Nodes.{IsCut, IsQuiet, Logged}
+use Rattle.ep_replica.specs.Kept.{Kept}
+use Rattle.ep_wire.specs.Requests.{next_request, ReadsRequest}
+use Rattle.ep_wire.specs.declared.request.Request.{Request}
+use Rattle.ep_serve.specs.Acting.{Acts}
+use Rattle.ep_serve.specs.Answering.{Tell}
+use Rattle.ep_serve.specs.Lasting.{crashes, Crashes, GoesOn, IsKept, Lasts, StaysKnown}
+use Rattle.ep_serve.specs.Serving.{Ends, IfSettled, IfUnwritten, InService, IsSilent, MayWait, ServesAll, Waits}
+use Rattle.ep_serve.specs.declared.due.Due.{Due}
+use Rattle.ep_serve.specs.declared.mode.Mode.{Mode}
+use Rattle.ep_serve.specs.declared.serve_fault.ServeFault.{ServeFault}
+use Rattle.ep_serve.specs.declared.serve_fault.ServeFault.TheVariants.{WriteFailed}
+use Rattle.ep_serve.proofs.Growing.{Extends, acts_more, waiting_more}
+use Rattle.ep_serve.proofs.Keeping.{lasts_first, lasts_now, passes, rests}
+use Rattle.ep_serve.proofs.Runs.{all_served, begins, cut_short, one_is_written, one_waits, service_on}
+
+-- what stands between two requests: those before are served, or wait, and the replica that told the last batch is on the disk
+pub record Stands {D : Type 0} (seen : D → Option (List ℕ)) (moment : D → ℕ) (left_since : D → ℕ → List ℕ → Type 0) (mode : Mode) (start node : Logged D) (zs : List ℕ) (old held : Option (List ℕ)) (place : ℕ) (left : Option (List ℕ)) (dues : List Due) : Type 0 where
+  pub ys : List ℕ
+  pub left_is : left ≡ Some ys
+  pub service : InService mode (size start.replica.faults) (crashes seen moment left_since start.device node.device) start.replica (record { at = 0; bytes = zs }) old held node.replica (record { at = place; bytes = ys }) dues
+  pub synced : node.synced ≡ length service.replica.entries
+
+pub stands_first : {D : Type 0} (seen : D → Option (List ℕ)) (moment : D → ℕ) (left_since : D → ℕ → List ℕ → Type 0) (mode : Mode) (start : Logged D) (zs : List ℕ) (old left : Option (List ℕ)) (dues : List Due) → IsQuiet start → left ≡ Some zs → dues ≡ []
+    → ((bytes : List ℕ) → seen start.device ≡ Some bytes → LeavesOnly moment left_since start.device start.device (IsCut start start.synced)) → Stands seen moment left_since mode start start zs old old 0 left dues
+stands_first seen moment left_since mode start zs old left dues quiet is none at_rest =
+    subst (λ (x : List Due). Stands seen moment left_since mode start start zs old old 0 left x) (sym none)
+    (record {
+      ys = zs;
+      left_is = is;
+      service = begins mode (size start.replica.faults) (crashes seen moment left_since start.device start.device) start.replica (record { at = 0; bytes = zs }) old
+          (lasts_first seen moment left_since start.device start.replica (rests seen moment left_since start start.device start.replica refl quiet (λ bytes was. (bytes, was)) at_rest));
+      synced = quiet.synced;
+    })
+
+may_as : (mode : Mode) (a b : ℕ) (r : Request) (k : Kept) → a ≡ b → MayWait mode a r k → MayWait mode b r k
+may_as mode a b r k same may = subst (λ (x : ℕ). MayWait mode x r k) same may
+
+-- its answer waits
+waits_on : {D : Type 0} (seen : D → Option (List ℕ)) (moment : D → ℕ) (left_since : D → ℕ → List ℕ → Type 0) (mode : Mode) (start node : Logged D) (k : Kept) (zs : List ℕ) (old held left : Option (List ℕ)) (p q : ℕ) (before : List Due) (r : Request) (d : Due) (xs : List ℕ)
+    (s : Stands seen moment left_since mode start node zs old held p left before) → next_request (size start.replica.faults) (record { at = p; bytes = s.ys }) ≡ Ok (Some r, record { at = q; bytes = xs }) → Acts node.replica r d k → MayWait mode node.synced r k
+    → Stands seen moment left_since mode start (record node { replica = k }) zs old held q (Some xs) (before ++ d ∷ [])
+waits_on seen moment left_since mode start node k zs old held left p q before r d xs s next acted may = record {
+  ys = xs;
+  left_is = refl;
+  service = one_waits mode (size start.replica.faults) (crashes seen moment left_since start.device node.device) start.replica node.replica k (record { at = 0; bytes = zs }) (record { at = p; bytes = s.ys }) (record { at = q; bytes = xs }) old held before r d s.service next acted
+      (may_as mode node.synced (length s.service.replica.entries) r k s.synced may);
+  synced = s.synced;
+}
+
+-- its answer is written, with all that waited
+written_on : {D : Type 0} (seen : D → Option (List ℕ)) (moment : D → ℕ) (left_since : D → ℕ → List ℕ → Type 0) (mode : Mode) (start node node' : Logged D) (zs : List ℕ) (old held new left : Option (List ℕ)) (p q : ℕ) (before : List Due) (r : Request) (d : Due) (xs : List ℕ)
+    (s : Stands seen moment left_since mode start node zs old held p left before) → next_request (size start.replica.faults) (record { at = p; bytes = s.ys }) ≡ Ok (Some r, record { at = q; bytes = xs }) → Acts node.replica r d node'.replica → ¬ MayWait mode node.synced r node'.replica
+    → Tell node'.replica (before ++ d ∷ []) held new → IsQuiet node' → IsKept seen moment left_since node.device node'.device node'.replica → GoesOn seen moment left_since node.device node'.device node.replica node.synced → StaysKnown seen start.device node.device
+    → Stands seen moment left_since mode start node' zs old new q (Some xs) []
+written_on seen moment left_since mode start node node' zs old held new left p q before r d xs s next acted may told quiet kept goes known =
+    let n : ℕ = size start.replica.faults in
+    let w' : Crashes = crashes seen moment left_since start.device node'.device in
+    let extends : Extends s.service.replica node.replica = waiting_more mode n s.service.replica node.replica s.service.from (record { at = p; bytes = s.ys }) before s.service.waiting in
+    let moved : InService mode n w' start.replica (record { at = 0; bytes = zs }) old held node.replica (record { at = p; bytes = s.ys }) before =
+    service_on mode n (crashes seen moment left_since start.device node.device) w' start.replica node.replica (record { at = 0; bytes = zs }) (record { at = p; bytes = s.ys }) old held before s.service
+    (passes seen moment left_since start.device node.device node'.device node.replica s.service.replica node.synced known s.synced extends goes) in
+    record {
+      ys = xs;
+      left_is = refl;
+      service = one_is_written mode n w' start.replica node.replica node'.replica (record { at = 0; bytes = zs }) (record { at = p; bytes = s.ys }) (record { at = q; bytes = xs }) old held new before r d moved next acted
+          (λ m. may (may_as mode (length s.service.replica.entries) node.synced r node'.replica (sym s.synced) m)) told (lasts_now seen moment left_since start.device node.device node'.device node'.replica known kept);
+      synced = quiet.synced;
+    }
+
+pub stands_next : {D : Type 0} (seen : D → Option (List ℕ)) (moment : D → ℕ) (left_since : D → ℕ → List ℕ → Type 0) (mode : Mode) (start node node' : Logged D) (zs : List ℕ) (old held new left left' : Option (List ℕ)) (p q n : ℕ) (before after : List Due) (found : Option Request) (r : Request)
+    → (s : Stands seen moment left_since mode start node zs old held p left before) → n ≡ size start.replica.faults → ReadsRequest n (record { at = p; bytes = s.ys }) (Ok found) q left' → found ≡ Some r
+    → (m : Mode) → m ≡ mode → Waits m node r before held node' after new (IsKept seen moment left_since node.device node'.device node'.replica) → GoesOn seen moment left_since node.device node'.device node.replica node.synced → StaysKnown seen start.device node.device
+    → Stands seen moment left_since mode start node' zs old new q left' after
+stands_next {D = D} seen moment left_since mode start node node' zs old held new left left' p q n before after found r s same read is m mode_is w' goes known =
+    let w : Waits mode node r before held node' after new (IsKept seen moment left_since node.device node'.device node'.replica) = subst (λ (x : Mode). Waits x node r before held node' after new (IsKept seen moment left_since node.device node'.device node'.replica)) mode_is w' in
+    subst (λ (x : Option (List ℕ)). Stands seen moment left_since mode start node' zs old new q x after) (sym read.1) (elim w.2 [
+      | inl a ↦
+          subst (λ (x : Logged D). Stands seen moment left_since mode start x zs old new q (Some read.0) after) (sym a.3)
+          (subst (λ (x : Option (List ℕ)). Stands seen moment left_since mode start (record node { replica = node'.replica }) zs old x q (Some read.0) after) (sym a.2)
+          (subst (λ (x : List Due). Stands seen moment left_since mode start (record node { replica = node'.replica }) zs old held q (Some read.0) x) (sym a.1)
+          (waits_on seen moment left_since mode start node node'.replica zs old held left p q before r w.0 read.0 s (next n same read.2) w.1 a.0)))
+      | inr a ↦
+          subst (λ (x : List Due). Stands seen moment left_since mode start node' zs old new q (Some read.0) x) (sym a.1)
+          (written_on seen moment left_since mode start node node' zs old held new left p q before r w.0 read.0 s (next n same read.2) w.1 a.0 a.2 a.3 a.4 goes known)
+    ])
+  where
+    next : (n : ℕ) → n ≡ size start.replica.faults → next_request n (record { at = p; bytes = s.ys }) ≡ Ok (found, record { at = q; bytes = read.0 }) → next_request (size start.replica.faults) (record { at = p; bytes = s.ys }) ≡ Ok (Some r, record { at = q; bytes = read.0 })
+    next n same e = subst (λ (x : ℕ). next_request x (record { at = p; bytes = s.ys }) ≡ Ok (Some r, record { at = q; bytes = read.0 })) same (e ∙ ap (λ (f : Option Request). Ok (f, record { at = q; bytes = read.0 })) is)
+
+-- the service after a call that may have failed
+pub goes_on_to : {D : Type 0} (seen : D → Option (List ℕ)) (moment : D → ℕ) (left_since : D → ℕ → List ℕ → Type 0) (mode : Mode) (start node node' : Logged D) (zs : List ℕ) (old held left : Option (List ℕ)) (p : ℕ) (before : List Due)
+    (s : Stands seen moment left_since mode start node zs old held p left before) → GoesOn seen moment left_since node.device node'.device node.replica node.synced → StaysKnown seen start.device node.device
+    → InService mode (size start.replica.faults) (crashes seen moment left_since start.device node'.device) start.replica (record { at = 0; bytes = zs }) old held node.replica (record { at = p; bytes = s.ys }) before
+goes_on_to seen moment left_since mode start node node' zs old held left p before s goes known =
+    let n : ℕ = size start.replica.faults in
+    service_on mode n (crashes seen moment left_since start.device node.device) (crashes seen moment left_since start.device node'.device) start.replica node.replica (record { at = 0; bytes = zs }) (record { at = p; bytes = s.ys }) old held before s.service
+    (passes seen moment left_since start.device node.device node'.device node.replica s.service.replica node.synced known s.synced (waiting_more mode n s.service.replica node.replica s.service.from (record { at = p; bytes = s.ys }) before s.service.waiting) goes)
+
+unwritten_so : (e : ServeFault) (P : Type 0) → IfUnwritten (Err e) P → e ≡ WriteFailed → P
+unwritten_so e P h is = subst (λ (x : ServeFault). IfUnwritten (Err x) P) is h
+
+settled_so : (e : ServeFault) (P : Type 0) → IfSettled (Err e) P → e ≡ WriteFailed → P
+settled_so e P h is = subst (λ (x : ServeFault). IfSettled (Err x) P) is h
+
+-- a fault at a request
+pub stopped : {D : Type 0} (seen : D → Option (List ℕ)) (moment : D → ℕ) (left_since : D → ℕ → List ℕ → Type 0) (mode : Mode) (start node node' : Logged D) (zs : List ℕ) (old held new left : Option (List ℕ)) (p : ℕ) (before : List Due) (e : ServeFault) (r : Result Unit ServeFault)
+    (s : Stands seen moment left_since mode start node zs old held p left before) → IsSilent e held new → IfUnwritten (Err e) (IsQuiet node' × IsKept seen moment left_since node.device node'.device node'.replica)
+    → GoesOn seen moment left_since node.device node'.device node.replica node.synced → StaysKnown seen start.device node.device → IsErrAnd r (λ x. x ≡ e)
+    → Ends mode (size start.replica.faults) (crashes seen moment left_since start.device node'.device) start.replica (record { at = 0; bytes = zs }) old new r node'.replica
+stopped seen moment left_since mode start node node' zs old held new left p before e r s silent unwritten goes known is =
+    cut_short mode (size start.replica.faults) (crashes seen moment left_since start.device node'.device) start.replica node.replica node'.replica (record { at = 0; bytes = zs }) (record { at = p; bytes = s.ys }) old held new before r e
+    (goes_on_to seen moment left_since mode start node node' zs old held left p before s goes known) silent
+    (λ failed. lasts_now seen moment left_since start.device node.device node'.device node'.replica known ((unwritten_so e (IsQuiet node' × IsKept seen moment left_since node.device node'.device node'.replica) unwritten failed).1)) is
+
+-- a fault where all that waits was to be written
+pub stopped_settling : {D : Type 0} (seen : D → Option (List ℕ)) (moment : D → ℕ) (left_since : D → ℕ → List ℕ → Type 0) (mode : Mode) (start node node' : Logged D) (zs : List ℕ) (old held new left : Option (List ℕ)) (p : ℕ) (before : List Due) (e : ServeFault) (r : Result Unit ServeFault)
+    (s : Stands seen moment left_since mode start node zs old held p left before) → node'.replica ≡ node.replica → IsSilent e held new → IfSettled (Err e) (IsKept seen moment left_since node.device node'.device node.replica)
+    → GoesOn seen moment left_since node.device node'.device node.replica node.synced → StaysKnown seen start.device node.device → IsErrAnd r (λ x. x ≡ e)
+    → Ends mode (size start.replica.faults) (crashes seen moment left_since start.device node'.device) start.replica (record { at = 0; bytes = zs }) old new r node'.replica
+stopped_settling seen moment left_since mode start node node' zs old held new left p before e r s same silent kept goes known is =
+    cut_short mode (size start.replica.faults) (crashes seen moment left_since start.device node'.device) start.replica node.replica node'.replica (record { at = 0; bytes = zs }) (record { at = p; bytes = s.ys }) old held new before r e
+    (goes_on_to seen moment left_since mode start node node' zs old held left p before s goes known) silent
+    (λ failed. subst (λ (x : Kept). Lasts (crashes seen moment left_since start.device node'.device) x) (sym same)
+    (lasts_now seen moment left_since start.device node.device node'.device node.replica known (settled_so e (IsKept seen moment left_since node.device node'.device node.replica) kept failed))) is
+
+-- all that waited was written
+pub all_settled : {D : Type 0} (seen : D → Option (List ℕ)) (moment : D → ℕ) (left_since : D → ℕ → List ℕ → Type 0) (mode : Mode) (start node node' : Logged D) (zs : List ℕ) (old held new left : Option (List ℕ)) (p : ℕ) (before after : List Due)
+    (s : Stands seen moment left_since mode start node zs old held p left before) → node'.replica ≡ node.replica → Tell node.replica before held new × (after ≡ []) → IsKept seen moment left_since node.device node'.device node.replica
+    → GoesOn seen moment left_since node.device node'.device node.replica node.synced → StaysKnown seen start.device node.device
+    → ServesAll mode (size start.replica.faults) (crashes seen moment left_since start.device node'.device) start.replica (record { at = 0; bytes = zs }) old new node'.replica (record { at = p; bytes = s.ys })
+all_settled seen moment left_since mode start node node' zs old held new left p before after s same told kept goes known =
+    let n : ℕ = size start.replica.faults in
+    let w' : Crashes = crashes seen moment left_since start.device node'.device in
+    subst (λ (x : Kept). ServesAll mode n w' start.replica (record { at = 0; bytes = zs }) old new x (record { at = p; bytes = s.ys })) (sym same)
+    (all_served mode n w' start.replica node.replica (record { at = 0; bytes = zs }) (record { at = p; bytes = s.ys }) old held new before (goes_on_to seen moment left_since mode start node node' zs old held left p before s goes known)
+    (lasts_now seen moment left_since start.device node.device node'.device node.replica known kept) told.0)
+
+-- the node still works, and what is on its disk it has
+pub works_on : {D : Type 0} (mode : Mode) (node node' : Logged D) (r : Request) (before after : List Due) (old new : Option (List ℕ)) (P : Type 0) → node.closed ≡ false → Waits mode node r before old node' after new P → node'.closed ≡ false
+works_on mode node node' r before after old new P works w = elim w.2 [
+  | inl a ↦ ap (λ n. n.closed) a.3 ∙ works
+  | inr a ↦ a.3.works
+]
+
+longer : (k k' : Kept) → Extends k k' → length k.entries ≤ length k'.entries
+longer k k' h = subst (λ (x : Kept). length k.entries ≤ length x.entries) (sym h.1) (let e = length-append k.entries h.0 in omega arith)
+
+pub within_on : {D : Type 0} (mode : Mode) (node node' : Logged D) (r : Request) (before after : List Due) (old new : Option (List ℕ)) (P : Type 0) → node.synced ≤ length node.replica.entries → Waits mode node r before old node' after new P
+    → node'.synced ≤ length node'.replica.entries
+within_on mode node node' r before after old new P within w = elim w.2 [
+  | inl a ↦
+      let same : node'.synced ≡ node.synced = ap (λ n. n.synced) a.3 in
+      let more : length node.replica.entries ≤ length node'.replica.entries = longer node.replica node'.replica (acts_more node.replica node'.replica r w.0 w.1) in
+      omega (arith, same, more, within)
+  | inr a ↦ (let e = a.3.synced in omega arith)
+]

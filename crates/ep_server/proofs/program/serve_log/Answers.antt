@@ -1,0 +1,23 @@
+use Rattle.std.proofs.Common.{refl}
+use Rattle.std.proofs.KnownBytes.{Appends-nil}
+use Rattle.ep_server.proofs.Serving.{concludes_after, has_served}
+use Rattle.ep_server.proofs.program.serve_log.Goals as goal
+
+pub returns-in-Ok : goal.returns-in-Ok
+returns-in-Ok g c = λ bytes zs was left.
+    let written = c.in-Ok.ensures.written bytes was in
+    let ok = c.in-Ok.ensures.ok in
+    record {
+      cut = _;
+      outcome = _;
+      happens = has_served _ _ _ bytes zs written.0 _ _ _ _ ok.1 ok.2 (ok.3 bytes was) written.1 written.2 (c.served-outcome.ensures zs left);
+      concluded = concludes_after _ _ _ _ _ _ _ _ _ _ c.tell_first.ensures c.concluded.ensures.for_good c.concluded.ensures.concluded;
+    }
+
+pub returns-in-Err : goal.returns-in-Err
+returns-in-Err g c = λ bytes zs was left. record {
+  cut = _;
+  outcome = _;
+  happens = (c.in-Err.ensures.err.0 bytes was, c.in-Err.ensures.err.1, Appends-nil _, refl);
+  concluded = c.concluded-in-Err.ensures.concluded;
+}
