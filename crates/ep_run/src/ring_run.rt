@@ -119,7 +119,7 @@ fn settle_released(nodes: &mut [RingNode], rounds: u32)
 
 /// So many turns of each node in a thread of its own; then the held frames are put, and then so many rounds.
 fn turned<R: Threads + Sync>(rt: &R, nodes: Vec<RingNode>, turns: u32) -> Vec<RingNode>
-    requires { (f : ℕ) × IsHost f nodes.items }
+    requires host { (f : ℕ) × IsHost f nodes.items }
     ensures turns { Turns turns nodes.items result.items }
     ensures host { (f : ℕ) → IsHost f nodes.items → IsHost f result.items }
 {

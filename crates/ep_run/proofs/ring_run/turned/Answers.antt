@@ -25,4 +25,4 @@ returns-clause-host g c = λ f host.
     subst (λ (l : List Node). IsHost f l) (sym is) (c.settle_released.ensures.host f (subst (λ (l : List Node). IsHost f l) (sym c.as_mut_slice.ensures.value) (c.section.ensures.host f host)))
 
 pub settle_released-requires : goal.settle_released-requires
-settle_released-requires g c = (c.requires.0, subst (λ (l : List Node). IsHost c.requires.0 l) (sym c.as_mut_slice.ensures.value) (c.section.ensures.host c.requires.0 c.requires.1))
+settle_released-requires g c = let r = c.requires.host in (r.0, subst (λ (l : List Node). IsHost r.0 l) (sym c.as_mut_slice.ensures.value) (c.section.ensures.host r.0 r.1))

@@ -64,8 +64,8 @@ returns-clause-weather g c =
     let turned : Turns turns middle new.nodes.items = subst (λ (l : List Node). Turns turns middle l) (sym kept) (subst (λ (l : List Node). Turns turns l c.turned.result.items) is c.turned.ensures.turns) in
     own_stays turns ws begins.assigned middle new.nodes.items begins.sets turned
 
-pub turned-requires : goal.turned-requires
-turned-requires g c =
+pub turned-requires-clause-host : goal.turned-requires-clause-host
+turned-requires-clause-host g c = λ κs lives.
     let r = c.requires.run in
     let old = c.args.self.now in
     let middle : List Node = c.begin.new.nodes in
