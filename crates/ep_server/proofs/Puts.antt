@@ -15,14 +15,12 @@ puts_after :
 puts_after a b c first second third xs ys (Ok x) p same q = (appends_twice a b c xs ys p q.0, q.1 ∙ same)
 puts_after a b c first second third xs ys (Err e) p same q = q
 
-pub puts_in_three :
-    {T E : Type 0} (a b c d : Option (List ℕ)) (first second third last : Bool) (xs ys zs text : List ℕ) (r : Result T E) →
-    Appends a b xs → second ≡ first → Appends b c ys → third ≡ second → ys ≡ text → Puts c d third last r zs → Puts a d first last r (xs ++ (text ++ zs))
-puts_in_three a b c d first second third last xs ys zs text r p same q same' is s =
-    puts_after a b d first second last xs (text ++ zs) r p same
-    (puts_after b c d second third last text zs r (subst (λ l. Appends b c l) is q) same' s)
-
 pub puts_in_two :
     {T E : Type 0} (a b c : Option (List ℕ)) (first second third : Bool) (xs ys text : List ℕ) (r : Result T E) → Appends a b xs → second ≡ first → ys ≡ text →
     Puts b c second third r ys → Puts a c first third r (xs ++ text)
 puts_in_two a b c first second third xs ys text r p same is q = puts_after a b c first second third xs text r p same (subst (λ l. Puts b c second third r l) is q)
+
+pub puts_third :
+    {T E : Type 0} (a b c d : Option (List ℕ)) (first second third last : Bool) (xs ys zs : List ℕ) (r : Result T E) → Appends a b xs → second ≡ first → Appends b c ys → third ≡ second → Puts c d third last r zs →
+    Puts a d first last r (xs ++ ys ++ zs)
+puts_third a b c d first second third last xs ys zs r p same q same' s = puts_after a c d first third last (xs ++ ys) zs r (appends_twice a b c xs ys p q) (same' ∙ same) s

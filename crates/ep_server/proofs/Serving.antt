@@ -1,10 +1,11 @@
 -- A node that is opened has served.
 use Rattle.std.proofs.Common.{◌≡◌, ◌⊎◌, inl, inr, ℕ, Bool, true, List, [], ◌++◌, Option, Some, None, Result, Ok, Err, append-nil, refl, sym, subst}
 use Rattle.std.specs.Io.KnownBytes.{Appends}
+use Rattle.std.proofs.KnownBytes.{Appends-nil}
 use Rattle.ep_base.specs.Devices.{Puts}
 use Rattle.ep_base.specs.Quorums.{size}
 use Rattle.ep_node.specs.Nodes.{Logged}
-use Rattle.ep_node.specs.Opening.{IsOpened, IsWrittenAnew}
+use Rattle.ep_node.specs.Opening.{IsOpened, IsUnopened, IsWrittenAnew}
 use Rattle.ep_device.specs.declared.cause.Cause.{Cause}
 use Rattle.ep_node.specs.declared.cut.Cut.{Cut}
 use Rattle.ep_node.specs.declared.open_fault.OpenFault.{OpenFault}
@@ -18,6 +19,7 @@ use Rattle.ep_server.specs.Faults.{line_of}
 use Rattle.ep_server.specs.Outputs.{Output, output, Told}
 use Rattle.ep_server.specs.Served.{told_first, of_serve, Concludes, Fails, Happens, HasServed, IsFailure, IsOver, Role, Shown}
 use Rattle.ep_server.specs.declared.fault.Fault.{Fault}
+use Rattle.ep_server.specs.declared.fault.Fault.TheVariants.{Open}
 use Rattle.ep_server.specs.declared.status.Status.{Status}
 
 pub has_served :
@@ -57,11 +59,14 @@ told_after a b c first second third xs ys (Ok x) p stays t = elim t [
 told_after a b c first second third xs ys (Err e) p stays t = inl (stays p)
 
 pub concludes_after :
-    {E : Type 0} (cut : Option Cut) (outcome : Result Unit Fault) (status : Status) (a b c : Option (List ℕ)) (first second third : Bool) (r : Result Unit E) → Puts a b first second r (told_first cut) →
+    {E : Type 0} (cut told : Option Cut) (outcome : Result Unit Fault) (status : Status) (a b c : Option (List ℕ)) (first second third : Bool) (r : Result Unit E) → told ≡ cut → Puts a b first second r (told_first told) →
     (second ≡ true → third ≡ true) → Concludes None outcome status (output b c second third) → Concludes cut outcome status (output a c first third)
-concludes_after cut (Ok x) status a b c first second third r p stays h =
+concludes_after {E = E} cut told (Ok x) status a b c first second third r is q stays h =
+    let p : Puts a b first second r (told_first cut) = subst (λ (z : Option Cut). Puts a b first second r (told_first z)) is q in
     (h.0, subst (λ (l : List ℕ). Told (output a c first third) l) (append-nil (told_first cut)) (told_after a b c first second third (told_first cut) [] r p stays h.1))
-concludes_after cut (Err e) status a b c first second third r p stays h = (h.0, told_after a b c first second third (told_first cut) (line_of e) r p stays h.1)
+concludes_after {E = E} cut told (Err e) status a b c first second third r is q stays h =
+    let p : Puts a b first second r (told_first cut) = subst (λ (z : Option Cut). Puts a b first second r (told_first z)) is q in
+    (h.0, told_after a b c first second third (told_first cut) (line_of e) r p stays h.1)
 
 -- where the device is said to have failed, it has
 pub is_failure : {D : Type 0} (shown : Shown D) (device : D) (why : OpenFault) → ((cause : Cause) → why ≡ open_.Failed cause → shown.has_failed device ≡ true) → IsFailure shown why
@@ -73,3 +78,7 @@ is_failure shown device open_.LogExists h = tt
 is_failure shown device open_.OtherLog h = tt
 is_failure shown device (open_.Log fault) h = tt
 is_failure shown device (open_.NotClocked number) h = tt
+
+pub not_opened : {D : Type 0} (shown : Shown D) (role : Role) (bytes zs : List ℕ) (why : OpenFault) (reader : Output) (before : Option (List ℕ)) (had : Bool) → IsUnopened role.begin role.faults role.me bytes why → IsFailure shown why
+    → Happens shown role bytes zs None (Err (Open why)) reader (output before before had had)
+not_opened shown role bytes zs why reader before had unopened failure = (unopened, failure, Appends-nil before, refl)

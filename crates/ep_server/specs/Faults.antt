@@ -51,7 +51,7 @@ log_failed cause = codes "log failed: " ++ words_of cause ++ codes "\n"
 
 -- what was cut off a log
 abbrev pub line_of_cut : Cut → List ℕ
-line_of_cut cut = codes "log cut at byte " ++ decimal cut.at ++ codes ": " ++ decimal cut.behind ++ codes " bytes behind it were no whole record\n"
+line_of_cut cut = codes "log cut at byte " ++ decimal cut.at ++ (codes ": " ++ decimal cut.behind) ++ codes " bytes behind it were no whole record\n"
 
 -- what is wrong, and the first byte of the record
 abbrev pub record_line : List ℕ → ℕ → List ℕ
@@ -66,7 +66,7 @@ line_of_log (log.BadLength at) = record_line (codes "log refused: bad length") a
 line_of_log (log.BadChecksum at) = record_line (codes "log refused: bad checksum") at
 line_of_log (log.BadEntry at) = record_line (codes "log refused: no entry") at
 line_of_log (log.NotNext at) = record_line (codes "log refused: not the next entry") at
-line_of_log (log.Turned at by) = codes "log refused: the record at byte " ++ decimal at ++ codes " is damaged, and was on the disk by the record at byte " ++ decimal by ++ codes "\n"
+line_of_log (log.Turned at by) = codes "log refused: the record at byte " ++ decimal at ++ (codes " is damaged, and was on the disk by the record at byte " ++ decimal by) ++ codes "\n"
 
 abbrev pub line_of_open : OpenFault → List ℕ
 line_of_open open_.OutOfRange = codes "log refused: E3 out of range\n"

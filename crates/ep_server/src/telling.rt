@@ -1,6 +1,6 @@
 //! Faults on the fault output.
 
-ghost use Rattle.std.specs.Prelude.{◌++◌, decimal};
+ghost use Rattle.std.specs.Prelude.{◌++◌, codes, decimal};
 ghost use Rattle.ep_base.specs.Devices.{Puts};
 ghost use Rattle.ep_log.specs.declared.log_fault.LogFault.TheVariants.{Turned};
 ghost use Rattle.ep_server.specs.Faults.{command_line_refused, line_of, line_of_cut, line_of_log, line_of_open, line_of_serve, log_failed, record_line, words_of};
@@ -105,9 +105,18 @@ fn tell_cause<F: Sink>(cause: Cause, sink: &mut F) -> Result<(), WriteFailed>
         Cause::ReadOnly => sink.put(b"read-only file system"),
         Cause::InputOutput => sink.put(b"input/output error"),
         Cause::NoMemory => sink.put(b"out of memory"),
-        Cause::System(number) => tell_number(b"system error ", u64::from(number), sink),
+        Cause::System(number) => tell_system(number, sink),
         Cause::Unknown => sink.put(b"unknown error"),
     }
+}
+
+/// Writes the number of another error of the system.
+fn tell_system<F: Sink>(number: u32, sink: &mut F) -> Result<(), WriteFailed>
+    ensures { Puts (F.held sink.old) (F.held sink.new) (F.has_failed sink.old) (F.has_failed sink.new) result (codes "system error " ++ decimal number) }
+{
+    let mut digits = Buffer::new();
+    sink.put(b"system error ")?;
+    sink.put(digits.format(number).as_bytes())
 }
 
 /// Writes what was cut off the log.
