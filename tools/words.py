@@ -73,8 +73,9 @@ class Command:
         self.repeated = {"receipts"}
 
     def usage_with(self, given):
-        """The usage where these options are given, in the order of the help."""
-        wanted = [it.shown for name, it in self.options.items() if name != "help" and (name in given or name in self.needed)]
+        """The usage where these options are given: those that can't be left out, and then the others in the order in which they are given."""
+        others = dict.fromkeys(name for name in given if name not in self.needed)
+        wanted = [self.options[name].shown for name in (*self.needed, *others)]
         return " ".join([f"epaxos {self.name}", *wanted, *(f"{it}..." for it in self.words)])
 
     def read(self, words):
@@ -113,7 +114,7 @@ class Command:
                 raise Refused(f"a value is required for '{option.shown}' but none was supplied\n")
             value, at = words[at], at + 1
         elif equals and not option.value:
-            raise Refused(f"unexpected value '{value}' for '{option.shown}' found; no more were expected\n\nUsage: {self.usage_with({*given, name})}\n")
+            raise Refused(f"unexpected value '{value}' for '{option.shown}' found; no more were expected\n\nUsage: {self.usage_with([*given, name])}\n")
         if name in given and name not in self.repeated:
             raise Refused(f"the argument '{option.shown}' cannot be used multiple times\n\nUsage: {self.usage}\n")
         given[name] = value
@@ -128,9 +129,9 @@ class Command:
         word = word.partition("=")[0] if word.startswith("--") else word[:2]
         near = nearest(word[2:], list(self.options)) if word.startswith("--") else None
         if near:
-            return unexpected(word, self.usage_with({*given, near}), f"a similar argument exists: '--{near}'")
+            return unexpected(word, self.usage_with([*given, near]), f"a similar argument exists: '--{near}'")
         tip = f"to pass '{word}' as a value, use '-- {word}'" if self.words else ""
-        return unexpected(word, self.usage_with(given) if plain else self.usage, tip)
+        return unexpected(word, self.usage_with(given) if plain or given and word.startswith("--") else self.usage, tip)
 
 
 def is_option(word):
