@@ -1,5 +1,5 @@
 -- What is on the disk.
-use Rattle.std.proofs.Common.{◌≡◌, ◌⊎◌, inl, inr, ℕ, zero, suc, ◌+◌, ◌≤◌, ◌<◌, length, take, take_all, drop, List, [], ◌∷◌, ◌++◌, append_assoc, Option, Some, refl, sym, ap, ◌∙◌, subst, arith}
+use Rattle.std.proofs.Common.{◌≡◌, ◌⊎◌, inl, inr, ℕ, zero, suc, ◌+◌, ◌≤◌, ◌<◌, false, length, take, take_all, drop, List, [], ◌∷◌, ◌++◌, append_assoc, Option, Some, refl, sym, ap, ◌∙◌, subst, arith}
 use Rattle.std.proofs.Math.Seq.{take-append_seam}
 use Rattle.std.proofs.lemmas.List.{take-append-drop, take-map}
 use Rattle.ep_journal.specs.declared.entry.Entry.{Entry}
@@ -145,3 +145,19 @@ known_on seen start old new a b = λ bytes was. let after = a bytes was in b aft
 
 pub known_same : {D : Type 0} (seen : D → Option (List ℕ)) (old new : D) → new ≡ old → StaysKnown seen old new
 known_same seen old new same = λ bytes was. (bytes, ap seen same ∙ was)
+
+-- Of one call.
+
+pub quiet_after : {D : Type 0} (n n' : Logged D) → n.closed ≡ false → n' ≡ record n { device = n'.device; synced = length n.replica.entries; on_disk = n'.on_disk } → IsQuiet n'
+quiet_after n n' works is = record { works = ap (λ x. x.closed) is ∙ works; synced = ap (λ x. x.synced) is ∙ ap (λ x. length x.replica.entries) (sym is) }
+
+pub kept_as : {D : Type 0} (seen : D → Option (List ℕ)) (moment : D → ℕ) (left_since : D → ℕ → List ℕ → Type 0) (old mid new : D) (k k' : Kept) → mid ≡ old → k' ≡ k → IsKept seen moment left_since mid new k → IsKept seen moment left_since old new k'
+kept_as seen moment left_since old mid new k k' same is kept =
+    subst (λ (x : Kept). IsKept seen moment left_since old new x) (sym is) (subst (λ x. IsKept seen moment left_since x new k) same kept)
+
+pub onward_before : {D : Type 0} (seen : D → Option (List ℕ)) (moment : D → ℕ) (left_since : D → ℕ → List ℕ → Type 0) (old mid : Logged D) (new : D) → mid ≡ record old { replica = mid.replica } → old.synced ≤ length old.replica.entries → Extends old.replica mid.replica
+    → GoesOn seen moment left_since mid.device new mid.replica mid.synced → GoesOn seen moment left_since old.device new old.replica old.synced
+onward_before seen moment left_since old mid new same within h goes =
+    goes_on_as seen moment left_since old.device new old.replica mid.replica old.synced within h
+    (subst (λ (x : ℕ). GoesOn seen moment left_since old.device new mid.replica x) (ap (λ x. x.synced) same)
+    (subst (λ x. GoesOn seen moment left_since x new mid.replica mid.synced) (ap (λ x. x.device) same) goes))

@@ -1,6 +1,7 @@
 -- The loop, from one request to the next.
 use Rattle.std.proofs.Common.{◌≡◌, ◌⊎◌, ℕ, ◌+◌, ◌≤◌, Bool, true, false, ◌||◌, length, length-append, List, [], ◌∷◌, ◌++◌, Option, Some, None, Result, Ok, Err, inl, inr, refl, sym, ap, ◌∙◌, subst, arith}
-use Rattle.std.specs.Prelude.{IsErrAnd}
+use Rattle.std.specs.Prelude.{IsErrAnd, IsTrue, ◌↔◌}
+use Rattle.std.proofs.lemmas.Bool.{false≢true}
 use Rattle.ep_base.specs.Quorums.{size}
 use Rattle.ep_bundle.specs.Reading.{Left}
 use Rattle.ep_device.specs.Device.{LeavesOnly}
@@ -11,11 +12,11 @@ use Rattle.ep_wire.specs.declared.request.Request.{Request}
 use Rattle.ep_serve.specs.Acting.{Acts}
 use Rattle.ep_serve.specs.Answering.{Tell}
 use Rattle.ep_serve.specs.Lasting.{crashes, Crashes, GoesOn, IsKept, Lasts, StaysKnown}
-use Rattle.ep_serve.specs.Serving.{Ends, IfSettled, IfUnwritten, InService, IsSilent, MayWait, ServesAll, Waits}
+use Rattle.ep_serve.specs.Serving.{Ends, IfSettled, IfUnwritten, InService, IsSilent, MayWait, ServesAll, Waits, is_sync}
 use Rattle.ep_serve.specs.declared.due.Due.{Due}
 use Rattle.ep_serve.specs.declared.mode.Mode.{Mode}
 use Rattle.ep_serve.specs.declared.serve_fault.ServeFault.{ServeFault}
-use Rattle.ep_serve.specs.declared.serve_fault.ServeFault.TheVariants.{WriteFailed}
+use Rattle.ep_serve.specs.declared.serve_fault.ServeFault.TheVariants.{Memory, ReadFailed, BadRequest, WriteFailed, LogFailed}
 use Rattle.ep_serve.proofs.Growing.{Extends, acts_more, waiting_more}
 use Rattle.ep_serve.proofs.Keeping.{lasts_first, lasts_now, passes, rests}
 use Rattle.ep_serve.proofs.Runs.{all_served, begins, cut_short, one_is_written, one_waits, service_on}
@@ -103,10 +104,10 @@ goes_on_to seen moment left_since mode start node node' zs old held left p befor
     service_on mode n (crashes seen moment left_since start.device node.device) (crashes seen moment left_since start.device node'.device) start.replica node.replica (record { at = 0; bytes = zs }) (record { at = p; bytes = s.ys }) old held before s.service
     (passes seen moment left_since start.device node.device node'.device node.replica s.service.replica node.synced known s.synced (waiting_more mode n s.service.replica node.replica s.service.from (record { at = p; bytes = s.ys }) before s.service.waiting) goes)
 
-unwritten_so : (e : ServeFault) (P : Type 0) → IfUnwritten (Err e) P → e ≡ WriteFailed → P
+pub unwritten_so : (e : ServeFault) (P : Type 0) → IfUnwritten (Err e) P → e ≡ WriteFailed → P
 unwritten_so e P h is = subst (λ (x : ServeFault). IfUnwritten (Err x) P) is h
 
-settled_so : (e : ServeFault) (P : Type 0) → IfSettled (Err e) P → e ≡ WriteFailed → P
+pub settled_so : (e : ServeFault) (P : Type 0) → IfSettled (Err e) P → e ≡ WriteFailed → P
 settled_so e P h is = subst (λ (x : ServeFault). IfSettled (Err x) P) is h
 
 -- a fault at a request
@@ -161,3 +162,28 @@ within_on mode node node' r before after old new P within w = elim w.2 [
       omega (arith, same, more, within)
   | inr a ↦ (let e = a.3.synced in omega arith)
 ]
+
+-- one request, whose answer is written
+
+pub unwritten_of : (r : Result Unit ServeFault) (e : ServeFault) (P : Type 0) → IsErrAnd r (λ x. x ≡ e) → (e ≡ WriteFailed → P) → IfUnwritten r P
+unwritten_of (Ok x) e P is h = absurd is
+unwritten_of (Err f) e P is h = subst (λ (x : ServeFault). IfUnwritten (Err x) P) (sym is) (go e h)
+  where
+    go : (e : ServeFault) → (e ≡ WriteFailed → P) → IfUnwritten (Err e) P
+    go Memory h = tt
+    go ReadFailed h = tt
+    go (BadRequest at) h = tt
+    go WriteFailed h = h refl
+    go (LogFailed cause) h = tt
+
+pub written_out : {D : Type 0} (P : Type 0) (mode m : Mode) (old mid new : Logged D) (r : Request) (asks may : Bool) (before between after : List Due) (held held' : Option (List ℕ)) → ((d : Due) × Acts old.replica r d mid.replica × (between ≡ before ++ d ∷ []))
+    → mid ≡ record old { replica = mid.replica } → m ≡ mode → ((q : Request) → asks ≡ is_sync q → (IsTrue may ↔ MayWait m mid.synced q mid.replica)) → asks ≡ is_sync r → may ≡ false → new.replica ≡ mid.replica → Tell mid.replica between held held' × (after ≡ []) → IsQuiet new → P
+    → Waits mode old r before held new after held' P
+written_out P mode m old mid new r asks may before between after held held' a same mode_is decides asked none replica told quiet p = (
+  a.0,
+  subst (λ (x : Kept). Acts old.replica r a.0 x) (sym replica) a.1,
+  inr ((λ w. false≢true (sym none ∙ (decides r asked).1 (as_before w))), told.1, subst (λ (x : Kept). Tell x (before ++ a.0 ∷ []) held held') (sym replica) (subst (λ (x : List Due). Tell mid.replica x held held') a.2 told.0), quiet, p),
+)
+  where
+    as_before : MayWait mode old.synced r new.replica → MayWait m mid.synced r mid.replica
+    as_before w = subst (λ (x : Mode). MayWait x mid.synced r mid.replica) (sym mode_is) (subst (λ (x : ℕ). MayWait mode x r mid.replica) (sym (ap (λ x. x.synced) same)) (subst (λ (x : Kept). MayWait mode old.synced r x) replica w))

@@ -1,11 +1,10 @@
 -- A node that is opened has served.
 use Rattle.std.proofs.Common.{◌≡◌, ◌⊎◌, inl, inr, ℕ, Bool, true, List, [], ◌++◌, Option, Some, None, Result, Ok, Err, append-nil, refl, sym, subst}
 use Rattle.std.specs.Io.KnownBytes.{Appends}
-use Rattle.std.proofs.KnownBytes.{Appends-nil}
 use Rattle.ep_base.specs.Devices.{Puts}
 use Rattle.ep_base.specs.Quorums.{size}
 use Rattle.ep_node.specs.Nodes.{Logged}
-use Rattle.ep_node.specs.Opening.{IsOpened, IsUnopened, IsWrittenAnew}
+use Rattle.ep_node.specs.Opening.{IsOpened, IsWrittenAnew}
 use Rattle.ep_device.specs.declared.cause.Cause.{Cause}
 use Rattle.ep_node.specs.declared.cut.Cut.{Cut}
 use Rattle.ep_node.specs.declared.open_fault.OpenFault.{OpenFault}
@@ -19,7 +18,6 @@ use Rattle.ep_server.specs.Faults.{line_of}
 use Rattle.ep_server.specs.Outputs.{Output, output, Told}
 use Rattle.ep_server.specs.Served.{told_first, of_serve, Concludes, Fails, Happens, HasServed, IsFailure, IsOver, Role, Shown}
 use Rattle.ep_server.specs.declared.fault.Fault.{Fault}
-use Rattle.ep_server.specs.declared.fault.Fault.TheVariants.{Open}
 use Rattle.ep_server.specs.declared.status.Status.{Status}
 
 pub has_served :
@@ -78,7 +76,3 @@ is_failure shown device open_.LogExists h = tt
 is_failure shown device open_.OtherLog h = tt
 is_failure shown device (open_.Log fault) h = tt
 is_failure shown device (open_.NotClocked number) h = tt
-
-pub not_opened : {D : Type 0} (shown : Shown D) (role : Role) (bytes zs : List ℕ) (why : OpenFault) (reader : Output) (before : Option (List ℕ)) (had : Bool) → IsUnopened role.begin role.faults role.me bytes why → IsFailure shown why
-    → Happens shown role bytes zs None (Err (Open why)) reader (output before before had had)
-not_opened shown role bytes zs why reader before had unopened failure = (unopened, failure, Appends-nil before, refl)

@@ -114,8 +114,15 @@ fn tell_cause<F: Sink>(cause: Cause, sink: &mut F) -> Result<(), WriteFailed>
 fn tell_system<F: Sink>(number: u32, sink: &mut F) -> Result<(), WriteFailed>
     ensures { Puts (F.held sink.old) (F.held sink.new) (F.has_failed sink.old) (F.has_failed sink.new) result (codes "system error " ++ decimal number) }
 {
-    let mut digits = Buffer::new();
     sink.put(b"system error ")?;
+    tell_digits(number, sink)
+}
+
+/// Writes a number.
+fn tell_digits<F: Sink>(number: u32, sink: &mut F) -> Result<(), WriteFailed>
+    ensures { Puts (F.held sink.old) (F.held sink.new) (F.has_failed sink.old) (F.has_failed sink.new) result (decimal number) }
+{
+    let mut digits = Buffer::new();
     sink.put(digits.format(number).as_bytes())
 }
 

@@ -1,5 +1,7 @@
-use Rattle.std.proofs.Common.{None}
-use Rattle.ep_server.proofs.Serving.{concludes_after, has_served, not_opened}
+use Rattle.std.proofs.Common.{None, Err, refl}
+use Rattle.std.proofs.KnownBytes.{Appends-nil}
+use Rattle.ep_server.proofs.Serving.{concludes_after, has_served}
+use Rattle.ep_server.specs.declared.fault.Fault.TheVariants.{Open}
 use Rattle.ep_server.proofs.program.serve_log.Goals as goal
 
 pub returns-in-Ok : goal.returns-in-Ok
@@ -9,14 +11,14 @@ returns-in-Ok g c = λ bytes zs was left.
     record {
       cut = c.in-Ok.node.cut;
       outcome = c.served-outcome.result;
-      happens = has_served _ _ _ bytes zs written.0 _ _ _ _ ok.1 ok.2 (ok.3 bytes was) written.1 written.2 (c.served-outcome.ensures zs left);
+      happens = has_served _ _ c.in-Ok.node bytes zs written.0 _ _ _ _ ok.1 ok.2 (ok.3 bytes was) written.1 written.2 (c.served-outcome.ensures zs left);
       concluded = concludes_after _ _ _ _ _ _ _ _ _ _ _ c.cut.ensures c.tell_first.ensures c.concluded.ensures.for_good c.concluded.ensures.concluded;
     }
 
 pub returns-in-Err : goal.returns-in-Err
 returns-in-Err g c = λ bytes zs was left. record {
   cut = None;
-  outcome = _;
-  happens = not_opened _ _ bytes zs _ _ _ _ (c.in-Err.ensures.err.0 bytes was) c.in-Err.ensures.err.1;
+  outcome = Err (Open c.in-Err.fault);
+  happens = (c.in-Err.ensures.err.0 bytes was, c.in-Err.ensures.err.1, Appends-nil _, refl);
   concluded = c.concluded-in-Err.ensures.concluded;
 }
