@@ -173,7 +173,7 @@ def chosen(room):
     yield "unproved, a trace", room.run("--quiet replay --emit trace", FOUR), (2, "", "script refused at line 1\n")
     yield "unproved, a file as a word", room.run("replay put.script"), (2, "", f"{REFUSED}unexpected argument 'put.script' found\n\n  tip: epaxos reads standard input: epaxos replay < put.script\n\nUsage: epaxos replay [OPTIONS]{MORE}")
     yield "unproved, an option's value", room.run("--quiet replay --emit trace --emit trace", SCRIPT)[0], 2
-    yield "unproved, a node", room.run("--quiet node --replicas 3 --replica 0 --log it.log"), (0, "", "")
+    yield "unproved, a node", room.run("--quiet node --replicas 3 --replica 0 --log it.log --new"), (0, "", "")
     room.edit("crates/ep_base/src/lib.rt")
     yield "unproved, a source is newer", room.run("replay", SCRIPT), (0, REPORT, STALE)
     yield "unproved, a source is newer, --quiet", room.run("--quiet replay", SCRIPT), (0, REPORT, STALE)
