@@ -1,6 +1,7 @@
 //! Pages.
 
 ghost use Rattle.std.specs.Prelude.{◌≡◌, ◌++◌, IfOk, OnOk};
+ghost use Rattle.ep_json.specs.Strings.{IsString};
 ghost use Rattle.ep_page.specs.Pages.{page_text, IsPage};
 
 use crate::parts::{HEAD, TAIL};
@@ -13,7 +14,8 @@ use std::alloc::{AllocError, Global};
 // Appends the page with these words.
 #[tactic(auto, unfolding(crate::specs::Pages::page_text))]
 fn push_page(text: &mut Vec<u8>, shown: &[u8]) -> Result<(), AllocError>
-    ensures { OnOk result (text.new.items ≡ text.old.items ++ page_text shown.now) }
+    ensures exact { OnOk result (text.new.items ≡ text.old.items ++ page_text shown.now) }
+    ensures string { OnOk result (IsString shown.now) }
 {
     text.extend_from_slice(HEAD)?;
     push_string(text, shown)?;

@@ -169,12 +169,12 @@ fn graph_by(alloc: Global, options: &ArgMatches<'_>) -> Result<Asked, Declined> 
 fn traced_by(alloc: Global, options: &ArgMatches<'_>) -> Result<Asked, Declined> {
     match options.get_str("emit") {
         Some("trace") => Ok(Asked::Trace),
-        Some(word) if word != "report" && word != "bundle" => Err(Declined::Words(format!(in alloc;
-            "error: invalid value {word:?} for '--emit <WHAT>'\n  [possible values: report, bundle, trace]\n\nFor more information, try '--help'.\n"
-        )?)),
-        _ => Err(Declined::Words(String::from_str(
+        None | Some("report") | Some("bundle") => Err(Declined::Words(String::from_str(
             alloc,
             "error: of a replay, this program prints a trace alone\n\nFor more information, try '--help'.\n",
+        )?)),
+        Some(word) => Err(Declined::Words(format!(in alloc;
+            "error: invalid value {word:?} for '--emit <WHAT>'\n  [possible values: report, bundle, trace]\n\nFor more information, try '--help'.\n"
         )?)),
     }
 }

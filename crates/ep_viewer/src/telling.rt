@@ -67,7 +67,9 @@ fn tell_too_many<F: Sink>(count: usize, sink: &mut F) -> Result<(), WriteFailed>
     let mut digits = Buffer::new();
     sink.put(b"too many to draw: ")?;
     sink.put(digits.format(count).as_bytes())?;
-    sink.put(b", and 2000 at most; --from, --to, --instance and --replica keep a part of a diagram, and --page shows all\n")
+    sink.put(
+        b", and 2000 at most; --from, --to, --instance and --replica keep a part of a diagram, and --page shows all\n",
+    )
 }
 
 /// Writes a name and the number after it.
