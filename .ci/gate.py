@@ -33,7 +33,7 @@ PROGRAMS = {PROGRAM: "", f"{PROGRAM}.by-rattle": " (built by Rattle's own compil
 # the most runs that one test gets so
 MOST = "500"
 # what the names of tests have that are run with each allocation refused, or MOST of them
-TESTS = ("played_on",)
+TESTS = ("played_on", "a_held_frame_has_its_place")
 # scripts that are played, made into a bundle, and audited so
 SCRIPTS = ("examples/one_put.script", "examples/crossing_puts.script", "examples/swap.script", ".ci/scripts/seven.script")
 # what the names of rows begin with whose last run is made again so
