@@ -11,24 +11,31 @@ use Rattle.ep_view.specs.Lines.{words_at, taken_text, done_text}
 use Rattle.ep_words.specs.Words.{event_text, origin_text}
 use Rattle.ep_json.specs.Strings.{string_text}
 
+-- the process of a replica, and its one thread
+unfoldable pub pid_text : ℕ → List ℕ
+pid_text r = codes ",\"tid\":0,\"pid\":" ++ decimal r
+
+unfoldable pub time_text : ℕ → List ℕ
+time_text time = codes ",\"ts\":" ++ decimal time
+
 -- an event that begins so, of this replica's process, at this time
-abbrev pub begun : List ℕ → ℕ → ℕ → List ℕ
-begun start r time = codes ",\n{" ++ start ++ codes ",\"tid\":0,\"pid\":" ++ decimal r ++ codes ",\"ts\":" ++ decimal time
+unfoldable pub begun : List ℕ → ℕ → ℕ → List ℕ
+begun start r time = codes ",\n{" ++ start ++ pid_text r ++ time_text time
 
 -- its name
-abbrev pub named : List ℕ → List ℕ
+unfoldable pub named : List ℕ → List ℕ
 named words = codes ",\"name\":" ++ string_text words
 
 -- Slices.
 
-abbrev pub slice_head : ℕ → Entry → List ℕ
+unfoldable pub slice_head : ℕ → Entry → List ℕ
 slice_head r e = begun (codes "\"ph\":\"X\",\"cat\":\"entry\",\"dur\":1") r e.stamp ++ named (event_text e.event)
 
 -- what happened in an entry: its event, the instance that a proposal takes, and what is executed
 abbrev pub happened_text : Entry → List ℕ
 happened_text e = taken_text e.event e.frames ++ done_text e.done
 
-abbrev pub slice_words : Entry → List ℕ
+unfoldable pub slice_words : Entry → List ℕ
 slice_words e = codes ",\"args\":{\"entry\":" ++ decimal e.number ++ codes ",\"words\":" ++ string_text (happened_text e) ++ codes "}}"
 
 -- an entry of replica r: its event, and in words what happened in it
@@ -38,15 +45,15 @@ slice_text r e = slice_head r e ++ slice_words e
 -- Arrows.
 
 -- by which entry of which replica which frame is handled
-abbrev pub arrow_id : ℕ → Entry → List ℕ → List ℕ
+unfoldable pub arrow_id : ℕ → Entry → List ℕ → List ℕ
 arrow_id r e b = codes ",\"id\":\"" ++ origin_text b ++ codes " by " ++ decimal r ++ codes ":" ++ decimal e.number ++ codes "\"}"
 
 -- where the frame was sent
-abbrev pub leaves_text : ℕ → Entry → List ℕ → List ℕ
+unfoldable pub leaves_text : ℕ → Entry → List ℕ → List ℕ
 leaves_text r e b = begun (codes "\"ph\":\"s\",\"cat\":\"frame\"") (sender_at b) (origin_at b).stamp ++ named (words_at b) ++ arrow_id r e b
 
 -- where it is handled
-abbrev pub enters_text : ℕ → Entry → List ℕ → List ℕ
+unfoldable pub enters_text : ℕ → Entry → List ℕ → List ℕ
 enters_text r e b = begun (codes "\"ph\":\"f\",\"bp\":\"e\",\"cat\":\"frame\"") r e.stamp ++ named (words_at b) ++ arrow_id r e b
 
 -- the arrow of the frame that an entry handles
@@ -59,7 +66,7 @@ arrow_of r e (Execute i) = []
 
 -- Instants.
 
-abbrev pub instant_text : ℕ → Entry → List ℕ → List ℕ
+unfoldable pub instant_text : ℕ → Entry → List ℕ → List ℕ
 instant_text r e words = begun (codes "\"ph\":\"i\",\"s\":\"t\",\"cat\":\"instant\"") r e.stamp ++ named words ++ codes "}"
 
 -- the frame's message is a Commit
@@ -84,7 +91,7 @@ commit_sent r e [] = []
 commit_sent r e (b ∷ bs) = commit_of r e b
 
 -- the words of a frame that no entry handles
-abbrev pub lost_words : List ℕ → List ℕ
+unfoldable pub lost_words : List ℕ → List ℕ
 lost_words b = codes "never handled: to " ++ decimal (origin_at b).to ++ codes ": " ++ words_at b
 
 -- the frames that are sent and that no entry handles
@@ -101,6 +108,16 @@ entry_events handled r e = slice_text r e ++ arrow_of r e e.event ++ instants_te
 
 -- Processes.
 
+unfoldable pub process_start : ℕ → List ℕ
+process_start r = codes ",\n{\"ph\":\"M\",\"name\":\"process_name\",\"pid\":" ++ decimal r
+
+unfoldable pub process_name : ℕ → List ℕ
+process_name r = codes ",\"tid\":0,\"args\":{\"name\":\"replica " ++ decimal r ++ codes "\"}}"
+
 -- the process of a replica
-abbrev pub process_text : ℕ → List ℕ
-process_text r = codes ",\n{\"ph\":\"M\",\"name\":\"process_name\",\"pid\":" ++ decimal r ++ codes ",\"tid\":0,\"args\":{\"name\":\"replica " ++ decimal r ++ codes "\"}}"
+unfoldable pub process_text : ℕ → List ℕ
+process_text r = process_start r ++ process_name r
+
+-- the first event, which says that the process of replica 0 stands first
+unfoldable pub first_event : List ℕ
+first_event = codes "{\"traceEvents\":[\n{\"ph\":\"M\",\"name\":\"process_sort_index\",\"pid\":0,\"tid\":0,\"args\":{\"sort_index\":0}}"

@@ -8,7 +8,7 @@ use Rattle.ep_view.specs.Lookups.{entry_at}
 use Rattle.ep_view.specs.Shown.{IsInOrder}
 use Rattle.ep_words.specs.Kept.{keeps}
 use Rattle.ep_words.specs.declared.part.Part.{Part}
-use Rattle.ep_events.specs.Events.{entry_events, process_text}
+use Rattle.ep_events.specs.Events.{entry_events, process_text, first_event}
 
 -- the processes of the replicas below n
 abbrev pub processes : ℕ → List ℕ
@@ -26,9 +26,8 @@ module _ (handled : List ℕ → Bool) (part : Part) where
   events_at c [] = []
   events_at c (p ∷ ps) = events_of p.0 (entry_at (entries_at c p.0) p.1) ++ events_at c ps
 
--- the first event, which says that the process of replica 0 stands first, and the processes of n replicas
-abbrev pub opening : ℕ → List ℕ
-opening n = codes "{\"traceEvents\":[\n{\"ph\":\"M\",\"name\":\"process_sort_index\",\"pid\":0,\"tid\":0,\"args\":{\"sort_index\":0}}" ++ processes n
+unfoldable pub opening : ℕ → List ℕ
+opening n = first_event ++ processes n
 
 -- the processes of n replicas, and these events
 abbrev pub file_text : ℕ → List ℕ → List ℕ

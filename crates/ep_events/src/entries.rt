@@ -33,6 +33,7 @@ fn happened_words(alloc: Global, entry: &Entry) -> Result<Vec<u8>, AllocError>
     Ok(words)
 }
 
+#[tactic(auto, unfolding(crate::specs::Events::slice_head))]
 fn push_slice_head(text: &mut Vec<u8>, replica: ReplicaId, entry: &Entry) -> Result<(), AllocError>
     ensures { OnOk result (text.new.items ≡ text.old.items ++ slice_head replica entry.now) }
 {
@@ -46,6 +47,7 @@ fn push_slice_head(text: &mut Vec<u8>, replica: ReplicaId, entry: &Entry) -> Res
     push_named(text, &words)
 }
 
+#[tactic(auto, unfolding(crate::specs::Events::slice_words))]
 fn push_slice_words(text: &mut Vec<u8>, entry: &Entry) -> Result<(), AllocError>
     ensures { OnOk result (text.new.items ≡ text.old.items ++ slice_words entry.now) }
 {
@@ -65,6 +67,7 @@ fn push_slice(text: &mut Vec<u8>, replica: ReplicaId, entry: &Entry) -> Result<(
 }
 
 // Appends where the frame that the entry handles was sent.
+#[tactic(auto, unfolding(crate::specs::Events::leaves_text))]
 fn push_leaves(
     text: &mut Vec<u8>,
     replica: ReplicaId,
@@ -85,6 +88,7 @@ fn push_leaves(
 }
 
 // Appends where it is handled.
+#[tactic(auto, unfolding(crate::specs::Events::enters_text))]
 fn push_enters(
     text: &mut Vec<u8>,
     replica: ReplicaId,
@@ -176,6 +180,7 @@ fn push_commit_sent(
     push_commit(text, replica, entry, first)
 }
 
+#[tactic(auto, unfolding(crate::specs::Events::lost_words))]
 fn words_of_lost(alloc: Global, frame: &Frame) -> Result<Vec<u8>, AllocError>
     ensures { IfOk result (λ words. words.items ≡ lost_words frame.now) }
 {

@@ -1,7 +1,7 @@
 //! The parts of trace events.
 
 ghost use Rattle.std.specs.Prelude.{◌≡◌, ◌++◌, OnOk};
-ghost use Rattle.ep_events.specs.Events.{begun, named, instant_text, arrow_id, process_text};
+ghost use Rattle.ep_events.specs.Events.{pid_text, time_text, begun, named, instant_text, arrow_id, process_start, process_name, process_text, first_event};
 
 use ep_base::ReplicaId;
 use ep_frame::Frame;
@@ -11,7 +11,24 @@ use ep_report::push_number;
 use ep_words::push_origin;
 use std::alloc::AllocError;
 
+#[tactic(auto, unfolding(crate::specs::Events::pid_text))]
+fn push_pid(text: &mut Vec<u8>, replica: ReplicaId) -> Result<(), AllocError>
+    ensures { OnOk result (text.new.items ≡ text.old.items ++ pid_text replica) }
+{
+    text.extend_from_slice(b",\"tid\":0,\"pid\":")?;
+    push_number(text, u64::from(replica.index()))
+}
+
+#[tactic(auto, unfolding(crate::specs::Events::time_text))]
+fn push_time(text: &mut Vec<u8>, time: u64) -> Result<(), AllocError>
+    ensures { OnOk result (text.new.items ≡ text.old.items ++ time_text time) }
+{
+    text.extend_from_slice(b",\"ts\":")?;
+    push_number(text, time)
+}
+
 /// Appends the beginning of an event of this replica's process, at this time.
+#[tactic(auto, unfolding(crate::specs::Events::begun))]
 pub(crate) fn push_begun(
     text: &mut Vec<u8>,
     start: &[u8],
@@ -22,13 +39,12 @@ pub(crate) fn push_begun(
 {
     text.extend_from_slice(b",\n{")?;
     text.extend_from_slice(start)?;
-    text.extend_from_slice(b",\"tid\":0,\"pid\":")?;
-    push_number(text, u64::from(replica.index()))?;
-    text.extend_from_slice(b",\"ts\":")?;
-    push_number(text, time)
+    push_pid(text, replica)?;
+    push_time(text, time)
 }
 
 /// Appends the name of an event.
+#[tactic(auto, unfolding(crate::specs::Events::named))]
 pub(crate) fn push_named(text: &mut Vec<u8>, words: &[u8]) -> Result<(), AllocError>
     ensures { OnOk result (text.new.items ≡ text.old.items ++ named words.now) }
 {
@@ -37,6 +53,7 @@ pub(crate) fn push_named(text: &mut Vec<u8>, words: &[u8]) -> Result<(), AllocEr
 }
 
 /// Appends an instant, where something is so.
+#[tactic(auto, unfolding(crate::specs::Events::instant_text))]
 pub(crate) fn push_instant(
     text: &mut Vec<u8>,
     replica: ReplicaId,
@@ -56,6 +73,7 @@ pub(crate) fn push_instant(
 }
 
 /// Appends which arrow it is: of which frame, to which entry.
+#[tactic(auto, unfolding(crate::specs::Events::arrow_id))]
 pub(crate) fn push_arrow_id(
     text: &mut Vec<u8>,
     replica: ReplicaId,
@@ -73,13 +91,38 @@ pub(crate) fn push_arrow_id(
     text.extend_from_slice(b"\"}")
 }
 
-/// Appends the process of the replica of this number.
-pub(crate) fn push_process(text: &mut Vec<u8>, replica: u8) -> Result<(), AllocError>
-    ensures { OnOk result (text.new.items ≡ text.old.items ++ process_text replica) }
+#[tactic(auto, unfolding(crate::specs::Events::process_start))]
+fn push_process_start(text: &mut Vec<u8>, replica: u8) -> Result<(), AllocError>
+    ensures { OnOk result (text.new.items ≡ text.old.items ++ process_start replica) }
 {
     text.extend_from_slice(b",\n{\"ph\":\"M\",\"name\":\"process_name\",\"pid\":")?;
-    push_number(text, u64::from(replica))?;
+    push_number(text, u64::from(replica))
+}
+
+#[tactic(auto, unfolding(crate::specs::Events::process_name))]
+fn push_process_name(text: &mut Vec<u8>, replica: u8) -> Result<(), AllocError>
+    ensures { OnOk result (text.new.items ≡ text.old.items ++ process_name replica) }
+{
     text.extend_from_slice(b",\"tid\":0,\"args\":{\"name\":\"replica ")?;
     push_number(text, u64::from(replica))?;
     text.extend_from_slice(b"\"}}")
+}
+
+/// Appends the process of the replica of this number.
+#[tactic(auto, unfolding(crate::specs::Events::process_text))]
+pub(crate) fn push_process(text: &mut Vec<u8>, replica: u8) -> Result<(), AllocError>
+    ensures { OnOk result (text.new.items ≡ text.old.items ++ process_text replica) }
+{
+    push_process_start(text, replica)?;
+    push_process_name(text, replica)
+}
+
+/// Appends the first event.
+#[tactic(auto, unfolding(crate::specs::Events::first_event))]
+pub(crate) fn push_first(text: &mut Vec<u8>) -> Result<(), AllocError>
+    ensures { OnOk result (text.new.items ≡ text.old.items ++ first_event) }
+{
+    text.extend_from_slice(
+        b"{\"traceEvents\":[\n{\"ph\":\"M\",\"name\":\"process_sort_index\",\"pid\":0,\"tid\":0,\"args\":{\"sort_index\":0}}",
+    )
 }

@@ -1,13 +1,14 @@
 //! Files of trace events.
 
 ghost use Rattle.std.specs.Prelude.{◌≡◌, ◌++◌, Some, IfOk, OnOk};
+ghost use Rattle.ep_base.specs.Quorums.{size};
 ghost use Rattle.ep_journal.specs.Entries.{AreJournals, entries_at};
 ghost use Rattle.ep_view.specs.Handled.{is_in};
 ghost use Rattle.ep_view.specs.Lookups.{entry_at};
-ghost use Rattle.ep_events.specs.Files.{processes, events_of, events_at, opening, IsTraceFile};
+ghost use Rattle.ep_events.specs.Files.{processes, events_of, events_at, opening, file_text, IsTraceFile};
 
 use crate::entries::push_entry_events;
-use crate::events::push_process;
+use crate::events::{push_first, push_process};
 use ep_base::ReplicaId;
 use ep_journal::{Entry, Journals};
 use ep_view::{Handled, entry_at, schedule};
@@ -75,13 +76,28 @@ fn push_processes(text: &mut Vec<u8>, count: u8) -> Result<(), AllocError>
     Ok(())
 }
 
+#[tactic(auto, unfolding(crate::specs::Files::opening))]
 fn push_opening(text: &mut Vec<u8>, count: u8) -> Result<(), AllocError>
     ensures { OnOk result (text.new.items ≡ text.old.items ++ opening count) }
 {
-    text.extend_from_slice(
-        b"{\"traceEvents\":[\n{\"ph\":\"M\",\"name\":\"process_sort_index\",\"pid\":0,\"tid\":0,\"args\":{\"sort_index\":0}}",
-    )?;
+    push_first(text)?;
     push_processes(text, count)
+}
+
+// Appends the file: the processes, and the events of the entries at these places.
+fn push_file(
+    text: &mut Vec<u8>,
+    journals: &Journals,
+    handled: &Handled,
+    part: &Part,
+    places: &[(ReplicaId, u32)],
+) -> Result<(), AllocError>
+    requires { AreJournals journals.now }
+    ensures { OnOk result (text.new.items ≡ text.old.items ++ file_text (size journals.now.faults) (events_at (is_in handled.now) part.now journals.now places.now)) }
+{
+    push_opening(text, journals.size().count())?;
+    push_entries(text, journals, handled, part, places)?;
+    text.extend_from_slice(b"\n]}\n")
 }
 
 /// The entries of the journals that the part keeps as trace events: a file of JSON in the Trace Event Format, which Perfetto and
@@ -96,8 +112,6 @@ pub fn trace_events(alloc: Global, journals: &Journals, part: &Part) -> Result<V
     let handled = Handled::of(alloc, journals)?;
     let places = schedule(alloc, journals)?;
     let mut text = Vec::new(alloc);
-    push_opening(&mut text, journals.size().count())?;
-    push_entries(&mut text, journals, &handled, part, &places)?;
-    text.extend_from_slice(b"\n]}\n")?;
+    push_file(&mut text, journals, &handled, part, &places)?;
     Ok(text)
 }
