@@ -1,37 +1,58 @@
 -- What is left of a source that keeps what it gave.
-use Rattle.std.proofs.Common.{◌≡◌, ℕ, ◌≤◌, Bool, List, [], ◌∷◌, ◌++◌, Option, Some, None, Result, length, take, drop, refl, sym, ap, subst, ◌∙◌, append_assoc, arith, ◌+◌, ◌-◌, zero, suc, take-append-drop, length-drop, take_all}
+use Rattle.std.proofs.Common.{◌≡◌, ℕ, ◌≤◌, Bool, List, [], ◌∷◌, ◌++◌, Option, Some, None, Result, length, take, drop, refl, sym, ap, subst, ◌∙◌, arith, ◌+◌, ◌-◌, zero, suc, take-append-drop, length-drop, take_all, append-nil, ◌<◌}
 use Rattle.std.proofs.lemmas.List.{length-take-le}
 use Rattle.std.proofs.Math.Seq.{take-append_seam}
-use Rattle.std.proofs.KnownBytes.{prepend_known-read, prepend_known-nil, Keeps-refl}
+use Rattle.std.proofs.KnownBytes.{prepend_known-nil}
 use Rattle.std.proofs.Math.ListN.{drop_of_length-le}
-use Rattle.std.specs.Io.KnownBytes.{Consumes, Keeps, prepend_known}
+use Rattle.std.specs.Prelude.{true, false, Ok, Err, IfOk, IfErr}
+use Rattle.std.specs.Io.KnownBytes.{Consumes, IsAtEnd, Keeps, prepend_known}
 use Rattle.ep_base.specs.Devices.{Pulls}
-use Rattle.ep_advice.specs.Kept.{Keeper, known_left, Gives}
+use Rattle.ep_advice.specs.Kept.{Keeper, known_left, followed, ends, Gives}
 
--- where all bytes that are kept were pulled, what is left is what the source has left
-pub none_ahead : {S : Type 0} (left : S → Option (List ℕ)) (k : Keeper S) → length k.bytes ≤ k.at → known_left left k ≡ left k.source
-none_ahead left k over = ap (λ (bs : List ℕ). prepend_known bs (left k.source)) (drop_of_length-le k.bytes over) ∙ prepend_known-nil (left k.source)
+-- nothing was given where there was room, and nothing was left
+at_end : (known : Option (List ℕ)) (bs given : List ℕ) → IsAtEnd known → given ≡ [] → Consumes (prepend_known bs known) (Some bs) given
+at_end None bs given e none = tt
+at_end (Some x) bs given e none = ap (λ (l : List ℕ). bs ++ l) e ∙ append-nil bs ∙ ap (λ (l : List ℕ). l ++ bs) (sym none)
 
-pub gave : {S : Type 0} (left : S → Option (List ℕ)) (old new : Keeper S) (given : List ℕ) → Gives old new given → Consumes (known_left left old) (known_left left new) given
-gave left old new given g =
-    let c = prepend_known-read (known_left left old) (left old.source) (drop old.at old.bytes) (drop new.at new.bytes) given ⊥ (Keeps-refl (known_left left old)) g.front (λ p. absurd p) in
-    subst (λ s. Consumes (known_left left old) (prepend_known (drop new.at new.bytes) (left s)) given) (sym g.source) c.0
+ended_none : (count room : ℕ) → ends count room ≡ true → count ≡ 0
+ended_none count room e = grind arith
 
--- these bytes of the source were added to those that are kept
-pub looked :
-    (a b : Option (List ℕ)) (bs given : List ℕ) (at : ℕ) → Consumes a b given → drop at (bs ++ given) ≡ drop at bs ++ given →
-    Keeps (prepend_known (drop at bs) a) (prepend_known (drop at (bs ++ given)) b)
-looked None b bs given at c e = tt
-looked (Some x) None bs given at c e = absurd c
-looked (Some x) (Some y) bs given at c e = ap (λ (l : List ℕ). l ++ y) e ∙ append_assoc (drop at bs) given y ∙ ap (λ (l : List ℕ). drop at bs ++ l) (sym c)
+ended_room : (count room : ℕ) → ends count room ≡ true → 0 < room
+ended_room count room e = grind arith
+
+-- the source gave n bytes, where all bytes that are kept were pulled
+gave_on :
+    (over : Bool) (a b : Option (List ℕ)) (buf : List ℕ) (n : ℕ) → over ≡ ends n (length buf) → Consumes a b (take n buf) → (n ≡ 0 → 0 < length buf → IsAtEnd a) →
+    Consumes (prepend_known [] a) (followed over [] b) (take n buf)
+gave_on false a b buf n is c end =
+    subst (λ (k : Option (List ℕ)). Consumes k (prepend_known [] b) (take n buf)) (sym (prepend_known-nil a))
+    (subst (λ (k : Option (List ℕ)). Consumes a k (take n buf)) (sym (prepend_known-nil b)) c)
+gave_on true a b buf n is c end =
+    let none : n ≡ 0 = ended_none n (length buf) (sym is) in
+    at_end a [] (take n buf) (end none (ended_room n (length buf) (sym is))) (ap (λ (k : ℕ). take k buf) none)
+
+kept_on : (over : Bool) (a b : Option (List ℕ)) → over ≡ false → Keeps a b → Keeps (prepend_known [] a) (followed over [] b)
+kept_on true a b is k = absurd (let e : true ≡ false = is in (cc))
+kept_on false a b is k =
+    subst (λ (l : Option (List ℕ)). Keeps l (prepend_known [] b)) (sym (prepend_known-nil a)) (subst (λ (l : Option (List ℕ)). Keeps a l) (sym (prepend_known-nil b)) k)
+
+pulled_of :
+    {E : Type 0} (over : Bool) (a b : Option (List ℕ)) (had has : Bool) (r : Result ℕ E) (buf : List ℕ) → IfOk r (λ n. over ≡ ends n (length buf)) → IfErr r (λ _. over ≡ false) →
+    Pulls a b had has r buf → Pulls (prepend_known [] a) (followed over [] b) had has r buf
+pulled_of over a b had has (Err e) buf ok err p = (kept_on over a b err p.0, p.1)
+pulled_of over a b had has (Ok n) buf ok err p =
+    (gave_on over a b buf n ok p.0 p.1, λ none room. subst (λ (k : Option (List ℕ)). IsAtEnd k) (sym (prepend_known-nil a)) (p.1 none room), p.2)
 
 -- more was pulled from the source, where all bytes that are kept were pulled before and after
 pub pulled :
     {S E : Type 0} (left : S → Option (List ℕ)) (old new : Keeper S) (had has : Bool) (r : Result ℕ E) (buf : List ℕ) → length old.bytes ≤ old.at → length new.bytes ≤ new.at →
+    old.is_over ≡ false → IfOk r (λ n. new.is_over ≡ ends n (length buf)) → IfErr r (λ _. new.is_over ≡ false) →
     Pulls (left old.source) (left new.source) had has r buf → Pulls (known_left left old) (known_left left new) had has r buf
-pulled left old new had has r buf over after p =
-    subst (λ (a : Option (List ℕ)). Pulls a (known_left left new) had has r buf) (sym (none_ahead left old over))
-    (subst (λ (b : Option (List ℕ)). Pulls (left old.source) b had has r buf) (sym (none_ahead left new after)) p)
+pulled left old new had has r buf all after still ok err p =
+    subst (λ (o : Bool). Pulls (followed o (drop old.at old.bytes) (left old.source)) (known_left left new) had has r buf) (sym still)
+    (subst (λ (bs : List ℕ). Pulls (prepend_known bs (left old.source)) (known_left left new) had has r buf) (sym (drop_of_length-le old.bytes all))
+    (subst (λ (bs : List ℕ). Pulls (prepend_known [] (left old.source)) (followed new.is_over bs (left new.source)) had has r buf) (sym (drop_of_length-le new.bytes after))
+    (pulled_of new.is_over (left old.source) (left new.source) had has r buf ok err p)))
 
 drop_twice : (at n m : ℕ) (bs : List ℕ) → m ≡ at + n → drop n (drop at bs) ≡ drop m bs
 drop_twice zero n m bs e = let same : m ≡ n = omega (arith, e) in ap (λ (k : ℕ). drop k bs) (sym same)
@@ -48,14 +69,14 @@ front_of xs copied buf n fits is =
 
 -- what is given, where the bytes stand as they were copied
 pub gives_of :
-    {S : Type 0} (old : Keeper S) (source : S) (bs ds copied buf : List ℕ) (at n : ℕ) → record { source = source; bytes = bs; at = at } ≡ old → ds ≡ bs →
+    {S : Type 0} (old : Keeper S) (source : S) (over : Bool) (bs ds copied buf : List ℕ) (at n : ℕ) → record { source = source; bytes = bs; at = at; is_over = over } ≡ old → ds ≡ bs →
     n ≤ length (take (length ds - at) (drop at ds)) → copied ≡ take n (take (length ds - at) (drop at ds)) →
-    Gives old (record { source = source; bytes = bs; at = at + n }) (take n (copied ++ drop n buf))
-gives_of {S} old source bs ds copied buf at n view same fits is =
+    Gives old (record { source = source; bytes = bs; at = at + n; is_over = over }) (take n (copied ++ drop n buf))
+gives_of {S} old source over bs ds copied buf at n view same fits is =
     let short : length (drop at ds) ≤ length ds - at = subst (λ (k : ℕ). k ≤ length ds - at) (sym (length-drop at ds)) (omega arith) in
     let all : take (length ds - at) (drop at ds) ≡ drop at bs = take_all (length ds - at) (drop at ds) short ∙ ap (λ (l : List ℕ). drop at l) same in
     let fits' : n ≤ length (drop at bs) = subst (λ (l : List ℕ). n ≤ length l) all fits in
     let is' : copied ≡ take n (drop at bs) = is ∙ ap (λ (l : List ℕ). take n l) all in
     let front : drop at bs ≡ take n (copied ++ drop n buf) ++ drop (at + n) bs =
     front_of (drop at bs) copied buf n fits' is' ∙ ap (λ (l : List ℕ). take n (copied ++ drop n buf) ++ l) (drop_twice at n (at + n) bs refl) in
-    subst (λ (o : Keeper S). Gives o (record { source = source; bytes = bs; at = at + n }) (take n (copied ++ drop n buf))) view (record { source = refl; front = front })
+    subst (λ (o : Keeper S). Gives o (record { source = source; bytes = bs; at = at + n; is_over = over }) (take n (copied ++ drop n buf))) view (record { source = refl; over = refl; front = front })
