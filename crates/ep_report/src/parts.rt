@@ -1,6 +1,6 @@
 //! The parts of which lines are made.
 
-ghost use Rattle.std.specs.Prelude.{◌≡◌, ◌++◌, OnOk, decimal};
+ghost use Rattle.std.specs.Prelude.{◌≡◌, ◌<◌, ◌≤◌, ◌+◌, ◌++◌, OnOk, decimal};
 ghost use Rattle.ep_report.specs.Parts.{instance_text, deps_text, more_deps, command_text, reply_text, answer_text};
 ghost use Rattle.ep_script.specs.Word.{word_of};
 
@@ -17,8 +17,47 @@ pub fn push_number(text: &mut Vec<u8>, number: u64) -> Result<(), AllocError>
         text.push(b'0' + number as u8)?;
         return Ok(());
     }
+    if number < 100 {
+        return push_two(text, number);
+    }
+    if number < 1000 {
+        return push_three(text, number);
+    }
     let mut buffer = Buffer::new();
     text.extend_from_slice(buffer.format(number).as_bytes())
+}
+
+// The digit of a number below ten.
+fn digit(number: u64) -> u8
+    requires { number < 10 }
+    ensures { result ≡ 48 + number }
+{
+    b'0' + number as u8
+}
+
+// Appends a number of two digits.
+fn push_two(text: &mut Vec<u8>, number: u64) -> Result<(), AllocError>
+    requires least { 10 ≤ number }
+    requires most { number < 100 }
+    ensures { OnOk result (text.new.items ≡ text.old.items ++ decimal number) }
+{
+    let tens = digit(number / 10);
+    let ones = digit(number % 10);
+    text.extend_from_slice(&[tens, ones])?;
+    Ok(())
+}
+
+// Appends a number of three digits.
+fn push_three(text: &mut Vec<u8>, number: u64) -> Result<(), AllocError>
+    requires least { 100 ≤ number }
+    requires most { number < 1000 }
+    ensures { OnOk result (text.new.items ≡ text.old.items ++ decimal number) }
+{
+    let hundreds = digit(number / 10 / 10);
+    let tens = digit(number / 10 % 10);
+    let ones = digit(number % 10);
+    text.extend_from_slice(&[hundreds, tens, ones])?;
+    Ok(())
 }
 
 /// Appends an instance.

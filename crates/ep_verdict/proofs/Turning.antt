@@ -1,5 +1,5 @@
 -- The next entry of journals is the first one of their schedule.
-use Rattle.std.proofs.Common.{◌≡◌, ◌≢◌, ℕ, zero, suc, ◌+◌, ◌<◌, ◌≤◌, Bool, true, false, cond, ltb, ◌⊎◌, inl, inr, Option, Some, None, List, [], ◌∷◌, ◌++◌, length, drop, set, get_or, replicate, append-nil, append_assoc, get_or-set_same, get_or-set_other, refl, sym, ap, subst, ◌∙◌, arith}
+use Rattle.std.proofs.Common.{◌≡◌, ◌≢◌, ℕ, zero, suc, ◌+◌, ◌<◌, ◌≤◌, Bool, true, false, cond, ltb, ◌⊎◌, inl, inr, Option, Some, None, List, [], ◌∷◌, ◌++◌, length, length-append, length-set, drop, set, get_or, replicate, append-nil, append_assoc, get_or-set_same, get_or-set_other, refl, sym, ap, subst, ◌∙◌, arith}
 use Rattle.std.proofs.lemmas.Bool.{eq-eqb, ne_eqb, ltb-true, ltb-false, cases_eq, cases_lt}
 use Rattle.ep_rules.specs.Worlds.{In}
 use Rattle.std.proofs.lemmas.List.{get_or-replicate, length-replicate}
@@ -10,7 +10,7 @@ use Rattle.ep_rules.specs.Journals.{Entry, Journals, Scheduled, of, Precedes, Is
 use Rattle.ep_rules.proofs.Merged.{of_in}
 use Rattle.ep_journal.specs.Entries.{entries_of}
 use Rattle.ep_journal.specs.declared.entry.Entry.{Entry as Written}
-use Rattle.ep_verdict.specs.Turns.{first_turn, earlier, least_turn, rests}
+use Rattle.ep_verdict.specs.Turns.{first_turn, earlier, least_turn, least_of, rests, AreFirst}
 use Rattle.ep_verdict.specs.Verdicts.{places_of}
 use Rattle.ep_verdict.specs.declared.turn.Turn.{Turn}
 
@@ -286,3 +286,49 @@ zeros n = replicate n 0
 
 pub zero_there : (n q : ℕ) → get_or (zeros n) q 0 ≡ 0
 zero_there n q = elim (cases_lt q n) [ inl lt ↦ get_or-replicate n q 0 0 lt | inr ge ↦ get_or-eq_default (zeros n) 0 {n = q} (let l : length (zeros n) ≡ n = length-replicate n 0 in omega arith) ]
+
+-- The first entry of each journal.
+
+least_as : (n : ℕ) (journal : Journals) (turns : List (Option Turn)) → ((r : ℕ) → r < n → get_or turns r None ≡ first_turn r (journal r)) → least_of n turns ≡ least_turn n journal
+least_as zero journal turns h = refl
+least_as (suc n) journal turns h =
+    let before : least_of n turns ≡ least_turn n journal = least_as n journal turns (λ r lt. h r (omega arith)) in
+    let here : get_or turns n None ≡ first_turn n (journal n) = h n (omega arith) in
+    (λ t. earlier (before t) (here t))
+
+pub least_first : (n : ℕ) (journal : Journals) (turns : List (Option Turn)) → AreFirst n journal turns → least_of (length turns) turns ≡ least_turn n journal
+least_first n journal turns h = ap (λ k. least_of k turns) h.0 ∙ least_as n journal turns h.1
+
+got_before : (turns : List (Option Turn)) (turn : Option Turn) (r : ℕ) → r < length turns → get_or (turns ++ turn ∷ []) r None ≡ get_or turns r None
+got_before [] turn r lt = absurd (omega arith)
+got_before (x ∷ turns) turn zero lt = refl
+got_before (x ∷ turns) turn (suc r) lt = got_before turns turn r (omega arith)
+
+got_last : (turns : List (Option Turn)) (turn : Option Turn) → get_or (turns ++ turn ∷ []) (length turns) None ≡ turn
+got_last [] turn = refl
+got_last (x ∷ turns) turn = got_last turns turn
+
+pub first_more : (n : ℕ) (journal : Journals) (turns after : List (Option Turn)) (turn : Option Turn) → turn ≡ first_turn n (journal n) → after ≡ turns ++ turn ∷ [] → AreFirst n journal turns → AreFirst (n + 1) journal after
+first_more n journal turns after turn is grown h = subst (AreFirst (n + 1) journal) (sym grown) (
+  length-append turns (turn ∷ []) ∙ ap (λ k. k + 1) h.0,
+  λ r lt. elim (cases_eq r n) [
+    | inl same ↦ ap (λ k. get_or (turns ++ turn ∷ []) k None) (same ∙ sym h.0) ∙ got_last turns turn ∙ is ∙ (λ t. first_turn (sym same t) (journal (sym same t)))
+    | inr ne ↦ got_before turns turn r (let long : length turns ≡ n = h.0 in omega arith) ∙ h.1 r (omega arith)
+  ],
+)
+
+pub first_begins : (n : ℕ) (journal : Journals) (done : List ℕ) (turns : List (Option Turn)) → ((q : ℕ) → get_or done q 0 ≡ 0) → AreFirst n journal turns → AreFirst n (rests journal done) turns
+first_begins n journal done turns none h = (h.0, λ r lt. h.1 r lt ∙ ap (λ k. first_turn r (drop k (journal r))) (sym (none r)))
+
+pub first_next : (n : ℕ) (journal : Journals) (done : List ℕ) (turns : List (Option Turn)) (r number : ℕ) (turn : Option Turn) → length done ≡ n → r < n → turn ≡ first_turn r (drop number (journal r)) → AreFirst n (rests journal done) turns
+    → AreFirst n (rests journal (set done r number)) (set turns r turn)
+first_next n journal done turns r number turn long below is h = (
+  length-set turns r turn ∙ h.0,
+  λ q lt. elim (cases_eq q r) [
+    | inl same ↦ ap (λ k. get_or (set turns r turn) k None) same ∙ get_or-set_same turns r turn None (let k : length turns ≡ n = h.0 in omega arith)
+        ∙ is
+        ∙ ap (λ k. first_turn r (drop k (journal r))) (sym (get_or-set_same done r number 0 (omega arith)))
+        ∙ (λ t. first_turn (sym same t) (rests journal (set done r number) (sym same t)))
+    | inr ne ↦ get_or-set_other turns r q turn None ne ∙ h.1 q lt ∙ ap (λ k. first_turn q (drop k (journal q))) (sym (get_or-set_other done r q number 0 ne))
+  ],
+)

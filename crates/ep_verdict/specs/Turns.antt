@@ -1,5 +1,5 @@
 -- The next entries of journals, of which some are done.
-use Rattle.std.specs.Prelude.{ℕ, zero, suc, ltb, cond, drop, List, [], ◌∷◌, Option, Some, None, slice_index_or as get_or}
+use Rattle.std.specs.Prelude.{◌≡◌, ◌<◌, ℕ, zero, suc, length, ltb, cond, drop, List, [], ◌∷◌, Option, Some, None, slice_index_or as get_or}
 use Rattle.ep_rules.specs.Journals.{Entry, Journals}
 use Rattle.ep_verdict.specs.declared.turn.Turn.{Turn}
 
@@ -22,3 +22,12 @@ least_turn (suc n) journal = earlier (least_turn n journal) (first_turn n (journ
 -- what is left where r has done so many
 abbrev pub rests : Journals → List ℕ → Journals
 rests journal done r = drop (get_or done r 0) (journal r)
+
+-- the least of the first n of these
+abbrev pub least_of : ℕ → List (Option Turn) → Option Turn
+least_of zero turns = None
+least_of (suc n) turns = earlier (least_of n turns) (get_or turns n None)
+
+-- these are the first entries of n journals
+abbrev pub AreFirst : ℕ → Journals → List (Option Turn) → Type 0
+AreFirst n journal turns = (length turns ≡ n) × ((r : ℕ) → r < n → get_or turns r None ≡ first_turn r (journal r))

@@ -4,9 +4,10 @@ ghost use Rattle.std.specs.Prelude.{◌≡◌, List, IfOk, length, replicate};
 ghost use Rattle.ep_base.specs.Quorums.{size};
 ghost use Rattle.ep_rules.specs.Journals.{Scheduled, IsSchedule};
 ghost use Rattle.ep_journal.specs.Entries.{journals_of};
+ghost use Rattle.ep_verdict.specs.Turns.{AreFirst};
 ghost use Rattle.ep_verdict.specs.Verdicts.{places_of};
 
-use crate::turn::least;
+use crate::turn::{Turn, first, least};
 use ep_base::ReplicaId;
 use ep_journal::Journals;
 use std::alloc::{AllocError, Global};
@@ -23,16 +24,33 @@ fn none_done(alloc: Global, journals: &Journals) -> Result<Vec<usize>, AllocErro
     Ok(done)
 }
 
+/// The first entry of each replica's journal.
+fn first_of_each(alloc: Global, journals: &Journals) -> Result<Vec<Option<Turn>>, AllocError>
+    ensures { IfOk result (λ v. AreFirst (size journals.now.faults) (journals_of journals.now) v.items) }
+{
+    let count = journals.size().count();
+    let mut turns = Vec::with_capacity(alloc, usize::from(count))?;
+    for replica in 0..count {
+        let id = ReplicaId::new(replica).unwrap();
+        turns.push(first(journals, id, 0))?;
+    }
+    Ok(turns)
+}
+
 /// All entries of all journals, by stamp and replica: each as its replica with its number.
 pub fn schedule(alloc: Global, journals: &Journals) -> Result<Vec<(ReplicaId, u32)>, AllocError>
     ensures { IfOk result (λ v. (s : List Scheduled) → IsSchedule (journals_of journals.now) s → v.items ≡ places_of s) }
 {
     journals.are_local_runs();
     let mut done = none_done(alloc, journals)?;
+    let mut turns = first_of_each(alloc, journals)?;
     let mut order = Vec::new(alloc);
-    while let Some(turn) = least(journals, &done) {
+    while let Some(turn) = least(&turns) {
         order.push((turn.replica, turn.number))?;
-        done[usize::from(turn.replica.index())] = turn.number as usize;
+        let place = usize::from(turn.replica.index());
+        let number = turn.number as usize;
+        done[place] = number;
+        turns[place] = first(journals, turn.replica, number);
     }
     Ok(order)
 }

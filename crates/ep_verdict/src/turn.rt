@@ -1,9 +1,9 @@
 //! The next entries of journals.
 
-ghost use Rattle.std.specs.Prelude.{◌≡◌, ◌<◌, ◌≤◌, [], drop, length, suc};
+ghost use Rattle.std.specs.Prelude.{◌≡◌, ◌<◌, drop, length};
 ghost use Rattle.ep_base.specs.Quorums.{size};
 ghost use Rattle.ep_journal.specs.Entries.{journals_of};
-ghost use Rattle.ep_verdict.specs.Turns.{first_turn, earlier, least_turn, rests};
+ghost use Rattle.ep_verdict.specs.Turns.{first_turn, earlier, least_of};
 
 use ep_base::{ReplicaId, Stamp};
 use ep_journal::Journals;
@@ -17,7 +17,7 @@ pub(crate) struct Turn {
 }
 
 /// The first entry of the replica's journal after so many.
-fn first(journals: &Journals, replica: ReplicaId, done: usize) -> Option<Turn>
+pub(crate) fn first(journals: &Journals, replica: ReplicaId, done: usize) -> Option<Turn>
     requires { replica < size journals.now.faults }
     ensures { result ≡ first_turn replica (drop done (journals_of journals.now replica)) }
 {
@@ -45,15 +45,13 @@ fn earlier(best: Option<Turn>, turn: Option<Turn>) -> Option<Turn>
     }
 }
 
-/// The least, by stamp and replica, of the first entries after those that are done, of which each replica has so many.
-pub(crate) fn least(journals: &Journals, done: &[usize]) -> Option<Turn>
-    requires { length done.now ≡ size journals.now.faults }
-    ensures { result ≡ least_turn (size journals.now.faults) (rests (journals_of journals.now) done.now) }
+/// The least of these, by stamp and replica: one for each replica, none where its entries are done.
+pub(crate) fn least(turns: &[Option<Turn>]) -> Option<Turn>
+    ensures { result ≡ least_of (length turns.now) turns.now }
 {
     let mut best = None;
-    for replica in 0..journals.size().count() {
-        let id = ReplicaId::new(replica).unwrap();
-        best = earlier(best, first(journals, id, done[replica as usize]));
+    for place in 0..turns.len() {
+        best = earlier(best, turns[place]);
     }
     best
 }

@@ -1,11 +1,11 @@
-use Rattle.std.proofs.Common.{◌≡◌, ◌<◌, ℕ, List, Some, None, length, length-set, replicate, set, sym, ap, subst, ◌∙◌, arith}
+use Rattle.std.proofs.Common.{◌≡◌, ◌<◌, ℕ, List, Option, Some, None, length, length-set, replicate, set, sym, ap, subst, ◌∙◌, arith}
 use Rattle.std.proofs.lemmas.List.{length-replicate}
 use Rattle.ep_base.specs.Quorums.{size}
 use Rattle.ep_rules.specs.Journals.{Journals}
 use Rattle.ep_journal.specs.Entries.{journals_of}
-use Rattle.ep_verdict.specs.Turns.{least_turn, rests}
+use Rattle.ep_verdict.specs.Turns.{least_turn, least_of, rests, AreFirst}
 use Rattle.ep_verdict.specs.declared.turn.Turn.{Turn}
-use Rattle.ep_verdict.proofs.Turning.{Remains, left_below, turn_below, fewer_left, remains_first, remains_next, remains_all, zero_there}
+use Rattle.ep_verdict.proofs.Turning.{Remains, left_below, turn_below, fewer_left, remains_first, remains_next, remains_all, zero_there, least_first, first_begins, first_next}
 use Rattle.ep_verdict.proofs.in_order.schedule.Goals as goal
 
 pub loop-turn-init : goal.loop-turn-init
@@ -14,6 +14,7 @@ loop-turn-init c =
     let journal : Journals = journals_of c.args.journals.now in
     rw (c.in_ok-done.ensures, c.new-order.ensures.items) (record {
       replicas = length-replicate (size f) 0;
+      firsts = first_begins (size f) journal (replicate (size f) 0) c.in_ok-turns.turns.items (zero_there (size f)) c.in_ok-turns.ensures;
       remains = λ s h. remains_first f journal (replicate (size f) 0) s (zero_there (size f)) h;
     })
 
@@ -23,9 +24,32 @@ index_mut-requires c =
     let journal : Journals = journals_of c.args.journals.now in
     let t : Turn = c.in-Some.turn in
     let done : List ℕ = c.loop-turn.done.items in
-    let e : Some t ≡ least_turn (size f) (rests journal done) = c.in-Some.ensures ∙ ap (λ ds. least_turn (size f) (rests journal ds)) c.deref.ensures.value in
+    let e : Some t ≡ least_turn (size f) (rests journal done) = c.in-Some.ensures ∙ ap (λ (ts : List (Option Turn)). least_of (length ts) ts) c.deref.ensures.value ∙ least_first (size f) (rests journal done) c.loop-turn.turns.items c.loop-turn.invariant.firsts in
     let below : t.replica < length done = turn_below f journal c.are_local_runs.ensures done c.loop-turn.invariant.replicas t e in
-    omega (arith, below, c.from.ensures, c.index.ensures.value, c.loop-turn.done.ok.0)
+    omega (arith, below, c.from-place.ensures, c.index.ensures.value, c.loop-turn.done.ok.0)
+
+pub index_mut-requires-in-Some : goal.index_mut-requires-in-Some
+index_mut-requires-in-Some c =
+    let f : ℕ = c.args.journals.now.faults in
+    let journal : Journals = journals_of c.args.journals.now in
+    let t : Turn = c.in-Some.turn in
+    let done : List ℕ = c.loop-turn.done.items in
+    let e : Some t ≡ least_turn (size f) (rests journal done) = c.in-Some.ensures ∙ ap (λ (ts : List (Option Turn)). least_of (length ts) ts) c.deref.ensures.value ∙ least_first (size f) (rests journal done) c.loop-turn.turns.items c.loop-turn.invariant.firsts in
+    let below : t.replica < length done = turn_below f journal c.are_local_runs.ensures done c.loop-turn.invariant.replicas t e in
+    let many : length c.loop-turn.turns.items ≡ size f = c.loop-turn.invariant.firsts.0 in
+    let long : length done ≡ size f = c.loop-turn.invariant.replicas in
+    omega (arith, below, c.from-place.ensures, c.index.ensures.value, c.loop-turn.turns.ok.0)
+
+pub first-requires : goal.first-requires
+first-requires c =
+    let f : ℕ = c.args.journals.now.faults in
+    let journal : Journals = journals_of c.args.journals.now in
+    let t : Turn = c.in-Some.turn in
+    let done : List ℕ = c.loop-turn.done.items in
+    let e : Some t ≡ least_turn (size f) (rests journal done) = c.in-Some.ensures ∙ ap (λ (ts : List (Option Turn)). least_of (length ts) ts) c.deref.ensures.value ∙ least_first (size f) (rests journal done) c.loop-turn.turns.items c.loop-turn.invariant.firsts in
+    let below : t.replica < length done = turn_below f journal c.are_local_runs.ensures done c.loop-turn.invariant.replicas t e in
+    let long : length done ≡ size f = c.loop-turn.invariant.replicas in
+    omega arith
 
 pub loop-turn-smaller : goal.loop-turn-smaller
 loop-turn-smaller c =
@@ -33,8 +57,8 @@ loop-turn-smaller c =
     let journal : Journals = journals_of c.args.journals.now in
     let t : Turn = c.in-Some.turn in
     let done : List ℕ = c.loop-turn.done.items in
-    let e : Some t ≡ least_turn (size f) (rests journal done) = c.in-Some.ensures ∙ ap (λ ds. least_turn (size f) (rests journal ds)) c.deref.ensures.value in
-    let at : c.from.result ≡ t.replica = c.from.ensures ∙ c.index.ensures.value in
+    let e : Some t ≡ least_turn (size f) (rests journal done) = c.in-Some.ensures ∙ ap (λ (ts : List (Option Turn)). least_of (length ts) ts) c.deref.ensures.value ∙ least_first (size f) (rests journal done) c.loop-turn.turns.items c.loop-turn.invariant.firsts in
+    let at : c.from-place.result ≡ t.replica = c.from-place.ensures ∙ c.index.ensures.value in
     subst (λ r. left_below (size f) (rests journal (set done r t.number)) < left_below (size f) (rests journal done)) (sym at)
     (fewer_left f journal c.are_local_runs.ensures done c.loop-turn.invariant.replicas t e)
 
@@ -45,10 +69,12 @@ loop-turn-preserved c =
     let t : Turn = c.in-Some.turn in
     let done : List ℕ = c.loop-turn.done.items in
     let made : List (ℕ × ℕ) = c.loop-turn.order.items in
-    let e : Some t ≡ least_turn (size f) (rests journal done) = c.in-Some.ensures ∙ ap (λ ds. least_turn (size f) (rests journal ds)) c.deref.ensures.value in
-    let at : c.from.result ≡ t.replica = c.from.ensures ∙ c.index.ensures.value in
+    let e : Some t ≡ least_turn (size f) (rests journal done) = c.in-Some.ensures ∙ ap (λ (ts : List (Option Turn)). least_of (length ts) ts) c.deref.ensures.value ∙ least_first (size f) (rests journal done) c.loop-turn.turns.items c.loop-turn.invariant.firsts in
+    let at : c.from-place.result ≡ t.replica = c.from-place.ensures ∙ c.index.ensures.value in
     record {
-      replicas = length-set done c.from.result t.number ∙ c.loop-turn.invariant.replicas;
+      replicas = length-set done c.from-place.result t.number ∙ c.loop-turn.invariant.replicas;
+      firsts = subst (λ r. AreFirst (size f) (rests journal (set done r t.number)) (set c.loop-turn.turns.items r c.first.result)) (sym at)
+          (first_next (size f) journal done c.loop-turn.turns.items t.replica t.number c.first.result c.loop-turn.invariant.replicas (let below : t.replica < length done = turn_below f journal c.are_local_runs.ensures done c.loop-turn.invariant.replicas t e in let long : length done ≡ size f = c.loop-turn.invariant.replicas in omega arith) c.first.ensures c.loop-turn.invariant.firsts);
       remains = λ s h.
           subst (λ r. Remains journal (set done r t.number) c.push.new.self.items s) (sym at)
           (subst (λ xs. Remains journal (set done t.replica t.number) xs s) (sym c.in_ok-push.ensures.items)
@@ -60,5 +86,5 @@ returns c = λ s h.
     let f : ℕ = c.args.journals.now.faults in
     let journal : Journals = journals_of c.args.journals.now in
     let done : List ℕ = c.loop-turn.done.items in
-    let e : None ≡ least_turn (size f) (rests journal done) = sym c.in_default.is ∙ c.least.ensures ∙ ap (λ ds. least_turn (size f) (rests journal ds)) c.deref.ensures.value in
+    let e : None ≡ least_turn (size f) (rests journal done) = sym c.in_default.is ∙ c.least.ensures ∙ ap (λ (ts : List (Option Turn)). least_of (length ts) ts) c.deref.ensures.value ∙ least_first (size f) (rests journal done) c.loop-turn.turns.items c.loop-turn.invariant.firsts in
     remains_all f journal done c.loop-turn.order.items s c.are_local_runs.ensures e (c.loop-turn.invariant.remains s h)
