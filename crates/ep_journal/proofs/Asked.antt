@@ -1,68 +1,83 @@
 -- What an event asks is what the rule book does with it.
-use Rattle.std.proofs.Common.{◌≡◌, ℕ, ◌+◌, List, Option, Some, None, Result, Ok, Err, refl, sym, ap, ◌∙◌}
+use Rattle.std.proofs.Common.{◌≡◌, ℕ, ◌+◌, ◌<◌, List, Some, None, Err, refl, sym, ap, subst, ◌∙◌, arith}
 use Rattle.ep_base.specs.Instances.{instance_of}
 use Rattle.ep_base.specs.Messages.{instance_of_message}
+use Rattle.ep_base.specs.Versions.{highest_in}
 use Rattle.ep_base.specs.declared.command.Command.{Command}
 use Rattle.ep_base.specs.declared.message.Message.{Message}
 use Rattle.ep_base.specs.declared.message.Message.TheVariants.{PreAccept, PreAcceptOk, Accept, AcceptOk, Commit, Prepare, PrepareOk, Nack}
 use Rattle.ep_frame.specs.Meaning.{sender_at, message_at}
+use Rattle.ep_frame.specs.Spelling.{IsFrame}
 use Rattle.ep_phase.specs.Known.{known_of}
 use Rattle.ep_phase.specs.Leads.{Leads}
-use Rattle.ep_rules.specs.Cells.{Change, nothing, Refusal, SpaceFull}
+use Rattle.ep_rules.specs.Cells.{SpaceFull}
+use Rattle.ep_rules.specs.InterferenceSet.{interference}
 use Rattle.ep_rules.specs.OneMap.{Contents}
+use Rattle.ep_rules.specs.Phases.{propose}
 use Rattle.ep_rules.specs.States.{free_number}
-use Rattle.ep_rules.specs.Steps.{at, handled, proposed, acts}
+use Rattle.ep_rules.specs.Steps.{at, handled, proposed, screened, Handle as Handles}
 use Rattle.ep_space.specs.Records.{Records}
-use Rattle.ep_journal.specs.Events.{event_of}
-use Rattle.ep_journal.specs.Inputs.{outcome_at, admitted}
+use Rattle.ep_journal.specs.Events.{frame_at, lacking}
+use Rattle.ep_journal.specs.Inputs.{outcome_at, handled_at}
 use Rattle.ep_journal.specs.Parts.{state_of}
-use Rattle.ep_journal.specs.declared.admitted.Admitted.{Admitted}
-use Rattle.ep_journal.specs.declared.admitted.Admitted.TheVariants.{Request, Asked, Execution}
-use Rattle.ep_journal.specs.declared.event.Event.{Event as Happening}
-use Rattle.ep_journal.specs.declared.event.Event.TheVariants.{Propose, Handle, GiveUp, Recover, Execute}
-use Rattle.ep_journal.specs.declared.input.Input.TheVariants.{Start, Message as Handles}
+use Rattle.ep_journal.specs.Stepping.{standing_of, IsLet, IsAsked}
+use Rattle.ep_journal.specs.declared.event.Event.TheVariants.{Propose, Handle, GiveUp, Recover}
+use Rattle.ep_journal.specs.declared.input.Input.TheVariants as input
+use Rattle.ep_journal.specs.declared.parts.Parts.{Parts}
 
--- the instance, and what changes there, of replica me with these records and what it leads
-abbrev placed : ℕ → Records → Leads → Command → Option ℕ → Result (ℕ × Change) Refusal
-placed me s l c None = Err SpaceFull
-placed me s l c (Some n) = let i = instance_of me (n + 1) in at i (outcome_at (known_of me s l i) (Start c))
+handled_same : (me : ℕ) (s : Records) (l : Leads) (done : List ℕ) (store : Contents) (from : ℕ) (m : Message) →
+    at (instance_of_message m) (handled s.faults me from (state_of s l done store) m) ≡ at (instance_of_message m) (handled_at (known_of me s l (instance_of_message m)) from m)
+handled_same me s l done store from (PreAccept i b x) = refl
+handled_same me s l done store from (PreAcceptOk i b a) = refl
+handled_same me s l done store from (Accept i b x) = refl
+handled_same me s l done store from (AcceptOk i b) = refl
+handled_same me s l done store from (Commit i x) = refl
+handled_same me s l done store from (Prepare i b) = refl
+handled_same me s l done store from (PrepareOk i b v) = refl
+handled_same me s l done store from (Nack i b p) = refl
 
-abbrev pub asks : ℕ → Records → Leads → Admitted → Result (ℕ × Change) Refusal
-asks me s l (Request c) = placed me s l c (free_number s.records me)
-asks me s l (Asked i input) = at i (outcome_at (known_of me s l i) input)
-asks me s l (Execution i) = Ok (i, nothing)
+-- a frame's message is handled at its instance
+pub frame_asked : (p : Parts) (b : List ℕ) (from i : ℕ) (m : Message) → IsLet (standing_of p) (Handle b) → from ≡ sender_at b → m ≡ message_at b → i ≡ instance_of_message (message_at b) →
+    IsAsked (standing_of p) (Handle b) (at i (handled_at (known_of p.me p.space p.lead i) from m))
+frame_asked p b from i m h sender is instance = record {
+  through = h;
+  room = tt;
+  asked = handled_same p.me p.space p.lead p.executed.list p.store (sender_at b) (message_at b)
+      ∙ ap (λ j. at j (handled_at (known_of p.me p.space p.lead j) (sender_at b) (message_at b))) (sym instance)
+      ∙ ap (λ r. at i (handled_at (known_of p.me p.space p.lead i) r (message_at b))) (sym sender)
+      ∙ ap (λ x. at i (handled_at (known_of p.me p.space p.lead i) from x)) (sym is);
+  executes = refl;
+}
 
--- it isn't an execution
-abbrev pub IsOfInstance : Admitted → Type 0
-IsOfInstance (Request c) = Unit {0}
-IsOfInstance (Asked i input) = Unit {0}
-IsOfInstance (Execution i) = ⊥
+-- the same of a frame that was viewed
+pub viewed_asked : (p : Parts) (b v : List ℕ) (f from i : ℕ) (m : Message) → v ≡ b → f ≡ p.space.faults → IsFrame b → lacking p.space.version (Handle b) ≡ None → screened f p.me (Handles (frame_at v)) ≡ None →
+    from ≡ sender_at v → m ≡ message_at v → i ≡ instance_of_message (message_at v) → IsAsked (standing_of p) (Handle b) (at i (handled_at (known_of p.me p.space p.lead i) from m))
+viewed_asked p b v f from i m same count readable versioned unscreened sender is instance =
+    frame_asked p b from i m
+    (record { readable = readable; versioned = versioned; unscreened = subst (λ n. screened n p.me (Handles (frame_at b)) ≡ None) count (subst (λ x. screened f p.me (Handles (frame_at x)) ≡ None) same unscreened) })
+    (subst (λ x. from ≡ sender_at x) same sender) (subst (λ x. m ≡ message_at x) same is) (subst (λ x. i ≡ instance_of_message (message_at x)) same instance)
 
-handled_asked : (me : ℕ) (s : Records) (l : Leads) (done : List ℕ) (store : Contents) (from : ℕ) (m : Message) →
-    at (instance_of_message m) (handled s.faults me from (state_of s l done store) m) ≡ at (instance_of_message m) (outcome_at (known_of me s l (instance_of_message m)) (Handles from m))
-handled_asked me s l done store from (PreAccept i b x) = refl
-handled_asked me s l done store from (PreAcceptOk i b a) = refl
-handled_asked me s l done store from (Accept i b x) = refl
-handled_asked me s l done store from (AcceptOk i b) = refl
-handled_asked me s l done store from (Commit i x) = refl
-handled_asked me s l done store from (Prepare i b) = refl
-handled_asked me s l done store from (PrepareOk i b v) = refl
-handled_asked me s l done store from (Nack i b p) = refl
+pub given_up_asked : (p : Parts) (i : ℕ) → IsLet (standing_of p) (GiveUp i) → IsAsked (standing_of p) (GiveUp i) (at i (outcome_at (known_of p.me p.space p.lead i) input.GiveUp))
+given_up_asked p i h = record { through = h; room = tt; asked = refl; executes = refl }
 
-proposed_asked : (me : ℕ) (s : Records) (l : Leads) (done : List ℕ) (store : Contents) (c : Command) (n : Option ℕ) → proposed s.faults me (state_of s l done store) c n ≡ placed me s l c n
-proposed_asked me s l done store c None = refl
-proposed_asked me s l done store c (Some n) = refl
+pub recovery_asked : (p : Parts) (i : ℕ) → IsLet (standing_of p) (Recover i) → IsAsked (standing_of p) (Recover i) (at i (outcome_at (known_of p.me p.space p.lead i) input.Recover))
+recovery_asked p i h = record { through = h; room = tt; asked = refl; executes = refl }
 
-pub acts_asked : (me : ℕ) (s : Records) (l : Leads) (done : List ℕ) (store : Contents) (e : Happening) → acts s.faults me (state_of s l done store) (event_of e) ≡ asks me s l (admitted e)
-acts_asked me s l done store (Propose client request command seen) = proposed_asked me s l done store command (free_number s.records me)
-acts_asked me s l done store (Handle b) = handled_asked me s l done store (sender_at b) (message_at b)
-acts_asked me s l done store (GiveUp i) = refl
-acts_asked me s l done store (Recover i) = refl
-acts_asked me s l done store (Execute i) = refl
+-- a request, where a number of the version is free
+pub request_asked : (p : Parts) (client request seen : ℕ) (c : Command) (i n : ℕ) → IsLet (standing_of p) (Propose client request c seen) → free_number p.space.records p.me ≡ Some n → n < highest_in p.space.version → i ≡ instance_of p.me (n + 1) →
+    IsAsked (standing_of p) (Propose client request c seen) (at i (propose p.space.faults i c (interference p.space.records i c)))
+request_asked p client request seen c i n h free low next = record {
+  through = h;
+  room = λ k e. (let both : Some n ≡ Some k = sym free ∙ e in let same : n ≡ k = cc in omega arith);
+  asked = ap (proposed p.space.faults p.me (standing_of p).state c) free ∙ ap (λ j. at j (propose p.space.faults j c (interference p.space.records j c))) (sym next);
+  executes = refl;
+}
 
--- a request asks this of the next instance
-pub asks_next : (me : ℕ) (s : Records) (l : Leads) (c : Command) (i n : ℕ) → free_number s.records me ≡ Some n → i ≡ instance_of me (n + 1) → asks me s l (Request c) ≡ at i (outcome_at (known_of me s l i) (Start c))
-asks_next me s l c i n free is = ap (placed me s l c) free ∙ ap (λ j. at j (outcome_at (known_of me s l j) (Start c))) (sym is)
-
-pub asks_full : (me : ℕ) (s : Records) (l : Leads) (c : Command) → free_number s.records me ≡ None → asks me s l (Request c) ≡ Err SpaceFull
-asks_full me s l c free = ap (placed me s l c) free
+-- where none is free at all
+pub request_full : (p : Parts) (client request seen : ℕ) (c : Command) → IsLet (standing_of p) (Propose client request c seen) → free_number p.space.records p.me ≡ None → IsAsked (standing_of p) (Propose client request c seen) (Err SpaceFull)
+request_full p client request seen c h free = record {
+  through = h;
+  room = λ k e. absurd (let both : None ≡ Some k = sym free ∙ e in cc);
+  asked = ap (proposed p.space.faults p.me (standing_of p).state c) free;
+  executes = refl;
+}

@@ -6,7 +6,6 @@ pub mod Spelling
 pub mod Refusals
 pub mod Writable
 pub mod Asked
-pub mod Screened
 pub mod Execution
 pub mod Whole
 pub mod InOrder

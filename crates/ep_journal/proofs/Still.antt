@@ -1,5 +1,5 @@
 -- A refusal that is remembered holds.
-use Rattle.std.proofs.Common.{◌≡◌, inl, inr, ℕ, Bool, true, false, cond, leb, List, Option, Some, None, Result, Ok, Err, IfOk, IfErr, OnErr, refl, sym, ap, subst, ◌∙◌}
+use Rattle.std.proofs.Common.{◌≡◌, inl, inr, ℕ, Bool, true, false, cond, leb, List, Option, Some, None, Result, Ok, Err, refl, sym, ap, subst, ◌∙◌}
 use Rattle.ep_base.specs.declared.attrs.Attrs.{Attrs}
 use Rattle.ep_base.specs.Instances.{number_of}
 use Rattle.ep_base.specs.Places.{Has}
@@ -14,7 +14,7 @@ use Rattle.ep_rules.specs.Steps.{Refuses, screened, leaves, Execute as Executes}
 use Rattle.ep_journal.specs.Blocks.{IsStill, root_of, IsKnown, kept_by, IsRemembered}
 use Rattle.ep_journal.specs.Events.{event_of, numbered_in}
 use Rattle.ep_journal.specs.Standing.{Standing, Advances, IsRefused, IsSound}
-use Rattle.ep_journal.specs.Stepping.{MarkedBy}
+use Rattle.ep_journal.specs.Stepping.{Steps, entry_by}
 use Rattle.ep_journal.specs.declared.blocked.Blocked.{Blocked}
 use Rattle.ep_journal.specs.declared.entry.Entry.{Entry}
 use Rattle.ep_journal.specs.declared.event.Event.{Event as Happening}
@@ -22,6 +22,7 @@ use Rattle.ep_journal.specs.declared.event.Event.TheVariants.{Propose, Handle, G
 use Rattle.ep_journal.specs.declared.mark.Mark.{Mark}
 use Rattle.ep_journal.specs.declared.step_fault.StepFault.{StepFault}
 use Rattle.ep_journal.specs.declared.step_fault.StepFault.TheVariants.{OutOfRange, NotCommitted}
+use Rattle.ep_journal.specs.declared.taken.Taken.{Taken}
 
 is_execute : (event : Happening) (r : ℕ) → root_of event ≡ Some r → event ≡ Execute r
 is_execute (Propose client request c seen) r e = absurd (cc)
@@ -110,13 +111,12 @@ still_taken s s' last (Some r) mark event e is sound a h =
 
 -- The state after a step.
 
-pub still : (s s' : Standing) (last now : Option Blocked) (event : Happening) (mark : Option Mark) (r : Result Entry StepFault) → IsSound s' →
-    IfOk r (λ e. MarkedBy (λ m. Advances s m event e s') mark) → IfErr r (λ fault. IsRefused s event mark fault) → OnErr r (s' ≡ s) → IsStill s last → IsRemembered last (root_of event) r now → IsStill s' now
-still s s' last now event None (Ok e) sound ok refused err h is = absurd ok
-still s s' last now event (Some m) (Ok e) sound ok refused err h is = subst (IsStill s') (sym is) (still_taken s s' last (root_of event) m event e refl sound ok h)
-still s s' last now event mark (Err fault) sound ok refused err h (inl is) = rw (is, err) h
-still s s' last now event mark (Err fault) sound ok refused err h (inr b) =
+pub still : (s s' : Standing) (last now : Option Blocked) (event : Happening) (mark : Option Mark) (r : Result Taken StepFault) → IsSound s' → Steps s event mark r s' → IsStill s last → IsRemembered last (root_of event) r now → IsStill s' now
+still s s' last now event None (Ok t) sound steps h is = absurd steps
+still s s' last now event (Some m) (Ok t) sound steps h is = subst (IsStill s') (sym is) (still_taken s s' last (root_of event) m event (entry_by m event t) refl sound steps h)
+still s s' last now event mark (Err fault) sound steps h (inl is) = rw (is, steps.1) h
+still s s' last now event mark (Err fault) sound steps h (inr b) =
     let x : Blocked = b.0 in
-    let one = subst (λ e. IsRefused s e mark fault) (is_execute event x.root b.1) refused in
+    let one = subst (λ e. IsRefused s e mark fault) (is_execute event x.root b.1) steps.0 in
     let two = subst (λ f. IsRefused s (Execute x.root) mark f) b.2 one in
-    rw (b.3, err) (refused_then s x mark two)
+    rw (b.3, steps.1) (refused_then s x mark two)

@@ -5,12 +5,12 @@ use Rattle.ep_rules.specs.Steps.{Refuses, Execute as Executes}
 use Rattle.ep_journal.specs.Events.{numbered_in}
 use Rattle.ep_journal.specs.Standing.{Standing}
 use Rattle.ep_journal.specs.declared.blocked.Blocked.{Blocked}
-use Rattle.ep_journal.specs.declared.entry.Entry.{Entry}
 use Rattle.ep_journal.specs.declared.event.Event.{Event as Happening}
 use Rattle.ep_journal.specs.declared.event.Event.TheVariants.{Propose, Handle, GiveUp, Recover, Execute}
 use Rattle.ep_journal.specs.declared.mark.Mark.{Mark}
 use Rattle.ep_journal.specs.declared.step_fault.StepFault.{StepFault}
 use Rattle.ep_journal.specs.declared.step_fault.StepFault.TheVariants.{NotCommitted}
+use Rattle.ep_journal.specs.declared.taken.Taken.{Taken}
 
 -- the version has the root, and the rule book refuses it, with the least instance for which it waits
 abbrev pub IsStill : Standing → Option Blocked → Type 0
@@ -35,6 +35,6 @@ kept_by None last = None
 kept_by (Some root) last = last
 
 -- what is remembered of the last refusal and of a step: what the event leaves, or the step's own refusal
-abbrev pub IsRemembered : Option Blocked → Option ℕ → Result Entry StepFault → Option Blocked → Type 0
-IsRemembered last root (Ok e) now = now ≡ kept_by root last
+abbrev pub IsRemembered : Option Blocked → Option ℕ → Result Taken StepFault → Option Blocked → Type 0
+IsRemembered last root (Ok t) now = now ≡ kept_by root last
 IsRemembered last root (Err fault) now = (now ≡ last) ⊎ ((b : Blocked) × (root ≡ Some b.root) × (fault ≡ NotCommitted b.missing) × (now ≡ Some b))

@@ -1,11 +1,10 @@
 -- What is asked of a replica, and what the rule book answers. A rule looks at what is known of one instance.
 use Rattle.std.specs.Prelude.{ℕ, Bool, eqb, Result, Ok, Err}
 use Rattle.ep_base.specs.Instances.{leader_of}
-use Rattle.ep_base.specs.Messages.{instance_of_message}
 use Rattle.ep_base.specs.Quorums.{is_fast}
 use Rattle.ep_base.specs.declared.version.Version.{Version}
+use Rattle.ep_base.specs.declared.message.Message.{Message}
 use Rattle.ep_base.specs.declared.message.Message.TheVariants.{PreAccept, PreAcceptOk, Accept, AcceptOk, Commit, Prepare, PrepareOk, Nack}
-use Rattle.ep_frame.specs.Meaning.{sender_at, message_at}
 use Rattle.ep_phase.specs.Known.{Known, record_of}
 use Rattle.ep_rules.specs.Cells.{Change, Refusal}
 use Rattle.ep_phase.specs.declared.receivers.Receivers.{Receivers}
@@ -16,34 +15,26 @@ use Rattle.ep_rules.specs.InterferenceSet.{interference}
 use Rattle.ep_rules.specs.Phases.{Outcome, propose, give_up, on_pre_accept, on_pre_accept_ok, on_accept, on_accept_ok, on_commit}
 use Rattle.ep_rules.specs.Recovery.{recover, on_prepare, on_prepare_ok, on_nack}
 use Rattle.ep_journal.specs.Early.{AllSayable}
-use Rattle.ep_journal.specs.declared.admitted.Admitted.{Admitted}
-use Rattle.ep_journal.specs.declared.admitted.Admitted.TheVariants.{Request, Asked, Execution}
-use Rattle.ep_journal.specs.declared.event.Event.{Event as Happening}
-use Rattle.ep_journal.specs.declared.event.Event.TheVariants as event
 use Rattle.ep_journal.specs.declared.input.Input.{Input}
 use Rattle.ep_journal.specs.declared.input.Input.TheVariants.{Start, Message as Handles, GiveUp, Recover}
 
--- what the rule book answers
+-- what the rule book answers to a message from this replica
+abbrev pub handled_at : Known → ℕ → Message → Outcome
+handled_at k from (PreAccept i b x) = on_pre_accept k.instance from b x (interference k.records k.instance x.command) (record_of k)
+handled_at k from (PreAcceptOk i b a) = Ok (on_pre_accept_ok k.faults k.instance k.me from b a (record_of k) k.led)
+handled_at k from (Accept i b x) = Ok (on_accept k.instance from b x (record_of k))
+handled_at k from (AcceptOk i b) = Ok (on_accept_ok k.faults k.instance k.me from b (record_of k) k.led)
+handled_at k from (Commit i x) = Ok (on_commit k.instance x (record_of k))
+handled_at k from (Prepare i b) = Ok (on_prepare k.instance from b (record_of k))
+handled_at k from (PrepareOk i b v) = on_prepare_ok k.faults k.instance k.me from b v (interference k.records k.instance) (record_of k) k.led
+handled_at k from (Nack i b p) = Ok (on_nack p k.told)
+
+-- what it answers to what is asked
 abbrev pub outcome_at : Known → Input → Outcome
-outcome_at k (Start c) = propose k.faults k.instance c (interference k.records k.instance c)
-outcome_at k (Handles from (PreAccept i b x)) = on_pre_accept k.instance from b x (interference k.records k.instance x.command) (record_of k)
-outcome_at k (Handles from (PreAcceptOk i b a)) = Ok (on_pre_accept_ok k.faults k.instance k.me from b a (record_of k) k.led)
-outcome_at k (Handles from (Accept i b x)) = Ok (on_accept k.instance from b x (record_of k))
-outcome_at k (Handles from (AcceptOk i b)) = Ok (on_accept_ok k.faults k.instance k.me from b (record_of k) k.led)
-outcome_at k (Handles from (Commit i x)) = Ok (on_commit k.instance x (record_of k))
-outcome_at k (Handles from (Prepare i b)) = Ok (on_prepare k.instance from b (record_of k))
-outcome_at k (Handles from (PrepareOk i b v)) = on_prepare_ok k.faults k.instance k.me from b v (interference k.records k.instance) (record_of k) k.led
-outcome_at k (Handles from (Nack i b p)) = Ok (on_nack p k.told)
+outcome_at k (Start c) = propose k.faults k.instance c.now (interference k.records k.instance c.now)
+outcome_at k (Handles from m) = handled_at k from m
 outcome_at k GiveUp = give_up k.faults k.instance k.me (record_of k) k.led
 outcome_at k Recover = recover k.faults k.instance k.me (record_of k) k.told
-
--- what an event asks
-abbrev pub admitted : Happening → Admitted
-admitted (event.Propose client request command seen) = Request command
-admitted (event.Handle b) = Asked (instance_of_message (message_at b)) (Handles (sender_at b) (message_at b))
-admitted (event.GiveUp i) = Asked i GiveUp
-admitted (event.Recover i) = Asked i Recover
-admitted (event.Execute i) = Execution i
 
 -- whether a replica is one of the receivers of what is known there
 abbrev pub receives : Known → Receivers → ℕ → Bool

@@ -3,9 +3,9 @@
 ghost use Rattle.std.specs.Prelude.{◌≡◌, IfSome};
 ghost use Rattle.ep_journal.specs.Blocks.{IsKnown, IsRemembered};
 
-use crate::entry::Entry;
 use crate::mark::Mark;
 use crate::step_fault::StepFault;
+use crate::taken::Taken;
 use ep_base::InstanceId;
 
 /// An execution that was refused: its root, and the least instance for which that waits.
@@ -39,7 +39,7 @@ pub fn known_missing(
 pub fn remembered(
     last: &Option<Blocked>,
     root: &Option<InstanceId>,
-    told: &Result<Entry, StepFault>,
+    told: &Result<Taken, StepFault>,
 ) -> Option<Blocked>
     ensures { IsRemembered last.now root.now told.now result }
 {

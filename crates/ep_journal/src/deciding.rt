@@ -17,12 +17,15 @@ use std::alloc::Global;
 
 /// Decides what is asked of the cell's instance; nothing has changed then.
 #[tactic(auto, using(crate::proofs::Refusals::refused_limit, crate::proofs::Refusals::refused_phase, crate::proofs::Refusals::refused_prepare))]
-pub(crate) fn decide(alloc: Global, cell: &Cell<'_>, input: Input) -> Result<Change, StepFault>
-    ensures ok { IfOk result (λ ch. outcome_at cell.now input ≡ Ok (change_of cell.now ch)) }
-    ensures refused { IfErr result (λ e. IsRefused (outcome_at cell.now input) e) }
+pub(crate) fn decide(alloc: Global, cell: &Cell<'_>, input: Input<'_>) -> Result<Change, StepFault>
+    ensures ok { IfOk result (λ ch. outcome_at cell.now input.entry ≡ Ok (change_of cell.now ch)) }
+    ensures refused { IfErr result (λ e. IsRefused (outcome_at cell.now input.entry) e) }
 {
     match input {
-        Input::Start(command) => Ok(start(alloc, cell, command)?),
+        Input::Start(command) => {
+            let command = command.copy(alloc)?;
+            Ok(start(alloc, cell, command)?)
+        }
         Input::Message(from, message) => match message {
             Message::PreAccept {
                 instance: _,

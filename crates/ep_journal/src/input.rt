@@ -4,9 +4,9 @@ use ep_base::{Command, Message, ReplicaId};
 
 /// What is asked of an instance.
 #[derive(Drop)]
-pub enum Input {
+pub enum Input<'a> {
     /// Propose the command there.
-    Start(Command),
+    Start(&'a Command),
     /// Handle the message from this replica.
     Message(ReplicaId, Message),
     /// Wait no longer for the fast quorum.

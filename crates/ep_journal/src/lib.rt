@@ -11,7 +11,6 @@
 //! or taken back together. Nothing else is ever undone: keep it so.
 #![tactic(auto)]
 
-mod admitted;
 mod blocked;
 mod decided;
 mod deciding;
@@ -29,6 +28,7 @@ mod parts;
 mod screen;
 mod state;
 mod step_fault;
+mod taken;
 mod versioned;
 
 pub use entry::Entry;
@@ -40,3 +40,4 @@ pub use journals::Journals;
 pub use mark::Mark;
 pub use state::State;
 pub use step_fault::StepFault;
+pub use taken::Taken;

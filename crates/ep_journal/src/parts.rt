@@ -1,30 +1,31 @@
 //! What a replica is, by its parts, and its step.
 
-ghost use Rattle.std.specs.Prelude.{◌≡◌, ◌≤◌, Ok, IfOk, IfErr, IfSome, OnErr};
+ghost use Rattle.std.specs.Prelude.{◌≡◌, ◌≤◌, ℕ, None, Ok, IfOk, IfErr, IfSome, OnErr};
 ghost use Rattle.ep_phase.specs.Changes.{change_of, sends};
 ghost use Rattle.ep_phase.specs.Known.{known_of};
-ghost use Rattle.ep_rules.specs.Steps.{at, sent_from};
-ghost use Rattle.ep_journal.specs.Events.{AreSpelled};
+ghost use Rattle.ep_rules.specs.Steps.{sent_from};
+ghost use Rattle.ep_journal.specs.Events.{lacking, AreSpelled};
 ghost use Rattle.ep_journal.specs.Inputs.{outcome_at, IsWritable};
-ghost use Rattle.ep_journal.specs.Refused.{IsRefused as IsRefusedBy};
-ghost use Rattle.ep_journal.specs.Standing.{Advances, IsRefused, IsSound};
-ghost use Rattle.ep_journal.specs.Stepping.{standing_of, MarkedBy, Moves};
+ghost use Rattle.ep_journal.specs.Refused.{IsRefused};
+ghost use Rattle.ep_journal.specs.Standing.{IsSound};
+ghost use Rattle.ep_journal.specs.Stepping.{standing_of, asked_of, IsAsked, IsLet, Moves, Steps};
+ghost use Rattle.ep_journal.specs.declared.event.Event.{Event as Happening};
 
-use crate::admitted::Admitted;
 use crate::decided::Decided;
 use crate::deciding::decide;
-use crate::entry::Entry;
 use crate::event::Event;
 use crate::execute::execute;
 use crate::executions::Executions;
 use crate::frames::{Frames, written};
 use crate::input::Input;
 use crate::mark::Mark;
-use crate::screen::screen;
+use crate::screen::{screen_frame, screen_instance, screen_request};
 use crate::step_fault::StepFault;
+use crate::taken::Taken;
 use crate::versioned::check_version;
-use ep_base::{InstanceId, ReplicaId};
+use ep_base::{Command, InstanceId, ReplicaId};
 use ep_exec::{Executed, Store};
+use ep_frame::Frame;
 use ep_phase::{Cell, Lead, next_instance};
 use ep_space::Space;
 use std::alloc::{AllocError, Global};
@@ -57,64 +58,127 @@ impl Parts {
         })
     }
 
-    /// Takes the step of an event: its entry, so marked; or why it is refused. Where there is no mark, it is past its limits.
+    /// Takes the step of an event, so marked: what came of it; or why it is refused. Where there is no mark, it is past its limits.
     pub fn step(
         &mut self,
         alloc: Global,
-        event: Event,
+        event: &Event,
         mark: Option<Mark>,
-    ) -> Result<Entry, StepFault>
+    ) -> Result<Taken, StepFault>
         requires sound { IsSound (standing_of self.old) }
         requires numbered { IfSome mark (λ m. 1 ≤ m.number) }
-        ensures ok { IfOk result (λ e. MarkedBy (λ m. Advances (standing_of self.old) m event e (standing_of self.new)) mark) }
-        ensures refused { IfErr result (λ e. IsRefused (standing_of self.old) event mark e) }
-        ensures err { OnErr result (standing_of self.new ≡ standing_of self.old) }
+        ensures { Steps (standing_of self.old) event.now mark result (standing_of self.new) }
     {
-        check_version(self.space.version(), &event)?;
-        let admitted = screen(alloc, self.space.size(), self.me, &event)?;
+        check_version(self.space.version(), event)?;
+        match event {
+            Event::Propose {
+                client,
+                request,
+                command,
+                seen: _,
+            } => {
+                screen_request(*client, *request, command)?;
+                self.propose(alloc, command, mark)
+            }
+            Event::Handle(frame) => self.handle(alloc, frame, mark),
+            Event::GiveUp(id) => {
+                screen_instance(self.space.size(), *id)?;
+                self.ask(alloc, *id, Input::GiveUp, mark)
+            }
+            Event::Recover(id) => {
+                screen_instance(self.space.size(), *id)?;
+                self.ask(alloc, *id, Input::Recover, mark)
+            }
+            Event::Execute(root) => {
+                screen_instance(self.space.size(), *root)?;
+                self.execute(alloc, *root, mark)
+            }
+        }
+    }
+
+    /// Proposes the command in the next instance.
+    fn propose(
+        &mut self,
+        alloc: Global,
+        command: &Command,
+        mark: Option<Mark>,
+    ) -> Result<Taken, StepFault>
+        requires sound { IsSound (standing_of self.old) }
+        requires numbered { IfSome mark (λ m. 1 ≤ m.number) }
+        requires through { (client : ℕ) × (request : ℕ) × (seen : ℕ) × IsLet (standing_of self.old) (Happening.Propose client request command.now seen) }
+        ensures { (client : ℕ) (request : ℕ) (seen : ℕ) → IsLet (standing_of self.old) (Happening.Propose client request command.now seen) → Steps (standing_of self.old) (Happening.Propose client request command.now seen) mark result (standing_of self.new) }
+    {
         let Some(mark) = mark else {
             return Err(StepFault::StampFull);
         };
-        let Mark { number, stamp } = mark;
-        match admitted {
-            Admitted::Request(command) => {
-                let id = next_instance(&self.space, self.me)?;
-                let frames = self.change(alloc, id, Input::Start(command), Mark { number, stamp })?;
-                Ok(Entry {
-                    number,
-                    stamp,
-                    event,
-                    frames,
-                    done: Executions::none(alloc),
-                })
-            }
-            Admitted::Asked(id, input) => {
-                let frames = self.change(alloc, id, input, Mark { number, stamp })?;
-                Ok(Entry {
-                    number,
-                    stamp,
-                    event,
-                    frames,
-                    done: Executions::none(alloc),
-                })
-            }
-            Admitted::Execution(root) => {
-                let done = execute(
-                    alloc,
-                    &self.space,
-                    &mut self.executed,
-                    &mut self.store,
-                    root,
-                )?;
-                Ok(Entry {
-                    number,
-                    stamp,
-                    event,
-                    frames: Frames::none(alloc),
-                    done,
-                })
-            }
-        }
+        let id = next_instance(&self.space, self.me)?;
+        let input = Input::Start(command);
+        self.ask(alloc, id, input, Some(mark))
+    }
+
+    /// Handles the frame, if it is for this replica and all that it names is of the cluster.
+    fn handle(
+        &mut self,
+        alloc: Global,
+        frame: &Frame,
+        mark: Option<Mark>,
+    ) -> Result<Taken, StepFault>
+        requires sound { IsSound (standing_of self.old) }
+        requires numbered { IfSome mark (λ m. 1 ≤ m.number) }
+        requires versioned { lacking self.old.space.version (Happening.Handle frame.now) ≡ None }
+        ensures { Steps (standing_of self.old) (Happening.Handle frame.now) mark result (standing_of self.new) }
+    {
+        let view = frame.view();
+        let message = view.to_message(alloc)?;
+        screen_frame(self.space.size(), self.me, &view, &message)?;
+        let input = Input::Message(view.from(), message);
+        self.ask(alloc, view.instance(), input, mark)
+    }
+
+    /// Executes the root, and before it all that it depends on.
+    fn execute(
+        &mut self,
+        alloc: Global,
+        root: InstanceId,
+        mark: Option<Mark>,
+    ) -> Result<Taken, StepFault>
+        requires sound { IsSound (standing_of self.old) }
+        requires through { IsLet (standing_of self.old) (Happening.Execute root) }
+        ensures { Steps (standing_of self.old) (Happening.Execute root) mark result (standing_of self.new) }
+    {
+        let Some(_mark) = mark else {
+            return Err(StepFault::StampFull);
+        };
+        let done = execute(
+            alloc,
+            &self.space,
+            &mut self.executed,
+            &mut self.store,
+            root,
+        )?;
+        Ok(Taken {
+            frames: Frames::none(alloc),
+            done,
+        })
+    }
+
+    /// Does what is asked of the instance, where there is a mark.
+    fn ask(
+        &mut self,
+        alloc: Global,
+        id: InstanceId,
+        input: Input<'_>,
+        mark: Option<Mark>,
+    ) -> Result<Taken, StepFault>
+        requires sound { IsSound (standing_of self.old) }
+        requires numbered { IfSome mark (λ m. 1 ≤ m.number) }
+        requires asked { (event : Happening) × IsAsked (standing_of self.old) event (asked_of self.old id input) }
+        ensures { (event : Happening) → IsAsked (standing_of self.old) event (asked_of self.old id input.entry) → Steps (standing_of self.old) event mark result (standing_of self.new) }
+    {
+        let Some(mark) = mark else {
+            return Err(StepFault::StampFull);
+        };
+        self.change(alloc, id, input, mark)
     }
 
     /// Decides what is asked of the instance, and writes the frames; nothing has changed then.
@@ -122,14 +186,14 @@ impl Parts {
         &self,
         alloc: Global,
         id: InstanceId,
-        input: Input,
+        input: Input<'_>,
         mark: Mark,
     ) -> Result<Decided, StepFault>
         requires numbered { 1 ≤ mark.number }
-        requires writable { IsWritable self.now.space.version self.now.me (at id (outcome_at (known_of self.now.me self.now.space self.now.lead id) input)) }
-        ensures change { IfOk result (λ d. outcome_at (known_of self.now.me self.now.space self.now.lead id) input ≡ Ok (change_of (known_of self.now.me self.now.space self.now.lead id) d.change)) }
+        requires writable { IsWritable self.now.space.version self.now.me (asked_of self.now id input) }
+        ensures change { IfOk result (λ d. outcome_at (known_of self.now.me self.now.space self.now.lead id) input.entry ≡ Ok (change_of (known_of self.now.me self.now.space self.now.lead id) d.change)) }
         ensures frames { IfOk result (λ d. AreSpelled self.now.space.version mark.number mark.stamp 0 d.frames (sent_from self.now.me (sends self.now.space.faults self.now.me id d.change.out))) }
-        ensures refused { IfErr result (λ e. IsRefusedBy (outcome_at (known_of self.now.me self.now.space self.now.lead id) input) e) }
+        ensures refused { IfErr result (λ e. IsRefused (outcome_at (known_of self.now.me self.now.space self.now.lead id) input.entry) e) }
     {
         let cell = Cell::of(&self.space, &self.lead, self.me, id);
         let change = decide(alloc, &cell, input)?;
@@ -143,19 +207,22 @@ impl Parts {
         &mut self,
         alloc: Global,
         id: InstanceId,
-        input: Input,
+        input: Input<'_>,
         mark: Mark,
-    ) -> Result<Frames, StepFault>
+    ) -> Result<Taken, StepFault>
         requires numbered { 1 ≤ mark.number }
-        requires writable { IsWritable self.old.space.version self.old.me (at id (outcome_at (known_of self.old.me self.old.space self.old.lead id) input)) }
-        ensures ok { IfOk result (λ f. Moves (at id (outcome_at (known_of self.old.me self.old.space self.old.lead id) input)) mark self.old f self.new) }
-        ensures refused { IfErr result (λ e. IsRefusedBy (at id (outcome_at (known_of self.old.me self.old.space self.old.lead id) input)) e) }
+        requires writable { IsWritable self.old.space.version self.old.me (asked_of self.old id input) }
+        ensures ok { IfOk result (λ t. Moves (asked_of self.old id input.entry) mark self.old t self.new) }
+        ensures refused { IfErr result (λ e. IsRefused (asked_of self.old id input.entry) e) }
         ensures err { OnErr result (standing_of self.new ≡ standing_of self.old) }
     {
         self.space.reserve(id)?;
         self.lead.reserve(id)?;
         let Decided { change, frames } = self.decided(alloc, id, input, mark)?;
         change.install(&mut self.space, &mut self.lead, id)?;
-        Ok(frames)
+        Ok(Taken {
+            frames,
+            done: Executions::none(alloc),
+        })
     }
 }

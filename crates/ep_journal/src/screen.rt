@@ -1,100 +1,59 @@
 //! The screen: events that no state takes.
 
-ghost use Rattle.std.specs.Prelude.{◌≡◌, ℕ, ltb, IfOk, IfErr};
+ghost use Rattle.std.specs.Prelude.{◌≡◌, ℕ, ltb, None, IfErr, OnOk};
 ghost use Rattle.ep_base.specs.Ballots.{owner_of};
 ghost use Rattle.ep_base.specs.Instances.{leader_of};
 ghost use Rattle.ep_base.specs.Quorums.{size};
 ghost use Rattle.ep_frame.specs.Meaning.{message_at};
-ghost use Rattle.ep_rules.specs.Steps.{are_within, vote_within, message_within, is_within, is_for, Propose, Handle};
+ghost use Rattle.ep_rules.specs.Steps.{are_within, vote_within, message_within, is_within, screened, Propose, Handle, GiveUp};
 ghost use Rattle.ep_journal.specs.Events.{frame_at};
-ghost use Rattle.ep_journal.specs.Inputs.{admitted};
-ghost use Rattle.ep_journal.specs.Stepping.{IsLetThrough, IsScreened};
-ghost use Rattle.ep_journal.specs.declared.admitted.Admitted.{Admitted};
-ghost use Rattle.ep_journal.specs.declared.event.Event.{Event};
+ghost use Rattle.ep_journal.specs.Stepping.{IsScreened};
 
-use crate::admitted::Admitted;
-use crate::event::Event;
-use crate::input::Input;
 use crate::step_fault::StepFault;
 use ep_base::{Ballot, Command, Deps, InstanceId, Message, ReplicaId, Size, Vote};
-use ep_frame::{Frame, FrameView};
-use std::alloc::Global;
+use ep_frame::FrameView;
 
-/// What the event asks; or why no state takes it: first a replica's number that is not below the cluster's size, a no-op, or a client or a
-/// request of 0, then a frame for another replica.
-pub(crate) fn screen(
-    alloc: Global,
-    cluster: Size,
-    me: ReplicaId,
-    event: &Event,
-) -> Result<Admitted, StepFault>
-    ensures ok { IfOk result (λ a. (a ≡ admitted event.now) × IsLetThrough cluster me event.now) }
-    ensures refused { IfErr result (λ e. IsScreened cluster me event.now e) }
-{
-    match event {
-        Event::Propose {
-            client,
-            request,
-            command,
-            seen: _,
-        } => admit_request(alloc, *client, *request, command),
-        Event::Handle(frame) => admit_frame(alloc, cluster, me, frame),
-        Event::GiveUp(id) => {
-            if !leader_within(cluster.count(), *id) {
-                return Err(StepFault::OutOfRange);
-            }
-            Ok(Admitted::Asked(*id, Input::GiveUp))
-        }
-        Event::Recover(id) => {
-            if !leader_within(cluster.count(), *id) {
-                return Err(StepFault::OutOfRange);
-            }
-            Ok(Admitted::Asked(*id, Input::Recover))
-        }
-        Event::Execute(root) => {
-            if !leader_within(cluster.count(), *root) {
-                return Err(StepFault::OutOfRange);
-            }
-            Ok(Admitted::Execution(*root))
-        }
-    }
-}
-
-/// That the command is proposed, if a client may ask for it.
-fn admit_request(
-    alloc: Global,
-    client: u32,
-    request: u32,
-    command: &Command,
-) -> Result<Admitted, StepFault>
-    ensures ok { IfOk result (λ a. (a ≡ Admitted.Request command.now) × ((f : ℕ) (me : ℕ) (seen : ℕ) → IsLetThrough f me (Event.Propose client request command.now seen))) }
-    ensures refused { IfErr result (λ e. (f : ℕ) (me : ℕ) (seen : ℕ) → IsScreened f me (Event.Propose client request command.now seen) e) }
+/// `OutOfRange` unless a client may ask for this: the command is no no-op, and the client and the request are from 1.
+pub(crate) fn screen_request(client: u32, request: u32, command: &Command) -> Result<(), StepFault>
+    ensures ok { OnOk result ((f : ℕ) (me : ℕ) (seen : ℕ) → screened f me (Propose client request command.now seen) ≡ None) }
+    ensures refused { IfErr result (λ e. (f : ℕ) (me : ℕ) (seen : ℕ) → IsScreened (screened f me (Propose client request command.now seen)) e) }
 {
     if !may_propose(client, request, command) {
         return Err(StepFault::OutOfRange);
     }
-    Ok(Admitted::Request(command.copy(alloc)?))
+    Ok(())
 }
 
-/// What the frame's message asks, if all that it names is of the cluster, and it is for this replica.
-fn admit_frame(
-    alloc: Global,
+/// Why no state takes the frame, which spells this message: `OutOfRange` where its sender, its receiver or a replica that the message names
+/// is not of the cluster, then `NotMine` where it is for another replica.
+pub(crate) fn screen_frame(
     cluster: Size,
     me: ReplicaId,
-    frame: &Frame,
-) -> Result<Admitted, StepFault>
-    ensures ok { IfOk result (λ a. (a ≡ admitted (Event.Handle frame.now)) × IsLetThrough cluster me (Event.Handle frame.now)) }
-    ensures refused { IfErr result (λ e. IsScreened cluster me (Event.Handle frame.now) e) }
+    frame: &FrameView<'_>,
+    message: &Message,
+) -> Result<(), StepFault>
+    requires { message.now ≡ message_at frame.now }
+    ensures ok { OnOk result (screened cluster me (Handle (frame_at frame.now)) ≡ None) }
+    ensures refused { IfErr result (λ e. IsScreened (screened cluster me (Handle (frame_at frame.now))) e) }
 {
-    let view = frame.view();
-    let message = view.to_message(alloc)?;
-    if !frame_within(cluster.count(), &view, &message) {
+    if !frame_within(cluster.count(), frame, message) {
         return Err(StepFault::OutOfRange);
     }
-    if view.origin().to != me {
+    if frame.origin().to != me {
         return Err(StepFault::NotMine);
     }
-    Ok(Admitted::Asked(message.instance(), Input::Message(view.from(), message)))
+    Ok(())
+}
+
+/// `OutOfRange` unless the instance is of a replica of the cluster.
+pub(crate) fn screen_instance(cluster: Size, instance: InstanceId) -> Result<(), StepFault>
+    ensures ok { OnOk result ((me : ℕ) → screened cluster me (GiveUp instance) ≡ None) }
+    ensures refused { IfErr result (λ e. (me : ℕ) → IsScreened (screened cluster me (GiveUp instance)) e) }
+{
+    if !leader_within(cluster.count(), instance) {
+        return Err(StepFault::OutOfRange);
+    }
+    Ok(())
 }
 
 /// Whether a client may ask for this: the command is no no-op, and the client and the request are from 1.

@@ -12,7 +12,8 @@ use ep_base::{InstanceId, Version};
 /// command or an instance's number that the version lacks.
 pub(crate) fn check_version(version: Version, event: &Event) -> Result<(), StepFault>
     ensures ok { OnOk result (lacking version event.now ≡ None) }
-    ensures err { IfErr result (λ fault. IsReadable event.now × (lacking version event.now ≡ Some fault)) }
+    ensures err { IfErr result (λ fault. lacking version event.now ≡ Some fault) }
+    ensures readable { IsReadable event.now }
 {
     event.is_readable();
     match event {
