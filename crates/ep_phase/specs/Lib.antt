@@ -3,3 +3,4 @@ pub mod Known
 pub mod Changes
 pub mod Refused
 pub mod Progress
+pub mod StandIn
