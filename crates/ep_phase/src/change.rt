@@ -80,13 +80,16 @@ impl Change {
         ensures some { IfSome result (λ t. sends cell.now self.now ≡ to_receivers cell.now.faults cell.now.me cell.now.instance t.0 (says t.1.instance t.1.said)) }
         ensures none { IfNone result (sends cell.now self.now ≡ []) }
     {
-        let sending = self.out.as_ref()?;
-        let said = said_of(&self.entry, cell, sending.what)?;
-        let telling = Telling {
-            instance: cell.id(),
-            said,
-        };
-        Some((sending.to, telling))
+        match &self.out {
+            None => None,
+            Some(sending) => match said_of(&self.entry, cell, sending.what) {
+                None => None,
+                Some(said) => {
+                    let instance = cell.id();
+                    Some((sending.to, Telling { instance, said }))
+                }
+            },
+        }
     }
 
     /// Makes the places that the change needs. Nothing else has changed then, at want of memory either.

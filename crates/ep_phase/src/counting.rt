@@ -1,6 +1,6 @@
 //! Who answered, and with what.
 
-ghost use Rattle.std.specs.Prelude.{◌≡◌, ◌&&◌, ◌||◌, not, is_some, IfOk, OnOk};
+ghost use Rattle.std.specs.Prelude.{◌≡◌, ◌&&◌, ◌||◌, not, eqb, is_some, IfOk, OnOk};
 ghost use Rattle.ep_base.specs.Attributes.{same_attrs};
 ghost use Rattle.ep_base.specs.Quorums.{size as size_of};
 ghost use Rattle.ep_rules.specs.Answers.{answer, with_answer};
@@ -34,6 +34,7 @@ fn is_answer_of_other<X>(me: ReplicaId, answers: &Answers<X>, r: u8) -> bool
 }
 
 /// How many other replicas answered, this one among them.
+#[tactic(auto, using(crate::proofs::Answering::others_more))]
 pub(crate) fn others_with<X>(
     size: Size,
     me: ReplicaId,
@@ -44,21 +45,28 @@ pub(crate) fn others_with<X>(
 {
     let mut count = 0;
     for r in 0..size.count() {
-        if r != me.index() && has_answered(answers, from, r) {
+        if is_other_answer(me, answers, from, r) {
             count += 1;
         }
     }
     count
 }
 
+fn is_other_answer<X>(me: ReplicaId, answers: &Answers<X>, from: ReplicaId, r: u8) -> bool
+    ensures { result ≡ (is_other me r && (eqb from r || is_some (answer answers.now r))) }
+{
+    r != me.index() && has_answered(answers, from, r)
+}
+
 /// Whether the replica answered; the one that answers now did.
 fn has_answered<X>(answers: &Answers<X>, from: ReplicaId, r: u8) -> bool
-    ensures { (x : X) → result ≡ is_some (answer (with_answer answers.now from x) r) }
+    ensures { result ≡ (eqb from r || is_some (answer answers.now r)) }
 {
     from.index() == r || answers.get(r).is_some()
 }
 
 /// Whether all others of the leader's fast quorum answered, the one that answers now among them.
+#[tactic(auto, using(crate::proofs::Answering::fast_more))]
 pub(crate) fn fast_answered(
     size: Size,
     leader: ReplicaId,

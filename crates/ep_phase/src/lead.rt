@@ -121,10 +121,7 @@ impl Lead {
         ensures ok { OnOk result (self.new ≡ record self.old { leads = with_led self.old.leads id (with_pre_accepted from attrs (get self.old.leads id)) }) }
         ensures err { OnErr result (self.new ≡ self.old) }
     {
-        let mut led = self.leads.put_back(id, None);
-        let outcome = add_pre_accepted(&mut led, from, attrs);
-        self.leads.write(id, led);
-        outcome
+        add_pre_accepted(&mut self.leads, id, from, attrs)
     }
 
     /// One more replica accepted, if this is the accept phase. At want of memory nothing has changed.
@@ -133,10 +130,7 @@ impl Lead {
         ensures ok { OnOk result (self.new ≡ record self.old { leads = with_led self.old.leads id (with_accepted from (get self.old.leads id)) }) }
         ensures err { OnErr result (self.new ≡ self.old) }
     {
-        let mut led = self.leads.put_back(id, None);
-        let outcome = add_accepted(&mut led, from);
-        self.leads.write(id, led);
-        outcome
+        add_accepted(&mut self.leads, id, from)
     }
 
     /// Leads the instance no longer. It takes no memory, and needs no place.
@@ -182,7 +176,28 @@ impl Lead {
     }
 }
 
-fn add_pre_accepted(led: &mut Option<Led>, from: ReplicaId, attrs: Attrs) -> Result<(), AllocError>
+// What is led is taken out, and put back with the answer, or as it was.
+fn add_pre_accepted(
+    leads: &mut Table<Led>,
+    id: InstanceId,
+    from: ReplicaId,
+    attrs: Attrs,
+) -> Result<(), AllocError>
+    requires { HasPlace leads.old.places id }
+    ensures ok { OnOk result (leads.new ≡ record { held = with_led leads.old.held id (with_pre_accepted from attrs (get leads.old.held id)); places = leads.old.places }) }
+    ensures err { OnErr result (leads.new ≡ leads.old) }
+{
+    let mut led = leads.put_back(id, None);
+    let outcome = count_pre_accepted(&mut led, from, attrs);
+    leads.write(id, led);
+    outcome
+}
+
+fn count_pre_accepted(
+    led: &mut Option<Led>,
+    from: ReplicaId,
+    attrs: Attrs,
+) -> Result<(), AllocError>
     ensures ok { OnOk result (led.new ≡ or_as_before led.old (with_pre_accepted from attrs led.old)) }
     ensures err { OnErr result (led.new ≡ led.old) }
 {
@@ -192,7 +207,22 @@ fn add_pre_accepted(led: &mut Option<Led>, from: ReplicaId, attrs: Attrs) -> Res
     }
 }
 
-fn add_accepted(led: &mut Option<Led>, from: ReplicaId) -> Result<(), AllocError>
+fn add_accepted(
+    leads: &mut Table<Led>,
+    id: InstanceId,
+    from: ReplicaId,
+) -> Result<(), AllocError>
+    requires { HasPlace leads.old.places id }
+    ensures ok { OnOk result (leads.new ≡ record { held = with_led leads.old.held id (with_accepted from (get leads.old.held id)); places = leads.old.places }) }
+    ensures err { OnErr result (leads.new ≡ leads.old) }
+{
+    let mut led = leads.put_back(id, None);
+    let outcome = count_accepted(&mut led, from);
+    leads.write(id, led);
+    outcome
+}
+
+fn count_accepted(led: &mut Option<Led>, from: ReplicaId) -> Result<(), AllocError>
     ensures ok { OnOk result (led.new ≡ or_as_before led.old (with_accepted from led.old)) }
     ensures err { OnErr result (led.new ≡ led.old) }
 {
