@@ -252,6 +252,7 @@ fn write(
     }
 }
 
+#[tactic(auto, using(crate::proofs::TakenOut::settled_written))]
 fn write_record(space: &mut Space, id: InstanceId, entry: Recorded) -> Result<(), AllocError>
     requires { HasRecordPlace entry space.old.places id }
     ensures ok { OnOk result (space.new ≡ record space.old { records = with_entry space.old.records id (entry_of id (record_at space.old id) entry) }) }
@@ -267,6 +268,9 @@ fn write_record(space: &mut Space, id: InstanceId, entry: Recorded) -> Result<()
         Recorded::PreAccepts(ballot, decree) => space.vote_pre(id, ballot, decree),
         Recorded::Accepts(ballot, decree) => space.vote_accept(id, ballot, decree),
         Recorded::Commits(decree) => space.commit(id, decree),
-        Recorded::Settles => Err(AllocError),
+        Recorded::Settles => {
+            space.settle(id);
+            Ok(())
+        }
     }
 }

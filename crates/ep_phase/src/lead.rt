@@ -137,7 +137,7 @@ impl Lead {
     pub fn end(&mut self, id: InstanceId)
         ensures { self.new ≡ with_lead self.old id None }
     {
-        self.leads.write(id, None);
+        self.leads.clear(id);
     }
 
     // The counters told.
