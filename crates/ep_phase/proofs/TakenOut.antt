@@ -3,16 +3,11 @@ use Rattle.std.proofs.Common.{◌≡◌, ◌∙◌, ℕ, Bool, true, false, cond
 use Rattle.std.specs.Prelude.{OnOk, OnErr}
 use Rattle.std.specs.declared.alloc.AllocError.{AllocError}
 use Rattle.ep_rules.specs.Maps.{Map, get, insert, remove}
-use Rattle.ep_base.specs.declared.vote.Vote.{Vote}
-use Rattle.ep_base.specs.declared.vote.Status.TheVariants.{Committed}
-use Rattle.ep_rules.specs.Cells.{record_or_fresh, voted_ballot}
-use Rattle.ep_rules.specs.States.{with_entry, with_held, with_led}
-use Rattle.ep_rules.specs.declared.record.Record.{Record}
+use Rattle.ep_rules.specs.States.{with_held, with_led}
 use Rattle.ep_rules.specs.declared.led.Led.{Led}
 use Rattle.ep_space.specs.Held.{Held}
 use Rattle.ep_space.proofs.Twice.{with_held-after_remove, with_held-same, remove_none}
-use Rattle.ep_space.specs.Records.{settled_record, settled_vote}
-use Rattle.ep_phase.specs.Changes.{or_as_before, settled}
+use Rattle.ep_phase.specs.Changes.{or_as_before}
 
 back : {X : Type 0} (m : Map X) (i : ℕ) → with_held (remove m i) i (get m i) ≡ m
 back m i = with_held-after_remove m i (get m i) ∙ with_held-same m i (get m i) refl
@@ -46,16 +41,3 @@ module _ (w : Option Led → Option (Option Led)) (r : Result (Unit {0}) AllocEr
           ∙ ap (λ t. record { held = with_held t.held i led; places = t.places }) taken
           ∙ ap (λ l. record { held = with_held (remove old.held i) i l; places = old.places }) (h ∙ is)
           ∙ ap (λ m. record { held = m; places = old.places }) (back old.held i)
-
--- A record whose vote is committed is the rule's new record, or it stays where there was no vote.
-module _ (m : Map Record) (i : ℕ) where
-  settled_at : (o : Option Record) → get m i ≡ o → with_held m i (settled_record o) ≡ with_entry m i (settled i (record_or_fresh i o) (record_or_fresh i o).vote)
-  settled_at None h = remove_none m i h
-  settled_at (Some r) h = voted r.vote refl
-    where
-      voted : (v : Option Vote) → r.vote ≡ v → insert m i (record r { vote = settled_vote v }) ≡ with_entry m i (settled i r v)
-      voted None e = (λ t. insert m i (record r { vote = (sym e) t })) ∙ with_held-same m i (Some r) h
-      voted (Some v) e = ap (λ o. insert m i (record { promised = r.promised; vote = Some (record { status = Committed; ballot = voted_ballot i o; decree = v.decree }) })) (sym e)
-
-  pub settled_written : with_held m i (settled_record (get m i)) ≡ with_entry m i (settled i (record_or_fresh i (get m i)) (record_or_fresh i (get m i)).vote)
-  settled_written = settled_at (get m i) refl

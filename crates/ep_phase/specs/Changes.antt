@@ -18,6 +18,7 @@ use Rattle.ep_rules.specs.declared.led.Led.{Led}
 use Rattle.ep_rules.specs.declared.led.Led.TheVariants.{Proposing, Accepting, Preparing}
 use Rattle.ep_rules.specs.declared.record.Record.{Record}
 use Rattle.ep_space.specs.Held.{Places, HasPlace}
+use Rattle.ep_space.specs.Settled.{settled}
 use Rattle.ep_phase.specs.Known.{Known, record_of}
 use Rattle.ep_phase.specs.declared.change.Change.{Change}
 use Rattle.ep_phase.specs.declared.leading.Leading.{Leading}
@@ -31,11 +32,6 @@ use Rattle.ep_phase.specs.declared.sending.What.{What}
 use Rattle.ep_phase.specs.declared.sending.What.TheVariants as what
 
 -- Records.
-
--- what was voted for, committed: none where nothing was
-abbrev pub settled : ℕ → Record → Option Vote → Option Record
-settled i r None = None
-settled i r (Some v) = Some (with_commit i r v.decree)
 
 -- what this makes of i's record, where r is the one before; none where it stays
 abbrev pub entry_of : ℕ → Record → Recorded → Option Record

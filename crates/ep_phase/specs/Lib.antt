@@ -3,4 +3,3 @@ pub mod Known
 pub mod Changes
 pub mod Refused
 pub mod Progress
-pub mod StandIn

@@ -12,7 +12,7 @@ ghost use Rattle.ep_space.specs.Keys.{keys_at, NeedsNoRoom};
 ghost use Rattle.ep_space.specs.Records.{record_at};
 ghost use Rattle.ep_phase.specs.Changes.{adds_answer, change_of, decree_in, entry_of, led_of, message_in, new_record, sends, to_receivers, voted_decree, voted_for, HasRecordPlace, HasLeadPlace, HasToldPlace};
 ghost use Rattle.ep_phase.specs.Known.{Known, record_of};
-ghost use Rattle.ep_phase.specs.StandIn.{says};
+ghost use Rattle.ep_base.specs.Messages.{says};
 
 use crate::cell::Cell;
 use crate::lead::Lead;
@@ -20,8 +20,8 @@ use crate::leading::Leading;
 use crate::receivers::Receivers;
 use crate::recorded::Recorded;
 use crate::sending::{Sending, What};
-use crate::standin::{Said, Telling};
-use ep_base::{Ballot, Decree, InstanceId, ReplicaId};
+use ep_frame::Telling;
+use ep_base::{Ballot, Decree, InstanceId, ReplicaId, Said};
 use ep_rules::Led;
 use ep_space::Space;
 use std::alloc::AllocError;
@@ -252,7 +252,6 @@ fn write(
     }
 }
 
-#[tactic(auto, using(crate::proofs::TakenOut::settled_written))]
 fn write_record(space: &mut Space, id: InstanceId, entry: Recorded) -> Result<(), AllocError>
     requires { HasRecordPlace entry space.old.places id }
     ensures ok { OnOk result (space.new ≡ record space.old { records = with_entry space.old.records id (entry_of id (record_at space.old id) entry) }) }

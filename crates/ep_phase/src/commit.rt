@@ -2,12 +2,13 @@
 
 ghost use Rattle.std.specs.Prelude.{◌≡◌, Some, IsTrue, IfOk, IfErr};
 ghost use Rattle.ep_phase.specs.declared.decision_fault.DecisionFault.TheVariants.{Memory};
-ghost use Rattle.ep_phase.specs.declared.standin.Kind.TheVariants as kind;
+ghost use Rattle.ep_frame.specs.declared.kind.Kind.TheVariants as kind;
+ghost use Rattle.ep_space.specs.Settled.{settled};
 ghost use Rattle.ep_rules.specs.Phases as rules;
 ghost use Rattle.ep_rules.specs.Phases.{with_commit};
-ghost use Rattle.ep_phase.specs.Changes.{change_of, settled};
+ghost use Rattle.ep_phase.specs.Changes.{change_of};
 ghost use Rattle.ep_phase.specs.Known.{Known, record_of};
-ghost use Rattle.ep_phase.specs.StandIn.{kind_at, decree_at};
+ghost use Rattle.ep_frame.specs.Meaning.{kind_at, decree_at};
 
 use crate::cell::Cell;
 use crate::change::Change;
@@ -16,7 +17,7 @@ use crate::leading::Leading;
 use crate::receivers::Receivers;
 use crate::recorded::Recorded;
 use crate::sending::{Sending, What};
-use crate::standin::FrameView;
+use ep_frame::FrameView;
 use ep_base::Decree;
 use std::alloc::Global;
 

@@ -6,10 +6,10 @@ ghost use Rattle.ep_base.specs.Quorums.{size as size_of};
 ghost use Rattle.ep_rules.specs.Answers.{answer, with_answer};
 ghost use Rattle.ep_rules.specs.Counting.{is_other};
 ghost use Rattle.ep_rules.specs.Phases as rules;
-ghost use Rattle.ep_phase.specs.StandIn.{attrs_at, sender_at};
+ghost use Rattle.ep_frame.specs.Meaning.{attrs_at, sender_at};
 
 use crate::receivers::is_fast;
-use crate::standin::FrameView;
+use ep_frame::FrameView;
 use ep_base::{Attrs, Decree, ReplicaId, Size};
 use ep_rules::Answers;
 use std::alloc::{AllocError, Global};

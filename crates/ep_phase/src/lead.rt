@@ -3,7 +3,6 @@
 ghost use Rattle.std.specs.Prelude.{◌≡◌, true, Some, None, IfOk, OnOk, OnErr};
 ghost use Rattle.std.specs.Option.{option_copied};
 ghost use Rattle.std.specs.FinSet as set;
-ghost use Rattle.ep_rules.specs.Answers.{with_answer};
 ghost use Rattle.ep_rules.specs.Maps.{none, get};
 ghost use Rattle.ep_rules.specs.States.{or_zero};
 ghost use Rattle.ep_space.specs.Held.{HasPlace};
@@ -12,7 +11,7 @@ ghost use Rattle.ep_phase.specs.Changes.{or_as_before, with_pre_accepted, with_a
 ghost use Rattle.ep_phase.specs.Leads.{with_lead, with_told};
 
 use ep_base::{Attrs, InstanceId, ReplicaId};
-use ep_rules::{Answers, Led};
+use ep_rules::Led;
 use ep_space::Table;
 use std::alloc::{AllocError, Global};
 use std::marker::Model;
@@ -202,7 +201,7 @@ fn count_pre_accepted(
     ensures err { OnErr result (led.new ≡ led.old) }
 {
     match led {
-        Some(Led::Proposing(_, answers)) => add(answers, from, attrs),
+        Some(Led::Proposing(_, answers)) => answers.add(from, attrs),
         _ => Ok(()),
     }
 }
@@ -227,15 +226,7 @@ fn count_accepted(led: &mut Option<Led>, from: ReplicaId) -> Result<(), AllocErr
     ensures err { OnErr result (led.new ≡ led.old) }
 {
     match led {
-        Some(Led::Accepting(_, answers)) => add(answers, from, ()),
+        Some(Led::Accepting(_, answers)) => answers.add(from, ()),
         _ => Ok(()),
     }
-}
-
-// A stand-in for `Answers::add`.
-fn add<X: Drop>(answers: &mut Answers<X>, from: ReplicaId, value: X) -> Result<(), AllocError>
-    ensures ok { OnOk result (answers.new ≡ with_answer answers.old from value) }
-    ensures err { OnErr result (answers.new ≡ answers.old) }
-{
-    Err(AllocError)
 }

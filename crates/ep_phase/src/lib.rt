@@ -25,7 +25,6 @@ mod propose;
 mod receivers;
 mod recorded;
 mod sending;
-mod standin;
 
 pub use accept::{begin_accept, on_accept, on_accept_ok};
 pub use cell::Cell;
@@ -41,4 +40,3 @@ pub use propose::{
 pub use receivers::{Receivers, is_fast};
 pub use recorded::Recorded;
 pub use sending::{Sending, What};
-pub use standin::{FrameView, Kind, Said, Telling};

@@ -14,12 +14,10 @@ use Rattle.ep_base.proofs.Members.{same_members}
 use Rattle.ep_rules.specs.Cells.{record_or_fresh}
 use Rattle.ep_rules.specs.Maps.{Map, none, get}
 use Rattle.ep_rules.specs.States.{with_held}
-use Rattle.ep_base.specs.declared.vote.Vote.{Vote}
 use Rattle.ep_rules.specs.declared.record.Record.{Record}
 use Rattle.ep_space.specs.Held.{Held, Places, HasPlace}
 use Rattle.ep_space.specs.Index.{Entry, run, with_instance, without, brings, IsKept}
 use Rattle.ep_space.specs.Keys.{voted_keys, recorded_keys, keys_at, holders}
-use Rattle.ep_space.specs.Records.{settled_vote, settled_record}
 use Rattle.ep_space.proofs.Holders.{rising-holders, holds-key, key-holds, holders-same, holders-none}
 use Rattle.ep_space.proofs.Rising.{with-cases, with-Has, rising-with, Has-without, without-Has, without-gone, rising-without}
 
@@ -50,15 +48,6 @@ get-own m i (Some r) = map.get-insert nat_cmp_total m i r i ∙ ap (λ b. cond b
 pub keys_promised : (i : ℕ) (o : Option Record) → voted_keys (record_or_fresh i o).vote ≡ recorded_keys o
 keys_promised i None = refl
 keys_promised i (Some r) = refl
-
--- so does a commit of what was voted for
-pub keys_settled : (o : Option Record) → recorded_keys (settled_record o) ≡ recorded_keys o
-keys_settled None = refl
-keys_settled (Some r) = settled r.vote
-  where
-    settled : (v : Option Vote) → voted_keys (settled_vote v) ≡ voted_keys v
-    settled None = refl
-    settled (Some v) = refl
 
 module _ (m : Map Record) (i : ℕ) (o : Option Record) where
   abbrev after : Map Record

@@ -1,5 +1,5 @@
 -- What the entries have at an instance is what the table holds there.
-use Rattle.std.proofs.Common.{◌≡◌, ℕ, Bool, true, false, cond, Option, Some, None, List, [], ◌∷◌, ◌++◌, refl, sym, ap, ◌∙◌, subst, true≢false}
+use Rattle.std.proofs.Common.{◌≡◌, ℕ, Bool, true, false, cond, Option, Some, None, List, [], ◌∷◌, ◌++◌, refl, sym, ap, ◌∙◌, subst}
 use Rattle.std.specs.Prelude.{is_some, ◌||◌}
 use Rattle.std.specs.Cmp.{nat_cmp_total}
 use Rattle.std.specs.FinMap as map
@@ -111,11 +111,3 @@ module _ {X : Type 0} where
       ∙ flat_either (same i q) w (lookup (same q) es) (map.get (held es).held q) (get-held q es h)
       ∙ sym (tested w (held es).held i q (same i q) refl)) in
       λ t. record { held = values t; places = set.from_list (keys-set_value (same i) es w t) }
-
-  some_not : (o : Option (Option X)) → is_some o ≡ false → flat o ≡ None
-  some_not None h = refl
-  some_not (Some v) h = absurd (true≢false h)
-
-  -- where there is no place, there is no value
-  pub no_value : (q : ℕ) (es : List (ℕ × Option X)) → IsTable es → set.contains (held es).places q ≡ false → map.get (held es).held q ≡ None
-  no_value q es h gone = get-held q es h ∙ some_not (lookup (same q) es) (sym (contains-held q es) ∙ gone)

@@ -7,7 +7,6 @@ use Rattle.std.specs.FinMap.{nat_cmp-IsAntisymmetric}
 use Rattle.std.specs.Ordering.{nat_cmp, eq_by_cmp}
 use Rattle.ep_rules.specs.Maps.{Map, get, insert, remove}
 use Rattle.ep_rules.specs.States.{with_held}
-use Rattle.ep_space.specs.Held.{Held}
 
 either : {X : Type 0} (b : Bool) (v o : Option X) → cond b v (cond b None o) ≡ cond b v o
 either true v o = refl
@@ -37,9 +36,6 @@ with_held-after_remove m i None =
     ∙ sym (map.get-remove nat_cmp_total m i q))
 with_held-after_remove m i (Some x) = insert_after_remove m i x
 
-pub held_after_remove : {X : Type 0} (m : Map X) (i : ℕ) (o : Option X) → with_held (remove m i) i o ≡ with_held m i o
-held_after_remove m i o = with_held-after_remove m i o
-
 empty_either : {X : Type 0} (b : Bool) (o : Option X) → (b ≡ true → o ≡ None) → cond b None o ≡ o
 empty_either true o h = sym (h refl)
 empty_either false o h = refl
@@ -51,20 +47,3 @@ remove_none m i none =
     (λ q.
     map.get-remove nat_cmp_total m i q
     ∙ empty_either (eq_by_cmp nat_cmp q i) (map.get m q) (λ tied. ap (map.get m) (eqb-true q i (sym (unsigned_tied q i) ∙ tied)) ∙ none))
-
--- the same of a table
-pub nothing_taken : {X : Type 0} (h : Held X) (i : ℕ) → get h.held i ≡ None → h ≡ record { held = with_held h.held i None; places = h.places }
-nothing_taken h i none = ap (λ m. record { held = m; places = h.places }) (sym (remove_none h.held i none))
-
-own_or : {X : Type 0} (b : Bool) (v o : Option X) → (b ≡ true → v ≡ o) → cond b v o ≡ o
-own_or true v o h = h refl
-own_or false v o h = refl
-
--- what is there, written again
-pub with_held-same : {X : Type 0} (m : Map X) (i : ℕ) (o : Option X) → get m i ≡ o → with_held m i o ≡ m
-with_held-same m i None h = remove_none m i h
-with_held-same m i (Some x) h =
-    map.same_map nat_cmp_total nat_cmp-IsAntisymmetric _ _
-    (λ q.
-    map.get-insert nat_cmp_total m i x q
-    ∙ own_or (eq_by_cmp nat_cmp q i) (Some x) (map.get m q) (λ tied. sym (ap (map.get m) (eqb-true q i (sym (unsigned_tied q i) ∙ tied)) ∙ h)))

@@ -1,12 +1,10 @@
 -- The records of a replica, and the instances that have a place for one.
-use Rattle.std.specs.Prelude.{ℕ, refl, Option, Some, None}
+use Rattle.std.specs.Prelude.{ℕ, refl, Option}
 use Rattle.std.specs.Coded.{Coded, code_by, coded×, coded_ℕ}
 use Rattle.std.specs.FinMap as map
 use Rattle.std.specs.FinSet as set
 use Rattle.ep_base.specs.contracts.version.Version as version_facts
 use Rattle.ep_base.specs.declared.version.Version.{Version}
-use Rattle.ep_base.specs.declared.vote.Status.TheVariants.{Committed}
-use Rattle.ep_base.specs.declared.vote.Vote.{Vote}
 use Rattle.ep_rules.specs.Cells.{record_or_fresh}
 use Rattle.ep_rules.specs.Maps.{Map, get, insert}
 use Rattle.ep_rules.specs.States.{with_held}
@@ -36,13 +34,3 @@ with_record s i r = record s { records = insert s.records i r }
 -- the same with this record of i, or with none
 abbrev pub with_earlier : Records → ℕ → Option Record → Records
 with_earlier s i o = record s { records = with_held s.records i o }
-
--- the vote, if there is one, committed
-abbrev pub settled_vote : Option Vote → Option Vote
-settled_vote None = None
-settled_vote (Some v) = Some (record v { status = Committed })
-
--- the record, if there is one, with its vote committed
-abbrev pub settled_record : Option Record → Option Record
-settled_record None = None
-settled_record (Some r) = Some (record r { vote = settled_vote r.vote })

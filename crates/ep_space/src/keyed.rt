@@ -11,13 +11,12 @@ ghost use Rattle.ep_space.specs.Held.{HasPlace};
 ghost use Rattle.ep_space.specs.Index.{IsKept};
 ghost use Rattle.ep_space.specs.Keys.{recorded_keys, keys_at, holders, NeedsNoRoom};
 ghost use Rattle.ep_space.specs.Open.{AreRecords};
-ghost use Rattle.ep_space.specs.Records.{settled_record, settled_vote};
 
 use crate::index::{self, Index, enter, leave, run_of};
 use crate::place::instance_of;
 use crate::table::Table;
 use crate::taken::note;
-use ep_base::{Ballot, InstanceId, ReplicaId, Status, Vote};
+use ep_base::{Ballot, InstanceId, ReplicaId, Vote};
 use ep_rules::Record;
 use indexmap::IndexMap;
 use std::alloc::{AllocError, Global};
@@ -135,15 +134,6 @@ impl Keyed {
         note(&mut self.taken, &self.table, id);
     }
 
-    /// Commits what is voted for in the instance, if something is. It takes no memory.
-    pub fn settle(&mut self, id: InstanceId)
-        requires { HasPlace self.old.places id }
-        ensures { self.new ≡ record { held = with_held self.old.held id (settled_record (get self.old.held id)); places = self.old.places } }
-    {
-        write_settled(&mut self.table, id);
-        note(&mut self.taken, &self.table, id);
-    }
-
     /// The places of the records whose command has the key, in rising order of instances.
     pub fn key_run(&self, key: &[u8]) -> &[u32]
         ensures value { result.now ≡ holders key.now self.now.held }
@@ -216,40 +206,5 @@ fn vote_of(_id: InstanceId, earlier: Option<Record>) -> Option<Vote>
     match earlier {
         None => None,
         Some(record) => record.vote,
-    }
-}
-
-#[tactic(auto, using(crate::proofs::Twice::held_after_remove))]
-fn write_settled(table: &mut Table<Record>, id: InstanceId)
-    requires { HasPlace table.old.places id }
-    ensures { table.new ≡ record { held = with_held table.old.held id (settled_record (get table.old.held id)); places = table.old.places } }
-{
-    let earlier = table.put_back(id, None);
-    table.write(id, settled_record(earlier));
-}
-
-/// The record with its vote, if it has one, committed.
-fn settled_record(earlier: Option<Record>) -> Option<Record>
-    ensures { result ≡ settled_record earlier }
-{
-    match earlier {
-        None => None,
-        Some(record) => Some(Record {
-            promised: record.promised,
-            vote: settled_vote(record.vote),
-        }),
-    }
-}
-
-fn settled_vote(vote: Option<Vote>) -> Option<Vote>
-    ensures { result ≡ settled_vote vote }
-{
-    match vote {
-        None => None,
-        Some(vote) => Some(Vote {
-            status: Status::Committed,
-            ballot: vote.ballot,
-            decree: vote.decree,
-        }),
     }
 }

@@ -16,7 +16,7 @@ ghost use Rattle.ep_space.specs.Gathering.{next_attrs};
 ghost use Rattle.ep_space.specs.Held.{HasPlace};
 ghost use Rattle.ep_space.specs.Keys.{recorded_keys, keys_at, holders, NeedsNoRoom};
 ghost use Rattle.ep_space.specs.Open.{AreRecords};
-ghost use Rattle.ep_space.specs.Records.{record_at, with_record, with_earlier, settled_record};
+ghost use Rattle.ep_space.specs.Records.{record_at, with_record, with_earlier};
 
 use crate::gathered::{Gathered, gathered_from};
 use crate::interference_fault::InterferenceFault;
@@ -284,14 +284,6 @@ impl Space {
                 vote: Some(vote),
             }),
         )
-    }
-
-    /// Commits what is voted for, if something is: both ballots stay. It takes no memory.
-    pub fn settle(&mut self, id: InstanceId)
-        requires { HasPlace self.old.places id }
-        ensures { self.new ≡ with_earlier self.old id (settled_record (get self.old.records id)) }
-    {
-        self.table.settle(id);
     }
 
     fn write_vote(

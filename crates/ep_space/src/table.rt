@@ -1,6 +1,6 @@
 //! A table with places for values of instances.
 
-ghost use Rattle.std.specs.Prelude.{◌≡◌, ◌≢◌, ◌≤◌, ◌<◌, ℕ, true, false, Some, None, IfOk, OnOk, OnErr, is_some, length, slice_index_or, slice_set};
+ghost use Rattle.std.specs.Prelude.{◌≡◌, ◌≢◌, ◌≤◌, ◌<◌, ℕ, true, Some, IfOk, OnOk, OnErr, is_some, length, slice_index_or, slice_set};
 ghost use Rattle.std.specs.Option.{option_copied};
 ghost use Rattle.std.specs.FinSet as set;
 ghost use Rattle.std.specs.Map.{keys_of, lookup, set_value};
@@ -92,26 +92,6 @@ impl<V: Drop> Table<V> {
         ensures { self.new ≡ record { held = with_held self.old.held id value; places = self.old.places } }
     {
         let _ = self.put_back(id, value);
-    }
-
-    /// The instance has no value from now on. It takes no memory, and needs no place.
-    #[tactic(auto, using(crate::proofs::Twice::nothing_taken))]
-    pub fn clear(&mut self, id: InstanceId)
-        ensures { self.new ≡ record { held = with_held self.old.held id None; places = self.old.places } }
-    {
-        if !self.has_place(id) {
-            self.has_no_value(id);
-            return;
-        }
-        let _ = self.put_back(id, None);
-    }
-
-    /// An instance without a place has no value: a law, which costs nothing to call.
-    fn has_no_value(&self, id: InstanceId)
-        requires { set.contains self.now.places id ≡ false }
-        ensures { get self.now.held id ≡ None }
-    {
-        let _entries = &self.entries;
     }
 
     /// Whether the instance has a place.

@@ -4,7 +4,7 @@ use Rattle.ep_base.specs.Attributes.{same_attrs}
 use Rattle.ep_rules.specs.Answers.{answer, with_answer}
 use Rattle.ep_rules.specs.Counting.{every}
 use Rattle.ep_rules.specs.Phases.{holds}
-use Rattle.ep_phase.specs.StandIn.{attrs_at, sender_at}
+use Rattle.ep_frame.specs.Meaning.{attrs_at, sender_at}
 use Rattle.ep_phase.proofs.counting.all_equal.Given as goal
 
 abbrev pub invariant-loop-r : goal.invariant-loop-r

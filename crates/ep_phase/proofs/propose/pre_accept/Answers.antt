@@ -3,7 +3,7 @@ use Rattle.ep_rules.specs.InterferenceSet.{interference}
 use Rattle.ep_rules.specs.Phases.{limited}
 use Rattle.ep_phase.specs.Changes.{pre_accepted}
 use Rattle.ep_phase.specs.Refused.{IsRefused}
-use Rattle.ep_phase.specs.StandIn.{sender_at, ballot_at, decree_at}
+use Rattle.ep_frame.specs.Meaning.{sender_at, ballot_at, decree_at}
 use Rattle.ep_phase.proofs.Refusals.{passed_on}
 use Rattle.ep_phase.proofs.propose.pre_accept.Goals as goal
 
