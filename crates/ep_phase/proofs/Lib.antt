@@ -1,3 +1,4 @@
 pub mod Answering
 pub mod Refusals
+pub mod Settled
 pub mod TakenOut

@@ -6,11 +6,12 @@ use Rattle.ep_rules.specs.Maps.{Map, get, insert, remove}
 use Rattle.ep_rules.specs.States.{with_held, with_led}
 use Rattle.ep_rules.specs.declared.led.Led.{Led}
 use Rattle.ep_space.specs.Held.{Held}
-use Rattle.ep_space.proofs.Twice.{with_held-after_remove, with_held-same, remove_none}
+use Rattle.ep_space.proofs.Settling.{with_held-again}
+use Rattle.ep_space.proofs.Twice.{with_held-after_remove}
 use Rattle.ep_phase.specs.Changes.{or_as_before}
 
 back : {X : Type 0} (m : Map X) (i : ℕ) → with_held (remove m i) i (get m i) ≡ m
-back m i = with_held-after_remove m i (get m i) ∙ with_held-same m i (get m i) refl
+back m i = with_held-after_remove m i (get m i) ∙ with_held-again m i (get m i) refl
 
 changed : (m : Map Led) (i : ℕ) (w : Option (Option Led)) → with_held (remove m i) i (or_as_before (get m i) w) ≡ with_led m i w
 changed m i None = back m i

@@ -1,12 +1,12 @@
 //! Who answered, and with what.
 
-ghost use Rattle.std.specs.Prelude.{◌≡◌, ◌&&◌, ◌||◌, not, eqb, is_some, IfOk, OnOk};
+ghost use Rattle.std.specs.Prelude.{◌≡◌, true, ◌&&◌, ◌||◌, not, eqb, is_some, IfOk, OnOk};
 ghost use Rattle.ep_base.specs.Attributes.{same_attrs};
 ghost use Rattle.ep_base.specs.Quorums.{size as size_of};
 ghost use Rattle.ep_rules.specs.Answers.{answer, with_answer};
 ghost use Rattle.ep_rules.specs.Counting.{is_other};
 ghost use Rattle.ep_rules.specs.Phases as rules;
-ghost use Rattle.ep_frame.specs.Meaning.{attrs_at, sender_at};
+ghost use Rattle.ep_frame.specs.Meaning.{attrs_at, kind_at, sender_at, tells_attrs};
 
 use crate::receivers::is_fast;
 use ep_frame::FrameView;
@@ -159,6 +159,7 @@ pub(crate) fn joined_with(
     frame: &FrameView<'_>,
     decree: &Decree,
 ) -> Result<Decree, AllocError>
+    requires attrs { tells_attrs (kind_at frame.now) ≡ true }
     ensures { IfOk result (λ x. x ≡ rules.joined size (with_answer answers.now (sender_at frame.now) (attrs_at frame.now)) decree.now) }
 {
     let command = decree.command.copy(alloc)?;
@@ -174,6 +175,7 @@ fn join_all_with(
     frame: &FrameView<'_>,
     attrs: Attrs,
 ) -> Result<Attrs, AllocError>
+    requires attrs { tells_attrs (kind_at frame.now) ≡ true }
     ensures { IfOk result (λ a. a ≡ rules.join_all (size_of size) (with_answer answers.now (sender_at frame.now) (attrs_at frame.now)) attrs) }
 {
     let mut all = attrs;
@@ -190,6 +192,7 @@ fn join_one(
     frame: &FrameView<'_>,
     r: u8,
 ) -> Result<(), AllocError>
+    requires attrs { tells_attrs (kind_at frame.now) ≡ true }
     ensures { OnOk result (attrs.new ≡ rules.join_some (answer (with_answer answers.now (sender_at frame.now) (attrs_at frame.now)) r) attrs.old) }
 {
     if frame.from().index() == r {
