@@ -13,3 +13,4 @@ pub mod Meanings
 pub mod DepBytes
 pub mod Reorigin
 pub mod Upgrading
+pub mod Told

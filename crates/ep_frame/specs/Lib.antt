@@ -7,3 +7,4 @@ pub mod Ranges
 pub mod DepBytes
 pub mod Origins
 pub mod Upgrading
+pub mod Rounds
