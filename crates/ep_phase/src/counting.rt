@@ -163,8 +163,8 @@ pub(crate) fn joined_with(
     ensures { IfOk result (λ x. x ≡ rules.joined size (with_answer answers.now (sender_at frame.now) (attrs_at frame.now)) decree.now) }
 {
     let command = decree.command.copy(alloc)?;
-    let own = decree.attrs.copy(alloc)?;
-    let attrs = join_all_with(alloc, size, answers, frame, own)?;
+    let attrs = decree.attrs.copy(alloc)?;
+    let attrs = join_all_with(alloc, size, answers, frame, attrs)?;
     Ok(Decree { command, attrs })
 }
 
