@@ -189,6 +189,8 @@ def failing_devices():
     # (and a bundle that isn't read, which `show` tells on the fault output, `explain` on standard output)
     for words in (["show"], ["explain"]):
         yield swept("failing-devices", ["ep_viewer", "--", *words], bundle[:-1])
+    # (a script that is shorter than what `explain` looks at first: after its end nothing is read again)
+    yield swept("failing-devices", ["ep_viewer", "--", "explain"], PUT)
     yield swept("failing-devices", ["ep_viewer", "--", *TRACE], LONG + b"#\n" * 8192)
     yield swept("failing-devices", ["ep_viewer", "--", *TRACE], b"replicas 4\n")
 

@@ -120,7 +120,7 @@ def refused(reason, tip=""):
 def fixed(room):
     """Where nothing is built: the words, what came of them, and what is wanted."""
     room.place()
-    for words in ("--help", "-h", "help"):
+    for words in ("--help", "-h", "help", "help help"):
         yield words, room.run(words), (0, text("epaxos"), "")
     for command in COMMANDS:
         for words in (f"help {command}", f"{command} --help", f"{command} -h"):
@@ -130,6 +130,9 @@ def fixed(room):
         ("", refused(listed)),
         ("frob", refused("unrecognized subcommand 'frob'")),
         ("replya", refused("unrecognized subcommand 'replya'", "a similar subcommand exists: 'replay'")),
+        ("help frob", refused("unrecognized subcommand 'frob'")),
+        ("help shwo", refused("unrecognized subcommand 'shwo'", "a similar subcommand exists: 'show'")),
+        ("help show now", (2, "", f"{REFUSED}unexpected argument 'now' found\n\nUsage: epaxos help [COMMAND]{MORE}")),
         ("--biuld", refused("unexpected argument '--biuld' found", "a similar argument exists: '--build'")),
         ("-build", refused("unexpected argument '-build' found", "a similar argument exists: '--build'")),
         ("build --unproved", refused("unrecognized subcommand 'build'", "a similar argument exists: '--build'")),

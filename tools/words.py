@@ -188,6 +188,8 @@ def of_top(words):
     every = [*commands(), "help"]
     if not words:
         return f"'epaxos' requires a subcommand but one was not provided\n  [subcommands: {', '.join(every)}]\n\nUsage: epaxos <COMMAND>\n"
+    if words[0] == "help" and len(words) > 1:
+        return f"unexpected argument '{words[2]}' found\n\nUsage: epaxos help [COMMAND]\n" if len(words) > 2 and words[1] in every else of_top(words[1:])
     word = words[0]
     first = f"unexpected argument '{word}' found" if is_option(word) else f"unrecognized subcommand '{word}'"
     command, own = nearest(word, every), nearest(word.strip("-"), [it[2:] for it in OWN])
