@@ -1,6 +1,6 @@
 //! Replays of scripts.
 
-ghost use Rattle.std.specs.Prelude.{◌≡◌, ℕ, ◌≤◌, ◌++◌, List, length, OnOk, IfOk};
+ghost use Rattle.std.specs.Prelude.{◌≡◌, ℕ, ◌≤◌, ◌++◌, List, [], false, length, OnOk, IfOk};
 ghost use Rattle.ep_rules.specs.Audits.{IsAccepted};
 ghost use Rattle.ep_rules.specs.Counts.{AreOnce};
 ghost use Rattle.ep_rules.specs.declared.receipt.Receipt.{Receipt as Told};
@@ -40,6 +40,22 @@ fn last_receipts(alloc: Global, world: &World) -> Result<Vec<Receipt>, AllocErro
     Ok(receipts)
 }
 
+/// Whether the world's last step executed something.
+fn has_executed(world: &World) -> bool
+    ensures { result ≡ false → (w : Played) (event : Event) (h : Happens w event world.now) → receipts_of h.replica (journals_in world.now h.replica) (entry_of h.entry) ≡ [] }
+{
+    let Some((replica, _)) = world.steps().last() else {
+        return false;
+    };
+    let Some(replica) = world.replica(*replica) else {
+        return false;
+    };
+    let Some(entry) = replica.journal().entries().last() else {
+        return false;
+    };
+    !entry.done.as_slice().is_empty()
+}
+
 /// Adds the receipts of what the world's last step executed.
 fn collect(
     alloc: Global,
@@ -51,6 +67,9 @@ fn collect(
     ensures counted { OnOk result ((ps : List ℕ) → AreCounted clients.old ps receipts.old.items → AreCounted clients.new ps receipts.new.items) }
     ensures own { OnOk result (AreOwn world.now receipts.old.items → AreOwn world.now receipts.new.items) }
 {
+    if !has_executed(world) {
+        return Ok(());
+    }
     let mut new = last_receipts(alloc, world)?;
     clients.note_all(new.as_slice())?;
     receipts.append(&mut new)?;
@@ -161,8 +180,29 @@ impl Player {
         ensures { OnOk result (Leads (λ p q. Tries (with_given p message) line (event.Deliver message) q) self.old self.new) }
     {
         self.note(message)?;
-        self.attempt(line, WorldEvent::Deliver(message))?;
+        self.hand_over(line, message)?;
         Ok(())
+    }
+
+    /// Gives the message of this number to its receiver, or lists it with the number of its line where it is refused.
+    fn hand_over(&mut self, line: u32, message: u64) -> Result<(), AllocError>
+        ensures { OnOk result (Leads (λ p q. Tries p line (event.Deliver message) q) self.old self.new) }
+    {
+        match self.world.deliver(message) {
+            Ok(()) => {
+                collect(
+                    self.alloc,
+                    &self.world,
+                    &mut self.clients,
+                    &mut self.receipts,
+                )?;
+                Ok(())
+            }
+            Err(refusal) => {
+                list(&mut self.refused, line, refusal)?;
+                Ok(())
+            }
+        }
     }
 
     /// Gives these messages, in their order.

@@ -3,3 +3,4 @@ pub mod Grown
 pub mod Kept
 pub mod Taken
 pub mod Laws
+pub mod Refusing

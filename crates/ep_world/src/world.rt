@@ -47,6 +47,8 @@ impl World {
     ghost use Rattle.ep_frame.specs.Spelling.{IsFrame};
     ghost use Rattle.ep_world.specs.Played.{collected, entries_in, replica_in, journals_in, message_in, IsPlayed};
     ghost use Rattle.ep_world.specs.Playing.{asked, Happens, IsNotEnabled, Happen, Ends};
+    ghost use Rattle.ep_journal.specs.declared.event.Event.TheVariants.{Handle};
+    ghost use Rattle.ep_world.specs.declared.world_event.WorldEvent.{WorldEvent as Asked};
     ghost use Rattle.ep_world.specs.declared.world_event.WorldEvent.TheVariants.{Deliver};
     ghost use Rattle.ep_world.specs.Safe.{Agree, Keeps, WereProposed, Depend, Linearizable};
 
@@ -74,7 +76,65 @@ impl World {
         ensures err { OnErr result (self.new ≡ self.old) }
         ensures permanence { Keeps self.old self.new }
     {
-        let (replica, taken) = self.ask(event)?;
+        match event {
+            WorldEvent::Propose {
+                replica,
+                client,
+                request,
+                command,
+                seen,
+            } => self.take(
+                replica,
+                Event::Propose {
+                    client,
+                    request,
+                    command,
+                    seen,
+                },
+            ),
+            WorldEvent::GiveUp { replica, instance } => self.take(replica, Event::GiveUp(instance)),
+            WorldEvent::Recover { replica, instance } => {
+                self.take(replica, Event::Recover(instance))
+            }
+            WorldEvent::Execute { replica, instance } => {
+                self.take(replica, Event::Execute(instance))
+            }
+            WorldEvent::Deliver(message) => self.deliver(message),
+        }
+    }
+
+    /// Gives the message of this number to its receiver: as `step` does, of `Deliver`.
+    pub fn deliver(&mut self, message: u64) -> Result<(), Cause>
+        ensures ok { OnOk result (Happens self.old (Deliver message) self.new) }
+        ensures refused { IfErr result (λ cause. IsNotEnabled self.old (Deliver message) cause) }
+        ensures err { OnErr result (self.new ≡ self.old) }
+        ensures permanence { Keeps self.old self.new }
+    {
+        let (to, frame) = self.receive(message)?;
+        self.take(to, Event::Handle(frame))
+    }
+
+    /// The replica that handles a message, and the message's frame.
+    fn receive(&self, message: u64) -> Result<(ReplicaId, Frame), Cause>
+        ensures ok { IfOk result (λ p. asked self.now (Deliver message) ≡ Some (p.0, Handle p.1)) }
+        ensures refused { IfErr result (λ cause. IsNotEnabled self.now (Deliver message) cause) }
+    {
+        let Some(frame) = self.message(message) else {
+            return Err(Cause::NoSuchMessage(message));
+        };
+        let to = receiver(frame);
+        let frame = frame.clone()?;
+        Ok((to, frame))
+    }
+
+    /// The replica takes what some event of the world asks of it.
+    fn take(&mut self, replica: ReplicaId, taken: Event) -> Result<(), Cause>
+        requires { (event : Asked) × (asked self.old event ≡ Some (replica, taken)) }
+        ensures ok { OnOk result ((event : Asked) → asked self.old event ≡ Some (replica, taken) → Happens self.old event self.new) }
+        ensures refused { IfErr result (λ cause. (event : Asked) → asked self.old event ≡ Some (replica, taken) → IsNotEnabled self.old event cause) }
+        ensures err { OnErr result (self.new ≡ self.old) }
+        ensures permanence { Keeps self.old self.new }
+    {
         match advance(
             self.size,
             &mut self.replicas,
@@ -85,47 +145,6 @@ impl World {
         ) {
             Ok(()) => Ok(()),
             Err(fault) => Err(Cause::Step(fault)),
-        }
-    }
-
-    /// The replica that handles a message, and the message's frame.
-    fn receive(&self, message: u64) -> Result<(ReplicaId, Event), Cause>
-        ensures ok { IfOk result (λ p. asked self.now (Deliver message) ≡ Some p) }
-        ensures refused { IfErr result (λ cause. IsNotEnabled self.now (Deliver message) cause) }
-    {
-        let Some(frame) = self.message(message) else {
-            return Err(Cause::NoSuchMessage(message));
-        };
-        let to = receiver(frame);
-        let frame = frame.clone()?;
-        Ok((to, Event::Handle(frame)))
-    }
-
-    /// The replica that the event is for, and what happens to it.
-    fn ask(&self, event: WorldEvent) -> Result<(ReplicaId, Event), Cause>
-        ensures ok { IfOk result (λ p. asked self.now event ≡ Some p) }
-        ensures refused { IfErr result (λ cause. IsNotEnabled self.now event cause) }
-    {
-        match event {
-            WorldEvent::Propose {
-                replica,
-                client,
-                request,
-                command,
-                seen,
-            } => Ok((
-                replica,
-                Event::Propose {
-                    client,
-                    request,
-                    command,
-                    seen,
-                },
-            )),
-            WorldEvent::GiveUp { replica, instance } => Ok((replica, Event::GiveUp(instance))),
-            WorldEvent::Recover { replica, instance } => Ok((replica, Event::Recover(instance))),
-            WorldEvent::Execute { replica, instance } => Ok((replica, Event::Execute(instance))),
-            WorldEvent::Deliver(message) => self.receive(message),
         }
     }
 

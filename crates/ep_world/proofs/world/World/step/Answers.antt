@@ -1,55 +1,30 @@
-use Rattle.std.proofs.Common.{◌≡◌, Some, subst, sym}
-use Rattle.ep_world.specs.Played.{Played}
+use Rattle.std.proofs.Common.{ap}
+use Rattle.ep_journal.specs.declared.event.Event.TheVariants as taken
 use Rattle.ep_world.specs.Playing.{asked}
-use Rattle.ep_world.specs.Replicas.{world_of, IsUntaken}
-use Rattle.ep_world.specs.Safe.{Keeps}
-use Rattle.ep_world.proofs.Kept.{same_world}
-use Rattle.ep_world.proofs.Laws.{keeps_took, keeps_same}
-use Rattle.ep_world.proofs.Taken.{step_world, not_enabled}
+use Rattle.ep_world.proofs.Refusing.{of_event}
 use Rattle.ep_world.proofs.world.World.step.Goals as goal
-use Rattle.ep_world.proofs.world.World.step.Goals.{in-Ok, in-Err}
 
-pub invariant_of-self : goal.invariant_of-self
-invariant_of-self c =
-    let f = c.self.inside.size in
-    let ks = c.self.inside.replicas.items in
-    let steps = c.self.inside.steps.items in
-    let messages = c.self.inside.messages.items in
-    let w : Played = world_of f ks steps messages in
-    let w' : Played = world_of f c.advance.new.replicas.items c.advance.new.steps.items c.advance.new.messages.items in
-    let r = c.in_ok-replica.replica in
-    let taken = c.in_ok-replica.taken in
-    let is : asked w c.args.event ≡ Some (r, taken) = subst (λ (v : Played). asked v c.args.event ≡ Some (r, taken)) (sym c.self.view_is) c.in_ok-replica.ensures.ok in (
-      c.advance.ensures.replicas,
-      elim c.match-advance.branch [
-        | in-Ok b ↦ step_world w w' c.args.event r taken c.self.invariant.1 is b.in-Ok.ensures.ok
-        | in-Err b ↦ same_world f ks c.advance.new.replicas.items steps c.advance.new.steps.items messages c.advance.new.messages.items b.in-Err.ensures.err c.self.invariant.1
-      ],
-    )
+pub take-requires : goal.take-requires
+take-requires c = (c.args.event, ap (asked c.args.self.now) c.in-Propose.is)
 
-pub returns-clause-refused : goal.returns-clause-refused
-returns-clause-refused c =
-    let w = c.args.self.now in
-    let r = c.in_ok-replica.replica in
-    let taken = c.in_ok-replica.taken in
-    elim c.match-advance.branch [
-      | in-Ok b ↦ rw b.result-is tt
-      | in-Err b ↦ rw b.result-is (not_enabled w c.args.event r taken b.in-Err.fault c.in_ok-replica.ensures.ok (subst (λ (v : Played). IsUntaken v r taken b.in-Err.fault) c.self.view_is b.in-Err.ensures.refused))
-    ]
+pub take-requires-in-GiveUp : goal.take-requires-in-GiveUp
+take-requires-in-GiveUp c = (c.args.event, ap (asked c.args.self.now) c.in-GiveUp.is)
 
-pub returns-clause-permanence : goal.returns-clause-permanence
-returns-clause-permanence c =
-    let f = c.self.inside.size in
-    let ks = c.self.inside.replicas.items in
-    let steps = c.self.inside.steps.items in
-    let messages = c.self.inside.messages.items in
-    let w : Played = world_of f ks steps messages in
-    let w' : Played = world_of f c.advance.new.replicas.items c.advance.new.steps.items c.advance.new.messages.items in
-    let r = c.in_ok-replica.replica in
-    let taken = c.in_ok-replica.taken in
-    let is : asked w c.args.event ≡ Some (r, taken) = subst (λ (v : Played). asked v c.args.event ≡ Some (r, taken)) (sym c.self.view_is) c.in_ok-replica.ensures.ok in
-    let kept : Keeps w w' = elim c.match-advance.branch [
-      | in-Ok b ↦ keeps_took w w' c.args.event r taken is b.in-Ok.ensures.ok
-      | in-Err b ↦ keeps_same f ks c.advance.new.replicas.items steps c.advance.new.steps.items messages c.advance.new.messages.items b.in-Err.ensures.err
-    ] in
-    subst (λ (v : Played). Keeps v w') c.self.view_is kept
+pub take-requires-in-Recover : goal.take-requires-in-Recover
+take-requires-in-Recover c = (c.args.event, ap (asked c.args.self.now) c.in-Recover.is)
+
+pub take-requires-in-Execute : goal.take-requires-in-Execute
+take-requires-in-Execute c = (c.args.event, ap (asked c.args.self.now) c.in-Execute.is)
+
+pub returns-in-Propose-clause-refused : goal.returns-in-Propose-clause-refused
+returns-in-Propose-clause-refused c =
+    of_event c.args.self.now c.args.event (c.in-Propose.replica, taken.Propose c.in-Propose.client c.in-Propose.request c.in-Propose.command c.in-Propose.seen) c.take.result c.take.ensures.refused (ap (asked c.args.self.now) c.in-Propose.is)
+
+pub returns-in-GiveUp-clause-refused : goal.returns-in-GiveUp-clause-refused
+returns-in-GiveUp-clause-refused c = of_event c.args.self.now c.args.event (c.in-GiveUp.replica, taken.GiveUp c.in-GiveUp.instance) c.take-in-GiveUp.result c.take-in-GiveUp.ensures.refused (ap (asked c.args.self.now) c.in-GiveUp.is)
+
+pub returns-in-Recover-clause-refused : goal.returns-in-Recover-clause-refused
+returns-in-Recover-clause-refused c = of_event c.args.self.now c.args.event (c.in-Recover.replica, taken.Recover c.in-Recover.instance) c.take-in-Recover.result c.take-in-Recover.ensures.refused (ap (asked c.args.self.now) c.in-Recover.is)
+
+pub returns-in-Execute-clause-refused : goal.returns-in-Execute-clause-refused
+returns-in-Execute-clause-refused c = of_event c.args.self.now c.args.event (c.in-Execute.replica, taken.Execute c.in-Execute.instance) c.take-in-Execute.result c.take-in-Execute.ensures.refused (ap (asked c.args.self.now) c.in-Execute.is)
