@@ -14,7 +14,6 @@ ghost use Rattle.ep_space.specs.Open.{AreRecords};
 ghost use Rattle.ep_space.specs.Settled.{as_settled, committed_vote};
 
 use crate::index::{self, Index, enter, leave, run_of};
-use crate::place::instance_of;
 use crate::table::Table;
 use crate::taken::note;
 use ep_base::{Ballot, InstanceId, ReplicaId, Status, Vote};
@@ -165,8 +164,8 @@ impl Keyed {
         ensures { result ≡ (if set.contains self.now.places place then Some place else None) }
     {
         let table = &self.table;
-        match instance_of(place) {
-            Some(id) if table.has_place(id) => Some(id),
+        match InstanceId::at(place) {
+            Ok(id) if table.has_place(id) => Some(id),
             _ => None,
         }
     }
