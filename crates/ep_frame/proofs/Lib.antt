@@ -14,3 +14,4 @@ pub mod DepBytes
 pub mod Reorigin
 pub mod Upgrading
 pub mod Told
+pub mod Within

@@ -1,16 +1,13 @@
 -- What the kind of a frame says of its message.
-use Rattle.std.proofs.Common.{◌≡◌, ℕ, Bool, true, false, cond, eqb, List, refl, ap, sym, ◌∙◌, true≢false}
+use Rattle.std.proofs.Common.{◌≡◌, ℕ, Bool, true, false, cond, eqb, List, refl, ap, sym, true≢false}
 use Rattle.std.specs.Prelude.{◌||◌, ◌&&◌, not}
 use Rattle.std.proofs.lemmas.Bool.{eqb-true}
-use Rattle.ep_base.specs.declared.message.Message.{Message}
 use Rattle.ep_base.specs.declared.message.Message.TheVariants.{PreAccept, PreAcceptOk, Accept, AcceptOk, Commit, Prepare, PrepareOk, Nack}
-use Rattle.ep_frame.specs.declared.header.Header.{Header}
 use Rattle.ep_frame.specs.declared.kind.Kind.{Kind}
 use Rattle.ep_frame.specs.declared.kind.Kind.TheVariants as kind
 use Rattle.ep_frame.specs.Faults.{has_attributes, has_command}
 use Rattle.ep_frame.specs.Fields.{header_at}
-use Rattle.ep_frame.specs.Spelling.{parts_at}
-use Rattle.ep_frame.specs.Meaning.{kind_of, kind_at, message_at, message_by, tells_attrs, tells_decree, instance_at, ballot_at, other_at, attrs_at, decree_at, vote_at}
+use Rattle.ep_frame.specs.Meaning.{kind_at, message_at, message_by, tells_attrs, tells_decree, instance_at, ballot_at, other_at, attrs_at, decree_at, vote_at}
 
 abbrev chosen : Bool → Bool → Bool → Bool → Bool → Bool → Bool → Kind
 chosen a b c d e f g = cond a kind.PreAccept (cond b kind.PreAcceptOk (cond c kind.Accept (cond d kind.AcceptOk (cond e kind.Commit (cond f kind.Prepare (cond g kind.PrepareOk kind.Nack))))))
@@ -81,7 +78,7 @@ have_attrs kind.Nack h = absurd (true≢false (sym h))
 pub decree_attrs_there : (x : List ℕ) → tells_decree (kind_at x) ≡ true → has_attributes (header_at x) ≡ true
 decree_attrs_there x h = attrs_there x (have_attrs (kind_at x) h)
 
-is_vote : Kind → Bool
+abbrev is_vote : Kind → Bool
 is_vote kind.PreAccept = false
 is_vote kind.PreAcceptOk = false
 is_vote kind.Accept = false

@@ -7,4 +7,3 @@ pub mod Ranges
 pub mod DepBytes
 pub mod Origins
 pub mod Upgrading
-pub mod Rounds

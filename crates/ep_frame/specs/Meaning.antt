@@ -13,7 +13,7 @@ use Rattle.ep_base.specs.declared.vote.Status.{Status}
 use Rattle.ep_base.specs.declared.vote.Status.TheVariants.{PreAccepted, Accepted, Committed}
 use Rattle.ep_base.specs.declared.message.Message.{Message}
 use Rattle.ep_base.specs.declared.message.Message.TheVariants.{PreAccept, PreAcceptOk, Accept, AcceptOk, Commit, Prepare, PrepareOk, Nack}
-use Rattle.ep_rules.specs.Steps.{message_within}
+use Rattle.ep_rules.specs.Steps.{are_within, message_within}
 use Rattle.ep_frame.specs.declared.header.Header.{Header}
 use Rattle.ep_frame.specs.declared.kind.Kind.{Kind}
 use Rattle.ep_frame.specs.declared.kind.Kind.TheVariants as kind
@@ -154,3 +154,9 @@ tells_decree kind.Nack = false
 -- its sender, its receiver and every replica that its message names are below n
 abbrev pub is_within : ℕ → List ℕ → Bool
 is_within n b = ltb (sender_at b) n && (ltb (origin_at b).to n && message_within n (message_at b))
+
+-- the same by the parts: a message's frame has 0 where it has no ballot
+abbrev pub parts_within : ℕ → Parts → Bool
+parts_within n p =
+    let h = p.header in
+    ltb h.from n && (ltb h.to n && (ltb h.leader n && (ltb h.replica n && (ltb h.other_replica n && are_within n p.deps))))

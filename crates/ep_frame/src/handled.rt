@@ -7,7 +7,7 @@ ghost use Rattle.ep_rules.specs.Steps.{are_within};
 ghost use Rattle.ep_frame.specs.DepBytes.{AreDepBytes};
 ghost use Rattle.ep_frame.specs.Faults.{HasNoFault, deps_place, frame_len, has_attributes, has_command};
 ghost use Rattle.ep_frame.specs.Fields.{deps_in, header_at};
-ghost use Rattle.ep_frame.specs.Meaning.{kind_at, ballot_at, other_at, command_at, attrs_at, decree_at, vote_at, message_at, message_by, tells_attrs, tells_decree, is_within};
+ghost use Rattle.ep_frame.specs.Meaning.{kind_at, ballot_at, other_at, command_at, attrs_at, decree_at, vote_at, message_at, message_by, tells_attrs, tells_decree, is_within, parts_within};
 ghost use Rattle.ep_frame.specs.declared.kind.Kind.TheVariants.{PrepareOk};
 ghost use Rattle.ep_frame.specs.Ranges.{Readable};
 ghost use Rattle.ep_frame.specs.Spelling.{parts_at};
@@ -26,8 +26,7 @@ fn are_known(bytes: &[u8])
     ensures whole { length bytes.now ≡ frame_len (header_at bytes.now) }
     ensures readable { Readable (parts_at bytes.now) }
     ensures deps { AreDepBytes (drop (deps_place (header_at bytes.now)) bytes.now) }
-{
-}
+{}
 
 fn ballot_in(bytes: &[u8]) -> Ballot
     requires long { 40 ≤ length bytes.now }
@@ -143,8 +142,7 @@ fn has_attrs_in(bytes: &[u8], attrs: &Attrs) -> bool
     requires whole { length bytes.now ≡ frame_len (header_at bytes.now) }
     ensures { result ≡ same_attrs (attrs_at bytes.now) attrs.now }
 {
-    u32_at(bytes, 30) == attrs.seq.number()
-        && are_these(dep_bytes_in(bytes), attrs.deps.as_slice())
+    u32_at(bytes, 30) == attrs.seq.number() && are_these(dep_bytes_in(bytes), attrs.deps.as_slice())
 }
 
 fn has_command_in(bytes: &[u8], command: &Command) -> bool
@@ -160,9 +158,7 @@ fn has_command_in(bytes: &[u8], command: &Command) -> bool
     match command {
         Command::Noop => op == 1,
         Command::Get(own) => op == 2 && key == own.as_slice(),
-        Command::Put(own, value) => {
-            op == 3 && key == own.as_slice() && text == value.as_slice()
-        }
+        Command::Put(own, value) => { op == 3 && key == own.as_slice() && text == value.as_slice() }
         Command::Del(own) => op == 4 && key == own.as_slice(),
         Command::Swap(keys) => {
             op == 5 && key == keys.first().as_slice() && text == keys.second().as_slice()
@@ -170,7 +166,8 @@ fn has_command_in(bytes: &[u8], command: &Command) -> bool
     }
 }
 
-// Whether the dependencies, which rise, are led by replicas below `count`: the last one's leader is the greatest.
+// Whether the dependencies are led by replicas below `count`. They rise, so that the last one's leader is the greatest.
+#[tactic(auto, using(crate::proofs::Within::last_within))]
 fn deps_within(bytes: &[u8], count: u8) -> bool
     requires { AreDepBytes bytes.now }
     ensures { result ≡ are_within count (deps_in bytes.now) }
@@ -178,12 +175,13 @@ fn deps_within(bytes: &[u8], count: u8) -> bool
     bytes.is_empty() || u8_at(bytes, bytes.len() - 3) < count
 }
 
-// Whether every replica that the frame names is below `count`. Where a kind has no ballot its bytes are 0.
-fn is_within(bytes: &[u8], count: u8) -> bool
-    requires { HasNoFault bytes.now }
-    ensures { result ≡ is_within count bytes.now }
+// Whether every replica that stands in the bytes is below `count`.
+fn names_within(bytes: &[u8], count: u8) -> bool
+    requires long { 40 ≤ length bytes.now }
+    requires whole { length bytes.now ≡ frame_len (header_at bytes.now) }
+    requires deps { AreDepBytes (drop (deps_place (header_at bytes.now)) bytes.now) }
+    ensures { result ≡ parts_within count (parts_at bytes.now) }
 {
-    are_known(bytes);
     u8_at(bytes, 4) < count
         && u8_at(bytes, 5) < count
         && u8_at(bytes, 20) < count
@@ -192,9 +190,18 @@ fn is_within(bytes: &[u8], count: u8) -> bool
         && deps_within(dep_bytes_in(bytes), count)
 }
 
+// Whether every replica that the frame names is below `count`.
+fn is_within(bytes: &[u8], count: u8) -> bool
+    requires { HasNoFault bytes.now }
+    ensures { result ≡ is_within count bytes.now }
+{
+    are_known(bytes);
+    names_within(bytes, count)
+}
+
 impl<'a> FrameView<'a> {
     /// Which message it spells.
-    #[tactic(auto, using(crate::proofs::Telling::by_kind, crate::proofs::Frames::frame_long))]
+    #[tactic(auto, using(crate::proofs::Told::by_kind, crate::proofs::Frames::frame_long))]
     pub fn kind(&self) -> Kind
         ensures value { result ≡ kind_at self.now }
         ensures message { message_at self.now ≡ message_by result self.now }
@@ -219,7 +226,7 @@ impl<'a> FrameView<'a> {
     }
 
     /// Its command, copied.
-    #[tactic(auto, using(crate::proofs::Telling::decree_there))]
+    #[tactic(auto, using(crate::proofs::Told::decree_there))]
     pub fn to_command(&self, alloc: Global) -> Result<Command, AllocError>
         requires { tells_decree (kind_at self.now) ≡ true }
         ensures { IfOk result (λ c. c ≡ command_at self.now) }
@@ -229,7 +236,7 @@ impl<'a> FrameView<'a> {
     }
 
     /// Its attributes, copied.
-    #[tactic(auto, using(crate::proofs::Telling::attrs_there))]
+    #[tactic(auto, using(crate::proofs::Told::attrs_there))]
     pub fn to_attrs(&self, alloc: Global) -> Result<Attrs, AllocError>
         requires { tells_attrs (kind_at self.now) ≡ true }
         ensures { IfOk result (λ a. a ≡ attrs_at self.now) }
@@ -239,7 +246,7 @@ impl<'a> FrameView<'a> {
     }
 
     /// Its command and attributes, copied.
-    #[tactic(auto, using(crate::proofs::Telling::decree_there, crate::proofs::Telling::decree_attrs_there))]
+    #[tactic(auto, using(crate::proofs::Told::decree_there, crate::proofs::Told::decree_attrs_there))]
     pub fn to_decree(&self, alloc: Global) -> Result<Decree, AllocError>
         requires { tells_decree (kind_at self.now) ≡ true }
         ensures { IfOk result (λ x. x ≡ decree_at self.now) }
@@ -249,7 +256,7 @@ impl<'a> FrameView<'a> {
     }
 
     /// The vote that it answers, copied.
-    #[tactic(auto, using(crate::proofs::Telling::vote_there))]
+    #[tactic(auto, using(crate::proofs::Told::vote_there))]
     pub fn to_vote(&self, alloc: Global) -> Result<Option<Vote>, AllocError>
         requires { kind_at self.now ≡ PrepareOk }
         ensures { IfOk result (λ v. v ≡ vote_at self.now) }
@@ -267,7 +274,7 @@ impl<'a> FrameView<'a> {
     }
 
     /// Whether this is its decree.
-    #[tactic(auto, using(crate::proofs::Telling::decree_there))]
+    #[tactic(auto, using(crate::proofs::Told::decree_there))]
     pub fn has_decree(&self, decree: &Decree) -> bool
         requires { tells_decree (kind_at self.now) ≡ true }
         ensures { result ≡ same_decree (decree_at self.now) decree.now }
@@ -277,7 +284,7 @@ impl<'a> FrameView<'a> {
     }
 
     /// Joins these to its attributes.
-    #[tactic(auto, using(crate::proofs::Telling::attrs_there))]
+    #[tactic(auto, using(crate::proofs::Told::attrs_there))]
     pub fn join_to(&self, alloc: Global, attrs: &mut Attrs) -> Result<(), AllocError>
         requires { tells_attrs (kind_at self.now) ≡ true }
         ensures ok { OnOk result (attrs.new ≡ join (attrs_at self.now) attrs.old) }

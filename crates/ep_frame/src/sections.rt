@@ -57,7 +57,12 @@ pub(crate) fn made_status(status: u8) -> Status
     }
 }
 
-pub(crate) fn made_command(alloc: Global, op: u8, key: &[u8], text: &[u8]) -> Result<Command, AllocError>
+pub(crate) fn made_command(
+    alloc: Global,
+    op: u8,
+    key: &[u8],
+    text: &[u8],
+) -> Result<Command, AllocError>
     requires low { 1 ≤ op }
     requires high { op ≤ 5 }
     requires key_low { 2 ≤ op → 1 ≤ length key.now }

@@ -1,25 +1,20 @@
 //! Writing a message as a frame.
 
-ghost use Rattle.std.specs.Prelude.{◌≡◌, ◌≢◌, ◌≤◌, ◌++◌, length, drop, OnOk, IfOk};
+ghost use Rattle.std.specs.Prelude.{◌≡◌, ◌≢◌, ◌≤◌, ◌++◌, length, OnOk, IfOk};
 ghost use Rattle.std.specs.List.{flat_map};
 ghost use Rattle.ep_frame.specs.Fields.{spelled, start_fields, origin_fields, ballot_fields, vote_fields, body_fields, header_bytes, dep_bytes};
 ghost use Rattle.ep_frame.specs.Spelling.{Spells, parts_bytes};
 ghost use Rattle.ep_base.specs.Fitting.{BallotsFit};
-ghost use Rattle.ep_base.specs.Messages.{says};
 ghost use Rattle.ep_base.specs.Versions.{CanSay};
-ghost use Rattle.ep_frame.specs.Origins.{OriginFits, readdressed};
-ghost use Rattle.ep_frame.specs.Rounds.{AreApart, AreSpelledTo, again};
-ghost use Rattle.ep_frame.specs.Layouts.{parts_in};
+ghost use Rattle.ep_frame.specs.Layouts.{parts_in, told_by};
 
 use crate::frame::Frame;
-use crate::frame_mut::origin_array;
 use crate::header::Header;
 use crate::layout::Layout;
 use crate::numbers::{put_u8, put_u16, put_u32, put_u64};
 use crate::origin::Origin;
-use crate::round::Round;
 use crate::telling::Telling;
-use bytes::{Bytes, BytesMut};
+use bytes::BytesMut;
 use ep_base::{InstanceId, Message, ReplicaId, Version};
 use std::alloc::{AllocError, Global};
 
@@ -126,7 +121,7 @@ pub fn write(
         instance: message.instance(),
         said: message.said(),
     };
-    write_said(alloc, version, from, telling, origin)
+    write_said(alloc, version, from, &telling, origin)
 }
 
 /// The frame of what is told, as `write` writes it.
@@ -134,87 +129,17 @@ pub fn write_said(
     alloc: Global,
     version: Version,
     from: ReplicaId,
-    telling: Telling<'_>,
+    telling: &Telling<'_>,
     origin: Origin,
 ) -> Result<Frame, AllocError>
     requires apart { origin.to ≢ from }
     requires entry { 1 ≤ origin.entry }
-    requires ballots { BallotsFit (says telling.entry.instance telling.entry.said) }
-    requires sayable { CanSay version (says telling.entry.instance telling.entry.said) }
-    ensures { IfOk result (λ f. Spells version f from origin (says telling.entry.instance telling.entry.said)) }
+    requires ballots { BallotsFit (told_by telling.now) }
+    requires sayable { CanSay version (told_by telling.now) }
+    ensures { IfOk result (λ f. Spells version f from origin (told_by telling.now)) }
 {
-    let Telling { instance, said } = telling;
-    let parts = Layout::of(version, from, origin, instance, said);
+    let parts = Layout::of(version, from, origin, telling);
     let mut out = BytesMut::with_capacity(alloc, parts.header.len())?;
     put_parts(&mut out, &parts)?;
     Ok(Frame::written(out.freeze()?))
-}
-
-/// The frames of what is told to each of these receivers, by their places among them. All but the first share one run of
-/// bytes.
-pub fn write_each(
-    alloc: Global,
-    version: Version,
-    from: ReplicaId,
-    telling: Telling<'_>,
-    round: Round<'_>,
-) -> Result<Vec<Frame>, AllocError>
-    requires apart { AreApart from round.entry.to.now }
-    requires few { length round.entry.to.now ≤ 7 }
-    requires entry { 1 ≤ round.entry.entry }
-    requires ballots { BallotsFit (says telling.entry.instance telling.entry.said) }
-    requires sayable { CanSay version (says telling.entry.instance telling.entry.said) }
-    ensures { IfOk result (λ fs. AreSpelledTo version from round.entry.entry round.entry.stamp 0 (says telling.entry.instance telling.entry.said) fs.items round.entry.to.now) }
-{
-    let Round { entry, stamp, to } = round;
-    let Some(receiver) = to.first() else {
-        return Ok(Vec::new(alloc));
-    };
-    let origin = Origin {
-        to: *receiver,
-        out: 0,
-        entry,
-        stamp,
-    };
-    let first = write_said(alloc, version, from, telling, origin)?;
-    written_again(alloc, first, &Round { entry, stamp, to })
-}
-
-// The frame of these bytes with this origin.
-fn put_again(out: &mut Vec<u8>, first: &[u8], origin: Origin) -> Result<(), AllocError>
-    requires long { 20 ≤ length first.now }
-    requires entry { 1 ≤ origin.entry }
-    ensures bytes { OnOk result (out.new.items ≡ out.old.items ++ readdressed first.now origin) }
-    ensures in_range { OriginFits origin }
-{
-    out.extend_from_slice(&first[..5])?;
-    out.extend_from_slice(&origin_array(origin))?;
-    out.extend_from_slice(&first[20..])
-}
-
-// The frames to all receivers but the first, one after the other.
-fn all_again(alloc: Global, first: &[u8], round: &Round<'_>) -> Result<Vec<u8>, AllocError>
-    requires long { 20 ≤ length first.now }
-    requires entry { 1 ≤ round.now.entry }
-    requires few { length round.now.to.now ≤ 7 }
-    ensures { IfOk result (λ all. all.items ≡ again first.now round.now.entry round.now.stamp 1 (drop 1 round.now.to.now)) }
-{
-    let mut out = Vec::with_capacity(alloc, first.len() * (round.to.len() - 1))?;
-    for place in 1..round.to.len() {
-        put_again(&mut out, first, round.origin(place))?;
-    }
-    Ok(out)
-}
-
-// The frame, and the same with the origins of the other receivers.
-fn written_again(alloc: Global, first: Frame, round: &Round<'_>) -> Result<Vec<Frame>, AllocError> {
-    let mut frames = Vec::with_capacity(alloc, round.to.len())?;
-    let len = first.as_slice().len();
-    let all = Bytes::from_vec(all_again(alloc, first.as_slice(), round)?)?;
-    frames.push_reserved(first);
-    for place in 1..round.to.len() {
-        let end = place * len;
-        frames.push_reserved(Frame::written(all.slice(end - len..end)?));
-    }
-    Ok(frames)
 }
