@@ -40,6 +40,15 @@ impl Ballot {
         Ok(Ballot { counter, replica })
     }
 
+    /// The ballot of this counter, which is at most 60,000, and leader.
+    pub fn known(counter: u16, replica: ReplicaId) -> Ballot
+        requires { counter ≤ highest_counter }
+        ensures { result ≡ ballot_of counter replica }
+    {
+        let _index = replica.index();
+        Ballot { counter, replica }
+    }
+
     /// The default ballot of the instances that this replica leads: counter 0.
     pub fn default_of(leader: ReplicaId) -> Ballot
         ensures { result ≡ leader }

@@ -10,21 +10,20 @@ use std::marker::Model;
 /// The instance of a number from 1 to 2,000 that a replica leads, in the order of replica and then number.
 #[derive(Clone, Copy, Debug, PartialEq, Eq, PartialOrd, Ord, Hash)]
 pub struct InstanceId {
-    replica: ReplicaId,
-    number: u16,
+    place: u32,
 }
 
 impl Model for InstanceId {
-    ghost use Rattle.std.specs.Prelude.{ℕ, ◌≤◌};
-    ghost use Rattle.ep_base.specs.Instances.{instance_of, leader_of, number_of};
+    ghost use Rattle.std.specs.Prelude.{ℕ};
+    ghost use Rattle.ep_base.specs.Instances.{IsInstance};
 
     ghost Value = { ℕ };
 
-    ghost view = { λ i. instance_of i.replica i.number };
+    ghost view = { λ i. i.place };
 
-    ghost invariant = { λ i. (1 ≤ i.number) × (i.number ≤ 2000) };
+    ghost invariant = { λ i. IsInstance i.place };
 
-    ghost inverse = { λ v. record { replica = leader_of v; number = number_of v } };
+    ghost inverse = { λ v. record { place = v } };
 }
 
 impl InstanceId {
@@ -36,14 +35,44 @@ impl InstanceId {
         if number == 0 || number > 2000 {
             return Err(OutOfRange);
         }
-        Ok(InstanceId { replica, number })
+        Ok(InstanceId {
+            place: u32::from(replica.index()) * 65536 + u32::from(number),
+        })
+    }
+
+    /// The instance of this place: 65,536 for each replica before its own, and its number; `OutOfRange` where there is none.
+    pub fn at(place: u32) -> Result<InstanceId, OutOfRange>
+        ensures in_range { IsOk result ↔ IsInstance place }
+        ensures value { IfOk result (λ i. i ≡ place) }
+    {
+        let number = place % 65536;
+        if place >= 458_752 || number == 0 || number > 2000 {
+            return Err(OutOfRange);
+        }
+        Ok(InstanceId { place })
+    }
+
+    /// The instance of this place, which is one.
+    pub fn known(place: u32) -> InstanceId
+        requires { IsInstance place }
+        ensures { result ≡ place }
+    {
+        InstanceId { place }
+    }
+
+    /// The instance's place: 65,536 for each replica before its own, and its number.
+    pub fn place(self) -> u32
+        ensures value { result ≡ self }
+        ensures in_range { IsInstance self }
+    {
+        self.place
     }
 
     /// The replica that leads the instance.
     pub fn replica(self) -> ReplicaId
         ensures { result ≡ leader_of self }
     {
-        self.replica
+        ReplicaId::known((self.place / 65536) as u8)
     }
 
     /// The instance's number among those that its replica leads, from 1 to 2,000.
@@ -51,6 +80,6 @@ impl InstanceId {
         ensures value { result ≡ number_of self }
         ensures in_range { IsInstance self }
     {
-        self.number
+        (self.place % 65536) as u16
     }
 }

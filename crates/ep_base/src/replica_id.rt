@@ -35,6 +35,14 @@ impl ReplicaId {
         Ok(ReplicaId { index })
     }
 
+    /// The replica of this number, which is 0 to 6.
+    pub fn known(index: u8) -> ReplicaId
+        requires { index ≤ 6 }
+        ensures { result ≡ index }
+    {
+        ReplicaId { index }
+    }
+
     /// The replica's number, from 0 to 6.
     pub fn index(self) -> u8
         ensures value { result ≡ self }

@@ -35,6 +35,14 @@ impl Seq {
         Ok(Seq { number })
     }
 
+    /// The sequence number of this number, which is 1 to 1,000,000.
+    pub fn known(number: u32) -> Seq
+        requires { (1 ≤ number) × (number ≤ 1000000) }
+        ensures { result ≡ number }
+    {
+        Seq { number }
+    }
+
     /// The number, from 1 to 1,000,000.
     pub fn number(self) -> u32
         ensures value { result ≡ self }

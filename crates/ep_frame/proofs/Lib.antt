@@ -13,3 +13,5 @@ pub mod Meanings
 pub mod DepBytes
 pub mod Reorigin
 pub mod Upgrading
+pub mod Told
+pub mod Within

@@ -1,6 +1,5 @@
 -- What a version has room for, and so what it can say.
 use Rattle.std.proofs.Common.{◌≡◌, ◌≢◌, ℕ, ◌≤◌, Bool, true, false, leb, List, [], ◌∷◌, length, refl, sym, ◌∙◌, true≢false, arith}
-use Rattle.std.specs.Prelude.{◌&&◌}
 use Rattle.std.proofs.lemmas.Bool.{leb-true, le-leb, and_parts, and_from}
 use Rattle.ep_base.specs.Attributes.{same_list}
 use Rattle.ep_base.specs.Deps.{IsRising, AreInstances, most_deps}

@@ -7,7 +7,6 @@ use Rattle.ep_base.specs.Instances.{leader_of, number_of, IsInstance}
 use Rattle.ep_base.specs.Ballots.{counter_of, owner_of}
 use Rattle.ep_base.specs.Attributes.{same_list}
 use Rattle.ep_base.specs.Deps.{IsRising, IsBelowFirst}
-use Rattle.ep_base.specs.Interference.{is_swap}
 use Rattle.ep_base.specs.Versions.{version_number, version_of, highest_in, most_deps_in, IsEarlyInstance, AreEarlyDeps, IsEarlyDecree, IsEarly}
 use Rattle.ep_base.specs.declared.version.Version.{Version}
 use Rattle.ep_base.specs.declared.version.Version.TheVariants.{V1, V2}
@@ -28,7 +27,7 @@ use Rattle.ep_frame.specs.Faults.{◌>>◌, names_rows, ballot_rows, vote_rows, 
 use Rattle.ep_frame.specs.Spelling.{Parts, parts_at, parts_of, op_code, key_in, value_in, status_code, IsBallot, IsCommand, AreAttrs, IsDecree, IsMessage, IsOrigin, Spells}
 use Rattle.ep_frame.proofs.Rows.{AllPass, fine, all_pass, within-from, apart-from, choose, choose_other}
 use Rattle.ep_frame.proofs.Again.{PartsFit, parts_again, length-parts_bytes}
-use Rattle.ep_frame.proofs.Saying.{version_low, op_low, count_low, number_within, op_within, count_within, deps_within, early_of, differ_again}
+use Rattle.ep_frame.proofs.Saying.{version_low, op_low, number_within, op_within, count_within, deps_within, early_of, differ_again}
 
 -- parts with these fields
 abbrev frame : (v : Version) (k from : ℕ) (o : Origin) (i counter replica status other_counter other_replica seq op : ℕ) (key value deps : List ℕ) → Parts

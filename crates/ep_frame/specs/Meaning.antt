@@ -1,5 +1,5 @@
 -- What the parts of a frame stand for.
-use Rattle.std.specs.Prelude.{ℕ, List, Option, Some, None, ◌==◌, if◌then◌else◌}
+use Rattle.std.specs.Prelude.{Bool, true, false, ltb, ◌&&◌, ℕ, List, Option, Some, None, ◌==◌, if◌then◌else◌}
 use Rattle.ep_base.specs.Instances.{instance_of}
 use Rattle.ep_base.specs.Ballots.{ballot_of}
 use Rattle.ep_base.specs.Versions.{version_of}
@@ -13,7 +13,10 @@ use Rattle.ep_base.specs.declared.vote.Status.{Status}
 use Rattle.ep_base.specs.declared.vote.Status.TheVariants.{PreAccepted, Accepted, Committed}
 use Rattle.ep_base.specs.declared.message.Message.{Message}
 use Rattle.ep_base.specs.declared.message.Message.TheVariants.{PreAccept, PreAcceptOk, Accept, AcceptOk, Commit, Prepare, PrepareOk, Nack}
+use Rattle.ep_rules.specs.Steps.{are_within, message_within}
 use Rattle.ep_frame.specs.declared.header.Header.{Header}
+use Rattle.ep_frame.specs.declared.kind.Kind.{Kind}
+use Rattle.ep_frame.specs.declared.kind.Kind.TheVariants as kind
 use Rattle.ep_frame.specs.declared.origin.Origin.{Origin}
 use Rattle.ep_frame.specs.Spelling.{Parts, parts_at}
 
@@ -80,3 +83,80 @@ instance_at b = instance_in (parts_at b).header
 
 abbrev pub message_at : List ℕ → Message
 message_at b = message_of (parts_at b)
+
+-- what a frame's bytes tell of their message
+
+abbrev pub kind_of : ℕ → Kind
+kind_of n =
+    if n == 1 then kind.PreAccept
+    else if n == 2 then kind.PreAcceptOk
+    else if n == 3 then kind.Accept
+    else if n == 4 then kind.AcceptOk
+    else if n == 5 then kind.Commit
+    else if n == 6 then kind.Prepare
+    else if n == 7 then kind.PrepareOk
+    else kind.Nack
+
+abbrev pub kind_at : List ℕ → Kind
+kind_at b = kind_of (parts_at b).header.kind
+
+abbrev pub ballot_at : List ℕ → ℕ
+ballot_at b = ballot_in (parts_at b).header
+
+abbrev pub other_at : List ℕ → ℕ
+other_at b = other_in (parts_at b).header
+
+abbrev pub command_at : List ℕ → Command
+command_at b = command_of (parts_at b).header.op (parts_at b).key (parts_at b).value
+
+abbrev pub attrs_at : List ℕ → Attrs
+attrs_at b = attrs_of (parts_at b)
+
+abbrev pub decree_at : List ℕ → Decree
+decree_at b = decree_of (parts_at b)
+
+abbrev pub vote_at : List ℕ → Option Vote
+vote_at b = vote_of (parts_at b)
+
+-- the message of this kind that they spell
+abbrev pub message_by : Kind → List ℕ → Message
+message_by kind.PreAccept b = PreAccept (instance_at b) (ballot_at b) (decree_at b)
+message_by kind.PreAcceptOk b = PreAcceptOk (instance_at b) (ballot_at b) (attrs_at b)
+message_by kind.Accept b = Accept (instance_at b) (ballot_at b) (decree_at b)
+message_by kind.AcceptOk b = AcceptOk (instance_at b) (ballot_at b)
+message_by kind.Commit b = Commit (instance_at b) (decree_at b)
+message_by kind.Prepare b = Prepare (instance_at b) (ballot_at b)
+message_by kind.PrepareOk b = PrepareOk (instance_at b) (ballot_at b) (vote_at b)
+message_by kind.Nack b = Nack (instance_at b) (ballot_at b) (other_at b)
+
+-- every message of this kind has attributes
+abbrev pub tells_attrs : Kind → Bool
+tells_attrs kind.PreAccept = true
+tells_attrs kind.PreAcceptOk = true
+tells_attrs kind.Accept = true
+tells_attrs kind.AcceptOk = false
+tells_attrs kind.Commit = true
+tells_attrs kind.Prepare = false
+tells_attrs kind.PrepareOk = false
+tells_attrs kind.Nack = false
+
+-- every message of this kind has a command and attributes
+abbrev pub tells_decree : Kind → Bool
+tells_decree kind.PreAccept = true
+tells_decree kind.PreAcceptOk = false
+tells_decree kind.Accept = true
+tells_decree kind.AcceptOk = false
+tells_decree kind.Commit = true
+tells_decree kind.Prepare = false
+tells_decree kind.PrepareOk = false
+tells_decree kind.Nack = false
+
+-- its sender, its receiver and every replica that its message names are below n
+abbrev pub is_within : ℕ → List ℕ → Bool
+is_within n b = ltb (sender_at b) n && (ltb (origin_at b).to n && message_within n (message_at b))
+
+-- the same by the parts: a message's frame has 0 where it has no ballot
+abbrev pub parts_within : ℕ → Parts → Bool
+parts_within n p =
+    let h = p.header in
+    ltb h.from n && (ltb h.to n && (ltb h.leader n && (ltb h.replica n && (ltb h.other_replica n && are_within n p.deps))))

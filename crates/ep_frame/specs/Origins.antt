@@ -1,5 +1,5 @@
 -- The bytes of an origin.
-use Rattle.std.specs.Prelude.{ℕ, ◌≤◌, ◌<◌, ◌^◌, List, ◌++◌}
+use Rattle.std.specs.Prelude.{ℕ, ◌≤◌, ◌<◌, ◌^◌, List, ◌++◌, take, drop}
 use Rattle.ep_frame.specs.declared.origin.Origin.{Origin}
 use Rattle.ep_base.specs.declared.message.Message.{Message}
 use Rattle.ep_base.specs.declared.version.Version.{Version}
@@ -8,6 +8,10 @@ use Rattle.ep_frame.specs.Spelling.{Spells}
 
 abbrev pub origin_bytes : Origin → List ℕ
 origin_bytes o = number_bytes 1 o.to ++ number_bytes 2 o.out ++ number_bytes 4 o.entry ++ number_bytes 8 o.stamp
+
+-- the bytes with this origin in place of the one that is there
+abbrev pub readdressed : List ℕ → Origin → List ℕ
+readdressed b o = take 5 b ++ origin_bytes o ++ drop 20 b
 
 -- an origin in range, whoever the sender is
 pub record OriginFits (o : Origin) : Type 0 where

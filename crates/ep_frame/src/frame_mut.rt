@@ -27,7 +27,7 @@ pub struct FrameMut<'a> {
 }
 
 #[tactic(auto, unfolding(crate::specs::Fields::number_bytes))]
-fn origin_array(origin: Origin) -> [u8; 15]
+pub(crate) fn origin_array(origin: Origin) -> [u8; 15]
     requires { 1 ≤ origin.entry }
     ensures bytes { result ≡ origin_bytes origin }
     ensures in_range { OriginFits origin }

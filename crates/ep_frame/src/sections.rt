@@ -25,7 +25,7 @@ pub struct Sections<'a> {
     pub deps: &'a [u8],
 }
 
-fn made_ballot(counter: u16, replica: u8) -> Ballot
+pub(crate) fn made_ballot(counter: u16, replica: u8) -> Ballot
     requires counter { counter ≤ highest_counter }
     requires replica { replica ≤ 6 }
     ensures { result ≡ ballot_of counter replica }
@@ -36,7 +36,7 @@ fn made_ballot(counter: u16, replica: u8) -> Ballot
     }
 }
 
-fn made_seq(number: u32) -> Seq
+pub(crate) fn made_seq(number: u32) -> Seq
     requires low { 1 ≤ number }
     requires high { number ≤ 1000000 }
     ensures { result ≡ number }
@@ -47,7 +47,7 @@ fn made_seq(number: u32) -> Seq
     }
 }
 
-fn made_status(status: u8) -> Status
+pub(crate) fn made_status(status: u8) -> Status
     ensures { result ≡ status_of status }
 {
     match status {
@@ -57,7 +57,12 @@ fn made_status(status: u8) -> Status
     }
 }
 
-fn made_command(alloc: Global, op: u8, key: &[u8], text: &[u8]) -> Result<Command, AllocError>
+pub(crate) fn made_command(
+    alloc: Global,
+    op: u8,
+    key: &[u8],
+    text: &[u8],
+) -> Result<Command, AllocError>
     requires low { 1 ≤ op }
     requires high { op ≤ 5 }
     requires key_low { 2 ≤ op → 1 ≤ length key.now }
@@ -80,7 +85,7 @@ fn made_command(alloc: Global, op: u8, key: &[u8], text: &[u8]) -> Result<Comman
     }
 }
 
-fn made_deps(alloc: Global, bytes: &[u8]) -> Result<Deps, AllocError>
+pub(crate) fn made_deps(alloc: Global, bytes: &[u8]) -> Result<Deps, AllocError>
     requires { are_deps (deps_in bytes.now) ≡ true }
     ensures { IfOk result (λ d. d ≡ deps_in bytes.now) }
 {

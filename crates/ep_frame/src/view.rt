@@ -24,7 +24,7 @@ use std::marker::Model;
 /// The bytes of a frame, borrowed. A frame spells one message, in one version, from one sender and with one origin.
 #[derive(Drop)]
 pub struct FrameView<'a> {
-    bytes: &'a [u8],
+    pub(crate) bytes: &'a [u8],
 }
 
 impl<'a> Model for FrameView<'a> {
@@ -143,7 +143,7 @@ pub(crate) fn check_frame(bytes: &[u8]) -> Result<(), FrameFault>
     check_rest(&header, bytes)
 }
 
-fn key_in(bytes: &[u8]) -> &[u8]
+pub(crate) fn key_in(bytes: &[u8]) -> &[u8]
     requires long { 40 ≤ length bytes.now }
     requires whole { length bytes.now ≡ frame_len (header_at bytes.now) }
     ensures { result.now ≡ key_at bytes.now }
@@ -153,7 +153,7 @@ fn key_in(bytes: &[u8]) -> &[u8]
 }
 
 // What stands after the key: a put's value, or a swap's second key.
-fn text_in(bytes: &[u8]) -> &[u8]
+pub(crate) fn text_in(bytes: &[u8]) -> &[u8]
     requires long { 40 ≤ length bytes.now }
     requires whole { length bytes.now ≡ frame_len (header_at bytes.now) }
     ensures { result.now ≡ text_at bytes.now }

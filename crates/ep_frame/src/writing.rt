@@ -6,13 +6,14 @@ ghost use Rattle.ep_frame.specs.Fields.{spelled, start_fields, origin_fields, ba
 ghost use Rattle.ep_frame.specs.Spelling.{Spells, parts_bytes};
 ghost use Rattle.ep_base.specs.Fitting.{BallotsFit};
 ghost use Rattle.ep_base.specs.Versions.{CanSay};
-ghost use Rattle.ep_frame.specs.Layouts.{parts_in};
+ghost use Rattle.ep_frame.specs.Layouts.{parts_in, told_by};
 
 use crate::frame::Frame;
 use crate::header::Header;
 use crate::layout::Layout;
 use crate::numbers::{put_u8, put_u16, put_u32, put_u64};
 use crate::origin::Origin;
+use crate::telling::Telling;
 use bytes::BytesMut;
 use ep_base::{InstanceId, Message, ReplicaId, Version};
 use std::alloc::{AllocError, Global};
@@ -116,7 +117,28 @@ pub fn write(
     requires sayable { CanSay version message.now }
     ensures { IfOk result (λ f. Spells version f from origin message.now) }
 {
-    let parts = Layout::of(version, from, origin, message);
+    let telling = Telling {
+        instance: message.instance(),
+        said: message.said(),
+    };
+    write_said(alloc, version, from, &telling, origin)
+}
+
+/// The frame of what is told, as `write` writes it.
+pub fn write_said(
+    alloc: Global,
+    version: Version,
+    from: ReplicaId,
+    telling: &Telling<'_>,
+    origin: Origin,
+) -> Result<Frame, AllocError>
+    requires apart { origin.to ≢ from }
+    requires entry { 1 ≤ origin.entry }
+    requires ballots { BallotsFit (told_by telling.now) }
+    requires sayable { CanSay version (told_by telling.now) }
+    ensures { IfOk result (λ f. Spells version f from origin (told_by telling.now)) }
+{
+    let parts = Layout::of(version, from, origin, telling);
     let mut out = BytesMut::with_capacity(alloc, parts.header.len())?;
     put_parts(&mut out, &parts)?;
     Ok(Frame::written(out.freeze()?))

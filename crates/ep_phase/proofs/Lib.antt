@@ -1,2 +1,4 @@
-pub mod Places
+pub mod Answering
 pub mod Refusals
+pub mod Settled
+pub mod TakenOut

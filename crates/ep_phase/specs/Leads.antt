@@ -13,13 +13,16 @@ pub record Leads : Type 0 where
   pub leads : Map Led
   -- the greatest counter told, where one was
   pub told : Map ℕ
-  -- the instances that have a place for both
+  -- the instances that have a place for what is led
   pub places : Places
+  -- those that have one for the counter told
+  pub told_places : Places
 
 abbrev pub leads_code : Coded Leads
 leads_code =
-    code_by (Map Led × (Map ℕ × Places)) (coded× (map.code coded_ℕ led_facts.the_row.coded) (coded× (map.code coded_ℕ coded_ℕ) (set.code coded_ℕ)))
-    (λ l. (l.leads, (l.told, l.places))) (λ p. record { leads = p.0; told = p.1.0; places = p.1.1 }) (λ _. refl)
+    code_by (Map Led × (Map ℕ × (Places × Places)))
+    (coded× (map.code coded_ℕ led_facts.the_row.coded) (coded× (map.code coded_ℕ coded_ℕ) (coded× (set.code coded_ℕ) (set.code coded_ℕ))))
+    (λ l. (l.leads, (l.told, (l.places, l.told_places)))) (λ p. record { leads = p.0; told = p.1.0; places = p.1.1.0; told_places = p.1.1.1 }) (λ _. refl)
 
 -- the same, with this led in i, or with nothing
 abbrev pub with_lead : Leads → ℕ → Option Led → Leads

@@ -1,138 +1,106 @@
 //! The accept phase.
 
-ghost use Rattle.std.specs.Prelude.{◌≡◌, IfOk};
+ghost use Rattle.std.specs.Prelude.{◌≡◌, Some, IfOk, IfErr};
+ghost use Rattle.ep_rules.specs.Answers.{with_answer};
 ghost use Rattle.ep_rules.specs.Phases as rules;
+ghost use Rattle.ep_rules.specs.declared.led.Led.TheVariants.{Accepting};
 ghost use Rattle.ep_phase.specs.Changes.{change_of};
-ghost use Rattle.ep_phase.specs.Known.{record_of};
+ghost use Rattle.ep_phase.specs.Known.{Known, record_of};
+ghost use Rattle.ep_frame.specs.Meaning.{kind_at, sender_at, ballot_at, decree_at};
+ghost use Rattle.ep_phase.specs.declared.decision_fault.DecisionFault.TheVariants.{Memory};
+ghost use Rattle.ep_frame.specs.declared.kind.Kind.TheVariants as kind;
 
 use crate::cell::Cell;
 use crate::change::Change;
-use crate::commit::begin_commit;
-use crate::counting::others;
+use crate::commit::commit_own;
+use crate::counting::others_with;
+use crate::decision_fault::DecisionFault;
 use crate::leading::Leading;
 use crate::propose::is_usable;
 use crate::receivers::Receivers;
 use crate::recorded::Recorded;
-use crate::sending::Sending;
-use ep_base::{Ballot, Decree, Message, ReplicaId};
+use crate::sending::{Sending, What};
+use ep_frame::FrameView;
+use ep_base::{Ballot, Decree, ReplicaId};
 use ep_rules::{Answers, Led};
-use std::alloc::{AllocError, Global};
+use std::alloc::Global;
 
 /// Begins the accept phase of the ballot: the leader accepts the decree, and asks all others to (EPaxos, figure 2; Sutra, 2019, for the two ballots).
-pub fn begin_accept(
-    alloc: Global,
-    cell: &Cell<'_>,
-    ballot: Ballot,
-    decree: Decree,
-) -> Result<Change, AllocError>
-    ensures { IfOk result (λ ch. change_of cell.now ch ≡ rules.accept_phase cell.now.faults cell.now.instance cell.now.me ballot decree) }
+pub fn begin_accept(alloc: Global, ballot: Ballot, decree: Decree) -> Change
+    ensures { (k : Known) → change_of k result ≡ rules.accept_phase k.faults k.instance k.me ballot decree }
 {
-    let sent = decree.copy(alloc)?;
     let out = Sending {
         to: Receivers::Others,
-        message: Message::Accept {
-            instance: cell.id(),
-            ballot,
-            decree: sent,
-        },
+        what: What::Accept(ballot),
     };
     let led = Led::Accepting(ballot, Answers::new(alloc));
-    Ok(Change::of(
+    Change::of(
         Recorded::Accepts(ballot, decree),
         Leading::Leads(led),
+        Some(out),
+    )
+}
+
+/// Handles an Accept: below the promised ballot it is refused; where the instance is committed, or accepted at the ballot, nothing happens;
+/// else the decree is accepted.
+pub fn on_accept(
+    alloc: Global,
+    cell: &Cell<'_>,
+    frame: &FrameView<'_>,
+) -> Result<Change, DecisionFault>
+    requires kind { kind_at frame.now ≡ kind.Accept }
+    ensures ok { IfOk result (λ ch. change_of cell.now ch ≡ rules.on_accept cell.now.instance (sender_at frame.now) (ballot_at frame.now) (decree_at frame.now) (record_of cell.now)) }
+    ensures refused { IfErr result (λ e. e ≡ Memory) }
+{
+    let ballot = frame.ballot();
+    let promised = cell.promised();
+    if ballot < promised {
+        return Ok(Change::refused(frame.from(), ballot, promised));
+    }
+    if cell.is_settled_at(ballot) {
+        return Ok(Change::nothing());
+    }
+    let decree = frame.to_decree(alloc)?;
+    let out = Sending {
+        to: Receivers::One(frame.from()),
+        what: What::AcceptOk(ballot),
+    };
+    Ok(Change::of(
+        Recorded::Accepts(ballot, decree),
+        Leading::Stays,
         Some(out),
     ))
 }
 
-/// Handles an Accept: below the promised ballot it is refused; where the instance is committed, or accepted at the ballot, nothing happens;
-/// else the decree is accepted. It takes no memory.
-pub fn on_accept(cell: &Cell<'_>, from: ReplicaId, ballot: Ballot, decree: Decree) -> Change
-    ensures { change_of cell.now result ≡ rules.on_accept cell.now.instance from ballot decree (record_of cell.now) }
+/// Handles an AcceptOK: it counts while this replica leads the ballot in the accept phase, has promised no other ballot and has not committed,
+/// once for each replica. With as many others as may fail, the leader commits. It takes no memory.
+pub fn on_accept_ok(cell: &Cell<'_>, from: ReplicaId, ballot: Ballot) -> Change
+    ensures { change_of cell.now result ≡ rules.on_accept_ok cell.now.faults cell.now.instance cell.now.me from ballot (record_of cell.now) cell.now.led }
 {
-    let instance = cell.id();
-    let promised = cell.promised();
-    if ballot < promised {
-        return Change::answered(
-            from,
-            Message::Nack {
-                instance,
-                refused: ballot,
-                promised,
-            },
-        );
-    }
-    if cell.is_settled_at(ballot) {
+    let Some(Led::Accepting(led, answers)) = cell.led() else {
+        return Change::nothing();
+    };
+    if answers.get(from.index()).is_some() {
         return Change::nothing();
     }
-    let out = Sending {
-        to: Receivers::One(from),
-        message: Message::AcceptOk { instance, ballot },
-    };
-    Change::of(Recorded::Accepts(ballot, decree), Leading::Stays, Some(out))
-}
-
-/// Handles an AcceptOK: it counts while this replica leads the ballot in the accept phase, has promised no other ballot and has not committed,
-/// once for each replica. With as many others as may fail, the leader commits.
-pub fn on_accept_ok(
-    alloc: Global,
-    cell: &Cell<'_>,
-    from: ReplicaId,
-    ballot: Ballot,
-) -> Result<Change, AllocError>
-    ensures { IfOk result (λ ch. change_of cell.now ch ≡ rules.on_accept_ok cell.now.faults cell.now.instance cell.now.me from ballot (record_of cell.now) cell.now.led) }
-{
-    let more = more_accepting(alloc, cell, from)?;
-    let Some((led, answers)) = more else {
-        return Ok(Change::nothing());
-    };
-    if !is_usable(cell, ballot, led) {
-        return Ok(Change::nothing());
+    if !is_usable(cell, ballot, *led) {
+        return Change::nothing();
     }
-    count_accept_ok(alloc, cell, ballot, answers)
-}
-
-/// The ballot led in the accept phase, and its answers with this replica's, if it has not answered yet.
-fn more_accepting(
-    alloc: Global,
-    cell: &Cell<'_>,
-    from: ReplicaId,
-) -> Result<Option<(Ballot, Answers<()>)>, AllocError>
-    ensures { IfOk result (λ o. o ≡ rules.more_accepting from cell.now.led) }
-{
-    match cell.led() {
-        Some(Led::Accepting(ballot, answers)) => {
-            if answers.get(from.index()).is_some() {
-                return Ok(None);
-            }
-            let more = answers.with(alloc, from, ())?;
-            Ok(Some((*ballot, more)))
-        }
-        _ => Ok(None),
-    }
+    count_accept_ok(cell, from, ballot, answers)
 }
 
 fn count_accept_ok(
-    alloc: Global,
     cell: &Cell<'_>,
+    from: ReplicaId,
     ballot: Ballot,
-    answers: Answers<()>,
-) -> Result<Change, AllocError>
-    ensures { IfOk result (λ ch. change_of cell.now ch ≡ rules.count_accept_ok cell.now.faults cell.now.instance cell.now.me ballot answers (record_of cell.now)) }
+    answers: &Answers<()>,
+) -> Change
+    requires led { cell.now.led ≡ Some (Accepting ballot answers.now) }
+    ensures { change_of cell.now result ≡ rules.count_accept_ok cell.now.faults cell.now.instance cell.now.me ballot (with_answer answers.now from tt) (record_of cell.now) }
 {
     let size = cell.size();
-    if size.faults() <= others(size, cell.me(), &answers) {
-        return commit_own(alloc, cell);
+    if size.faults() <= others_with(size, cell.me(), answers, from) {
+        return commit_own(cell);
     }
-    Ok(Change::kept(Led::Accepting(ballot, answers)))
-}
-
-/// Commits what the leader itself voted for.
-fn commit_own(alloc: Global, cell: &Cell<'_>) -> Result<Change, AllocError>
-    ensures { IfOk result (λ ch. change_of cell.now ch ≡ rules.commit_own cell.now.faults cell.now.instance cell.now.me (record_of cell.now) (record_of cell.now).vote) }
-{
-    let Some(vote) = cell.vote() else {
-        return Ok(Change::nothing());
-    };
-    let decree = vote.decree.copy(alloc)?;
-    begin_commit(alloc, cell, decree)
+    Change::of(Recorded::Stays, Leading::Accepted(from), None)
 }

@@ -11,7 +11,7 @@ use ep_rules::{Led, Record};
 use ep_space::Space;
 use std::marker::Model;
 
-/// What a replica knows of one instance: its record, what is led there, and the greatest counter told. Each is looked up once, and lent;
+/// What a replica knows of one instance: its record, and what is led there, each looked up once, and lent; the greatest counter told;
 /// and all of the replica's records, for the interference set of a command.
 #[derive(Drop)]
 pub struct Cell<'a> {
@@ -20,20 +20,21 @@ pub struct Cell<'a> {
     id: InstanceId,
     entry: Option<&'a Record>,
     led: Option<&'a Led>,
-    told: u16,
+    lead: &'a Lead,
 }
 
 impl<'a> Model for Cell<'a> {
     ghost use Rattle.std.specs.Prelude.{◌≡◌};
     ghost use Rattle.std.specs.Option.{option_copied};
     ghost use Rattle.ep_rules.specs.Maps.{get};
+    ghost use Rattle.ep_rules.specs.States.{or_zero};
     ghost use Rattle.ep_phase.specs.Known.{Known, known_code};
 
     ghost Value = { Known };
 
     ghost coded = { known_code };
 
-    ghost view = { λ c. record { faults = c.space.now.faults; me = c.me; instance = c.id; records = c.space.now.records; led = option_copied c.led; told = c.told } };
+    ghost view = { λ c. record { faults = c.space.now.faults; me = c.me; instance = c.id; records = c.space.now.records; led = option_copied c.led; told = or_zero (get c.lead.now.told c.id) } };
 
     ghost invariant = { λ c. option_copied c.entry ≡ get c.space.now.records c.id };
 }
@@ -49,7 +50,7 @@ impl<'a> Cell<'a> {
             id,
             entry: space.get(id),
             led: lead.get(id),
-            told: lead.told(id),
+            lead,
         }
     }
 
@@ -147,6 +148,6 @@ impl<'a> Cell<'a> {
     pub fn told(&self) -> u16
         ensures { result ≡ self.now.told }
     {
-        self.told
+        self.lead.told(self.id)
     }
 }

@@ -1,27 +1,33 @@
 //! What an event changes.
 
-ghost use Rattle.std.specs.Prelude.{◌≡◌, None, Some, IsOk, OnOk, OnErr, IfSome};
-ghost use Rattle.std.specs.FinSet as set;
+ghost use Rattle.std.specs.Prelude.{◌≡◌, [], false, cond, None, Some, IsOk, OnOk, OnErr, IfSome, IfNone};
+ghost use Rattle.std.specs.Option.{option_copied};
 ghost use Rattle.ep_base.specs.Interference.{keys_of};
+ghost use Rattle.ep_base.specs.declared.message.Message.TheVariants.{Nack};
 ghost use Rattle.ep_rules.specs.Cells as rules;
+ghost use Rattle.ep_rules.specs.Maps.{get};
 ghost use Rattle.ep_rules.specs.States.{with_entry, with_led};
 ghost use Rattle.ep_space.specs.Held.{HasPlace};
 ghost use Rattle.ep_space.specs.Keys.{keys_at, NeedsNoRoom};
 ghost use Rattle.ep_space.specs.Records.{record_at};
-ghost use Rattle.ep_phase.specs.Changes.{change_of, entry_of, led_of, voted_for};
-ghost use Rattle.ep_phase.specs.Known.{Known};
+ghost use Rattle.ep_phase.specs.Changes.{adds_answer, change_of, decree_in, entry_of, led_of, message_in, new_record, sends, to_receivers, voted_decree, voted_for, HasRecordPlace, HasLeadPlace, HasToldPlace};
+ghost use Rattle.ep_phase.specs.Known.{Known, record_of};
+ghost use Rattle.ep_base.specs.Messages.{says};
 
+use crate::cell::Cell;
 use crate::lead::Lead;
 use crate::leading::Leading;
 use crate::receivers::Receivers;
 use crate::recorded::Recorded;
-use crate::sending::Sending;
-use ep_base::{InstanceId, Message, ReplicaId};
+use crate::sending::{Sending, What};
+use ep_frame::Telling;
+use ep_base::{Ballot, Decree, InstanceId, ReplicaId, Said};
 use ep_rules::Led;
 use ep_space::Space;
 use std::alloc::AllocError;
 
-/// What an event changes of one instance, and what it sends. All the memory that it needs is taken; nothing has changed yet.
+/// What an event changes of one instance, and what it sends. All that may fail for the sake of the protocol is done; nothing has
+/// changed yet.
 #[derive(Drop)]
 pub struct Change {
     pub entry: Recorded,
@@ -39,18 +45,18 @@ impl Change {
         Change::of(Recorded::Stays, Leading::Stays, None)
     }
 
-    /// Nothing changes, and this is answered.
-    pub fn answered(from: ReplicaId, message: Message) -> Change
-        ensures { (k : Known) → change_of k result ≡ rules.answered from message }
+    /// Nothing changes, and this replica is told that the first ballot is refused, since the second one is promised.
+    pub fn refused(from: ReplicaId, ballot: Ballot, promised: Ballot) -> Change
+        ensures { (k : Known) → change_of k result ≡ rules.answered from (Nack k.instance ballot promised) }
     {
         let out = Sending {
             to: Receivers::One(from),
-            message,
+            what: What::Nack(ballot, promised),
         };
         Change::of(Recorded::Stays, Leading::Stays, Some(out))
     }
 
-    /// This is led from now on: an answer more is kept.
+    /// This is led from now on.
     pub fn kept(led: Led) -> Change
         ensures { (k : Known) → change_of k result ≡ rules.kept led }
     {
@@ -69,21 +75,57 @@ impl Change {
         }
     }
 
-    /// Puts the change in place. A vote for another key than before may take memory, and is written first: at want of it nothing has
-    /// changed.
+    /// What is sent, and to whom; its parts are the change's, or those of the replica's last vote.
+    pub fn said<'a>(&'a self, cell: &Cell<'a>) -> Option<(Receivers, Telling<'a>)>
+        ensures some { IfSome result (λ t. sends cell.now self.now ≡ to_receivers cell.now.faults cell.now.me cell.now.instance t.0 (says t.1.instance t.1.said)) }
+        ensures none { IfNone result (sends cell.now self.now ≡ []) }
+    {
+        match &self.out {
+            None => None,
+            Some(sending) => match said_of(&self.entry, cell, sending.what) {
+                None => None,
+                Some(said) => {
+                    let instance = cell.id();
+                    Some((sending.to, Telling { instance, said }))
+                }
+            },
+        }
+    }
+
+    /// Makes the places that the change needs. Nothing else has changed then, at want of memory either.
+    pub fn reserve(
+        &self,
+        space: &mut Space,
+        lead: &mut Lead,
+        id: InstanceId,
+    ) -> Result<(), AllocError>
+        ensures record { OnOk result (HasRecordPlace self.now.entry space.new.places id) }
+        ensures led { OnOk result (HasLeadPlace self.now.led lead.new.places id) }
+        ensures told { OnOk result (HasToldPlace self.now.told lead.new.told_places id) }
+        ensures same_space { space.new ≡ record space.old { places = space.new.places } }
+        ensures same_lead { lead.new ≡ record lead.old { places = lead.new.places; told_places = lead.new.told_places } }
+    {
+        reserve_record(&self.entry, space, id)?;
+        reserve_led(&self.led, lead, id)?;
+        reserve_told(&self.told, lead, id)
+    }
+
+    /// Puts the change in place. A vote for another key than before may take memory, and so may an answer more, which is all that changes
+    /// then: at want of memory nothing has changed.
     pub fn install(
         self,
         space: &mut Space,
         lead: &mut Lead,
         id: InstanceId,
     ) -> Result<(), AllocError>
-        requires place { HasPlace space.old.places id }
-        requires led { HasPlace lead.old.places id }
-        ensures records { OnOk result (space.new ≡ record space.old { records = with_entry space.old.records id (entry_of id (record_at space.old id) self.entry) }) }
-        ensures leads { OnOk result (lead.new ≡ record lead.old { leads = with_led lead.old.leads id (led_of self.led); told = with_entry lead.old.told id self.told }) }
+        requires record { HasRecordPlace self.entry space.old.places id }
+        requires led { HasLeadPlace self.led lead.old.places id }
+        requires told { HasToldPlace self.told lead.old.told_places id }
+        ensures records { OnOk result (space.new ≡ record space.old { records = with_entry space.old.records id (new_record id (record_at space.old id) self) }) }
+        ensures leads { OnOk result (lead.new ≡ record lead.old { leads = with_led lead.old.leads id (led_of (get lead.old.leads id) self.led); told = with_entry lead.old.told id self.told }) }
         ensures records_stay { OnErr result (space.new ≡ space.old) }
         ensures leads_stay { OnErr result (lead.new ≡ lead.old) }
-        ensures succeeds { IfSome (voted_for self.entry) (λ x. NeedsNoRoom (keys_at space.old.records id) (keys_of x.command)) → IsOk result }
+        ensures succeeds { adds_answer self.led ≡ false → IfSome (voted_for self.entry) (λ x. NeedsNoRoom (keys_at space.old.records id) (keys_of x.command)) → IsOk result }
     {
         let Change {
             entry,
@@ -91,8 +133,7 @@ impl Change {
             told,
             out: _,
         } = self;
-        write_record(space, id, entry)?;
-        write_led(lead, id, led);
+        write(space, lead, id, entry, led)?;
         if let Some(counter) = told {
             lead.tell(id, counter);
         }
@@ -100,8 +141,119 @@ impl Change {
     }
 }
 
+/// What a message says, where it needs no decree or there is one.
+fn said_of<'a>(entry: &'a Recorded, cell: &Cell<'a>, what: What) -> Option<Said<'a>>
+    ensures some { IfSome result (λ s. message_in cell.now.instance (record_of cell.now).vote (decree_in (record_of cell.now).vote entry.now) what ≡ Some (says cell.now.instance s)) }
+    ensures none { IfNone result (message_in cell.now.instance (record_of cell.now).vote (decree_in (record_of cell.now).vote entry.now) what ≡ None) }
+{
+    match what {
+        What::PreAccept(ballot) => Some(Said::PreAccept(ballot, decree_of(entry, cell)?)),
+        What::PreAcceptOk(ballot) => {
+            let decree = decree_of(entry, cell)?;
+            Some(Said::PreAcceptOk(ballot, &decree.attrs))
+        }
+        What::Accept(ballot) => Some(Said::Accept(ballot, decree_of(entry, cell)?)),
+        What::AcceptOk(ballot) => Some(Said::AcceptOk(ballot)),
+        What::Commit => Some(Said::Commit(decree_of(entry, cell)?)),
+        What::Prepare(ballot) => Some(Said::Prepare(ballot)),
+        What::PrepareOk(ballot) => Some(Said::PrepareOk(ballot, cell.vote())),
+        What::Nack(ballot, promised) => Some(Said::Nack(ballot, promised)),
+    }
+}
+
+/// The decree that a message is about: the one that is voted for, or else that of the last vote.
+fn decree_of<'a>(entry: &'a Recorded, cell: &Cell<'a>) -> Option<&'a Decree>
+    ensures { option_copied result ≡ decree_in (record_of cell.now).vote entry.now }
+{
+    match entry {
+        Recorded::PreAccepts(_, decree) => Some(decree),
+        Recorded::Accepts(_, decree) => Some(decree),
+        Recorded::Commits(decree) => Some(decree),
+        Recorded::Stays => voted_decree(cell),
+        Recorded::Joins(_) => voted_decree(cell),
+        Recorded::Settles => voted_decree(cell),
+    }
+}
+
+fn voted_decree<'a>(cell: &Cell<'a>) -> Option<&'a Decree>
+    ensures { option_copied result ≡ voted_decree (record_of cell.now).vote }
+{
+    match cell.vote() {
+        None => None,
+        Some(vote) => Some(&vote.decree),
+    }
+}
+
+fn reserve_record(
+    entry: &Recorded,
+    space: &mut Space,
+    id: InstanceId,
+) -> Result<(), AllocError>
+    ensures place { OnOk result (HasRecordPlace entry.now space.new.places id) }
+    ensures same { space.new ≡ record space.old { places = space.new.places } }
+{
+    match entry {
+        Recorded::Stays => Ok(()),
+        _ => space.reserve(id),
+    }
+}
+
+fn reserve_led(led: &Leading, lead: &mut Lead, id: InstanceId) -> Result<(), AllocError>
+    ensures place { OnOk result (HasLeadPlace led.now lead.new.places id) }
+    ensures same { lead.new ≡ record lead.old { places = lead.new.places } }
+{
+    match led {
+        Leading::Stays => Ok(()),
+        Leading::Ends => Ok(()),
+        _ => lead.reserve(id),
+    }
+}
+
+fn reserve_told(told: &Option<u16>, lead: &mut Lead, id: InstanceId) -> Result<(), AllocError>
+    ensures place { OnOk result (HasToldPlace told.now lead.new.told_places id) }
+    ensures same { lead.new ≡ record lead.old { told_places = lead.new.told_places } }
+{
+    match told {
+        None => Ok(()),
+        Some(_) => lead.reserve_told(id),
+    }
+}
+
+/// Writes what is recorded and led. All that may fail comes first.
+fn write(
+    space: &mut Space,
+    lead: &mut Lead,
+    id: InstanceId,
+    entry: Recorded,
+    led: Leading,
+) -> Result<(), AllocError>
+    requires record { HasRecordPlace entry space.old.places id }
+    requires led { HasLeadPlace led lead.old.places id }
+    ensures records { OnOk result (space.new ≡ record space.old { records = with_entry space.old.records id (cond (adds_answer led) None (entry_of id (record_at space.old id) entry)) }) }
+    ensures leads { OnOk result (lead.new ≡ record lead.old { leads = with_led lead.old.leads id (led_of (get lead.old.leads id) led) }) }
+    ensures records_stay { OnErr result (space.new ≡ space.old) }
+    ensures leads_stay { OnErr result (lead.new ≡ lead.old) }
+    ensures succeeds { adds_answer led ≡ false → IfSome (voted_for entry) (λ x. NeedsNoRoom (keys_at space.old.records id) (keys_of x.command)) → IsOk result }
+{
+    match led {
+        Leading::Stays => write_record(space, id, entry),
+        Leading::Leads(led) => {
+            write_record(space, id, entry)?;
+            lead.lead(id, led);
+            Ok(())
+        }
+        Leading::PreAccepted(from, attrs) => lead.add_pre_accepted(id, from, attrs),
+        Leading::Accepted(from) => lead.add_accepted(id, from),
+        Leading::Ends => {
+            write_record(space, id, entry)?;
+            lead.end(id);
+            Ok(())
+        }
+    }
+}
+
 fn write_record(space: &mut Space, id: InstanceId, entry: Recorded) -> Result<(), AllocError>
-    requires place { HasPlace space.old.places id }
+    requires { HasRecordPlace entry space.old.places id }
     ensures ok { OnOk result (space.new ≡ record space.old { records = with_entry space.old.records id (entry_of id (record_at space.old id) entry) }) }
     ensures err { OnErr result (space.new ≡ space.old) }
     ensures succeeds { IfSome (voted_for entry) (λ x. NeedsNoRoom (keys_at space.old.records id) (keys_of x.command)) → IsOk result }
@@ -115,16 +267,9 @@ fn write_record(space: &mut Space, id: InstanceId, entry: Recorded) -> Result<()
         Recorded::PreAccepts(ballot, decree) => space.vote_pre(id, ballot, decree),
         Recorded::Accepts(ballot, decree) => space.vote_accept(id, ballot, decree),
         Recorded::Commits(decree) => space.commit(id, decree),
-    }
-}
-
-fn write_led(lead: &mut Lead, id: InstanceId, led: Leading)
-    requires led { HasPlace lead.old.places id }
-    ensures { lead.new ≡ record lead.old { leads = with_led lead.old.leads id (led_of led) } }
-{
-    match led {
-        Leading::Stays => (),
-        Leading::Leads(led) => lead.lead(id, led),
-        Leading::Ends => lead.end(id),
+        Recorded::Settles => {
+            space.settle(id);
+            Ok(())
+        }
     }
 }

@@ -6,16 +6,19 @@ ghost use Rattle.std.specs.FinSet as set;
 ghost use Rattle.ep_rules.specs.Maps.{none, get};
 ghost use Rattle.ep_rules.specs.States.{or_zero};
 ghost use Rattle.ep_space.specs.Held.{HasPlace};
+ghost use Rattle.ep_rules.specs.States.{with_led};
+ghost use Rattle.ep_phase.specs.Changes.{or_as_before, with_pre_accepted, with_accepted};
 ghost use Rattle.ep_phase.specs.Leads.{with_lead, with_told};
 
-use ep_base::InstanceId;
+use ep_base::{Attrs, InstanceId, ReplicaId};
 use ep_rules::Led;
 use ep_space::Table;
 use std::alloc::{AllocError, Global};
 use std::marker::Model;
 
 /// What a replica leads, instance by instance, and the greatest counters that Nacks told it.
-/// An instance first gets a place, which takes memory; what is led there is then written without.
+/// An instance first gets a place for the one, or for the other, which takes memory; both are then written without. An answer more may
+/// take memory.
 #[derive(Drop)]
 pub struct Lead {
     leads: Table<Led>,
@@ -23,23 +26,19 @@ pub struct Lead {
 }
 
 impl Model for Lead {
-    ghost use Rattle.std.specs.Prelude.{◌≡◌, true};
-    ghost use Rattle.std.specs.FinSet as set;
     ghost use Rattle.ep_phase.specs.Leads.{Leads, leads_code};
 
     ghost Value = { Leads };
 
     ghost coded = { leads_code };
 
-    ghost view = { λ l. record { leads = l.leads.held; told = l.told.held; places = l.leads.places } };
-
-    ghost invariant = { λ l. set.is_subset l.leads.places l.told.places ≡ true };
+    ghost view = { λ l. record { leads = l.leads.held; told = l.told.held; places = l.leads.places; told_places = l.told.places } };
 }
 
 impl Lead {
     /// Nothing is led, and no counter was told.
     pub fn new(alloc: Global) -> Lead
-        ensures { result ≡ record { leads = none; told = none; places = set.empty } }
+        ensures { result ≡ record { leads = none; told = none; places = set.empty; told_places = set.empty } }
     {
         Lead {
             leads: Table::new(alloc),
@@ -56,14 +55,22 @@ impl Lead {
         Ok(Lead { leads, told })
     }
 
-    /// Makes a place for the instance, if it has none. Nothing else takes memory here.
+    /// Makes a place for what is led in the instance, if it has none.
     pub fn reserve(&mut self, id: InstanceId) -> Result<(), AllocError>
-        ensures ok { OnOk result (self.new ≡ record { leads = self.old.leads; told = self.old.told; places = set.insert self.old.places id }) }
+        ensures ok { OnOk result (self.new ≡ record self.old { places = set.insert self.old.places id }) }
         ensures place { OnOk result (HasPlace self.new.places id) }
         ensures err { OnErr result (self.new ≡ self.old) }
     {
-        self.told.reserve(id)?;
         self.leads.reserve(id)
+    }
+
+    /// Makes a place for the counter told of the instance, if it has none.
+    pub fn reserve_told(&mut self, id: InstanceId) -> Result<(), AllocError>
+        ensures ok { OnOk result (self.new ≡ record self.old { told_places = set.insert self.old.told_places id }) }
+        ensures place { OnOk result (HasPlace self.new.told_places id) }
+        ensures err { OnErr result (self.new ≡ self.old) }
+    {
+        self.told.reserve(id)
     }
 
     // What is led.
@@ -102,12 +109,34 @@ impl Lead {
         self.leads.write(id, Some(led));
     }
 
-    /// Leads the instance no longer. It takes no memory.
-    pub fn end(&mut self, id: InstanceId)
+    /// One more replica pre-accepted with these attributes, if this is phase 1. At want of memory nothing has changed.
+    pub fn add_pre_accepted(
+        &mut self,
+        id: InstanceId,
+        from: ReplicaId,
+        attrs: Attrs,
+    ) -> Result<(), AllocError>
         requires { HasPlace self.old.places id }
+        ensures ok { OnOk result (self.new ≡ record self.old { leads = with_led self.old.leads id (with_pre_accepted from attrs (get self.old.leads id)) }) }
+        ensures err { OnErr result (self.new ≡ self.old) }
+    {
+        add_pre_accepted(&mut self.leads, id, from, attrs)
+    }
+
+    /// One more replica accepted, if this is the accept phase. At want of memory nothing has changed.
+    pub fn add_accepted(&mut self, id: InstanceId, from: ReplicaId) -> Result<(), AllocError>
+        requires { HasPlace self.old.places id }
+        ensures ok { OnOk result (self.new ≡ record self.old { leads = with_led self.old.leads id (with_accepted from (get self.old.leads id)) }) }
+        ensures err { OnErr result (self.new ≡ self.old) }
+    {
+        add_accepted(&mut self.leads, id, from)
+    }
+
+    /// Leads the instance no longer. It takes no memory, and needs no place.
+    pub fn end(&mut self, id: InstanceId)
         ensures { self.new ≡ with_lead self.old id None }
     {
-        self.leads.write(id, None);
+        self.leads.clear(id);
     }
 
     // The counters told.
@@ -131,7 +160,7 @@ impl Lead {
 
     /// Keeps this counter as the one told. It takes no memory.
     pub fn tell(&mut self, id: InstanceId, counter: u16)
-        requires { HasPlace self.old.places id }
+        requires { HasPlace self.old.told_places id }
         ensures { self.new ≡ with_told self.old id (Some counter) }
     {
         self.told.write(id, Some(counter));
@@ -139,9 +168,65 @@ impl Lead {
 
     /// Puts back the counter told earlier, or that none was. It takes no memory.
     pub fn put_back_told(&mut self, id: InstanceId, earlier: Option<u16>)
-        requires { HasPlace self.old.places id }
+        requires { HasPlace self.old.told_places id }
         ensures { self.new ≡ with_told self.old id earlier }
     {
         self.told.write(id, earlier);
+    }
+}
+
+// What is led is taken out, and put back with the answer, or as it was.
+fn add_pre_accepted(
+    leads: &mut Table<Led>,
+    id: InstanceId,
+    from: ReplicaId,
+    attrs: Attrs,
+) -> Result<(), AllocError>
+    requires { HasPlace leads.old.places id }
+    ensures ok { OnOk result (leads.new ≡ record { held = with_led leads.old.held id (with_pre_accepted from attrs (get leads.old.held id)); places = leads.old.places }) }
+    ensures err { OnErr result (leads.new ≡ leads.old) }
+{
+    let mut led = leads.put_back(id, None);
+    let outcome = count_pre_accepted(&mut led, from, attrs);
+    leads.write(id, led);
+    outcome
+}
+
+fn count_pre_accepted(
+    led: &mut Option<Led>,
+    from: ReplicaId,
+    attrs: Attrs,
+) -> Result<(), AllocError>
+    ensures ok { OnOk result (led.new ≡ or_as_before led.old (with_pre_accepted from attrs led.old)) }
+    ensures err { OnErr result (led.new ≡ led.old) }
+{
+    match led {
+        Some(Led::Proposing(_, answers)) => answers.add(from, attrs),
+        _ => Ok(()),
+    }
+}
+
+fn add_accepted(
+    leads: &mut Table<Led>,
+    id: InstanceId,
+    from: ReplicaId,
+) -> Result<(), AllocError>
+    requires { HasPlace leads.old.places id }
+    ensures ok { OnOk result (leads.new ≡ record { held = with_led leads.old.held id (with_accepted from (get leads.old.held id)); places = leads.old.places }) }
+    ensures err { OnErr result (leads.new ≡ leads.old) }
+{
+    let mut led = leads.put_back(id, None);
+    let outcome = count_accepted(&mut led, from);
+    leads.write(id, led);
+    outcome
+}
+
+fn count_accepted(led: &mut Option<Led>, from: ReplicaId) -> Result<(), AllocError>
+    ensures ok { OnOk result (led.new ≡ or_as_before led.old (with_accepted from led.old)) }
+    ensures err { OnErr result (led.new ≡ led.old) }
+{
+    match led {
+        Some(Led::Accepting(_, answers)) => answers.add(from, ()),
+        _ => Ok(()),
     }
 }

@@ -1,5 +1,6 @@
 //! What becomes of what a replica leads.
 
+use ep_base::{Attrs, ReplicaId};
 use ep_rules::Led;
 
 /// What becomes of what the replica leads in an instance.
@@ -9,6 +10,10 @@ pub enum Leading {
     Stays,
     /// The replica leads this from now on.
     Leads(Led),
+    /// One more replica pre-accepted, with these attributes. That is kept alone: nothing is recorded with it.
+    PreAccepted(ReplicaId, Attrs),
+    /// One more replica accepted. That is kept alone, too.
+    Accepted(ReplicaId),
     /// It leads the instance no longer.
     Ends,
 }

@@ -1,8 +1,9 @@
 //! Phase 1, the accept phase and commit (EPaxos, figure 2), at the default ballot and at recovery ballots.
 //!
 //! Each call takes one event of one instance and decides what it changes there: it looks at a `Cell`, which is what the replica
-//! knows of the instance, and answers a `Change`, or why the event is refused. Nothing has changed then. `Change::install`
-//! puts a change in place; it takes no memory and can't fail, so nothing ever has to be undone.
+//! knows of the instance, and answers a `Change`, or why the event is refused. Nothing has changed then. `Change::reserve` makes the
+//! places that a change needs, and `Change::install` puts it in place; at want of memory nothing has changed, so nothing ever has to be
+//! undone. What a change sends is said of what it records, and isn't copied: `Change::said`.
 //!
 //! `ep_journal` calls it for each event that isn't a recovery's or an execution, and `ep_prepare` for the phases that a
 //! recovery goes on to. Each call decides what its rule in `ep_rules`, specs/Phases.antt, says, test by test.
@@ -16,9 +17,9 @@ mod cell;
 mod change;
 mod commit;
 mod counting;
+mod decision_fault;
 mod lead;
 mod leading;
-mod phase_fault;
 mod progress;
 mod propose;
 mod receivers;
@@ -29,13 +30,13 @@ pub use accept::{begin_accept, on_accept, on_accept_ok};
 pub use cell::Cell;
 pub use change::Change;
 pub use commit::{begin_commit, on_commit};
+pub use decision_fault::DecisionFault;
 pub use lead::Lead;
 pub use leading::Leading;
-pub use phase_fault::PhaseFault;
 pub use progress::{LeadPhase, progress_of};
 pub use propose::{
     give_up, is_usable, next_instance, on_pre_accept, on_pre_accept_ok, start, start_at,
 };
 pub use receivers::{Receivers, is_fast};
 pub use recorded::Recorded;
-pub use sending::Sending;
+pub use sending::{Sending, What};

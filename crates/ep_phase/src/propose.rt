@@ -5,6 +5,7 @@ ghost use Rattle.ep_base.specs.Instances.{instance_of};
 ghost use Rattle.ep_base.specs.declared.message.Message.TheVariants.{PreAccept};
 ghost use Rattle.ep_base.specs.declared.vote.Status.TheVariants.{PreAccepted};
 ghost use Rattle.ep_rules.specs.declared.led.Led.TheVariants.{Proposing};
+ghost use Rattle.ep_rules.specs.Answers.{with_answer};
 ghost use Rattle.ep_rules.specs.Cells as cells;
 ghost use Rattle.ep_rules.specs.Cells.{voted};
 ghost use Rattle.ep_rules.specs.InterferenceSet.{interference};
@@ -12,23 +13,27 @@ ghost use Rattle.ep_rules.specs.Phases as rules;
 ghost use Rattle.ep_rules.specs.Recovery.{recover_with};
 ghost use Rattle.ep_base.specs.Versions.{highest_in};
 ghost use Rattle.ep_rules.specs.States.{free_number};
-ghost use Rattle.ep_phase.specs.Changes.{change_of, to_receivers};
-ghost use Rattle.ep_phase.specs.Known.{record_of};
-ghost use Rattle.ep_phase.specs.Refused.{IsLimited, IsRefused};
+ghost use Rattle.ep_phase.specs.Changes.{change_of, pre_accepted, to_receivers};
+ghost use Rattle.ep_phase.specs.Known.{Known, record_of};
+ghost use Rattle.ep_phase.specs.Refused.{IsRefused};
+ghost use Rattle.ep_frame.specs.Meaning.{kind_at, sender_at, ballot_at, attrs_at, decree_at};
+ghost use Rattle.ep_phase.specs.declared.decision_fault.DecisionFault.TheVariants.{Memory};
+ghost use Rattle.ep_frame.specs.declared.kind.Kind.TheVariants as kind;
 
 use crate::accept::begin_accept;
 use crate::cell::Cell;
 use crate::change::Change;
-use crate::commit::begin_commit;
-use crate::counting::{all_equal, fast_answered, joined, others};
+use crate::commit::{begin_commit, commit_own};
+use crate::counting::{all_equal, fast_answered, joined, joined_with, others, others_with};
+use crate::decision_fault::DecisionFault;
 use crate::leading::Leading;
-use crate::phase_fault::PhaseFault;
 use crate::receivers::Receivers;
 use crate::recorded::Recorded;
-use crate::sending::Sending;
-use ep_base::{Attrs, Ballot, Command, Decree, InstanceId, Message, ReplicaId};
+use crate::sending::{Sending, What};
+use ep_frame::FrameView;
+use ep_base::{Attrs, Ballot, Command, Decree, InstanceId, ReplicaId};
 use ep_rules::{Answers, Led};
-use ep_space::{InterferenceFault, Space, SpaceFull};
+use ep_space::{Space, SpaceFull};
 use std::alloc::{AllocError, Global};
 
 /// The instance that this replica proposes in next: of those that it leads and of which nothing is recorded the one of the least number.
@@ -44,14 +49,15 @@ pub fn next_instance(space: &Space, me: ReplicaId) -> Result<InstanceId, SpaceFu
 /// Proposes the command as an instance that this replica leads and of which nothing is recorded (EPaxos, figure 2, phase 1):
 /// it pre-accepts the command with its interference set's attributes at the default ballot, and asks the others of the fast quorum.
 /// `SeqExhausted` where the sequence number would pass 1,000,000.
-pub fn start(alloc: Global, cell: &Cell<'_>, command: Command) -> Result<Change, InterferenceFault>
-    ensures ok { IfOk result (λ ch. rules.propose cell.now.faults cell.now.instance command (interference cell.now.records cell.now.instance command) ≡ Ok (change_of cell.now ch)) }
-    ensures refused { IfErr result (λ e. IsLimited (rules.propose cell.now.faults cell.now.instance command (interference cell.now.records cell.now.instance command)) e) }
+pub fn start(alloc: Global, cell: &Cell<'_>, command: &Command) -> Result<Change, DecisionFault>
+    ensures ok { IfOk result (λ ch. rules.propose cell.now.faults cell.now.instance command.now (interference cell.now.records cell.now.instance command.now) ≡ Ok (change_of cell.now ch)) }
+    ensures refused { IfErr result (λ e. IsRefused (rules.propose cell.now.faults cell.now.instance command.now (interference cell.now.records cell.now.instance command.now)) e) }
 {
-    let attrs = own_attrs(alloc, cell, &command)?;
+    let attrs = own_attrs(alloc, cell, command)?;
     let ballot = Ballot::default_of(cell.id().replica());
+    let command = command.copy(alloc)?;
     let decree = Decree { command, attrs };
-    Ok(first_phase(alloc, cell, Receivers::FastQuorum, ballot, decree)?)
+    Ok(first_phase(alloc, Receivers::FastQuorum, ballot, decree))
 }
 
 /// Begins phase 1 of a recovery ballot (EPaxos, figure 3): this replica pre-accepts the command with its interference set's attributes, and asks all others.
@@ -61,40 +67,29 @@ pub fn start_at(
     cell: &Cell<'_>,
     ballot: Ballot,
     command: Command,
-) -> Result<Change, InterferenceFault>
+) -> Result<Change, DecisionFault>
     ensures ok { IfOk result (λ ch. recover_with cell.now.faults cell.now.instance cell.now.me ballot command (interference cell.now.records cell.now.instance command) ≡ Ok (change_of cell.now ch)) }
-    ensures refused { IfErr result (λ e. IsLimited (recover_with cell.now.faults cell.now.instance cell.now.me ballot command (interference cell.now.records cell.now.instance command)) e) }
+    ensures refused { IfErr result (λ e. IsRefused (recover_with cell.now.faults cell.now.instance cell.now.me ballot command (interference cell.now.records cell.now.instance command)) e) }
 {
     let attrs = own_attrs(alloc, cell, &command)?;
     let decree = Decree { command, attrs };
-    Ok(first_phase(alloc, cell, Receivers::Others, ballot, decree)?)
+    Ok(first_phase(alloc, Receivers::Others, ballot, decree))
 }
 
 /// Phase 1 at the ballot: the leader pre-accepts the decree itself, and asks these to.
-fn first_phase(
-    alloc: Global,
-    cell: &Cell<'_>,
-    to: Receivers,
-    ballot: Ballot,
-    decree: Decree,
-) -> Result<Change, AllocError>
-    ensures { IfOk result (λ ch. change_of cell.now ch ≡ record { entry = Some (voted ballot PreAccepted decree); led = Some (Some (Proposing ballot [])); told = None; out = to_receivers cell.now.faults cell.now.me cell.now.instance to (PreAccept cell.now.instance ballot decree) }) }
+fn first_phase(alloc: Global, to: Receivers, ballot: Ballot, decree: Decree) -> Change
+    ensures { (k : Known) → change_of k result ≡ record { entry = Some (voted ballot PreAccepted decree); led = Some (Some (Proposing ballot [])); told = None; out = to_receivers k.faults k.me k.instance to (PreAccept k.instance ballot decree) } }
 {
-    let sent = decree.copy(alloc)?;
     let out = Sending {
         to,
-        message: Message::PreAccept {
-            instance: cell.id(),
-            ballot,
-            decree: sent,
-        },
+        what: What::PreAccept(ballot),
     };
     let led = Led::Proposing(ballot, Answers::new(alloc));
-    Ok(Change::of(
+    Change::of(
         Recorded::PreAccepts(ballot, decree),
         Leading::Leads(led),
         Some(out),
-    ))
+    )
 }
 
 /// Handles a PreAccept: below the promised ballot it is refused; where the instance is committed, or voted in at the ballot, nothing happens;
@@ -103,39 +98,40 @@ fn first_phase(
 pub fn on_pre_accept(
     alloc: Global,
     cell: &Cell<'_>,
-    from: ReplicaId,
-    ballot: Ballot,
-    decree: Decree,
-) -> Result<Change, InterferenceFault>
-    ensures ok { IfOk result (λ ch. rules.on_pre_accept cell.now.instance from ballot decree (interference cell.now.records cell.now.instance decree.command) (record_of cell.now) ≡ Ok (change_of cell.now ch)) }
-    ensures refused { IfErr result (λ e. IsLimited (rules.on_pre_accept cell.now.instance from ballot decree (interference cell.now.records cell.now.instance decree.command) (record_of cell.now)) e) }
+    frame: &FrameView<'_>,
+) -> Result<Change, DecisionFault>
+    requires kind { kind_at frame.now ≡ kind.PreAccept }
+    ensures ok { IfOk result (λ ch. rules.on_pre_accept cell.now.instance (sender_at frame.now) (ballot_at frame.now) (decree_at frame.now) (interference cell.now.records cell.now.instance (decree_at frame.now).command) (record_of cell.now) ≡ Ok (change_of cell.now ch)) }
+    ensures refused { IfErr result (λ e. IsRefused (rules.on_pre_accept cell.now.instance (sender_at frame.now) (ballot_at frame.now) (decree_at frame.now) (interference cell.now.records cell.now.instance (decree_at frame.now).command) (record_of cell.now)) e) }
 {
-    let instance = cell.id();
+    let ballot = frame.ballot();
     let promised = cell.promised();
     if ballot < promised {
-        return Ok(Change::answered(
-            from,
-            Message::Nack {
-                instance,
-                refused: ballot,
-                promised,
-            },
-        ));
+        return Ok(Change::refused(frame.from(), ballot, promised));
     }
     if cell.is_done_at(ballot) {
         return Ok(Change::nothing());
     }
-    let own = own_attrs(alloc, cell, &decree.command)?;
-    let Decree { command, mut attrs } = decree;
-    attrs.merge(alloc, &own)?;
-    let sent = attrs.copy(alloc)?;
+    pre_accept(alloc, cell, frame)
+}
+
+/// Pre-accepts the frame's command at its ballot.
+fn pre_accept(
+    alloc: Global,
+    cell: &Cell<'_>,
+    frame: &FrameView<'_>,
+) -> Result<Change, DecisionFault>
+    requires kind { kind_at frame.now ≡ kind.PreAccept }
+    ensures ok { IfOk result (λ ch. pre_accepted cell.now.instance (sender_at frame.now) (ballot_at frame.now) (decree_at frame.now) (interference cell.now.records cell.now.instance (decree_at frame.now).command) ≡ Ok (change_of cell.now ch)) }
+    ensures refused { IfErr result (λ e. IsRefused (pre_accepted cell.now.instance (sender_at frame.now) (ballot_at frame.now) (decree_at frame.now) (interference cell.now.records cell.now.instance (decree_at frame.now).command)) e) }
+{
+    let ballot = frame.ballot();
+    let command = frame.to_command(alloc)?;
+    let mut attrs = own_attrs(alloc, cell, &command)?;
+    frame.join_to(alloc, &mut attrs)?;
     let out = Sending {
-        to: Receivers::One(from),
-        message: Message::PreAcceptOk {
-            instance,
-            ballot,
-            attrs: sent,
-        },
+        to: Receivers::One(frame.from()),
+        what: What::PreAcceptOk(ballot),
     };
     Ok(Change::of(
         Recorded::PreAccepts(ballot, Decree { command, attrs }),
@@ -150,37 +146,39 @@ pub fn on_pre_accept(
 pub fn on_pre_accept_ok(
     alloc: Global,
     cell: &Cell<'_>,
-    from: ReplicaId,
-    ballot: Ballot,
-    attrs: Attrs,
-) -> Result<Change, AllocError>
-    ensures { IfOk result (λ ch. change_of cell.now ch ≡ rules.on_pre_accept_ok cell.now.faults cell.now.instance cell.now.me from ballot attrs (record_of cell.now) cell.now.led) }
+    frame: &FrameView<'_>,
+) -> Result<Change, DecisionFault>
+    requires kind { kind_at frame.now ≡ kind.PreAcceptOk }
+    ensures ok { IfOk result (λ ch. change_of cell.now ch ≡ rules.on_pre_accept_ok cell.now.faults cell.now.instance cell.now.me (sender_at frame.now) (ballot_at frame.now) (attrs_at frame.now) (record_of cell.now) cell.now.led) }
+    ensures refused { IfErr result (λ e. e ≡ Memory) }
 {
-    let more = more_proposing(alloc, cell, from, &attrs)?;
-    let Some((led, answers)) = more else {
+    let Some(Led::Proposing(led, answers)) = cell.led() else {
         return Ok(Change::nothing());
     };
-    if !is_usable(cell, ballot, led) {
+    if answers.get(frame.from().index()).is_some() {
         return Ok(Change::nothing());
     }
-    count_pre_accept_ok(alloc, cell, ballot, attrs, answers)
+    if !is_usable(cell, frame.ballot(), *led) {
+        return Ok(Change::nothing());
+    }
+    count_pre_accept_ok(alloc, cell, frame, answers)
 }
 
 /// Gives up waiting for the fast quorum: with as many answers of others as may fail, the leader begins the accept phase at the default ballot.
 /// `NotLeading` where this replica does not lead that ballot in phase 1, has promised another ballot or has committed; `TooFewAnswers` with fewer answers.
-pub fn give_up(alloc: Global, cell: &Cell<'_>) -> Result<Change, PhaseFault>
+pub fn give_up(alloc: Global, cell: &Cell<'_>) -> Result<Change, DecisionFault>
     ensures ok { IfOk result (λ ch. rules.give_up cell.now.faults cell.now.instance cell.now.me (record_of cell.now) cell.now.led ≡ Ok (change_of cell.now ch)) }
     ensures refused { IfErr result (λ e. IsRefused (rules.give_up cell.now.faults cell.now.instance cell.now.me (record_of cell.now) cell.now.led) e) }
 {
     let Some(Led::Proposing(ballot, answers)) = cell.led() else {
-        return Err(PhaseFault::NotLeading);
+        return Err(DecisionFault::NotLeading);
     };
     if !is_usable(cell, Ballot::default_of(cell.id().replica()), *ballot) {
-        return Err(PhaseFault::NotLeading);
+        return Err(DecisionFault::NotLeading);
     }
     let size = cell.size();
     if others(size, cell.me(), answers) < size.faults() {
-        return Err(PhaseFault::TooFewAnswers);
+        return Err(DecisionFault::TooFewAnswers);
     }
     Ok(slow_path(alloc, cell, *ballot, answers)?)
 }
@@ -194,70 +192,83 @@ pub fn is_usable(cell: &Cell<'_>, ballot: Ballot, led: Ballot) -> bool
 }
 
 /// The attributes that the command's interference set gives it; a refusal is that of every rule that they limit.
-fn own_attrs(alloc: Global, cell: &Cell<'_>, command: &Command) -> Result<Attrs, InterferenceFault>
+fn own_attrs(alloc: Global, cell: &Cell<'_>, command: &Command) -> Result<Attrs, DecisionFault>
     ensures ok { IfOk result (λ a. (a ≡ interference cell.now.records cell.now.instance command.now) × ((ch : cells.Change) → rules.limited a ch ≡ Ok ch)) }
-    ensures refused { IfErr result (λ e. (ch : cells.Change) → IsLimited (rules.limited (interference cell.now.records cell.now.instance command.now) ch) e) }
+    ensures refused { IfErr result (λ e. (ch : cells.Change) → IsRefused (rules.limited (interference cell.now.records cell.now.instance command.now) ch) e) }
 {
-    cell.space().interference(alloc, command, cell.id())
-}
-
-/// The ballot led in phase 1, and its answers with this one, if this replica has not answered yet.
-fn more_proposing(
-    alloc: Global,
-    cell: &Cell<'_>,
-    from: ReplicaId,
-    attrs: &Attrs,
-) -> Result<Option<(Ballot, Answers<Attrs>)>, AllocError>
-    ensures { IfOk result (λ o. o ≡ rules.more_proposing from attrs.now cell.now.led) }
-{
-    match cell.led() {
-        Some(Led::Proposing(ballot, answers)) => {
-            if answers.get(from.index()).is_some() {
-                return Ok(None);
-            }
-            let answer = attrs.copy(alloc)?;
-            let more = answers.with(alloc, from, answer)?;
-            Ok(Some((*ballot, more)))
-        }
-        _ => Ok(None),
+    match cell.space().interference(alloc, command, cell.id()) {
+        Ok(attrs) => Ok(attrs),
+        Err(fault) => Err(fault.into()),
     }
 }
 
 fn count_pre_accept_ok(
     alloc: Global,
     cell: &Cell<'_>,
-    ballot: Ballot,
-    attrs: Attrs,
-    answers: Answers<Attrs>,
-) -> Result<Change, AllocError>
-    ensures { IfOk result (λ ch. change_of cell.now ch ≡ rules.count_pre_accept_ok cell.now.faults cell.now.instance cell.now.me ballot attrs answers (record_of cell.now)) }
+    frame: &FrameView<'_>,
+    answers: &Answers<Attrs>,
+) -> Result<Change, DecisionFault>
+    requires kind { kind_at frame.now ≡ kind.PreAcceptOk }
+    requires led { cell.now.led ≡ Some (Proposing (ballot_at frame.now) answers.now) }
+    ensures ok { IfOk result (λ ch. change_of cell.now ch ≡ rules.count_pre_accept_ok cell.now.faults cell.now.instance cell.now.me (ballot_at frame.now) (attrs_at frame.now) (with_answer answers.now (sender_at frame.now) (attrs_at frame.now)) (record_of cell.now)) }
+    ensures refused { IfErr result (λ e. e ≡ Memory) }
 {
     let size = cell.size();
     let leader = cell.id().replica();
-    if ballot == Ballot::default_of(leader) {
-        if !fast_answered(size, leader, &answers) {
-            return Ok(Change::kept(Led::Proposing(ballot, answers)));
+    if frame.ballot() == Ballot::default_of(leader) {
+        if !fast_answered(size, leader, answers, frame.from()) {
+            return one_more(alloc, cell, frame, answers);
         }
-        if all_equal(size, &attrs, &answers) {
-            return fast_path(alloc, cell, attrs);
+        if all_equal(size, frame, answers) {
+            return fast_path(alloc, cell, frame);
         }
-        return slow_path(alloc, cell, ballot, &answers);
+        return slow_path_with(alloc, cell, frame, answers);
     }
-    if size.faults() <= others(size, cell.me(), &answers) {
-        return slow_path(alloc, cell, ballot, &answers);
+    if size.faults() <= others_with(size, cell.me(), answers, frame.from()) {
+        return slow_path_with(alloc, cell, frame, answers);
     }
-    Ok(Change::kept(Led::Proposing(ballot, answers)))
+    one_more(alloc, cell, frame, answers)
 }
 
-/// Commits the leader's own command with the attributes of the answers.
-fn fast_path(alloc: Global, cell: &Cell<'_>, attrs: Attrs) -> Result<Change, AllocError>
-    ensures { IfOk result (λ ch. change_of cell.now ch ≡ rules.fast_path cell.now.faults cell.now.instance cell.now.me attrs (record_of cell.now) (record_of cell.now).vote) }
+/// The answer is kept, and no more.
+fn one_more(
+    alloc: Global,
+    cell: &Cell<'_>,
+    frame: &FrameView<'_>,
+    answers: &Answers<Attrs>,
+) -> Result<Change, DecisionFault>
+    requires kind { kind_at frame.now ≡ kind.PreAcceptOk }
+    requires led { cell.now.led ≡ Some (Proposing (ballot_at frame.now) answers.now) }
+    ensures ok { IfOk result (λ ch. change_of cell.now ch ≡ cells.kept (Proposing (ballot_at frame.now) (with_answer answers.now (sender_at frame.now) (attrs_at frame.now)))) }
+    ensures refused { IfErr result (λ e. e ≡ Memory) }
+{
+    let attrs = frame.to_attrs(alloc)?;
+    Ok(Change::of(
+        Recorded::Stays,
+        Leading::PreAccepted(frame.from(), attrs),
+        None,
+    ))
+}
+
+/// Commits the leader's own command with the frame's attributes, which are those of all answers.
+fn fast_path(
+    alloc: Global,
+    cell: &Cell<'_>,
+    frame: &FrameView<'_>,
+) -> Result<Change, DecisionFault>
+    requires kind { kind_at frame.now ≡ kind.PreAcceptOk }
+    ensures ok { IfOk result (λ ch. change_of cell.now ch ≡ rules.fast_path cell.now.faults cell.now.instance cell.now.me (attrs_at frame.now) (record_of cell.now) (record_of cell.now).vote) }
+    ensures refused { IfErr result (λ e. e ≡ Memory) }
 {
     let Some(vote) = cell.vote() else {
         return Ok(Change::nothing());
     };
+    if frame.has_attrs(&vote.decree.attrs) {
+        return Ok(commit_own(cell));
+    }
     let command = vote.decree.command.copy(alloc)?;
-    begin_commit(alloc, cell, Decree { command, attrs })
+    let attrs = frame.to_attrs(alloc)?;
+    Ok(begin_commit(Decree { command, attrs }))
 }
 
 /// Begins the accept phase with the leader's own decree, joined with all answers.
@@ -273,5 +284,23 @@ fn slow_path(
         return Ok(Change::nothing());
     };
     let decree = joined(alloc, cell.size(), answers, &vote.decree)?;
-    begin_accept(alloc, cell, ballot, decree)
+    Ok(begin_accept(alloc, ballot, decree))
+}
+
+/// The same with all answers, the frame's among them.
+fn slow_path_with(
+    alloc: Global,
+    cell: &Cell<'_>,
+    frame: &FrameView<'_>,
+    answers: &Answers<Attrs>,
+) -> Result<Change, DecisionFault>
+    requires kind { kind_at frame.now ≡ kind.PreAcceptOk }
+    ensures ok { IfOk result (λ ch. change_of cell.now ch ≡ rules.slow_path cell.now.faults cell.now.instance cell.now.me (ballot_at frame.now) (with_answer answers.now (sender_at frame.now) (attrs_at frame.now)) (record_of cell.now).vote) }
+    ensures refused { IfErr result (λ e. e ≡ Memory) }
+{
+    let Some(vote) = cell.vote() else {
+        return Ok(Change::nothing());
+    };
+    let decree = joined_with(alloc, cell.size(), answers, frame, &vote.decree)?;
+    Ok(begin_accept(alloc, frame.ballot(), decree))
 }

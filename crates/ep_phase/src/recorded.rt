@@ -15,4 +15,6 @@ pub enum Recorded {
     Accepts(Ballot, Decree),
     /// It commits the decree; both ballots stay.
     Commits(Decree),
+    /// It commits what it voted for last; both ballots stay.
+    Settles,
 }

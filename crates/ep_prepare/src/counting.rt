@@ -7,14 +7,13 @@ ghost use Rattle.ep_rules.specs.InterferenceSet.{interference};
 ghost use Rattle.ep_rules.specs.Recovery as rules;
 ghost use Rattle.ep_phase.specs.Changes.{change_of};
 ghost use Rattle.ep_phase.specs.Known.{record_of};
+ghost use Rattle.ep_phase.specs.Refused.{IsRefused};
 ghost use Rattle.ep_prepare.specs.Chosen.{chosen};
-ghost use Rattle.ep_prepare.specs.Refused.{IsRefused};
 
 use crate::choice::Choice;
 use crate::choosing::choose;
-use crate::prepare_fault::PrepareFault;
 use ep_base::{Ballot, Command, ReplicaId, Size, Vote};
-use ep_phase::{Cell, Change, begin_accept, begin_commit, is_usable, start_at};
+use ep_phase::{Cell, Change, DecisionFault, begin_accept, begin_commit, is_usable, start_at};
 use ep_rules::{Answers, Led};
 use std::alloc::{AllocError, Global};
 
@@ -27,7 +26,7 @@ pub fn on_prepare_ok(
     from: ReplicaId,
     ballot: Ballot,
     vote: Option<Vote>,
-) -> Result<Change, PrepareFault>
+) -> Result<Change, DecisionFault>
     ensures ok { IfOk result (λ ch. rules.on_prepare_ok cell.now.faults cell.now.instance cell.now.me from ballot vote (interference cell.now.records cell.now.instance) (record_of cell.now) cell.now.led ≡ Ok (change_of cell.now ch)) }
     ensures refused { IfErr result (λ e. IsRefused (rules.on_prepare_ok cell.now.faults cell.now.instance cell.now.me from ballot vote (interference cell.now.records cell.now.instance) (record_of cell.now) cell.now.led) e) }
 {
@@ -67,7 +66,7 @@ fn count_prepare_ok(
     cell: &Cell<'_>,
     ballot: Ballot,
     answers: Answers<Option<Vote>>,
-) -> Result<Change, PrepareFault>
+) -> Result<Change, DecisionFault>
     ensures ok { IfOk result (λ ch. rules.count_prepare_ok cell.now.faults cell.now.instance cell.now.me ballot answers (interference cell.now.records cell.now.instance) (record_of cell.now) ≡ Ok (change_of cell.now ch)) }
     ensures refused { IfErr result (λ e. IsRefused (rules.count_prepare_ok cell.now.faults cell.now.instance cell.now.me ballot answers (interference cell.now.records cell.now.instance) (record_of cell.now)) e) }
 {
@@ -84,7 +83,7 @@ fn act_by(
     cell: &Cell<'_>,
     ballot: Ballot,
     answers: &Answers<Option<Vote>>,
-) -> Result<Change, PrepareFault>
+) -> Result<Change, DecisionFault>
     ensures ok { IfOk result (λ ch. rules.act_on cell.now.faults cell.now.instance cell.now.me ballot (interference cell.now.records cell.now.instance) (record_of cell.now) (rules.choose cell.now.faults (leader_of cell.now.instance) (λ q. answer answers.now q)) ≡ Ok (change_of cell.now ch)) }
     ensures refused { IfErr result (λ e. IsRefused (rules.act_on cell.now.faults cell.now.instance cell.now.me ballot (interference cell.now.records cell.now.instance) (record_of cell.now) (rules.choose cell.now.faults (leader_of cell.now.instance) (λ q. answer answers.now q))) e) }
 {
@@ -118,36 +117,23 @@ fn act_on(
     cell: &Cell<'_>,
     ballot: Ballot,
     choice: Choice<'_>,
-) -> Result<Change, PrepareFault>
+) -> Result<Change, DecisionFault>
     ensures ok { IfOk result (λ ch. rules.act_on cell.now.faults cell.now.instance cell.now.me ballot (interference cell.now.records cell.now.instance) (record_of cell.now) (chosen choice.entry) ≡ Ok (change_of cell.now ch)) }
     ensures refused { IfErr result (λ e. IsRefused (rules.act_on cell.now.faults cell.now.instance cell.now.me ballot (interference cell.now.records cell.now.instance) (record_of cell.now) (chosen choice.entry)) e) }
 {
     match choice {
         Choice::Commit(decree) => {
             let decree = decree.copy(alloc)?;
-            Ok(begin_commit(alloc, cell, decree)?)
+            Ok(begin_commit(decree))
         }
         Choice::Accept(decree) | Choice::AcceptFast(decree) => {
             let decree = decree.copy(alloc)?;
-            Ok(begin_accept(alloc, cell, ballot, decree)?)
+            Ok(begin_accept(alloc, ballot, decree))
         }
         Choice::Propose(command) => {
             let command = command.copy(alloc)?;
-            propose(alloc, cell, ballot, command)
+            start_at(alloc, cell, ballot, command)
         }
-        Choice::ProposeNoop => propose(alloc, cell, ballot, Command::noop()),
+        Choice::ProposeNoop => start_at(alloc, cell, ballot, Command::noop()),
     }
-}
-
-/// Begins phase 1 at the ballot with the command.
-fn propose(
-    alloc: Global,
-    cell: &Cell<'_>,
-    ballot: Ballot,
-    command: Command,
-) -> Result<Change, PrepareFault>
-    ensures ok { IfOk result (λ ch. rules.recover_with cell.now.faults cell.now.instance cell.now.me ballot command (interference cell.now.records cell.now.instance command) ≡ Ok (change_of cell.now ch)) }
-    ensures refused { IfErr result (λ e. IsRefused (rules.recover_with cell.now.faults cell.now.instance cell.now.me ballot command (interference cell.now.records cell.now.instance command)) e) }
-{
-    Ok(start_at(alloc, cell, ballot, command)?)
 }

@@ -1,7 +1,7 @@
 //! Explicit prepare: the recovery of an instance whose leader may have failed (EPaxos, figure 3; Sutra, 2019).
 //!
-//! Each call takes one event of one instance, which has a place in both tables. It changes the records and what is led,
-//! and gives the messages to send, with their receivers. Where it answers an error, nothing has changed.
+//! Each call takes one event of one instance and decides what it changes there, as the calls of `ep_phase` do: it looks at a
+//! `Cell`, and answers a `Change`, or why the event is refused. Nothing has changed then.
 //!
 //! `ep_journal` calls it for Recover, Prepare, PrepareOK and Nack. Each call does what its rule in `ep_rules`,
 //! specs/Recovery.antt, says.
@@ -14,13 +14,11 @@ mod choice;
 mod choosing;
 mod counting;
 mod own_vote;
-mod prepare_fault;
 mod preparing;
 mod recovering;
 
 pub use choice::Choice;
 pub use choosing::{PrepareAnswer, choose};
 pub use counting::on_prepare_ok;
-pub use prepare_fault::PrepareFault;
 pub use preparing::{on_nack, on_prepare};
 pub use recovering::recover;

@@ -5,37 +5,33 @@ ghost use Rattle.ep_base.specs.Ballots.{ballot_of, counter_of, highest_counter};
 ghost use Rattle.ep_rules.specs.Recovery as rules;
 ghost use Rattle.ep_phase.specs.Changes.{change_of};
 ghost use Rattle.ep_phase.specs.Known.{record_of};
-ghost use Rattle.ep_prepare.specs.Refused.{IsRefused};
+ghost use Rattle.ep_phase.specs.Refused.{IsRefused};
 
 use crate::own_vote::own_vote;
-use crate::prepare_fault::PrepareFault;
-use ep_base::{Ballot, Message, ReplicaId};
-use ep_phase::{Cell, Change, Leading, Receivers, Recorded, Sending};
+use ep_base::{Ballot, ReplicaId};
+use ep_phase::{Cell, Change, DecisionFault, Leading, Receivers, Recorded, Sending, What};
 use ep_rules::{Answers, Led};
 use std::alloc::Global;
 
 /// Begins to recover the instance: the replica joins a ballot of its own above what it promised and all that it was told of,
 /// takes its own last vote as the first answer, and asks all others for theirs. `AlreadyCommitted` where it has committed,
 /// `BallotsExhausted` where the ballot's counter would pass 60,000.
-pub fn recover(alloc: Global, cell: &Cell<'_>) -> Result<Change, PrepareFault>
+pub fn recover(alloc: Global, cell: &Cell<'_>) -> Result<Change, DecisionFault>
     ensures ok { IfOk result (λ ch. rules.recover cell.now.faults cell.now.instance cell.now.me (record_of cell.now) cell.now.told ≡ Ok (change_of cell.now ch)) }
     ensures refused { IfErr result (λ e. IsRefused (rules.recover cell.now.faults cell.now.instance cell.now.me (record_of cell.now) cell.now.told) e) }
 {
     if cell.is_committed() {
-        return Err(PrepareFault::AlreadyCommitted);
+        return Err(DecisionFault::AlreadyCommitted);
     }
     let me = cell.me();
     let Some(ballot) = next_ballot(cell.promised(), cell.told(), me) else {
-        return Err(PrepareFault::BallotsExhausted);
+        return Err(DecisionFault::BallotsExhausted);
     };
     let own = own_vote(alloc, cell)?;
     let answers = Answers::new(alloc).with(alloc, me, own)?;
     let out = Sending {
         to: Receivers::Others,
-        message: Message::Prepare {
-            instance: cell.id(),
-            ballot,
-        },
+        what: What::Prepare(ballot),
     };
     Ok(Change::of(
         Recorded::Joins(ballot),

@@ -1,6 +1,6 @@
 //! Answers of replicas.
 
-ghost use Rattle.std.specs.Prelude.{◌≡◌, [], ◌∷◌, ◌++◌, IfOk, ℕ, List};
+ghost use Rattle.std.specs.Prelude.{◌≡◌, [], ◌∷◌, ◌++◌, OnOk, OnErr, IfOk, ℕ, List};
 ghost use Rattle.std.specs.Option.{option_copied};
 ghost use Rattle.ep_rules.specs.Answers.{answer, with_answer};
 
@@ -53,12 +53,23 @@ impl<X> Answers<X> {
     }
 }
 
+impl<X: Drop> Answers<X> {
+    /// This answer more. As it was at an `Err`.
+    pub fn add(&mut self, from: ReplicaId, value: X) -> Result<(), AllocError>
+        ensures ok { OnOk result (self.new ≡ with_answer self.old from value) }
+        ensures err { OnErr result (self.new ≡ self.old) }
+    {
+        self.items.insert(0, (from, value))?;
+        Ok(())
+    }
+}
+
 impl<X: Duplicate> Answers<X> {
     /// These answers, and this one more.
     pub fn with(&self, alloc: Global, from: ReplicaId, value: X) -> Result<Answers<X>, AllocError>
         ensures { IfOk result (λ more. more ≡ with_answer self.now from value) }
     {
-        let mut items = Vec::new(alloc);
+        let mut items = Vec::with_capacity(alloc, self.items.len() + 1)?;
         items.push((from, value))?;
         for (from, value) in self.items.iter() {
             let value = value.duplicate(alloc)?;
@@ -71,7 +82,7 @@ impl<X: Duplicate> Answers<X> {
     pub fn copy(&self, alloc: Global) -> Result<Answers<X>, AllocError>
         ensures { IfOk result (λ same. same ≡ self.now) }
     {
-        let mut items = Vec::new(alloc);
+        let mut items = Vec::with_capacity(alloc, self.items.len())?;
         for (from, value) in self.items.iter() {
             let value = value.duplicate(alloc)?;
             items.push((*from, value))?;

@@ -12,3 +12,4 @@ pub mod FirstTaken
 pub mod Least
 pub mod Twice
 pub mod Opening
+pub mod Settling

@@ -1,5 +1,5 @@
 -- What the entries have at an instance is what the table holds there.
-use Rattle.std.proofs.Common.{◌≡◌, ℕ, Bool, true, false, cond, Option, Some, None, List, [], ◌∷◌, ◌++◌, refl, sym, ap, ◌∙◌, subst}
+use Rattle.std.proofs.Common.{◌≡◌, ℕ, Bool, true, false, cond, Option, Some, None, List, [], ◌∷◌, ◌++◌, refl, sym, ap, ◌∙◌, subst, true≢false}
 use Rattle.std.specs.Prelude.{is_some, ◌||◌}
 use Rattle.std.specs.Cmp.{nat_cmp_total}
 use Rattle.std.specs.FinMap as map
@@ -20,6 +20,10 @@ use Rattle.ep_space.proofs.Order.{same_equiv, same-is}
 some_or : {Y : Type 0} (b : Bool) (v : Y) (o : Option Y) → (b || is_some o) ≡ is_some (cond b (Some v) o)
 some_or true v o = refl
 some_or false v o = refl
+
+pub none_of : {Y : Type 0} (o : Option Y) → is_some o ≡ false → o ≡ None
+none_of None h = refl
+none_of (Some y) h = absurd (true≢false h)
 
 either_true : (b c : Bool) → (b ≡ true → c ≡ true) → c ≡ (b || c)
 either_true true c h = h refl

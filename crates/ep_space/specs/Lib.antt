@@ -6,3 +6,4 @@ pub mod Records
 pub mod Taken
 pub mod Gathering
 pub mod Open
+pub mod Settled

@@ -9,7 +9,6 @@ ghost use Rattle.ep_base.specs.Places.{Has};
 ghost use Rattle.ep_space.specs.Index.{is_at, run, count_below, with_instance, without, brings, IsKept};
 ghost use Rattle.ep_space.specs.Keys.{voted_keys, recorded_keys, keys_at, NeedsNoRoom};
 
-use crate::place::place_of;
 use crate::table::Table;
 use ep_base::{Command, InstanceId, Key, KeyPair};
 use ep_rules::Record;
@@ -123,7 +122,7 @@ fn enter_one(
     ensures succeeds { NeedsNoRoom (keys_at table.now.held id) (key.now ∷ []) → IsOk result }
 {
     let stays = is_named(table, id, key);
-    add_unless(index, stays, key, place_of(id))
+    add_unless(index, stays, key, id.place())
 }
 
 // Where memory is refused for the second key, the place is taken back out of the run of the first.
@@ -140,11 +139,11 @@ fn enter_two(
 {
     let first = is_named(table, id, keys.first());
     let second = is_named(table, id, keys.second());
-    add_unless(index, first, keys.first(), place_of(id))?;
-    match add_unless(index, second, keys.second(), place_of(id)) {
+    add_unless(index, first, keys.first(), id.place())?;
+    match add_unless(index, second, keys.second(), id.place()) {
         Ok(()) => Ok(()),
         Err(fault) => {
-            remove_unless(index, first, keys.first(), place_of(id));
+            remove_unless(index, first, keys.first(), id.place());
             Err(fault)
         }
     }
@@ -198,7 +197,7 @@ fn leave_one(index: &mut Index, id: InstanceId, key: &Key, value: &Option<Record
     ensures { (k : List ℕ) → run index.new.entries k ≡ cond (brings (recorded_keys value.now) (key.now ∷ []) k) (without id (run index.old.entries k)) (run index.old.entries k) }
 {
     let stays = names(value, key);
-    remove_unless(index, stays, key, place_of(id))
+    remove_unless(index, stays, key, id.place())
 }
 
 fn leave_two(index: &mut Index, id: InstanceId, keys: &KeyPair, value: &Option<Record>)

@@ -11,12 +11,12 @@ ghost use Rattle.ep_space.specs.Held.{HasPlace};
 ghost use Rattle.ep_space.specs.Index.{IsKept};
 ghost use Rattle.ep_space.specs.Keys.{recorded_keys, keys_at, holders, NeedsNoRoom};
 ghost use Rattle.ep_space.specs.Open.{AreRecords};
+ghost use Rattle.ep_space.specs.Settled.{as_settled, committed_vote};
 
 use crate::index::{self, Index, enter, leave, run_of};
-use crate::place::instance_of;
 use crate::table::Table;
 use crate::taken::note;
-use ep_base::{Ballot, InstanceId, ReplicaId, Vote};
+use ep_base::{Ballot, InstanceId, ReplicaId, Status, Vote};
 use ep_rules::Record;
 use indexmap::IndexMap;
 use std::alloc::{AllocError, Global};
@@ -134,6 +134,15 @@ impl Keyed {
         note(&mut self.taken, &self.table, id);
     }
 
+    /// Commits what the record voted for, if it voted: both ballots stay. It takes no memory.
+    pub fn settle(&mut self, id: InstanceId)
+        requires { HasPlace self.old.places id }
+        ensures { self.new ≡ record { held = with_held self.old.held id (as_settled (get self.old.held id)); places = self.old.places } }
+    {
+        write_settled(&mut self.table, id);
+        note(&mut self.taken, &self.table, id);
+    }
+
     /// The places of the records whose command has the key, in rising order of instances.
     pub fn key_run(&self, key: &[u8]) -> &[u32]
         ensures value { result.now ≡ holders key.now self.now.held }
@@ -155,8 +164,8 @@ impl Keyed {
         ensures { result ≡ (if set.contains self.now.places place then Some place else None) }
     {
         let table = &self.table;
-        match instance_of(place) {
-            Some(id) if table.has_place(id) => Some(id),
+        match InstanceId::at(place) {
+            Ok(id) if table.has_place(id) => Some(id),
             _ => None,
         }
     }
@@ -197,6 +206,35 @@ fn write_promise(table: &mut Table<Record>, id: InstanceId, ballot: Ballot)
             vote,
         }),
     );
+}
+
+// The record is taken out, and put back with its vote committed.
+#[tactic(auto, using(crate::proofs::Settling::held_after_remove))]
+fn write_settled(table: &mut Table<Record>, id: InstanceId)
+    requires { HasPlace table.old.places id }
+    ensures { table.new ≡ record { held = with_held table.old.held id (as_settled (get table.old.held id)); places = table.old.places } }
+{
+    let mut written = table.put_back(id, None);
+    settle(&mut written);
+    table.write(id, written);
+}
+
+fn settle(written: &mut Option<Record>)
+    ensures { written.new ≡ as_settled written.old }
+{
+    match written {
+        Some(record) => settle_vote(&mut record.vote),
+        None => (),
+    }
+}
+
+fn settle_vote(vote: &mut Option<Vote>)
+    ensures { vote.new ≡ committed_vote vote.old }
+{
+    match vote {
+        Some(vote) => vote.status = Status::Committed,
+        None => (),
+    }
 }
 
 /// The vote of a record, if there is one.

@@ -11,12 +11,13 @@ ghost use Rattle.ep_rules.specs.Cells.{is_committed, is_done_at, is_settled_at, 
 ghost use Rattle.ep_rules.specs.InterferenceSet.{interference};
 ghost use Rattle.ep_rules.specs.Maps.{none, get};
 ghost use Rattle.ep_rules.specs.Phases.{with_commit};
-ghost use Rattle.ep_rules.specs.States.{is_free, free_number, committed_in};
+ghost use Rattle.ep_rules.specs.States.{is_free, free_number, committed_in, with_entry};
 ghost use Rattle.ep_space.specs.Gathering.{next_attrs};
 ghost use Rattle.ep_space.specs.Held.{HasPlace};
 ghost use Rattle.ep_space.specs.Keys.{recorded_keys, keys_at, holders, NeedsNoRoom};
 ghost use Rattle.ep_space.specs.Open.{AreRecords};
 ghost use Rattle.ep_space.specs.Records.{record_at, with_record, with_earlier};
+ghost use Rattle.ep_space.specs.Settled.{settled};
 
 use crate::gathered::{Gathered, gathered_from};
 use crate::interference_fault::InterferenceFault;
@@ -284,6 +285,14 @@ impl Space {
                 vote: Some(vote),
             }),
         )
+    }
+
+    /// Commits what was voted for, if something was: both ballots and the decree stay. It takes no memory.
+    pub fn settle(&mut self, id: InstanceId)
+        requires { HasPlace self.old.places id }
+        ensures { self.new ≡ record self.old { records = with_entry self.old.records id (settled id (record_at self.old id) (record_at self.old id).vote) } }
+    {
+        self.table.settle(id);
     }
 
     fn write_vote(

@@ -1,6 +1,6 @@
 //! A table with places for values of instances.
 
-ghost use Rattle.std.specs.Prelude.{◌≡◌, ◌≢◌, ◌≤◌, ◌<◌, ℕ, true, Some, IfOk, OnOk, OnErr, is_some, length, slice_index_or, slice_set};
+ghost use Rattle.std.specs.Prelude.{◌≡◌, ◌≢◌, ◌≤◌, ◌<◌, ℕ, true, false, Some, None, IfOk, OnOk, OnErr, is_some, length, slice_index_or, slice_set};
 ghost use Rattle.std.specs.Option.{option_copied};
 ghost use Rattle.std.specs.FinSet as set;
 ghost use Rattle.std.specs.Map.{keys_of, lookup, set_value};
@@ -94,9 +94,19 @@ impl<V: Drop> Table<V> {
         let _ = self.put_back(id, value);
     }
 
+    /// The instance has no value from now on. It takes no memory, and needs no place.
+    pub fn clear(&mut self, id: InstanceId)
+        ensures { self.new ≡ record { held = with_held self.old.held id None; places = self.old.places } }
+    {
+        if self.has_place(id) {
+            self.write(id, None);
+        }
+    }
+
     /// Whether the instance has a place.
     pub(crate) fn has_place(&self, id: InstanceId) -> bool
-        ensures { result ≡ set.contains self.now.places id }
+        ensures value { result ≡ set.contains self.now.places id }
+        ensures none { result ≡ false → get self.now.held id ≡ None }
     {
         spot_of(&self.spots, id) != 0
     }

@@ -1,6 +1,5 @@
-use Rattle.std.proofs.Common.{◌∷◌, [], ◌++◌, ℕ, slice_index_or, sym, ap, subst, ◌∙◌, true≢false, arith}
+use Rattle.std.proofs.Common.{ℕ, slice_index_or, sym, ap, ◌∙◌, true≢false, arith}
 use Rattle.ep_base.specs.Instances.{instance_of}
-use Rattle.ep_base.specs.Deps.{IsRising}
 use Rattle.ep_frame.specs.Faults.{is_instance}
 use Rattle.ep_frame.proofs.Deps.{next_is_dep, are_all}
 use Rattle.ep_frame.proofs.sections.made_deps.Goals as goal

@@ -1,4 +1,4 @@
-use Rattle.std.proofs.Common.{◌≡◌, ◌≤◌, ◌+◌, ◌-◌, ◌*◌, ◌++◌, length}
+use Rattle.std.proofs.Common.{◌≡◌, ◌≤◌, ◌+◌, ◌*◌, ◌++◌, length}
 use Rattle.std.specs.Vec.{vec_len, vec_capacity}
 use Rattle.ep_frame.specs.Fields.{deps_in}
 use Rattle.ep_frame.proofs.sections.made_deps.Given as goal

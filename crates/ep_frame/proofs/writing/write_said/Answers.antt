@@ -1,14 +1,14 @@
 use Rattle.std.proofs.Common.{ap, ◌∙◌, List, ℕ, ◌++◌}
-use Rattle.ep_frame.specs.Layouts.{parts_in}
+use Rattle.ep_frame.specs.Layouts.{parts_in, told_by}
 use Rattle.ep_frame.specs.Spelling.{parts_bytes}
-use Rattle.ep_frame.proofs.writing.write.Goals as goal
+use Rattle.ep_frame.proofs.writing.write_said.Goals as goal
 
 pub written-requires : goal.written-requires
 written-requires c = (
   c.args.version,
   c.args.from,
   c.args.origin,
-  c.args.message.now,
+  told_by c.args.telling.now,
   record {
     origin = c.of-parts.ensures.origin;
     message = c.of-parts.ensures.message;
