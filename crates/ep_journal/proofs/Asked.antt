@@ -37,25 +37,22 @@ handled_same me s l done store from (PrepareOk i b v) = refl
 handled_same me s l done store from (Nack i b p) = refl
 
 -- a frame's message is handled at its instance
-pub frame_asked : (p : Parts) (b : List ℕ) (from i : ℕ) (m : Message) → IsLet (standing_of p) (Handle b) → from ≡ sender_at b → m ≡ message_at b → i ≡ instance_of_message (message_at b) →
-    IsAsked (standing_of p) (Handle b) (at i (handled_at (known_of p.me p.space p.lead i) from m))
-frame_asked p b from i m h sender is instance = record {
+frame_asked : (p : Parts) (b : List ℕ) (i : ℕ) → IsLet (standing_of p) (Handle b) → i ≡ instance_of_message (message_at b) →
+    IsAsked (standing_of p) (Handle b) (at i (handled_at (known_of p.me p.space p.lead i) (sender_at b) (message_at b)))
+frame_asked p b i h instance = record {
   through = h;
   room = tt;
-  asked = handled_same p.me p.space p.lead p.executed.list p.store (sender_at b) (message_at b)
-      ∙ ap (λ j. at j (handled_at (known_of p.me p.space p.lead j) (sender_at b) (message_at b))) (sym instance)
-      ∙ ap (λ r. at i (handled_at (known_of p.me p.space p.lead i) r (message_at b))) (sym sender)
-      ∙ ap (λ x. at i (handled_at (known_of p.me p.space p.lead i) from x)) (sym is);
+  asked = handled_same p.me p.space p.lead p.executed.list p.store (sender_at b) (message_at b) ∙ ap (λ j. at j (handled_at (known_of p.me p.space p.lead j) (sender_at b) (message_at b))) (sym instance);
   executes = refl;
 }
 
--- the same of a frame that was viewed
-pub viewed_asked : (p : Parts) (b v : List ℕ) (f from i : ℕ) (m : Message) → v ≡ b → f ≡ p.space.faults → IsFrame b → lacking p.space.version (Handle b) ≡ None → screened f p.me (Handles (frame_at v)) ≡ None →
-    from ≡ sender_at v → m ≡ message_at v → i ≡ instance_of_message (message_at v) → IsAsked (standing_of p) (Handle b) (at i (handled_at (known_of p.me p.space p.lead i) from m))
-viewed_asked p b v f from i m same count readable versioned unscreened sender is instance =
-    frame_asked p b from i m
+pub viewed_asked : (p : Parts) (b v : List ℕ) (f i : ℕ) → v ≡ b → f ≡ p.space.faults → IsFrame b → lacking p.space.version (Handle b) ≡ None → screened f p.me (Handles (frame_at v)) ≡ None → i ≡ instance_of_message (message_at v) →
+    IsAsked (standing_of p) (Handle b) (at i (handled_at (known_of p.me p.space p.lead i) (sender_at v) (message_at v)))
+viewed_asked p b v f i same count readable versioned unscreened instance =
+    subst (λ x. IsAsked (standing_of p) (Handle b) (at i (handled_at (known_of p.me p.space p.lead i) (sender_at x) (message_at x)))) (sym same)
+    (frame_asked p b i
     (record { readable = readable; versioned = versioned; unscreened = subst (λ n. screened n p.me (Handles (frame_at b)) ≡ None) count (subst (λ x. screened f p.me (Handles (frame_at x)) ≡ None) same unscreened) })
-    (subst (λ x. from ≡ sender_at x) same sender) (subst (λ x. m ≡ message_at x) same is) (subst (λ x. i ≡ instance_of_message (message_at x)) same instance)
+    (subst (λ x. i ≡ instance_of_message (message_at x)) same instance))
 
 pub given_up_asked : (p : Parts) (i : ℕ) → IsLet (standing_of p) (GiveUp i) → IsAsked (standing_of p) (GiveUp i) (at i (outcome_at (known_of p.me p.space p.lead i) input.GiveUp))
 given_up_asked p i h = record { through = h; room = tt; asked = refl; executes = refl }

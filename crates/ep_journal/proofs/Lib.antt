@@ -4,6 +4,7 @@ pub mod Fresh
 pub mod DoneBy
 pub mod Spelling
 pub mod Refusals
+pub mod Handled
 pub mod Writable
 pub mod Asked
 pub mod Execution

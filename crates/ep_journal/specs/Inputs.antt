@@ -5,6 +5,7 @@ use Rattle.ep_base.specs.Quorums.{is_fast}
 use Rattle.ep_base.specs.declared.version.Version.{Version}
 use Rattle.ep_base.specs.declared.message.Message.{Message}
 use Rattle.ep_base.specs.declared.message.Message.TheVariants.{PreAccept, PreAcceptOk, Accept, AcceptOk, Commit, Prepare, PrepareOk, Nack}
+use Rattle.ep_frame.specs.Meaning.{sender_at, message_at}
 use Rattle.ep_phase.specs.Known.{Known, record_of}
 use Rattle.ep_rules.specs.Cells.{Change, Refusal}
 use Rattle.ep_phase.specs.declared.receivers.Receivers.{Receivers}
@@ -32,7 +33,7 @@ handled_at k from (Nack i b p) = Ok (on_nack p k.told)
 -- what it answers to what is asked
 abbrev pub outcome_at : Known → Input → Outcome
 outcome_at k (Start c) = propose k.faults k.instance c.now (interference k.records k.instance c.now)
-outcome_at k (Handles from m) = handled_at k from m
+outcome_at k (Handles v) = handled_at k (sender_at v.now) (message_at v.now)
 outcome_at k GiveUp = give_up k.faults k.instance k.me (record_of k) k.led
 outcome_at k Recover = recover k.faults k.instance k.me (record_of k) k.told
 

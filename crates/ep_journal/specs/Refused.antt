@@ -2,31 +2,20 @@
 use Rattle.std.specs.Prelude.{◌≡◌, Option, Some, None, Result, Err}
 use Rattle.ep_exec.specs.declared.plan_fault.PlanFault.{PlanFault}
 use Rattle.ep_exec.specs.declared.plan_fault.PlanFault.TheVariants.{Memory as PlanMemory, NotCommitted as PlanNotCommitted}
-use Rattle.ep_phase.specs.declared.phase_fault.PhaseFault.{PhaseFault}
-use Rattle.ep_phase.specs.declared.phase_fault.PhaseFault.TheVariants.{Memory as PhaseMemory, NotLeading as PhaseLeading, TooFewAnswers as PhaseFew}
-use Rattle.ep_prepare.specs.declared.prepare_fault.PrepareFault.{PrepareFault}
-use Rattle.ep_prepare.specs.declared.prepare_fault.PrepareFault.TheVariants.{Memory as PrepareMemory, SeqExhausted as PrepareSeq, AlreadyCommitted as PrepareCommitted, BallotsExhausted as PrepareBallots}
+use Rattle.ep_phase.specs.declared.decision_fault.DecisionFault.{DecisionFault}
+use Rattle.ep_phase.specs.declared.decision_fault.DecisionFault.TheVariants as decision
 use Rattle.ep_rules.specs.Cells as rules
 use Rattle.ep_rules.specs.Cells.{Refusal}
-use Rattle.ep_space.specs.declared.interference_fault.InterferenceFault.{InterferenceFault}
-use Rattle.ep_space.specs.declared.interference_fault.InterferenceFault.TheVariants.{Memory as Unfound, SeqExhausted as Limit}
 use Rattle.ep_journal.specs.declared.step_fault.StepFault.{StepFault}
 use Rattle.ep_journal.specs.declared.step_fault.StepFault.TheVariants.{Memory, OutOfRange, NotMine, OtherVersion, StampFull, SpaceFull, SeqExhausted, NotLeading, TooFewAnswers, AlreadyCommitted, BallotsExhausted, NotCommitted}
 
-abbrev pub of_limit : InterferenceFault → StepFault
-of_limit Unfound = Memory
-of_limit Limit = SeqExhausted
-
-abbrev pub of_phase : PhaseFault → StepFault
-of_phase PhaseMemory = Memory
-of_phase PhaseLeading = NotLeading
-of_phase PhaseFew = TooFewAnswers
-
-abbrev pub of_prepare : PrepareFault → StepFault
-of_prepare PrepareMemory = Memory
-of_prepare PrepareSeq = SeqExhausted
-of_prepare PrepareCommitted = AlreadyCommitted
-of_prepare PrepareBallots = BallotsExhausted
+abbrev pub of_decision : DecisionFault → StepFault
+of_decision decision.Memory = Memory
+of_decision decision.SeqExhausted = SeqExhausted
+of_decision decision.NotLeading = NotLeading
+of_decision decision.TooFewAnswers = TooFewAnswers
+of_decision decision.AlreadyCommitted = AlreadyCommitted
+of_decision decision.BallotsExhausted = BallotsExhausted
 
 abbrev pub of_plan : PlanFault → StepFault
 of_plan PlanMemory = Memory

@@ -1,71 +1,66 @@
 //! What a replica decides on what is asked of an instance.
 
 ghost use Rattle.std.specs.Prelude.{◌≡◌, Ok, IfOk, IfErr};
+ghost use Rattle.ep_frame.specs.Meaning.{sender_at, instance_at, message_at, kind_at, ballot_at, vote_at};
 ghost use Rattle.ep_phase.specs.Changes.{change_of};
-ghost use Rattle.ep_journal.specs.Inputs.{outcome_at};
-ghost use Rattle.ep_journal.specs.Refused.{IsRefused};
+ghost use Rattle.ep_phase.specs.Refused.{IsRefused};
+ghost use Rattle.ep_base.specs.declared.message.Message.TheVariants.{PrepareOk};
+ghost use Rattle.ep_frame.specs.declared.kind.Kind.TheVariants as kind;
+ghost use Rattle.ep_journal.specs.Inputs.{handled_at, outcome_at};
 
 use crate::input::Input;
-use crate::step_fault::StepFault;
-use ep_base::Message;
+use ep_frame::{FrameView, Kind};
 use ep_phase::{
-    Cell, Change, give_up, on_accept, on_accept_ok, on_commit, on_pre_accept, on_pre_accept_ok,
-    start,
+    Cell, Change, DecisionFault, give_up, on_accept, on_accept_ok, on_commit, on_pre_accept,
+    on_pre_accept_ok, start,
 };
 use ep_prepare::{on_nack, on_prepare, on_prepare_ok, recover};
 use std::alloc::Global;
 
 /// Decides what is asked of the cell's instance; nothing has changed then.
-#[tactic(auto, using(crate::proofs::Refusals::refused_limit, crate::proofs::Refusals::refused_phase, crate::proofs::Refusals::refused_prepare))]
-pub(crate) fn decide(alloc: Global, cell: &Cell<'_>, input: Input<'_>) -> Result<Change, StepFault>
+pub(crate) fn decide(
+    alloc: Global,
+    cell: &Cell<'_>,
+    input: Input<'_>,
+) -> Result<Change, DecisionFault>
     ensures ok { IfOk result (λ ch. outcome_at cell.now input.entry ≡ Ok (change_of cell.now ch)) }
     ensures refused { IfErr result (λ e. IsRefused (outcome_at cell.now input.entry) e) }
 {
     match input {
-        Input::Start(command) => {
-            let command = command.copy(alloc)?;
-            Ok(start(alloc, cell, command)?)
-        }
-        Input::Message(from, message) => match message {
-            Message::PreAccept {
-                instance: _,
-                ballot,
-                decree,
-            } => Ok(on_pre_accept(alloc, cell, from, ballot, decree)?),
-            Message::PreAcceptOk {
-                instance: _,
-                ballot,
-                attrs,
-            } => Ok(on_pre_accept_ok(alloc, cell, from, ballot, attrs)?),
-            Message::Accept {
-                instance: _,
-                ballot,
-                decree,
-            } => Ok(on_accept(cell, from, ballot, decree)),
-            Message::AcceptOk {
-                instance: _,
-                ballot,
-            } => Ok(on_accept_ok(alloc, cell, from, ballot)?),
-            Message::Commit {
-                instance: _,
-                decree,
-            } => Ok(on_commit(cell, decree)),
-            Message::Prepare {
-                instance: _,
-                ballot,
-            } => Ok(on_prepare(alloc, cell, from, ballot)?),
-            Message::PrepareOk {
-                instance: _,
-                ballot,
-                vote,
-            } => Ok(on_prepare_ok(alloc, cell, from, ballot, vote)?),
-            Message::Nack {
-                instance: _,
-                refused: _,
-                promised,
-            } => Ok(on_nack(cell, promised)),
-        },
-        Input::GiveUp => Ok(give_up(alloc, cell)?),
-        Input::Recover => Ok(recover(alloc, cell)?),
+        Input::Start(command) => start(alloc, cell, command),
+        Input::Message(frame) => handle(alloc, cell, frame),
+        Input::GiveUp => give_up(alloc, cell),
+        Input::Recover => recover(alloc, cell),
     }
+}
+
+/// Decides what comes of the frame's message.
+fn handle(alloc: Global, cell: &Cell<'_>, frame: &FrameView<'_>) -> Result<Change, DecisionFault>
+    ensures ok { IfOk result (λ ch. handled_at cell.now (sender_at frame.now) (message_at frame.now) ≡ Ok (change_of cell.now ch)) }
+    ensures refused { IfErr result (λ e. IsRefused (handled_at cell.now (sender_at frame.now) (message_at frame.now)) e) }
+{
+    match frame.kind() {
+        Kind::PreAccept => on_pre_accept(alloc, cell, frame),
+        Kind::PreAcceptOk => on_pre_accept_ok(alloc, cell, frame),
+        Kind::Accept => on_accept(alloc, cell, frame),
+        Kind::AcceptOk => Ok(on_accept_ok(cell, frame.from(), frame.ballot())),
+        Kind::Commit => on_commit(alloc, cell, frame),
+        Kind::Prepare => Ok(on_prepare(cell, frame.from(), frame.ballot())),
+        Kind::PrepareOk => handle_vote(alloc, cell, frame),
+        Kind::Nack => Ok(on_nack(cell, frame.other())),
+    }
+}
+
+/// Decides what comes of a PrepareOK.
+fn handle_vote(
+    alloc: Global,
+    cell: &Cell<'_>,
+    frame: &FrameView<'_>,
+) -> Result<Change, DecisionFault>
+    requires { kind_at frame.now ≡ kind.PrepareOk }
+    ensures ok { IfOk result (λ ch. handled_at cell.now (sender_at frame.now) (PrepareOk (instance_at frame.now) (ballot_at frame.now) (vote_at frame.now)) ≡ Ok (change_of cell.now ch)) }
+    ensures refused { IfErr result (λ e. IsRefused (handled_at cell.now (sender_at frame.now) (PrepareOk (instance_at frame.now) (ballot_at frame.now) (vote_at frame.now))) e) }
+{
+    let vote = frame.to_vote(alloc)?;
+    on_prepare_ok(alloc, cell, frame.from(), frame.ballot(), vote)
 }

@@ -2,9 +2,10 @@
 
 ghost use Rattle.std.specs.Prelude.{◌≡◌, ◌≢◌, ◌≤◌, ◌<◌, ◌+◌, [], ◌∷◌, IfOk, OnOk};
 ghost use Rattle.ep_base.specs.Fitting.{BallotsFit};
+ghost use Rattle.ep_base.specs.Messages.{says};
 ghost use Rattle.ep_base.specs.Quorums.{size};
 ghost use Rattle.ep_base.specs.Versions.{CanSay};
-ghost use Rattle.ep_phase.specs.Changes.{sends};
+ghost use Rattle.ep_phase.specs.Changes.{sends, to_receivers};
 ghost use Rattle.ep_rules.specs.Counting.{to_those};
 ghost use Rattle.ep_rules.specs.Fitting.{AllFit};
 ghost use Rattle.ep_rules.specs.Steps.{sent_from};
@@ -15,9 +16,9 @@ ghost use Rattle.ep_journal.specs.Inputs.{receives};
 ghost use Rattle.ep_journal.specs.Upgrading.{AreUpgradedFrames};
 
 use crate::mark::Mark;
-use ep_base::{Message, ReplicaId, Version};
-use ep_frame::{Frame, Origin, write};
-use ep_phase::{Cell, Receivers, Sending, is_fast};
+use ep_base::{ReplicaId, Version};
+use ep_frame::{Frame, Origin, Telling, write_said};
+use ep_phase::{Cell, Change, Receivers, is_fast};
 use std::alloc::{AllocError, Global};
 use std::marker::Model;
 
@@ -93,95 +94,80 @@ fn upgrade_each(alloc: Global, frames: &mut [Frame]) -> Result<(), AllocError>
     Ok(())
 }
 
-/// The frames of what is sent, in this version, as those of the entry so marked.
+/// The frames of what the change sends, in this version, as those of the entry so marked.
 pub(crate) fn written(
     alloc: Global,
     cell: &Cell<'_>,
     version: Version,
     mark: Mark,
-    out: &Option<Sending>,
+    change: &Change,
 ) -> Result<Frames, AllocError>
     requires number { 1 ≤ mark.number }
-    requires fit { AllFit cell.now.me (sends cell.now.faults cell.now.me cell.now.instance out.now) }
-    requires said { AllSayable version (sends cell.now.faults cell.now.me cell.now.instance out.now) }
-    ensures { IfOk result (λ f. AreSpelled version mark.number mark.stamp 0 f (sent_from cell.now.me (sends cell.now.faults cell.now.me cell.now.instance out.now))) }
+    requires fit { AllFit cell.now.me (sends cell.now change.now) }
+    requires said { AllSayable version (sends cell.now change.now) }
+    ensures { IfOk result (λ f. AreSpelled version mark.number mark.stamp 0 f (sent_from cell.now.me (sends cell.now change.now))) }
 {
-    match out {
-        None => Ok(Frames::none(alloc)),
-        Some(sending) => {
-            let message = &sending.message;
-            match sending.to {
-                Receivers::One(to) => {
-                    let origin = Origin {
-                        to,
-                        out: 0,
-                        entry: mark.number,
-                        stamp: mark.stamp,
-                    };
-                    written_to(alloc, version, cell.me(), message, origin)
-                }
-                Receivers::FastQuorum => {
-                    let to = Receivers::FastQuorum;
-                    written_to_each(
-                        alloc,
-                        cell,
-                        &Sent {
-                            version,
-                            mark,
-                            to,
-                            message,
-                        },
-                    )
-                }
-                Receivers::Others => {
-                    let to = Receivers::Others;
-                    written_to_each(
-                        alloc,
-                        cell,
-                        &Sent {
-                            version,
-                            mark,
-                            to,
-                            message,
-                        },
-                    )
-                }
-            }
-        }
+    let Some((to, telling)) = change.said(cell) else {
+        return Ok(Frames::none(alloc));
+    };
+    let told = Told {
+        version,
+        mark,
+        to,
+        telling: &telling,
+    };
+    written_of(alloc, cell, &told)
+}
+
+/// The frames of what is told, by rising receiver.
+fn written_of(alloc: Global, cell: &Cell<'_>, told: &Told<'_>) -> Result<Frames, AllocError>
+    requires number { 1 ≤ told.now.mark.number }
+    requires fit { AllFit cell.now.me (to_receivers cell.now.faults cell.now.me cell.now.instance told.now.to (says told.now.telling.now.instance told.now.telling.now.said)) }
+    requires said { AllSayable told.now.version (to_receivers cell.now.faults cell.now.me cell.now.instance told.now.to (says told.now.telling.now.instance told.now.telling.now.said)) }
+    ensures { IfOk result (λ f. AreSpelled told.now.version told.now.mark.number told.now.mark.stamp 0 f (sent_from cell.now.me (to_receivers cell.now.faults cell.now.me cell.now.instance told.now.to (says told.now.telling.now.instance told.now.telling.now.said)))) }
+{
+    match &told.to {
+        Receivers::One(to) => written_to(alloc, cell, told, *to),
+        Receivers::FastQuorum => written_to_each(alloc, cell, told),
+        Receivers::Others => written_to_each(alloc, cell, told),
     }
 }
 
-/// The frame of the message with this origin alone, the first one of its entry.
+/// The frame of what is told to this replica alone.
 fn written_to(
     alloc: Global,
-    version: Version,
-    from: ReplicaId,
-    message: &Message,
-    origin: Origin,
+    cell: &Cell<'_>,
+    told: &Told<'_>,
+    to: ReplicaId,
 ) -> Result<Frames, AllocError>
-    requires first { origin.out ≡ 0 }
-    requires number { 1 ≤ origin.entry }
-    requires apart { origin.to ≢ from }
-    requires fits { BallotsFit message.now }
-    requires said { CanSay version message.now }
-    ensures { IfOk result (λ f. AreSpelled version origin.entry origin.stamp 0 f (sent_from from ((origin.to, message.now) ∷ []))) }
+    requires number { 1 ≤ told.now.mark.number }
+    requires apart { to ≢ cell.now.me }
+    requires fits { BallotsFit (says told.now.telling.now.instance told.now.telling.now.said) }
+    requires said { CanSay told.now.version (says told.now.telling.now.instance told.now.telling.now.said) }
+    ensures { IfOk result (λ f. AreSpelled told.now.version told.now.mark.number told.now.mark.stamp 0 f (sent_from cell.now.me ((to, says told.now.telling.now.instance told.now.telling.now.said) ∷ []))) }
 {
-    let mut items = Vec::new(alloc);
-    let frame = write(alloc, version, from, message, origin)?;
-    items.push(frame)?;
+    let origin = Origin {
+        to,
+        out: 0,
+        entry: told.mark.number,
+        stamp: told.mark.stamp,
+    };
+    let mut items = Vec::with_capacity(alloc, 1)?;
+    let frame = write_said(alloc, told.version, cell.me(), told.telling, origin)?;
+    items.push_reserved(frame);
     Ok(Frames { items })
 }
 
-/// The frames of the message to each of these, by rising receiver.
-fn written_to_each(alloc: Global, cell: &Cell<'_>, sent: &Sent<'_>) -> Result<Frames, AllocError>
-    requires number { 1 ≤ sent.now.mark.number }
-    requires fit { AllFit cell.now.me (to_those (receives cell.now sent.now.to) (size cell.now.faults) sent.now.message.now) }
-    requires said { AllSayable sent.now.version (to_those (receives cell.now sent.now.to) (size cell.now.faults) sent.now.message.now) }
-    ensures { IfOk result (λ f. AreSpelled sent.now.version sent.now.mark.number sent.now.mark.stamp 0 f (sent_from cell.now.me (to_those (receives cell.now sent.now.to) (size cell.now.faults) sent.now.message.now))) }
+/// The frames of what is told to each of several replicas, by rising receiver.
+fn written_to_each(alloc: Global, cell: &Cell<'_>, told: &Told<'_>) -> Result<Frames, AllocError>
+    requires number { 1 ≤ told.now.mark.number }
+    requires fit { AllFit cell.now.me (to_those (receives cell.now told.now.to) (size cell.now.faults) (says told.now.telling.now.instance told.now.telling.now.said)) }
+    requires said { AllSayable told.now.version (to_those (receives cell.now told.now.to) (size cell.now.faults) (says told.now.telling.now.instance told.now.telling.now.said)) }
+    ensures { IfOk result (λ f. AreSpelled told.now.version told.now.mark.number told.now.mark.stamp 0 f (sent_from cell.now.me (to_those (receives cell.now told.now.to) (size cell.now.faults) (says told.now.telling.now.instance told.now.telling.now.said)))) }
 {
-    let mut items = Vec::new(alloc);
+    let mut items = Vec::with_capacity(alloc, 6)?;
     for r in 0..cell.size().count() {
-        add_if(alloc, &mut items, cell, sent, r)?;
+        add_if(alloc, &mut items, cell, told, r)?;
     }
     Ok(Frames { items })
 }
@@ -202,38 +188,38 @@ fn add_if(
     alloc: Global,
     items: &mut Vec<Frame>,
     cell: &Cell<'_>,
-    sent: &Sent<'_>,
+    told: &Told<'_>,
     r: u8,
 ) -> Result<(), AllocError>
-    requires number { 1 ≤ sent.now.mark.number }
+    requires number { 1 ≤ told.now.mark.number }
     requires replica { r ≤ 6 }
     requires cluster { r < size cell.now.faults }
-    requires fit { AllFit cell.now.me (to_those (receives cell.now sent.now.to) (size cell.now.faults) sent.now.message.now) }
-    requires said { AllSayable sent.now.version (to_those (receives cell.now sent.now.to) (size cell.now.faults) sent.now.message.now) }
-    requires before { AreSpelled sent.now.version sent.now.mark.number sent.now.mark.stamp 0 items.old.items (sent_from cell.now.me (to_those (receives cell.now sent.now.to) r sent.now.message.now)) }
-    ensures { OnOk result (AreSpelled sent.now.version sent.now.mark.number sent.now.mark.stamp 0 items.new.items (sent_from cell.now.me (to_those (receives cell.now sent.now.to) (r + 1) sent.now.message.now))) }
+    requires fit { AllFit cell.now.me (to_those (receives cell.now told.now.to) (size cell.now.faults) (says told.now.telling.now.instance told.now.telling.now.said)) }
+    requires said { AllSayable told.now.version (to_those (receives cell.now told.now.to) (size cell.now.faults) (says told.now.telling.now.instance told.now.telling.now.said)) }
+    requires before { AreSpelled told.now.version told.now.mark.number told.now.mark.stamp 0 items.old.items (sent_from cell.now.me (to_those (receives cell.now told.now.to) r (says told.now.telling.now.instance told.now.telling.now.said))) }
+    ensures { OnOk result (AreSpelled told.now.version told.now.mark.number told.now.mark.stamp 0 items.new.items (sent_from cell.now.me (to_those (receives cell.now told.now.to) (r + 1) (says told.now.telling.now.instance told.now.telling.now.said)))) }
 {
-    if !is_receiver(cell, sent.to, r) {
+    if !is_receiver(cell, told.to, r) {
         return Ok(());
     }
     let origin = Origin {
         to: replica(r),
         out: items.len() as u16,
-        entry: sent.mark.number,
-        stamp: sent.mark.stamp,
+        entry: told.mark.number,
+        stamp: told.mark.stamp,
     };
-    let frame = write(alloc, sent.version, cell.me(), sent.message, origin)?;
+    let frame = write_said(alloc, told.version, cell.me(), told.telling, origin)?;
     items.push(frame)?;
     Ok(())
 }
 
-/// A message of an entry so marked to several replicas, in this version.
+/// What an entry so marked tells, in this version, and whom.
 #[derive(Drop)]
-struct Sent<'a> {
+struct Told<'a> {
     version: Version,
     mark: Mark,
     to: Receivers,
-    message: &'a Message,
+    telling: &'a Telling<'a>,
 }
 
 /// The replica of this number.

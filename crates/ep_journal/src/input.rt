@@ -1,14 +1,15 @@
 //! What is asked of an instance.
 
-use ep_base::{Command, Message, ReplicaId};
+use ep_base::Command;
+use ep_frame::FrameView;
 
 /// What is asked of an instance.
-#[derive(Drop)]
+#[derive(Clone, Copy)]
 pub enum Input<'a> {
     /// Propose the command there.
     Start(&'a Command),
-    /// Handle the message from this replica.
-    Message(ReplicaId, Message),
+    /// Handle the frame's message.
+    Message(&'a FrameView<'a>),
     /// Wait no longer for the fast quorum.
     GiveUp,
     /// Take the instance over.

@@ -12,7 +12,6 @@
 #![tactic(auto)]
 
 mod blocked;
-mod decided;
 mod deciding;
 mod entry;
 mod event;

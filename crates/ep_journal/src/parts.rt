@@ -11,7 +11,6 @@ ghost use Rattle.ep_journal.specs.Standing.{IsSound};
 ghost use Rattle.ep_journal.specs.Stepping.{standing_of, asked_of, IsAsked, IsLet, Moves, Steps};
 ghost use Rattle.ep_journal.specs.declared.event.Event.{Event as Happening};
 
-use crate::decided::Decided;
 use crate::deciding::decide;
 use crate::event::Event;
 use crate::execute::execute;
@@ -129,10 +128,8 @@ impl Parts {
         ensures { Steps (standing_of self.old) (Happening.Handle frame.now) mark result (standing_of self.new) }
     {
         let view = frame.view();
-        let message = view.to_message(alloc)?;
-        screen_frame(self.space.size(), self.me, &view, &message)?;
-        let input = Input::Message(view.from(), message);
-        self.ask(alloc, view.instance(), input, mark)
+        screen_frame(self.space.size(), self.me, &view)?;
+        self.ask(alloc, view.instance(), Input::Message(&view), mark)
     }
 
     /// Executes the root, and before it all that it depends on.
@@ -181,26 +178,6 @@ impl Parts {
         self.change(alloc, id, input, mark)
     }
 
-    /// Decides what is asked of the instance, and writes the frames; nothing has changed then.
-    fn decided(
-        &self,
-        alloc: Global,
-        id: InstanceId,
-        input: Input<'_>,
-        mark: Mark,
-    ) -> Result<Decided, StepFault>
-        requires numbered { 1 ≤ mark.number }
-        requires writable { IsWritable self.now.space.version self.now.me (asked_of self.now id input) }
-        ensures change { IfOk result (λ d. outcome_at (known_of self.now.me self.now.space self.now.lead id) input.entry ≡ Ok (change_of (known_of self.now.me self.now.space self.now.lead id) d.change)) }
-        ensures frames { IfOk result (λ d. AreSpelled self.now.space.version mark.number mark.stamp 0 d.frames (sent_from self.now.me (sends self.now.space.faults self.now.me id d.change.out))) }
-        ensures refused { IfErr result (λ e. IsRefused (outcome_at (known_of self.now.me self.now.space self.now.lead id) input.entry) e) }
-    {
-        let cell = Cell::of(&self.space, &self.lead, self.me, id);
-        let change = decide(alloc, &cell, input)?;
-        let frames = written(alloc, &cell, self.space.version(), mark, &change.out)?;
-        Ok(Decided { change, frames })
-    }
-
     /// Does what is asked of the instance: decides, writes the frames, and puts the change in place. All that may fail comes before
     /// anything changes.
     fn change(
@@ -216,9 +193,10 @@ impl Parts {
         ensures refused { IfErr result (λ e. IsRefused (asked_of self.old id input.entry) e) }
         ensures err { OnErr result (standing_of self.new ≡ standing_of self.old) }
     {
-        self.space.reserve(id)?;
-        self.lead.reserve(id)?;
-        let Decided { change, frames } = self.decided(alloc, id, input, mark)?;
+        let cell = Cell::of(&self.space, &self.lead, self.me, id);
+        let change = decide(alloc, &cell, input)?;
+        let frames = written(alloc, &cell, self.space.version(), mark, &change)?;
+        change.reserve(&mut self.space, &mut self.lead, id)?;
         change.install(&mut self.space, &mut self.lead, id)?;
         Ok(Taken {
             frames,

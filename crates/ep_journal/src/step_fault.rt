@@ -1,14 +1,13 @@
 //! Why an event was not taken.
 
 ghost use Rattle.std.specs.Prelude.{◌≡◌};
-ghost use Rattle.ep_journal.specs.Refused.{of_limit, of_phase, of_prepare, of_plan};
+ghost use Rattle.ep_journal.specs.Refused.{of_decision, of_plan};
 ghost use Rattle.ep_journal.specs.declared.step_fault.StepFault.TheVariants.{Memory, SpaceFull as NoNumber};
 
 use ep_base::InstanceId;
 use ep_exec::PlanFault;
-use ep_phase::PhaseFault;
-use ep_prepare::PrepareFault;
-use ep_space::{InterferenceFault, SpaceFull};
+use ep_phase::DecisionFault;
+use ep_space::SpaceFull;
 use std::alloc::AllocError;
 use thiserror::Error;
 
@@ -61,17 +60,6 @@ impl From<AllocError> for StepFault {
     }
 }
 
-impl From<InterferenceFault> for StepFault {
-    ghost from_gives = { λ f e. e ≡ of_limit f };
-
-    fn from(fault: InterferenceFault) -> StepFault {
-        match fault {
-            InterferenceFault::Memory => StepFault::Memory,
-            InterferenceFault::SeqExhausted => StepFault::SeqExhausted,
-        }
-    }
-}
-
 impl From<SpaceFull> for StepFault {
     ghost from_gives = { λ _ e. e ≡ NoNumber };
 
@@ -80,27 +68,17 @@ impl From<SpaceFull> for StepFault {
     }
 }
 
-impl From<PhaseFault> for StepFault {
-    ghost from_gives = { λ f e. e ≡ of_phase f };
+impl From<DecisionFault> for StepFault {
+    ghost from_gives = { λ f e. e ≡ of_decision f };
 
-    fn from(fault: PhaseFault) -> StepFault {
+    fn from(fault: DecisionFault) -> StepFault {
         match fault {
-            PhaseFault::Memory => StepFault::Memory,
-            PhaseFault::NotLeading => StepFault::NotLeading,
-            PhaseFault::TooFewAnswers => StepFault::TooFewAnswers,
-        }
-    }
-}
-
-impl From<PrepareFault> for StepFault {
-    ghost from_gives = { λ f e. e ≡ of_prepare f };
-
-    fn from(fault: PrepareFault) -> StepFault {
-        match fault {
-            PrepareFault::Memory => StepFault::Memory,
-            PrepareFault::SeqExhausted => StepFault::SeqExhausted,
-            PrepareFault::AlreadyCommitted => StepFault::AlreadyCommitted,
-            PrepareFault::BallotsExhausted => StepFault::BallotsExhausted,
+            DecisionFault::Memory => StepFault::Memory,
+            DecisionFault::SeqExhausted => StepFault::SeqExhausted,
+            DecisionFault::NotLeading => StepFault::NotLeading,
+            DecisionFault::TooFewAnswers => StepFault::TooFewAnswers,
+            DecisionFault::AlreadyCommitted => StepFault::AlreadyCommitted,
+            DecisionFault::BallotsExhausted => StepFault::BallotsExhausted,
         }
     }
 }

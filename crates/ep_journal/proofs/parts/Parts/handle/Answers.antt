@@ -5,11 +5,11 @@ use Rattle.ep_journal.proofs.parts.Parts.handle.Goals as goal
 pub ask-requires-clause-asked : goal.ask-requires-clause-asked
 ask-requires-clause-asked c = (
   Handle c.args.frame.now,
-  viewed_asked c.args.self.now c.args.frame.now c.view-view.result c.size.result c.from.result c.instance.result c.in_ok-message.message c.view-view.ensures.value c.size.ensures c.view-view.ensures.frame c.requires.versioned
-      c.in_ok-screen_frame.ensures.ok c.from.ensures c.in_ok-message.ensures.value c.instance.ensures.message,
+  viewed_asked c.args.self.now c.args.frame.now c.view-view.result c.size.result c.instance.result c.view-view.ensures.value c.size.ensures c.view-view.ensures.frame c.requires.versioned
+      c.in_ok-screen_frame.ensures.ok c.instance.ensures.message,
 )
 
 pub returns : goal.returns
 returns c = c.ask.ensures (Handle c.args.frame.now)
-    (viewed_asked c.args.self.now c.args.frame.now c.view-view.result c.size.result c.from.result c.instance.result c.in_ok-message.message c.view-view.ensures.value c.size.ensures c.view-view.ensures.frame c.requires.versioned
-    c.in_ok-screen_frame.ensures.ok c.from.ensures c.in_ok-message.ensures.value c.instance.ensures.message)
+    (viewed_asked c.args.self.now c.args.frame.now c.view-view.result c.size.result c.instance.result c.view-view.ensures.value c.size.ensures c.view-view.ensures.frame c.requires.versioned
+    c.in_ok-screen_frame.ensures.ok c.instance.ensures.message)
