@@ -1,11 +1,10 @@
 //! What a replica decides on what is asked of an instance.
 
 ghost use Rattle.std.specs.Prelude.{◌≡◌, Ok, IfOk, IfErr};
-ghost use Rattle.ep_frame.specs.Meaning.{sender_at, instance_at, message_at, kind_at, ballot_at, vote_at};
+ghost use Rattle.ep_frame.specs.Meaning.{kind_at, message_at, message_by, sender_at};
 ghost use Rattle.ep_phase.specs.Changes.{change_of};
 ghost use Rattle.ep_phase.specs.Refused.{IsRefused};
-ghost use Rattle.ep_base.specs.declared.message.Message.TheVariants.{PrepareOk};
-ghost use Rattle.ep_frame.specs.declared.kind.Kind.TheVariants as kind;
+ghost use Rattle.ep_frame.specs.declared.kind.Kind.TheVariants.{PrepareOk};
 ghost use Rattle.ep_journal.specs.Inputs.{handled_at, outcome_at};
 
 use crate::input::Input;
@@ -35,11 +34,27 @@ pub(crate) fn decide(
 }
 
 /// Decides what comes of the frame's message.
+#[tactic(auto, using(crate::proofs::Handled::handled_ok, crate::proofs::Handled::handled_refused))]
 fn handle(alloc: Global, cell: &Cell<'_>, frame: &FrameView<'_>) -> Result<Change, DecisionFault>
     ensures ok { IfOk result (λ ch. handled_at cell.now (sender_at frame.now) (message_at frame.now) ≡ Ok (change_of cell.now ch)) }
     ensures refused { IfErr result (λ e. IsRefused (handled_at cell.now (sender_at frame.now) (message_at frame.now)) e) }
 {
-    match frame.kind() {
+    handle_by(alloc, cell, frame, frame.kind())
+}
+
+/// The same of a frame whose message is of this kind.
+#[tactic(auto, using(crate::proofs::Handled::rule_ok, crate::proofs::Handled::rule_refused))]
+fn handle_by(
+    alloc: Global,
+    cell: &Cell<'_>,
+    frame: &FrameView<'_>,
+    kind: Kind,
+) -> Result<Change, DecisionFault>
+    requires { kind_at frame.now ≡ kind }
+    ensures ok { IfOk result (λ ch. handled_at cell.now (sender_at frame.now) (message_by kind frame.now) ≡ Ok (change_of cell.now ch)) }
+    ensures refused { IfErr result (λ e. IsRefused (handled_at cell.now (sender_at frame.now) (message_by kind frame.now)) e) }
+{
+    match kind {
         Kind::PreAccept => on_pre_accept(alloc, cell, frame),
         Kind::PreAcceptOk => on_pre_accept_ok(alloc, cell, frame),
         Kind::Accept => on_accept(alloc, cell, frame),
@@ -57,9 +72,9 @@ fn handle_vote(
     cell: &Cell<'_>,
     frame: &FrameView<'_>,
 ) -> Result<Change, DecisionFault>
-    requires { kind_at frame.now ≡ kind.PrepareOk }
-    ensures ok { IfOk result (λ ch. handled_at cell.now (sender_at frame.now) (PrepareOk (instance_at frame.now) (ballot_at frame.now) (vote_at frame.now)) ≡ Ok (change_of cell.now ch)) }
-    ensures refused { IfErr result (λ e. IsRefused (handled_at cell.now (sender_at frame.now) (PrepareOk (instance_at frame.now) (ballot_at frame.now) (vote_at frame.now))) e) }
+    requires { kind_at frame.now ≡ PrepareOk }
+    ensures ok { IfOk result (λ ch. handled_at cell.now (sender_at frame.now) (message_by PrepareOk frame.now) ≡ Ok (change_of cell.now ch)) }
+    ensures refused { IfErr result (λ e. IsRefused (handled_at cell.now (sender_at frame.now) (message_by PrepareOk frame.now)) e) }
 {
     let vote = frame.to_vote(alloc)?;
     on_prepare_ok(alloc, cell, frame.from(), frame.ballot(), vote)
