@@ -1,5 +1,5 @@
 -- What was voted for is the decree that comes.
-use Rattle.std.proofs.Common.{◌≡◌, ◌∙◌, ℕ, Bool, true, Option, Some, sym, ap}
+use Rattle.std.proofs.Common.{◌≡◌, ◌∙◌, ℕ, Bool, Option, Some, sym, ap}
 use Rattle.std.specs.Prelude.{IsTrue}
 use Rattle.ep_base.specs.Sameness.{same_decree}
 use Rattle.ep_base.specs.declared.decree.Decree.{Decree}

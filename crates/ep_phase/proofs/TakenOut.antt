@@ -1,8 +1,8 @@
 -- What is led, taken out, changed and put back.
-use Rattle.std.proofs.Common.{◌≡◌, ◌∙◌, ℕ, Bool, true, false, cond, Option, Some, None, Result, Ok, Err, sym, ap, refl, subst}
+use Rattle.std.proofs.Common.{◌≡◌, ◌∙◌, ℕ, Option, Some, None, Result, Ok, Err, ap, refl}
 use Rattle.std.specs.Prelude.{OnOk, OnErr}
 use Rattle.std.specs.declared.alloc.AllocError.{AllocError}
-use Rattle.ep_rules.specs.Maps.{Map, get, insert, remove}
+use Rattle.ep_rules.specs.Maps.{Map, get, remove}
 use Rattle.ep_rules.specs.States.{with_held, with_led}
 use Rattle.ep_rules.specs.declared.led.Led.{Led}
 use Rattle.ep_space.specs.Held.{Held}

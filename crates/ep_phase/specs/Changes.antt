@@ -1,5 +1,5 @@
 -- What an event changes, as the code holds it before it is put in place: it names what stays, and what is sent of it, in place of copying it.
-use Rattle.std.specs.Prelude.{◌≡◌, ℕ, Bool, true, false, cond, List, [], ◌∷◌, Option, Some, None, Result, Ok, Err}
+use Rattle.std.specs.Prelude.{ℕ, Bool, true, false, cond, List, [], ◌∷◌, Option, Some, None}
 use Rattle.ep_base.specs.Attributes.{join}
 use Rattle.ep_base.specs.Instances.{leader_of}
 use Rattle.ep_base.specs.Quorums.{size, is_fast}

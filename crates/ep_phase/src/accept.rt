@@ -20,8 +20,8 @@ use crate::propose::is_usable;
 use crate::receivers::Receivers;
 use crate::recorded::Recorded;
 use crate::sending::{Sending, What};
-use ep_frame::FrameView;
 use ep_base::{Ballot, Decree, ReplicaId};
+use ep_frame::FrameView;
 use ep_rules::{Answers, Led};
 use std::alloc::Global;
 
@@ -65,11 +65,7 @@ pub fn on_accept(
         to: Receivers::One(frame.from()),
         what: What::AcceptOk(ballot),
     };
-    Ok(Change::of(
-        Recorded::Accepts(ballot, decree),
-        Leading::Stays,
-        Some(out),
-    ))
+    Ok(Change::of(Recorded::Accepts(ballot, decree), Leading::Stays, Some(out)))
 }
 
 /// Handles an AcceptOK: it counts while this replica leads the ballot in the accept phase, has promised no other ballot and has not committed,

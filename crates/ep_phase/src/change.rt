@@ -20,8 +20,8 @@ use crate::leading::Leading;
 use crate::receivers::Receivers;
 use crate::recorded::Recorded;
 use crate::sending::{Sending, What};
-use ep_frame::Telling;
 use ep_base::{Ballot, Decree, InstanceId, ReplicaId, Said};
+use ep_frame::Telling;
 use ep_rules::Led;
 use ep_space::Space;
 use std::alloc::AllocError;
@@ -184,11 +184,7 @@ fn voted_decree<'a>(cell: &Cell<'a>) -> Option<&'a Decree>
     }
 }
 
-fn reserve_record(
-    entry: &Recorded,
-    space: &mut Space,
-    id: InstanceId,
-) -> Result<(), AllocError>
+fn reserve_record(entry: &Recorded, space: &mut Space, id: InstanceId) -> Result<(), AllocError>
     ensures place { OnOk result (HasRecordPlace entry.now space.new.places id) }
     ensures same { space.new ≡ record space.old { places = space.new.places } }
 {

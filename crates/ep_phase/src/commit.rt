@@ -17,8 +17,8 @@ use crate::leading::Leading;
 use crate::receivers::Receivers;
 use crate::recorded::Recorded;
 use crate::sending::{Sending, What};
-use ep_frame::FrameView;
 use ep_base::Decree;
+use ep_frame::FrameView;
 use std::alloc::Global;
 
 /// Commits the decree as the leader: both ballots stay, the instance is led no longer, and all others are told

@@ -9,8 +9,8 @@ ghost use Rattle.ep_rules.specs.Phases as rules;
 ghost use Rattle.ep_frame.specs.Meaning.{attrs_at, kind_at, sender_at, tells_attrs};
 
 use crate::receivers::is_fast;
-use ep_frame::FrameView;
 use ep_base::{Attrs, Decree, ReplicaId, Size};
+use ep_frame::FrameView;
 use ep_rules::Answers;
 use std::alloc::{AllocError, Global};
 
@@ -35,12 +35,7 @@ fn is_answer_of_other<X>(me: ReplicaId, answers: &Answers<X>, r: u8) -> bool
 
 /// How many other replicas answered, this one among them.
 #[tactic(auto, using(crate::proofs::Answering::others_more))]
-pub(crate) fn others_with<X>(
-    size: Size,
-    me: ReplicaId,
-    answers: &Answers<X>,
-    from: ReplicaId,
-) -> u8
+pub(crate) fn others_with<X>(size: Size, me: ReplicaId, answers: &Answers<X>, from: ReplicaId) -> u8
     ensures { (x : X) → result ≡ rules.others size me (with_answer answers.now from x) }
 {
     let mut count = 0;

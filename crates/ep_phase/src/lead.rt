@@ -206,11 +206,7 @@ fn count_pre_accepted(
     }
 }
 
-fn add_accepted(
-    leads: &mut Table<Led>,
-    id: InstanceId,
-    from: ReplicaId,
-) -> Result<(), AllocError>
+fn add_accepted(leads: &mut Table<Led>, id: InstanceId, from: ReplicaId) -> Result<(), AllocError>
     requires { HasPlace leads.old.places id }
     ensures ok { OnOk result (leads.new ≡ record { held = with_led leads.old.held id (with_accepted from (get leads.old.held id)); places = leads.old.places }) }
     ensures err { OnErr result (leads.new ≡ leads.old) }

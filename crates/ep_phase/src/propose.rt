@@ -30,8 +30,8 @@ use crate::leading::Leading;
 use crate::receivers::Receivers;
 use crate::recorded::Recorded;
 use crate::sending::{Sending, What};
-use ep_frame::FrameView;
 use ep_base::{Attrs, Ballot, Command, Decree, InstanceId, ReplicaId};
+use ep_frame::FrameView;
 use ep_rules::{Answers, Led};
 use ep_space::{Space, SpaceFull};
 use std::alloc::{AllocError, Global};
@@ -251,11 +251,7 @@ fn one_more(
 }
 
 /// Commits the leader's own command with the frame's attributes, which are those of all answers.
-fn fast_path(
-    alloc: Global,
-    cell: &Cell<'_>,
-    frame: &FrameView<'_>,
-) -> Result<Change, DecisionFault>
+fn fast_path(alloc: Global, cell: &Cell<'_>, frame: &FrameView<'_>) -> Result<Change, DecisionFault>
     requires kind { kind_at frame.now ≡ kind.PreAcceptOk }
     ensures ok { IfOk result (λ ch. change_of cell.now ch ≡ rules.fast_path cell.now.faults cell.now.instance cell.now.me (attrs_at frame.now) (record_of cell.now) (record_of cell.now).vote) }
     ensures refused { IfErr result (λ e. e ≡ Memory) }

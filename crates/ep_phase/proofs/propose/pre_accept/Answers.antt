@@ -1,4 +1,4 @@
-use Rattle.std.proofs.Common.{◌≡◌, subst}
+use Rattle.std.proofs.Common.{subst}
 use Rattle.ep_rules.specs.InterferenceSet.{interference}
 use Rattle.ep_rules.specs.Phases.{limited}
 use Rattle.ep_phase.specs.Changes.{pre_accepted}

@@ -1,4 +1,3 @@
-use Rattle.std.proofs.Common.{◌≡◌}
 use Rattle.ep_prepare.proofs.counting.act_by.Goals as goal
 
 pub returns-clause-ok : goal.returns-clause-ok

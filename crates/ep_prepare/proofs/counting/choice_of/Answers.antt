@@ -1,4 +1,3 @@
-use Rattle.std.proofs.Common.{◌≡◌}
 use Rattle.ep_prepare.proofs.counting.choice_of.Goals as goal
 
 pub returns : goal.returns
