@@ -1,9 +1,8 @@
 -- What a set's test for a key says of the list of its keys.
 use Rattle.std.proofs.Common.{◌≡◌, ℕ, List, [], ◌∷◌, ◌++◌, Bool, true, false, true≢false, cond, ◌||◌, ◌↔◌, inl, inr, refl, sym, ap, subst, ◌∙◌, arith}
-use Rattle.std.specs.Prelude.{◌==◌, ◌&&◌, IsTrue}
+use Rattle.std.specs.Prelude.{◌==◌, IsTrue}
 use Rattle.std.specs.List.{list_any}
-use Rattle.std.proofs.lemmas.Bool.{eqb-true, eq-eqb, and_parts, and_from}
-use Rattle.ep_base.specs.Instances.{leader_of, number_of}
+use Rattle.std.proofs.lemmas.Bool.{eqb-true, eq-eqb}
 use Rattle.indexmap.specs.IndexSet.{insert_key}
 use Rattle.ep_base.specs.Places.{Has}
 use Rattle.ep_rules.proofs.Places.{place_head, has_cons, has_tail, has_or, has_split, has_left, has_right}
@@ -11,17 +10,13 @@ use Rattle.ep_exec.proofs.Counts.{has_single}
 
 -- the equality of instances as code tests it
 abbrev pub same : ℕ → ℕ → Bool
-same i j = (leader_of i == leader_of j) && (number_of i == number_of j)
+same i j = i == j
 
 same_then : (i j : ℕ) → same i j ≡ true → i ≡ j
-same_then i j e =
-    let p = and_parts (leader_of i == leader_of j) (number_of i == number_of j) e in
-    let l = eqb-true (leader_of i) (leader_of j) p.0 in
-    let n = eqb-true (number_of i) (number_of j) p.1 in
-    grind (arith, l, n)
+same_then i j e = eqb-true i j e
 
 same_yes : (i j : ℕ) → i ≡ j → same i j ≡ true
-same_yes i j e = and_from (leader_of i == leader_of j) (number_of i == number_of j) (eq-eqb (leader_of i) (leader_of j) (ap leader_of e)) (eq-eqb (number_of i) (number_of j) (ap number_of e))
+same_yes i j e = eq-eqb i j e
 
 pub any_has : (xs : List ℕ) (i : ℕ) → list_any (same i) xs ≡ true → Has xs i
 any_has [] i e = absurd (true≢false (sym e))
