@@ -96,6 +96,20 @@ fn push_pre_accept(
     push_decree(text, decree)
 }
 
+// Appends a message's name, the instance that it is about, its ballot, and attributes.
+fn push_voted(
+    text: &mut Vec<u8>,
+    name: &[u8],
+    instance: InstanceId,
+    ballot: Ballot,
+    attrs: &Attrs,
+) -> Result<(), AllocError>
+    ensures { OnOk result (text.new.items ≡ text.old.items ++ name.now ++ about_text instance ballot ++ attrs_text attrs.now) }
+{
+    push_about(text, name, instance, ballot)?;
+    push_attrs(text, attrs)
+}
+
 fn push_pre_accept_ok(
     text: &mut Vec<u8>,
     instance: InstanceId,
@@ -104,8 +118,7 @@ fn push_pre_accept_ok(
 ) -> Result<(), AllocError>
     ensures { OnOk result (text.new.items ≡ text.old.items ++ message_text (message.PreAcceptOk instance ballot attrs.now)) }
 {
-    push_about(text, b"PreAcceptOK ", instance, ballot)?;
-    push_attrs(text, attrs)
+    push_voted(text, b"PreAcceptOK ", instance, ballot, attrs)
 }
 
 fn push_accept(
