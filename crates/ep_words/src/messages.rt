@@ -104,7 +104,7 @@ fn push_voted(
     ballot: Ballot,
     attrs: &Attrs,
 ) -> Result<(), AllocError>
-    ensures { OnOk result (text.new.items ≡ text.old.items ++ name.now ++ about_text instance ballot ++ attrs_text attrs.now) }
+    ensures { OnOk result (text.new.items ≡ text.old.items ++ (name.now ++ about_text instance ballot ++ attrs_text attrs.now)) }
 {
     push_about(text, name, instance, ballot)?;
     push_attrs(text, attrs)
