@@ -389,12 +389,58 @@ stamp 5  replica 1 entry 2  propose get x (client 1 request 2 seen 4); took 1.1;
 """
 
 
+# Three proposals of two clients, of which no message is given. The second names two keys.
+PARTED = b"replicas 3\npropose 0 1 put x 1\npropose 0 2 swap x y\npropose 0 1 put z 3\n"
+SHOWN_PARTED = [
+    f"stamp {it}  replica 0 entry {it}  propose {what} (client {client} seen 0); took 0.{it}; sends to 1 NEVER HANDLED: PreAccept 0.{it} ballot (0, 0) {what} {attributes}\n"
+    for it, what, client, attributes in ((1, "put x 1", "1 request 1", "seq 1 deps -"), (2, "swap x y", "2 request 1", "seq 2 deps 0.1"), (3, "put z 3", "1 request 2", "seq 1 deps -"))
+]
+# The options of a part, and which of those lines it keeps.
+PARTS = (
+    (["--key", "x"], (0, 1)),
+    (["--key=%79"], (1,)),
+    (["--client", "1"], (0, 2)),
+    (["--key", "x", "--client", "1"], (0,)),
+    (["--key", "y", "--client", "1"], ()),
+    (["--client", "1", "--from", "2"], (2,)),
+    (["--key", "x", "--instance", "0.2"], (1,)),
+    (["--key", "x" * 255], ()),
+)
+# Entries of others that are about the instances that are kept: of LATE's two, by the lines above.
+LATE_PARTS = ((["--key", "x"], (0, 2)), (["--client", "2"], (1, 3, 4)), (["--client", "3"], ()))
+
+
+def parted():
+    """Parts by key and by client, and what is said where none is kept."""
+    made = ["replay", "--emit", "bundle", "|"]
+    for script, lines, parts in ((PARTED, SHOWN_PARTED, PARTS), (LATE, SHOWN_LATE.splitlines(True), LATE_PARTS)):
+        for words, kept in parts:
+            wanted = "".join(lines[it] for it in kept) or f"0 of {len(lines)} entries\n"
+            name = " ".join(words)[:40]
+            yield dict(name=f"{len(kept)} of {len(lines)} entries by {name}, shown", words=[*made, "show", *words], given=script, wanted=wanted.encode())
+            title = f"{len(kept)} of {len(lines)} events of 3 replicas"
+            yield dict(name=f"{len(kept)} of {len(lines)} entries by {name}, drawn", words=[*made, "draw", *words], given=script, wanted=b"<svg ", is_begun=True, says=[title], is_picture=True)
+    names = "replica 0                         replica 1                         replica 2\n"
+    yield dict(name="none of three entries, in columns", words=[*made, "show", "--columns", "--key", "w"], given=PARTED, wanted=(names + "0 of 3 entries\n").encode())
+    yield dict(name="none of no entries", words=[*made, "show", "--key", "w"], given=b"replicas 3\n", wanted=b"")
+    events = dict(words=[*made, "trace-events", "--key", "y"], given=PARTED, wanted=b'{"traceEvents":[', is_begun=True)
+    yield dict(name="trace events by a key", **events, says=["propose swap x y (client 2"])
+
+
 def drawn():
     """As much as is drawn, and one more: of entries, which are recoveries of one instance, and of instances, which are gets, each committed."""
     made, recoveries = ["replay", "--emit", "bundle", "|", "draw"], b"replicas 3\n" + b"recover 1 0.1\n" * 2001
     gets = b"replicas 3\n" + b"propose 0 7 get x\n" * 2000 + b"flush\n" * 3
-    told = b"too many to draw: 2001, and 2000 at most; --from, --to, --instance and --replica keep a part of a diagram, and --page shows all\n"
-    yield dict(name="2,001 entries, drawn", words=made, given=recoveries, told=told, status=2)
+    told = b"too many to draw: 2001, and 2000 at most; --from, --to, --replica, --instance, --key and --client keep a part of a diagram, and --page shows all\n"
+    ranges = b"replica 0: 0 entries\nreplica 1: 2001 entries, stamps 1 to 2001\nreplica 2: 0 entries\nfor example, --to 2000 keeps 2000 of these events at most\n"
+    yield dict(name="2,001 entries, drawn", words=made, given=recoveries, told=told + ranges, status=2)
+    # 2,000 proposals, and the entries that handle what they send: of each stamp from 2 to 2,000 two are there, so 2,000 are kept up to 1,000
+    puts = b"replicas 3\n" + b"propose 2 7 put x 1\n" * 1500 + b"flush\n"
+    lines = b"replica 0: 1500 entries, stamps 2 to 1501\nreplica 1: 0 entries\nreplica 2: 1500 entries, stamps 1 to 1500, instances 2.1 to 2.1500\n"
+    few = b"for example, --to 1000 keeps 2000 of these events at most\n"
+    yield dict(name="3,000 entries, drawn", words=made, given=puts, told=told.replace(b"2001", b"3000") + lines + few, status=2)
+    more = b"for example, --to 1497 keeps 2000 of these events at most\n"
+    yield dict(name="2,007 of them, drawn", words=[*made, "--from", "498"], given=puts, told=told.replace(b"2001", b"2007") + lines + more, status=2)
     yield dict(name="2,000 of them, drawn", words=[*made, "--to", "2000"], given=recoveries, says=["1:1 recover 0.1", "1:2000 recover 0.1"], is_picture=True)
     yield dict(name="2,001 instances, drawn", words=[*made, "--graph"], given=gets + flushed(b"propose 1 7 get x"), told=told, status=2)
     # words beside a row, and in a box: of 120 bytes all stand there, of 121 the first 120
@@ -418,5 +464,6 @@ def every():
     for option in ("--capacity=", "--turns=00010000000"):
         yield dict(name=f"words refused: run {option}", words=["run", option], given=b"replicas 3\n", told=REFUSED, rest=HELP, status=2)
     yield from drawn()
+    yield from parted()
     for name, script, shown in (("what a flush gives", GIVEN, SHOWN_GIVEN), ("a flush behind a later message", LATE, SHOWN_LATE), ("what a client has seen", SEEN, SHOWN_SEEN)):
         yield dict(name=f"{name}, shown", words=["replay", "--emit", "bundle", "|", "show"], given=script, wanted=shown.encode())

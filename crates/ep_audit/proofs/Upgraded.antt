@@ -8,6 +8,7 @@ use Rattle.ep_rules.specs.Verdicts.{agreed, command_at, IsReply}
 use Rattle.ep_verdict.specs.Verdicts.{IsVerdict}
 use Rattle.ep_audit.specs.Audited.{IsOneHistory}
 use Rattle.ep_audit.specs.Upgraded.{SaysTheSame, UpgradedSaysTheSame}
+use Rattle.ep_rules.specs.OneMap.{opened, empty}
 
 -- what is said of equals is said of both
 module _ (f g : ℕ) (journal other : Journals) (size : g ≡ f) (is : other ≡ journal) where
@@ -16,13 +17,13 @@ module _ (f g : ℕ) (journal other : Journals) (size : g ≡ f) (is : other ≡
 
   pub same : SaysTheSame f journal g other
   same = record {
-    accepted = λ receipts. both (λ n j. IsAccepted n j receipts);
-    fault = λ receipts fault. both (λ n j. IsFault n j receipts fault);
+    accepted = λ receipts. both (λ n j. IsAccepted (opened empty) n j receipts);
+    fault = λ receipts fault. both (λ n j. IsFault (opened empty) n j receipts fault);
     schedule = λ schedule. both (λ n j. IsSchedule j schedule);
-    committed = λ i. ap (λ n. agreed n other i) size ∙ ap (λ (j : Journals). agreed f j i) is;
-    command = λ i. ap (λ n. command_at n other i) size ∙ ap (λ (j : Journals). command_at f j i) is;
+    committed = λ i. ap (λ n. agreed (opened empty) n other i) size ∙ ap (λ (j : Journals). agreed (opened empty) f j i) is;
+    command = λ i. ap (λ n. command_at (opened empty) n other i) size ∙ ap (λ (j : Journals). command_at (opened empty) f j i) is;
     history = λ receipts schedule h. both (λ n j. IsOneHistory n j receipts schedule h);
-    reply = λ h i x. both (λ n j. IsReply (command_at n j) h i x);
+    reply = λ h i x. both (λ n j. IsReply (opened empty) (command_at (opened empty) n j) h i x);
     verdict = λ v. both (λ n j. IsVerdict n j v);
   }
 

@@ -10,22 +10,23 @@ use Rattle.ep_rules.specs.declared.receipt.Receipt.{Receipt}
 use Rattle.ep_verdict.specs.Verdicts.{IsVerdict}
 use Rattle.ep_verdict.specs.declared.verdict.Verdict.{Verdict}
 use Rattle.ep_audit.specs.Audited.{IsOneHistory}
+use Rattle.ep_rules.specs.OneMap.{opened, empty}
 
 -- Of both journals the audit says the same, with any receipts.
 pub record SaysTheSame (f : ℕ) (journal : Journals) (g : ℕ) (other : Journals) : Type 0 where
   -- it accepts both or neither
-  pub accepted : (receipts : List Receipt) → IsAccepted f journal receipts ↔ IsAccepted g other receipts
+  pub accepted : (receipts : List Receipt) → IsAccepted (opened empty) f journal receipts ↔ IsAccepted (opened empty) g other receipts
   -- they have the same first fault
-  pub fault : (receipts : List Receipt) (fault : Fault) → IsFault f journal receipts fault ↔ IsFault g other receipts fault
+  pub fault : (receipts : List Receipt) (fault : Fault) → IsFault (opened empty) f journal receipts fault ↔ IsFault (opened empty) g other receipts fault
   -- their entries stand in one order, but for their frames' bytes
   pub schedule : (schedule : List Scheduled) → IsSchedule journal schedule ↔ IsSchedule other schedule
   -- they commit the same in each instance
-  pub committed : (i : ℕ) → agreed g other i ≡ agreed f journal i
+  pub committed : (i : ℕ) → agreed (opened empty) g other i ≡ agreed (opened empty) f journal i
   -- they have one history
-  pub command : (i : ℕ) → command_at g other i ≡ command_at f journal i
+  pub command : (i : ℕ) → command_at (opened empty) g other i ≡ command_at (opened empty) f journal i
   pub history : (receipts : List Receipt) (schedule : List Scheduled) (h : List ℕ) → IsOneHistory f journal receipts schedule h ↔ IsOneHistory g other receipts schedule h
   -- and each reply in it is the same
-  pub reply : (h : List ℕ) (i : ℕ) (x : Answer) → IsReply (command_at f journal) h i x ↔ IsReply (command_at g other) h i x
+  pub reply : (h : List ℕ) (i : ℕ) (x : Answer) → IsReply (opened empty) (command_at (opened empty) f journal) h i x ↔ IsReply (opened empty) (command_at (opened empty) g other) h i x
   -- so a verdict of the one is one of the other
   pub verdict : (v : Verdict) → IsVerdict f journal v ↔ IsVerdict g other v
 

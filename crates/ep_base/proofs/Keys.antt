@@ -1,17 +1,13 @@
 -- The keys that a command names, one after the other.
-use Rattle.std.proofs.Common.{◌≡◌, ℕ, List, [], ◌∷◌, ◌++◌, refl, Option, Some, None}
+use Rattle.std.proofs.Common.{◌≡◌, ◌++◌, refl}
 use Rattle.std.specs.Prelude.{Bool, true, false, ◌||◌}
 use Rattle.ep_base.specs.declared.command.Command.{Command}
-use Rattle.ep_base.specs.declared.command.Command.TheVariants.{Noop, Get, Put, Del, Swap}
-use Rattle.ep_base.specs.Interference.{keys_of, key_of, second_key_of}
+use Rattle.ep_base.specs.declared.command.Command.TheVariants.{Noop, Get, Put, Del, Swap, Cas, Seal, Opaque}
+use Rattle.ep_base.specs.Interference.{listed, keys_of, key_of, second_key_of}
 
 pub or_false : (b : Bool) → (b || false) ≡ b
 or_false true = refl
 or_false false = refl
-
-abbrev pub listed : Option (List ℕ) → List (List ℕ)
-listed None = []
-listed (Some k) = k ∷ []
 
 pub keys_listed : (a : Command) → keys_of a ≡ listed (key_of a) ++ listed (second_key_of a)
 keys_listed Noop = refl
@@ -19,3 +15,6 @@ keys_listed (Get k) = refl
 keys_listed (Put k v) = refl
 keys_listed (Del k) = refl
 keys_listed (Swap p) = refl
+keys_listed (Cas k e n) = refl
+keys_listed (Seal v) = refl
+keys_listed (Opaque p b) = refl

@@ -8,3 +8,5 @@ pub mod Versions
 pub mod Keys
 pub mod Same
 pub mod Interfering
+pub mod Footprints
+pub mod Partitions

@@ -1,20 +1,21 @@
 -- The tests of equality decide it.
-use Rattle.std.proofs.Common.{◌≡◌, ℕ, List, [], refl, ap, ◌∙◌}
-use Rattle.std.specs.Prelude.{false, ◌&&◌, eqb}
+use Rattle.std.proofs.Common.{◌≡◌, ℕ, List, [], Option, Some, None, refl, ap, ◌∙◌}
+use Rattle.std.specs.Prelude.{Bool, true, false, ◌&&◌, eqb}
 use Rattle.std.specs.Bool.{Decides}
 use Rattle.std.specs.Cmp.Lexicographic.{pointwise_decides}
 use Rattle.std.proofs.lemmas.Bool.{false≢true, eqb-false}
 use Rattle.std.proofs.lemmas.Bool.Decides.{Decides-like, Decides-and, Decides-eqb}
 use Rattle.ep_base.specs.declared.attrs.Attrs.{Attrs}
 use Rattle.ep_base.specs.declared.command.Command.{Command}
-use Rattle.ep_base.specs.declared.command.Command.TheVariants.{Noop, Get, Put, Del, Swap}
+use Rattle.ep_base.specs.declared.command.Command.TheVariants.{Noop, Get, Put, Del, Swap, Cas, Seal, Opaque}
 use Rattle.ep_base.specs.declared.decree.Decree.{Decree}
 use Rattle.ep_base.specs.declared.reply.Reply.{Reply}
-use Rattle.ep_base.specs.declared.reply.Reply.TheVariants.{Absent, Present}
+use Rattle.ep_base.specs.declared.reply.Reply.TheVariants.{Absent, Present, Closed, Ordered}
 use Rattle.ep_base.specs.declared.reply.Answer.{Answer}
 use Rattle.ep_base.specs.declared.reply.Answer.TheVariants.{Lost, Told}
 use Rattle.ep_base.specs.Attributes.{same_list, same_attrs}
-use Rattle.ep_base.specs.Sameness.{same_keys, same_command, same_decree, same_reply, same_answer}
+use Rattle.ep_base.specs.Sameness.{same_keys, same_option, same_bool, same_touched, same_command, same_decree, same_reply, same_answer}
+use Rattle.ep_base.specs.Touched.{Touched}
 use Rattle.ep_base.specs.TwoKeys.{TwoKeys}
 
 pub Decides-same_list : (xs ys : List ℕ) → Decides (same_list xs ys) (xs ≡ ys)
@@ -41,6 +42,9 @@ kind (Get k) = 1
 kind (Put k v) = 2
 kind (Del k) = 3
 kind (Swap p) = 4
+kind (Cas k e n) = 5
+kind (Seal v) = 6
+kind (Opaque p b) = 7
 
 abbrev key_or_none : Command → List ℕ
 key_or_none Noop = []
@@ -48,6 +52,9 @@ key_or_none (Get k) = k
 key_or_none (Put k v) = k
 key_or_none (Del k) = k
 key_or_none (Swap p) = p.first
+key_or_none (Cas k e n) = k
+key_or_none (Seal v) = []
+key_or_none (Opaque p b) = p.first
 
 abbrev value_or_none : Command → List ℕ
 value_or_none Noop = []
@@ -55,6 +62,9 @@ value_or_none (Get k) = []
 value_or_none (Put k v) = v
 value_or_none (Del k) = []
 value_or_none (Swap p) = []
+value_or_none (Cas k e n) = []
+value_or_none (Seal v) = v
+value_or_none (Opaque p b) = b
 
 abbrev no_keys : TwoKeys
 no_keys = record { first = []; second = [] }
@@ -65,6 +75,56 @@ keys_or_none (Get k) = no_keys
 keys_or_none (Put k v) = no_keys
 keys_or_none (Del k) = no_keys
 keys_or_none (Swap p) = p
+keys_or_none (Cas k e n) = no_keys
+keys_or_none (Seal v) = no_keys
+keys_or_none (Opaque p b) = no_keys
+
+abbrev expected_or_none : Command → Option (List ℕ)
+expected_or_none Noop = None
+expected_or_none (Get k) = None
+expected_or_none (Put k v) = None
+expected_or_none (Del k) = None
+expected_or_none (Swap p) = None
+expected_or_none (Cas k e n) = e
+expected_or_none (Seal v) = None
+expected_or_none (Opaque p b) = p.second
+
+abbrev new_or_none : Command → Option (List ℕ)
+new_or_none Noop = None
+new_or_none (Get k) = None
+new_or_none (Put k v) = None
+new_or_none (Del k) = None
+new_or_none (Swap p) = None
+new_or_none (Cas k e n) = n
+new_or_none (Seal v) = None
+new_or_none (Opaque p b) = None
+
+abbrev no_touch : Touched
+no_touch = record { first = []; second = None; reads = false }
+
+abbrev touched_or_none : Command → Touched
+touched_or_none Noop = no_touch
+touched_or_none (Get k) = no_touch
+touched_or_none (Put k v) = no_touch
+touched_or_none (Del k) = no_touch
+touched_or_none (Swap p) = no_touch
+touched_or_none (Cas k e n) = no_touch
+touched_or_none (Seal v) = no_touch
+touched_or_none (Opaque p b) = p
+
+abbrev option_kind : Option (List ℕ) → ℕ
+option_kind None = 0
+option_kind (Some v) = 1
+
+abbrev value_in : Option (List ℕ) → List ℕ
+value_in None = []
+value_in (Some v) = v
+
+pub Decides-same_option : (a b : Option (List ℕ)) → Decides (same_option a b) (a ≡ b)
+Decides-same_option None None = (λ _. refl, λ _. refl)
+Decides-same_option (Some v) (Some w) = Decides-like (same_list v w) (ap Some) (ap value_in) (Decides-same_list v w)
+Decides-same_option None (Some w) = apart option_kind refl
+Decides-same_option (Some v) None = apart option_kind refl
 
 keys_from_parts : (p q : TwoKeys) → p.first ≡ q.first → p.second ≡ q.second → p ≡ q
 keys_from_parts p q f s =
@@ -77,6 +137,25 @@ Decides-same_keys p q =
     let parts = Decides-and (same_list p.first q.first) (same_list p.second q.second) (Decides-same_list p.first q.first) (Decides-same_list p.second q.second) in
     Decides-like (same_keys p q) (λ h. keys_from_parts p q h.0 h.1) (λ e. (ap (λ (x : TwoKeys). x.first) e, ap (λ (x : TwoKeys). x.second) e)) parts
 
+abbrev bool_kind : Bool → ℕ
+bool_kind false = 0
+bool_kind true = 1
+
+pub Decides-same_bool : (a b : Bool) → Decides (same_bool a b) (a ≡ b)
+Decides-same_bool true true = (λ _. refl, λ _. refl)
+Decides-same_bool false false = (λ _. refl, λ _. refl)
+Decides-same_bool true false = apart bool_kind refl
+Decides-same_bool false true = apart bool_kind refl
+
+touched_from_parts : (p q : Touched) → p.first ≡ q.first → p.second ≡ q.second → p.reads ≡ q.reads → p ≡ q
+touched_from_parts p q f s r = λ i. record { first = f i; second = s i; reads = r i }
+
+pub Decides-same_touched : (p q : Touched) → Decides (same_touched p q) (p ≡ q)
+Decides-same_touched p q =
+    let rest = Decides-and (same_option p.second q.second) (same_bool p.reads q.reads) (Decides-same_option p.second q.second) (Decides-same_bool p.reads q.reads) in
+    let parts = Decides-and (same_list p.first q.first) (same_option p.second q.second && same_bool p.reads q.reads) (Decides-same_list p.first q.first) rest in
+    Decides-like (same_touched p q) (λ h. touched_from_parts p q h.0 h.1.0 h.1.1) (λ e. (ap (λ (x : Touched). x.first) e, (ap (λ (x : Touched). x.second) e, ap (λ (x : Touched). x.reads) e))) parts
+
 pub Decides-same_command : (a b : Command) → Decides (same_command a b) (a ≡ b)
 Decides-same_command Noop Noop = (λ _. refl, λ _. refl)
 Decides-same_command (Get k) (Get l) = Decides-like (same_list k l) (ap Get) (ap key_or_none) (Decides-same_list k l)
@@ -85,6 +164,14 @@ Decides-same_command (Put k v) (Put l w) =
     Decides-like (same_list k l && same_list v w) (λ h. cc) (λ e. (ap key_or_none e, ap value_or_none e)) parts
 Decides-same_command (Del k) (Del l) = Decides-like (same_list k l) (ap Del) (ap key_or_none) (Decides-same_list k l)
 Decides-same_command (Swap p) (Swap q) = Decides-like (same_keys p q) (ap Swap) (ap keys_or_none) (Decides-same_keys p q)
+Decides-same_command (Cas k e n) (Cas l f o) =
+    let options = Decides-and (same_option e f) (same_option n o) (Decides-same_option e f) (Decides-same_option n o) in
+    let parts = Decides-and (same_list k l) (same_option e f && same_option n o) (Decides-same_list k l) options in
+    Decides-like (same_list k l && (same_option e f && same_option n o)) (λ h. cc) (λ t. (ap key_or_none t, (ap expected_or_none t, ap new_or_none t))) parts
+Decides-same_command (Seal v) (Seal w) = Decides-like (same_list v w) (ap Seal) (ap value_or_none) (Decides-same_list v w)
+Decides-same_command (Opaque p b) (Opaque q c) =
+    let parts = Decides-and (same_touched p q) (same_list b c) (Decides-same_touched p q) (Decides-same_list b c) in
+    Decides-like (same_touched p q && same_list b c) (λ h. cc) (λ e. (ap touched_or_none e, ap value_or_none e)) parts
 Decides-same_command a b = apart kind refl
 
 pub decree_from_parts : (d e : Decree) → d.command ≡ e.command → d.attrs ≡ e.attrs → d ≡ e
@@ -101,14 +188,20 @@ Decides-same_decree d e =
 abbrev reply_kind : Reply → ℕ
 reply_kind Absent = 0
 reply_kind (Present v) = 1
+reply_kind Closed = 2
+reply_kind Ordered = 3
 
 abbrev told_value : Reply → List ℕ
 told_value Absent = []
 told_value (Present v) = v
+told_value Closed = []
+told_value Ordered = []
 
 pub Decides-same_reply : (r s : Reply) → Decides (same_reply r s) (r ≡ s)
 Decides-same_reply Absent Absent = (λ _. refl, λ _. refl)
 Decides-same_reply (Present v) (Present w) = Decides-like (same_list v w) (ap Present) (ap told_value) (Decides-same_list v w)
+Decides-same_reply Closed Closed = (λ _. refl, λ _. refl)
+Decides-same_reply Ordered Ordered = (λ _. refl, λ _. refl)
 Decides-same_reply r s = apart reply_kind refl
 
 abbrev answer_kind : Answer → ℕ

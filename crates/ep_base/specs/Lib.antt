@@ -2,6 +2,7 @@ pub mod Instances
 pub mod Ballots
 pub mod Quorums
 pub mod TwoKeys
+pub mod Touched
 pub mod Interference
 pub mod Places
 pub mod Deps
@@ -11,3 +12,4 @@ pub mod Sameness
 pub mod Devices
 pub mod Versions
 pub mod Fitting
+pub mod Partition

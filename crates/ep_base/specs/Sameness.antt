@@ -1,17 +1,30 @@
 -- Tests of equality, by cases. That they decide it is proved.
-use Rattle.std.specs.Prelude.{Bool, true, false, ◌&&◌}
+use Rattle.std.specs.Prelude.{ℕ, List, Option, Some, None, Bool, true, false, not, ◌&&◌}
 use Rattle.ep_base.specs.declared.command.Command.{Command}
-use Rattle.ep_base.specs.declared.command.Command.TheVariants.{Noop, Get, Put, Del, Swap}
+use Rattle.ep_base.specs.declared.command.Command.TheVariants.{Noop, Get, Put, Del, Swap, Cas, Seal, Opaque}
 use Rattle.ep_base.specs.declared.decree.Decree.{Decree}
 use Rattle.ep_base.specs.declared.reply.Reply.{Reply}
-use Rattle.ep_base.specs.declared.reply.Reply.TheVariants.{Absent, Present}
+use Rattle.ep_base.specs.declared.reply.Reply.TheVariants.{Absent, Present, Closed, Ordered}
 use Rattle.ep_base.specs.declared.reply.Answer.{Answer}
 use Rattle.ep_base.specs.declared.reply.Answer.TheVariants.{Lost, Told}
 use Rattle.ep_base.specs.Attributes.{same_list, same_attrs}
+use Rattle.ep_base.specs.Touched.{Touched}
 use Rattle.ep_base.specs.TwoKeys.{TwoKeys}
 
 abbrev pub same_keys : TwoKeys → TwoKeys → Bool
 same_keys p q = same_list p.first q.first && same_list p.second q.second
+
+abbrev pub same_option : Option (List ℕ) → Option (List ℕ) → Bool
+same_option None None = true
+same_option (Some v) (Some w) = same_list v w
+same_option _ _ = false
+
+abbrev pub same_bool : Bool → Bool → Bool
+same_bool true b = b
+same_bool false b = not b
+
+abbrev pub same_touched : Touched → Touched → Bool
+same_touched p q = same_list p.first q.first && (same_option p.second q.second && same_bool p.reads q.reads)
 
 abbrev pub same_command : Command → Command → Bool
 same_command Noop Noop = true
@@ -19,6 +32,9 @@ same_command (Get k) (Get l) = same_list k l
 same_command (Put k v) (Put l w) = same_list k l && same_list v w
 same_command (Del k) (Del l) = same_list k l
 same_command (Swap p) (Swap q) = same_keys p q
+same_command (Cas k e n) (Cas l f o) = same_list k l && (same_option e f && same_option n o)
+same_command (Seal v) (Seal w) = same_list v w
+same_command (Opaque p b) (Opaque q c) = same_touched p q && same_list b c
 same_command _ _ = false
 
 abbrev pub same_decree : Decree → Decree → Bool
@@ -27,6 +43,8 @@ same_decree d e = same_command d.command e.command && same_attrs d.attrs e.attrs
 abbrev pub same_reply : Reply → Reply → Bool
 same_reply Absent Absent = true
 same_reply (Present v) (Present w) = same_list v w
+same_reply Closed Closed = true
+same_reply Ordered Ordered = true
 same_reply _ _ = false
 
 abbrev pub same_answer : Answer → Answer → Bool
@@ -40,3 +58,6 @@ is_noop (Get k) = false
 is_noop (Put k v) = false
 is_noop (Del k) = false
 is_noop (Swap p) = false
+is_noop (Cas k e n) = false
+is_noop (Seal v) = false
+is_noop (Opaque p b) = false

@@ -1,5 +1,5 @@
 -- What each version of the formats has room for. The rule book has no version: it has the limits of the last one, and a run of an earlier version is a run.
-use Rattle.std.specs.Prelude.{ℕ, ◌≡◌, ◌≤◌, Bool, true, false, not, Option, Some, None, List, ◌==◌, if◌then◌else◌}
+use Rattle.std.specs.Prelude.{ℕ, ◌≡◌, ◌≤◌, Bool, true, not, ◌||◌, Option, Some, None, List, ◌==◌, if◌then◌else◌}
 use Rattle.std.specs.List.{AllByRecursion}
 use Rattle.ep_base.specs.declared.command.Command.{Command}
 use Rattle.ep_base.specs.declared.decree.Decree.{Decree}
@@ -10,7 +10,7 @@ use Rattle.ep_base.specs.declared.version.Version.TheVariants.{V1, V2}
 use Rattle.ep_base.specs.declared.vote.Vote.{Vote}
 use Rattle.ep_base.specs.Deps.{most_deps}
 use Rattle.ep_base.specs.Instances.{number_of, highest_number}
-use Rattle.ep_base.specs.Interference.{is_swap}
+use Rattle.ep_base.specs.Interference.{is_swap, is_late}
 
 abbrev pub version_number : Version → ℕ
 version_number V1 = 1
@@ -30,37 +30,33 @@ abbrev pub most_deps_in : Version → ℕ
 most_deps_in V1 = 7000
 most_deps_in V2 = most_deps
 
--- version 1 has no swap
+-- version 1 has no swap, and neither has what version 3 is for
 abbrev pub knows : Version → Command → Bool
-knows V1 c = not (is_swap c)
-knows V2 c = true
+knows V1 c = not (is_swap c || is_late c)
+knows V2 c = not (is_late c)
 
--- what version 1 has too: instances of numbers to 1,000, and commands but swaps
+-- what a version has: instances of its numbers, dependencies among them, and decrees of commands that it knows
 
-abbrev pub IsEarlyInstance : ℕ → Type 0
-IsEarlyInstance i = number_of i ≤ highest_in V1
+abbrev pub IsInstanceIn : Version → ℕ → Type 0
+IsInstanceIn v i = number_of i ≤ highest_in v
 
-abbrev pub AreEarlyDeps : List ℕ → Type 0
-AreEarlyDeps is = AllByRecursion IsEarlyInstance is
+abbrev pub AreDepsIn : Version → List ℕ → Type 0
+AreDepsIn v is = AllByRecursion (λ i. IsInstanceIn v i) is
 
-abbrev pub IsEarlyDecree : Decree → Type 0
-IsEarlyDecree x = (is_swap x.command ≡ false) × AreEarlyDeps x.attrs.deps
+abbrev pub IsDecreeIn : Version → Decree → Type 0
+IsDecreeIn v x = (knows v x.command ≡ true) × AreDepsIn v x.attrs.deps
 
-abbrev pub IsEarlyVote : Option Vote → Type 0
-IsEarlyVote None = Unit {0}
-IsEarlyVote (Some v) = IsEarlyDecree v.decree
+abbrev pub IsVoteIn : Version → Option Vote → Type 0
+IsVoteIn v None = Unit {0}
+IsVoteIn v (Some vote) = IsDecreeIn v vote.decree
 
-abbrev pub IsEarly : Message → Type 0
-IsEarly (PreAccept i b x) = IsEarlyInstance i × IsEarlyDecree x
-IsEarly (PreAcceptOk i b a) = IsEarlyInstance i × AreEarlyDeps a.deps
-IsEarly (Accept i b x) = IsEarlyInstance i × IsEarlyDecree x
-IsEarly (AcceptOk i b) = IsEarlyInstance i
-IsEarly (Commit i x) = IsEarlyInstance i × IsEarlyDecree x
-IsEarly (Prepare i b) = IsEarlyInstance i
-IsEarly (PrepareOk i b v) = IsEarlyInstance i × IsEarlyVote v
-IsEarly (Nack i b p) = IsEarlyInstance i
-
--- the version can say the message: version 2 says every one
+-- the version can say the message
 abbrev pub CanSay : Version → Message → Type 0
-CanSay V1 m = IsEarly m
-CanSay V2 m = Unit {0}
+CanSay v (PreAccept i b x) = IsInstanceIn v i × IsDecreeIn v x
+CanSay v (PreAcceptOk i b a) = IsInstanceIn v i × AreDepsIn v a.deps
+CanSay v (Accept i b x) = IsInstanceIn v i × IsDecreeIn v x
+CanSay v (AcceptOk i b) = IsInstanceIn v i
+CanSay v (Commit i x) = IsInstanceIn v i × IsDecreeIn v x
+CanSay v (Prepare i b) = IsInstanceIn v i
+CanSay v (PrepareOk i b vote) = IsInstanceIn v i × IsVoteIn v vote
+CanSay v (Nack i b p) = IsInstanceIn v i

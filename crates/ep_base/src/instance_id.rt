@@ -26,6 +26,17 @@ impl Model for InstanceId {
     ghost inverse = { λ v. record { place = v } };
 }
 
+/// The first instance that replica 0 leads, which stands where a list's own places are free.
+impl Default for InstanceId {
+    ghost use Rattle.std.specs.Prelude.{◌≡◌};
+
+    ghost is_default = { λ i. i ≡ 1 };
+
+    fn default() -> InstanceId {
+        InstanceId { place: 1 }
+    }
+}
+
 impl InstanceId {
     /// The instance of this number; `OutOfRange` unless it is 1 to 2,000.
     pub fn new(replica: ReplicaId, number: u16) -> Result<InstanceId, OutOfRange>

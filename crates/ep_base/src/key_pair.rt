@@ -1,6 +1,8 @@
 //! Pairs of keys.
 
 ghost use Rattle.std.specs.Prelude.{◌≡◌, ◌≢◌, ◌<◌, ◌↔◌, ◌⊎◌, IsTrue, IfOk, length};
+ghost use Rattle.ep_base.specs.Attributes.{same_list};
+ghost use Rattle.ep_base.specs.Partition.{unless};
 ghost use Rattle.ep_base.specs.Sameness.{same_keys};
 
 use crate::command_fault::CommandFault;
@@ -71,5 +73,24 @@ impl KeyPair {
         ensures same { IsTrue result ↔ (self.now ≡ other.now) }
     {
         self.first.is_same(&other.first) && self.second.is_same(&other.second)
+    }
+    /// The two keys, in order.
+    pub fn into_keys(self) -> (Key, Key)
+        ensures first { result.0 ≡ self.first }
+        ensures second { result.1 ≡ self.second }
+        ensures apart { self.first ≢ self.second }
+    {
+        let KeyPair { first, second } = self;
+        (first, second)
+    }
+
+    /// The pair of these keys; none where they are one.
+    pub fn of(first: Key, second: Key) -> Option<KeyPair>
+        ensures { result ≡ unless (same_list second first) (record { first = first; second = second }) }
+    {
+        if second.is_same(&first) {
+            return None;
+        }
+        Some(KeyPair { first, second })
     }
 }

@@ -6,13 +6,17 @@ ghost use Rattle.ep_base.specs.Sameness.{same_reply, same_answer};
 use crate::value::Value;
 use std::alloc::{AllocError, Global};
 
-/// What a command's key had just before the command.
+/// What a command's key had just before the command; or that the map was closed then; or, to a command of a machine outside, that it is in order.
 #[derive(Debug, Drop)]
 pub enum Reply {
     /// The key had no value.
     Absent,
     /// The key had this value.
     Present(Value),
+    /// A seal stands before the command, which changed nothing.
+    Closed,
+    /// The command is a machine's outside, and has its place in the order.
+    Ordered,
 }
 
 impl Reply {
@@ -23,6 +27,8 @@ impl Reply {
         match self {
             Reply::Absent => Ok(Reply::Absent),
             Reply::Present(value) => Ok(Reply::Present(value.copy(alloc)?)),
+            Reply::Closed => Ok(Reply::Closed),
+            Reply::Ordered => Ok(Reply::Ordered),
         }
     }
 
@@ -34,6 +40,8 @@ impl Reply {
         match (self, other) {
             (Reply::Absent, Reply::Absent) => true,
             (Reply::Present(value), Reply::Present(other_value)) => value.is_same(other_value),
+            (Reply::Closed, Reply::Closed) => true,
+            (Reply::Ordered, Reply::Ordered) => true,
             _ => false,
         }
     }

@@ -2,6 +2,7 @@
 
 ghost use Rattle.std.specs.Prelude.{◌≡◌, ◌≤◌, ◌<◌, ◌↔◌, IsTrue, IfOk, List, ℕ, length};
 ghost use Rattle.ep_base.specs.Attributes.{same_list};
+ghost use Rattle.ep_base.specs.Sameness.{same_option};
 
 use crate::command_fault::CommandFault;
 use std::alloc::{AllocError, Global};
@@ -58,5 +59,27 @@ impl Value {
         ensures same { IsTrue result ↔ (self.now ≡ other.now) }
     {
         self.as_slice() == other.as_slice()
+    }
+
+    /// The same value again, or none again.
+    pub fn copy_option(value: &Option<Value>, alloc: Global) -> Result<Option<Value>, AllocError>
+        ensures { IfOk result (λ v. v ≡ value.now) }
+    {
+        match value {
+            None => Ok(None),
+            Some(value) => Ok(Some(value.copy(alloc)?)),
+        }
+    }
+
+    /// Whether both are one value, or none.
+    pub fn same_option(value: &Option<Value>, other: &Option<Value>) -> bool
+        ensures test { result ≡ same_option value.now other.now }
+        ensures same { IsTrue result ↔ (value.now ≡ other.now) }
+    {
+        match (value, other) {
+            (None, None) => true,
+            (Some(value), Some(other)) => value.is_same(other),
+            _ => false,
+        }
     }
 }

@@ -57,13 +57,13 @@ impl Version {
         }
     }
 
-    /// Whether the version has this command: version 1 has no swap.
+    /// Whether the version has this command: version 1 has no swap, and neither has comparisons, seals or commands of machines outside.
     pub fn knows(self, command: &Command) -> bool
         ensures { result ≡ knows self command.now }
     {
         match self {
-            Version::V1 => !matches!(command, Command::Swap(_)),
-            Version::V2 => true,
+            Version::V1 => !(command.is_swap() || command.is_late()),
+            Version::V2 => !command.is_late(),
         }
     }
 }

@@ -11,6 +11,7 @@ use Rattle.ep_words.specs.Kept.{keeps}
 use Rattle.ep_words.specs.declared.part.Part.{Part}
 use Rattle.ep_svg.specs.Escaping.{escaped}
 use Rattle.ep_draw.specs.Layout.{column, row}
+use Rattle.ep_draw.specs.Ranges.{ranges_text}
 use Rattle.ep_svg.specs.Shapes.{attribute, shapes_text, arrows_text}
 use Rattle.ep_draw.specs.declared.style.TheConstants.{KEY, STYLE}
 use Rattle.ep_draw.specs.declared.draw_fault.DrawFault.{DrawFault}
@@ -110,14 +111,20 @@ pub record IsDrawn (c : Collected) (part : Part) (svg : List ℕ) : Type 0 where
   pub few : length rows ≤ 2000
   pub file : IsFile c rows svg
 
--- the part keeps so many entries, more than 2,000
-pub record IsTooMany (c : Collected) (part : Part) (count : ℕ) : Type 0 where
+-- the part keeps so many entries, more than 2,000, and these lines say what there is, and which stamps can be drawn
+pub record IsTooMany (c : Collected) (part : Part) (count : ℕ) (lines : List ℕ) : Type 0 where
   pub rows : List (ℕ × ℕ)
   pub are_kept : AreKept c part rows
   pub so_many : length rows ≡ count
   pub many : 2000 < count
+  pub told : lines ≡ ranges_text c rows
+
+-- what is said of these rows, which are too many
+abbrev pub IsCrowd : Collected → List (ℕ × ℕ) → DrawFault → Type 0
+IsCrowd c rows Memory = Unit {0}
+IsCrowd c rows (TooMany count lines) = (length rows ≡ count) × (lines.items ≡ ranges_text c rows)
 
 -- why nothing is drawn
 abbrev pub IsRefused : Collected → Part → DrawFault → Type 0
 IsRefused c part Memory = Unit {0}
-IsRefused c part (TooMany n) = IsTooMany c part n
+IsRefused c part (TooMany count lines) = IsTooMany c part count lines.items

@@ -3,11 +3,12 @@
 ghost use Rattle.std.specs.Prelude.{◌≡◌, ◌≤◌, ◌++◌, IfOk, IfErr, OnOk, length};
 ghost use Rattle.ep_journal.specs.Entries.{AreJournals, entries_at};
 ghost use Rattle.ep_view.specs.Lookups.{entry_at};
-ghost use Rattle.ep_draw.specs.Drawn.{keeps_some, kept, measured, viewed, front, opening, body, file_text, IsFile, AreKept, IsDrawn, IsRefused};
+ghost use Rattle.ep_draw.specs.Drawn.{keeps_some, kept, measured, viewed, front, opening, body, file_text, IsFile, AreKept, IsCrowd, IsDrawn, IsRefused};
 
 use crate::dots::push_dots;
 use crate::draw_fault::DrawFault;
 use crate::picture::Picture;
+use crate::ranges::ranges;
 use crate::scene::Scene;
 use crate::style::{KEY, STYLE};
 use ep_base::ReplicaId;
@@ -168,6 +169,16 @@ fn rows_of(
     kept(alloc, journals, part, &places)
 }
 
+// Why these entries, which are too many, aren't drawn.
+fn too_many(alloc: Global, journals: &Journals, rows: &[(ReplicaId, u32)]) -> DrawFault
+    ensures { IsCrowd journals.now rows.now result }
+{
+    match ranges(alloc, journals, rows) {
+        Ok(lines) => DrawFault::TooMany(rows.len(), lines),
+        Err(_) => DrawFault::Memory,
+    }
+}
+
 // Draws these entries, if they aren't too many.
 #[tactic(auto, using(crate::proofs::Drawings::is_drawn, crate::proofs::Drawings::is_too_many))]
 fn draw_kept(
@@ -182,7 +193,7 @@ fn draw_kept(
 {
     let _part = part;
     if rows.len() > MOST {
-        return Err(DrawFault::TooMany(rows.len()));
+        return Err(too_many(alloc, journals, rows));
     }
     match draw_rows(alloc, journals, rows) {
         Ok(text) => Ok(text),
@@ -194,7 +205,7 @@ fn draw_kept(
 /// rows by stamp and then by replica, an arrow from where a frame was sent to each place where it was handled, a cross where it
 /// never was, executions with their answers, and in red the audit's first fault.
 ///
-/// `TooMany` exactly where the part keeps more than 2,000 entries.
+/// `TooMany` where the part keeps more than 2,000 entries, with lines that say what there is and what can be drawn.
 pub fn diagram(alloc: Global, journals: &Journals, part: &Part) -> Result<Vec<u8>, DrawFault>
     ensures drawn { IfOk result (λ svg. IsDrawn journals.now part.now svg.items) }
     ensures refused { IfErr result (λ fault. IsRefused journals.now part.now fault) }

@@ -12,6 +12,7 @@ mod frames;
 mod labels;
 mod layout;
 mod picture;
+mod ranges;
 mod scene;
 mod style;
 mod way;

@@ -29,5 +29,7 @@ fn words_of(answer: &Answer) -> &str {
         Answer::Told(Reply::Present(value)) => {
             str::from_utf8(value.as_slice()).unwrap_or("present")
         }
+        Answer::Told(Reply::Closed) => "closed",
+        Answer::Told(Reply::Ordered) => "ordered",
     }
 }

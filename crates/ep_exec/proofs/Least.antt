@@ -2,7 +2,6 @@
 use Rattle.std.proofs.Common.{◌≡◌, ℕ, ◌+◌, ◌<◌, ◌⊎◌, inl, inr, List, [], ◌∷◌, ◌++◌, length, get_or, take, Option, Some, None, sym, subst, arith}
 use Rattle.std.proofs.lemmas.Bool.{cases_order}
 use Rattle.std.proofs.lemmas.List.{take_more}
-use Rattle.ep_base.specs.Places.{Has}
 use Rattle.ep_exec.specs.Found.{IsLeast, IsLesser}
 use Rattle.ep_rules.proofs.Places.{has_left, has_right, has_split}
 use Rattle.ep_exec.proofs.Counts.{has_single, single_has}

@@ -13,3 +13,4 @@ pub mod Cut
 pub mod Alone
 pub mod Marking
 pub mod Searching
+pub mod Sealed

@@ -1,14 +1,22 @@
 -- A table of keys, each with a value or with none, as one map.
-use Rattle.std.specs.Prelude.{◌≡◌, ℕ, Bool, true, List, [], ◌∷◌, Option, Vec, is_some}
+use Rattle.std.specs.Prelude.{◌≡◌, ℕ, Bool, true, List, [], ◌∷◌, Option, Some, None, Vec, is_some, refl}
 use Rattle.std.specs.Global.{Global}
-use Rattle.std.specs.Coded.{Coded, coded_list, coded_ℕ}
+use Rattle.std.specs.Coded.{Coded, code_by, coded×, coded_list, coded_option, coded_ℕ}
 use Rattle.std.specs.FinMap as map
 use Rattle.std.specs.Map.{lookup}
 use Rattle.ep_base.specs.Attributes.{same_list}
-use Rattle.ep_rules.specs.OneMap.{Contents, empty, with_key}
+use Rattle.ep_rules.specs.OneMap.{Contents, empty, with_key, Store}
 
 abbrev pub contents_code : Coded Contents
 contents_code = map.code (coded_list coded_ℕ) (coded_list coded_ℕ)
+
+abbrev pub store_code : Coded Store
+store_code = code_by (Contents × Option (List ℕ)) (coded× contents_code (coded_option (coded_list coded_ℕ))) (λ s. (s.contents, s.seal)) (λ p. record { contents = p.0; seal = p.1 }) (λ _. refl)
+
+-- the seal of before, or else that of since
+abbrev pub first_of : Option (List ℕ) → Option (List ℕ) → Option (List ℕ)
+first_of None since = since
+first_of (Some v) since = Some v
 
 -- a key, with its value or with a place alone
 abbrev pub Entry : Type 0

@@ -3,10 +3,11 @@
 ghost use Rattle.std.specs.Prelude.{◌≡◌, ℕ, List, None, true, false, IfOk, OnOk, OnErr};
 ghost use Rattle.std.specs.Option.{option_copied, option_flatten};
 ghost use Rattle.ep_base.specs.declared.command.Command.{Command};
-ghost use Rattle.ep_rules.specs.OneMap.{Contents, value_at, with_key, after, told};
+ghost use Rattle.ep_rules.specs.OneMap.{Contents, value_at, with_key, written, read, told, sealed_by};
+ghost use Rattle.ep_base.specs.Sameness.{same_option};
 ghost use Rattle.ep_exec.specs.Table.{HavePlaces, contents_of, has_place, restored};
 
-use ep_base::{KeyPair, Reply, Value};
+use ep_base::{Command, KeyPair, Reply, Value};
 use indexmap::IndexMap;
 use std::alloc::{AllocError, Global};
 
@@ -163,7 +164,7 @@ fn put_both(
 /// written.
 pub fn swap(alloc: Global, table: &mut Table, keys: &KeyPair) -> Result<Option<Value>, AllocError>
     ensures was { IfOk result (λ was. was ≡ value_at (contents_of table.old.entries) keys.now.first) }
-    ensures ok { OnOk result (contents_of table.new.entries ≡ after (contents_of table.old.entries) (Command.Swap keys.now)) }
+    ensures ok { OnOk result (contents_of table.new.entries ≡ written (contents_of table.old.entries) (Command.Swap keys.now)) }
     ensures err { OnErr result (contents_of table.new.entries ≡ contents_of table.old.entries) }
 {
     let own = copied(alloc, value_of(table, keys.first().as_slice()))?;
@@ -175,6 +176,81 @@ pub fn swap(alloc: Global, table: &mut Table, keys: &KeyPair) -> Result<Option<V
     sweep(table, keys.first().as_slice());
     sweep(table, keys.second().as_slice());
     Ok(was)
+}
+
+/// Whether the key has this value, or none.
+pub fn has_value(table: &Table, key: &[u8], expected: &Option<Value>) -> bool
+    ensures { result ≡ same_option (value_at (contents_of table.now.entries) key.now) expected.now }
+{
+    match (value_of(table, key), expected) {
+        (None, None) => true,
+        (Some(value), Some(expected)) => value.is_same(expected),
+        _ => false,
+    }
+}
+
+/// Gives the key what is new where it has what is expected, and gives what it had.
+pub fn compare(
+    alloc: Global,
+    table: &mut Table,
+    key: &[u8],
+    expected: &Option<Value>,
+    new: &Option<Value>,
+) -> Result<Option<Value>, AllocError>
+    ensures was { IfOk result (λ was. was ≡ value_at (contents_of table.old.entries) key.now) }
+    ensures ok { OnOk result (contents_of table.new.entries ≡ written (contents_of table.old.entries) (Command.Cas key.now expected.now new.now)) }
+    ensures err { OnErr result (contents_of table.new.entries ≡ contents_of table.old.entries) }
+{
+    if !has_value(table, key, expected) {
+        return copied(alloc, value_of(table, key));
+    }
+    match new {
+        None => Ok(remove(table, key)),
+        Some(value) => {
+            let name = Vec::from_slice(alloc, key)?;
+            let value = value.copy(alloc)?;
+            set(table, name, Some(value))
+        }
+    }
+}
+
+/// Does a command on an open map, but for closing it: a no-op and a seal change nothing.
+pub fn apply_open(alloc: Global, table: &mut Table, command: &Command) -> Result<Reply, AllocError>
+    ensures reply { IfOk result (λ r. r ≡ read (contents_of table.old.entries) command.now) }
+    ensures ok { OnOk result (contents_of table.new.entries ≡ written (contents_of table.old.entries) command.now) }
+    ensures err { OnErr result (contents_of table.new.entries ≡ contents_of table.old.entries) }
+{
+    match command {
+        Command::Noop | Command::Seal(_) => Ok(Reply::Absent),
+        Command::Opaque(_, _) => Ok(Reply::Ordered),
+        Command::Get(key) => Ok(told(copied(alloc, value_of(table, key.as_slice()))?)),
+        Command::Put(key, value) => {
+            let name = Vec::from_slice(alloc, key.as_slice())?;
+            let value = value.copy(alloc)?;
+            Ok(told(set(table, name, Some(value))?))
+        }
+        Command::Del(key) => Ok(told(remove(table, key.as_slice()))),
+        Command::Swap(keys) => Ok(told(swap(alloc, table, keys)?)),
+        Command::Cas { key, expected, new } => {
+            Ok(told(compare(alloc, table, key.as_slice(), expected, new)?))
+        }
+    }
+}
+
+/// The value of a seal; none of another command.
+pub fn sealed(alloc: Global, command: &Command) -> Result<Option<Value>, AllocError>
+    ensures { IfOk result (λ v. v ≡ sealed_by command.now) }
+{
+    match command {
+        Command::Seal(value) => Ok(Some(value.copy(alloc)?)),
+        Command::Noop
+        | Command::Get(_)
+        | Command::Put(_, _)
+        | Command::Del(_)
+        | Command::Swap(_)
+        | Command::Cas { .. }
+        | Command::Opaque(_, _) => Ok(None),
+    }
 }
 
 /// Makes a place for the key, and notes what it has to be put back: the key again, with which `put_back` writes.
@@ -227,7 +303,7 @@ pub fn exchange(
     keys: &KeyPair,
 ) -> Result<Option<Value>, AllocError>
     ensures was { IfOk result (λ was. was ≡ value_at (contents_of table.old.entries) keys.now.first) }
-    ensures ok { OnOk result (contents_of table.new.entries ≡ after (contents_of table.old.entries) (Command.Swap keys.now)) }
+    ensures ok { OnOk result (contents_of table.new.entries ≡ written (contents_of table.old.entries) (Command.Swap keys.now)) }
     ensures err { OnErr result (contents_of table.new.entries ≡ contents_of table.old.entries) }
     ensures undo { restored undo.new.items (contents_of table.new.entries) ≡ restored undo.old.items (contents_of table.old.entries) }
     ensures places { HavePlaces table.old.entries undo.old.items → HavePlaces table.new.entries undo.new.items }
@@ -237,6 +313,28 @@ pub fn exchange(
     let name = note(alloc, table, undo, keys.first().as_slice())?;
     let other_name = note(alloc, table, undo, keys.second().as_slice())?;
     Ok(put_both(table, name, other, other_name, own))
+}
+
+/// The same as `compare`, and notes what is changed to be put back.
+pub fn compare_noted(
+    alloc: Global,
+    table: &mut Table,
+    undo: &mut Vec<(Vec<u8>, Option<Value>)>,
+    key: &[u8],
+    expected: &Option<Value>,
+    new: &Option<Value>,
+) -> Result<Option<Value>, AllocError>
+    ensures was { IfOk result (λ was. was ≡ value_at (contents_of table.old.entries) key.now) }
+    ensures ok { OnOk result (contents_of table.new.entries ≡ written (contents_of table.old.entries) (Command.Cas key.now expected.now new.now)) }
+    ensures err { OnErr result (contents_of table.new.entries ≡ contents_of table.old.entries) }
+    ensures undo { restored undo.new.items (contents_of table.new.entries) ≡ restored undo.old.items (contents_of table.old.entries) }
+    ensures places { HavePlaces table.old.entries undo.old.items → HavePlaces table.new.entries undo.new.items }
+{
+    if !has_value(table, key, expected) {
+        return copied(alloc, value_of(table, key));
+    }
+    let value = Value::copy_option(new, alloc)?;
+    write(alloc, table, undo, key, value)
 }
 
 /// Takes all that is noted back, the last change first.

@@ -1,13 +1,18 @@
 //! Several commands that are all kept or all taken back.
 
-ghost use Rattle.std.specs.Prelude.{◌≡◌, IfOk, OnOk, OnErr};
-ghost use Rattle.ep_rules.specs.OneMap.{answer};
-ghost use Rattle.ep_exec.specs.Table.{contents_of};
+ghost use Rattle.std.specs.Prelude.{◌≡◌, IfOk, OnOk, OnErr, is_some, if◌then◌else◌};
+ghost use Rattle.ep_base.specs.Sameness.{is_noop};
+ghost use Rattle.ep_base.specs.declared.reply.Reply.TheVariants.{Closed};
+ghost use Rattle.ep_base.specs.declared.reply.Answer.TheVariants.{Lost, Told};
+ghost use Rattle.ep_rules.specs.OneMap.{answer, read, written};
+ghost use Rattle.ep_exec.specs.Table.{HavePlaces, contents_of, first_of, restored};
 ghost use Rattle.ep_exec.specs.Tries.{tried};
 
 use crate::store::Store;
-use crate::table::{Table, copied, exchange, sweep_all, take_back, told, value_of, write};
-use ep_base::{Answer, Command, Value};
+use crate::table::{
+    Table, compare_noted, copied, exchange, sealed, sweep_all, take_back, told, value_of, write,
+};
+use ep_base::{Answer, Command, Reply, Value};
 use std::alloc::{AllocError, Global};
 use std::marker::Model;
 
@@ -19,30 +24,36 @@ pub struct Trial {
     alloc: Global,
     table: Table,
     undo: Vec<(Vec<u8>, Option<Value>)>,
+    // the seal at the start, and that of a command since
+    before: Option<Value>,
+    since: Option<Value>,
 }
 
 impl Model for Trial {
-    ghost use Rattle.ep_exec.specs.Table.{HavePlaces, contents_of, restored};
+    ghost use Rattle.ep_exec.specs.Table.{HavePlaces, contents_of, first_of, restored};
     ghost use Rattle.ep_exec.specs.Tries.{Tried, tried_code};
 
     ghost Value = { Tried };
 
     ghost coded = { tried_code };
 
-    ghost view = { λ t. record { start = restored t.undo.items (contents_of t.table.entries); current = contents_of t.table.entries } };
+    ghost view = { λ t. record { start = record { contents = restored t.undo.items (contents_of t.table.entries); seal = t.before }; current = record { contents = contents_of t.table.entries; seal = first_of t.before t.since } } };
 
     ghost invariant = { λ t. HavePlaces t.table.entries t.undo.items };
 }
 
 impl Trial {
     /// No command is tried yet.
-    pub(crate) fn new(alloc: Global, table: Table) -> Trial
-        ensures { result ≡ record { start = contents_of table.entries; current = contents_of table.entries } }
+    #[tactic(auto, using(crate::proofs::Sealed::first_alone))]
+    pub(crate) fn new(alloc: Global, table: Table, seal: Option<Value>) -> Trial
+        ensures { result ≡ record { start = record { contents = contents_of table.entries; seal = seal }; current = record { contents = contents_of table.entries; seal = seal } } }
     {
         Trial {
             alloc,
             table,
             undo: Vec::new(alloc),
+            before: seal,
+            since: None,
         }
     }
 
@@ -53,36 +64,13 @@ impl Trial {
         ensures ok { OnOk result (self.new ≡ tried self.old command.now) }
         ensures err { OnErr result (self.new ≡ self.old) }
     {
-        match command {
-            Command::Noop => Ok(Answer::Lost),
-            Command::Get(key) => Ok(Answer::Told(told(copied(
-                self.alloc,
-                value_of(&self.table, key.as_slice()),
-            )?))),
-            Command::Put(key, value) => {
-                let value = value.copy(self.alloc)?;
-                Ok(Answer::Told(told(write(
-                    self.alloc,
-                    &mut self.table,
-                    &mut self.undo,
-                    key.as_slice(),
-                    Some(value),
-                )?)))
-            }
-            Command::Del(key) => Ok(Answer::Told(told(write(
-                self.alloc,
-                &mut self.table,
-                &mut self.undo,
-                key.as_slice(),
-                None,
-            )?))),
-            Command::Swap(keys) => Ok(Answer::Told(told(exchange(
-                self.alloc,
-                &mut self.table,
-                &mut self.undo,
-                keys,
-            )?))),
+        if is_closed(&self.before, &self.since) {
+            return Ok(closed_answer(command));
         }
+        let seal = sealed(self.alloc, command)?;
+        let answer = try_open(self.alloc, &mut self.table, &mut self.undo, command)?;
+        self.since = seal;
+        Ok(answer)
     }
 
     /// The map that the commands leave.
@@ -93,9 +81,11 @@ impl Trial {
             alloc,
             mut table,
             undo,
+            before,
+            since,
         } = self;
         sweep_all(&mut table, undo.as_slice());
-        Store::with(alloc, table)
+        Store::with(alloc, table, first(before, since))
     }
 
     /// The map as it was at the start.
@@ -106,8 +96,80 @@ impl Trial {
             alloc,
             mut table,
             undo,
+            before,
+            since: _,
         } = self;
         take_back(&mut table, undo);
-        Store::with(alloc, table)
+        Store::with(alloc, table, before)
+    }
+}
+
+// The first of the two, where there is one, else the other.
+fn first(before: Option<Value>, since: Option<Value>) -> Option<Value>
+    ensures { result ≡ first_of before since }
+{
+    match before {
+        None => since,
+        Some(value) => Some(value),
+    }
+}
+
+fn is_closed(before: &Option<Value>, since: &Option<Value>) -> bool
+    ensures { result ≡ is_some (first_of before.now since.now) }
+{
+    match before {
+        None => since.is_some(),
+        Some(_) => true,
+    }
+}
+
+// What a closed map answers.
+fn closed_answer(command: &Command) -> Answer
+    ensures { result ≡ (if is_noop command.now then Lost else Told Closed) }
+{
+    if command.is_noop() {
+        return Answer::Lost;
+    }
+    Answer::Told(Reply::Closed)
+}
+
+// Does a command on an open map, but for closing it, and notes what it changes.
+fn try_open(
+    alloc: Global,
+    table: &mut Table,
+    undo: &mut Vec<(Vec<u8>, Option<Value>)>,
+    command: &Command,
+) -> Result<Answer, AllocError>
+    ensures answer { IfOk result (λ a. a ≡ (if is_noop command.now then Lost else Told (read (contents_of table.old.entries) command.now))) }
+    ensures ok { OnOk result (contents_of table.new.entries ≡ written (contents_of table.old.entries) command.now) }
+    ensures err { OnErr result (contents_of table.new.entries ≡ contents_of table.old.entries) }
+    ensures undo { restored undo.new.items (contents_of table.new.entries) ≡ restored undo.old.items (contents_of table.old.entries) }
+    ensures places { HavePlaces table.old.entries undo.old.items → HavePlaces table.new.entries undo.new.items }
+{
+    match command {
+        Command::Noop => Ok(Answer::Lost),
+        Command::Seal(_) => Ok(Answer::Told(Reply::Absent)),
+        Command::Opaque(_, _) => Ok(Answer::Told(Reply::Ordered)),
+        Command::Get(key) => Ok(Answer::Told(told(copied(
+            alloc,
+            value_of(table, key.as_slice()),
+        )?))),
+        Command::Put(key, value) => {
+            let value = value.copy(alloc)?;
+            let was = write(alloc, table, undo, key.as_slice(), Some(value))?;
+            Ok(Answer::Told(told(was)))
+        }
+        Command::Del(key) => {
+            let was = write(alloc, table, undo, key.as_slice(), None)?;
+            Ok(Answer::Told(told(was)))
+        }
+        Command::Swap(keys) => {
+            let was = exchange(alloc, table, undo, keys)?;
+            Ok(Answer::Told(told(was)))
+        }
+        Command::Cas { key, expected, new } => {
+            let was = compare_noted(alloc, table, undo, key.as_slice(), expected, new)?;
+            Ok(Answer::Told(told(was)))
+        }
     }
 }

@@ -8,9 +8,8 @@ use Rattle.std.proofs.lemmas.List.{nil_from_length}
 use Rattle.ep_base.specs.Instances.{leader_of, number_of, IsInstance}
 use Rattle.ep_base.specs.Ballots.{counter_of, owner_of, ballot_of}
 use Rattle.ep_base.specs.Deps.{IsRising, IsBelowFirst}
-use Rattle.ep_base.specs.Versions.{version_number, version_of, highest_in, most_deps_in, IsEarlyInstance, AreEarlyDeps, IsEarlyDecree, CanSay}
+use Rattle.ep_base.specs.Versions.{version_number, version_of, highest_in, most_deps_in, IsInstanceIn, AreDepsIn, IsDecreeIn, CanSay}
 use Rattle.ep_base.specs.declared.version.Version.{Version}
-use Rattle.ep_base.specs.declared.version.Version.TheVariants.{V1}
 use Rattle.ep_base.specs.declared.vote.Status.{Status}
 use Rattle.ep_base.specs.declared.vote.Status.TheVariants.{PreAccepted, Accepted, Committed}
 use Rattle.ep_base.specs.declared.message.Message.{Message}
@@ -21,7 +20,7 @@ use Rattle.ep_frame.specs.Spelling.{Parts, parts_of, op_code, key_in, value_in, 
 use Rattle.ep_frame.specs.Meaning.{origin_in, instance_in, ballot_in, other_in, attrs_of, command_of, decree_of, message_of}
 use Rattle.ep_frame.proofs.Packing.{leader_again, number_again, counter_again, owner_again}
 use Rattle.ep_frame.proofs.Rows.{AllPass, within-is, apart-is, chosen, other_chosen}
-use Rattle.ep_frame.proofs.Saying.{number_low, op_low, count_low, number_early, op_early, no_swap, deps_early, said, differ}
+use Rattle.ep_frame.proofs.Saying.{number_low, op_low, count_low, op_known, deps_found, differ}
 
 -- the version that the header names
 abbrev pub version_in : Parts → Version
@@ -86,7 +85,7 @@ record Front (p : Parts) : Type 0 where
   magic : 17744 ≡ p.header.magic
   version : version_number (version_in p) ≡ p.header.version
   instance : IsInstance (instance_in p.header)
-  early : version_in p ≡ V1 → IsEarlyInstance (instance_in p.header)
+  known : IsInstanceIn (version_in p) (instance_in p.header)
   leader : leader_of (instance_in p.header) ≡ p.header.leader
   number : number_of (instance_in p.header) ≡ p.header.number
   leader_small : p.header.leader ≤ 6
@@ -114,7 +113,7 @@ front p k n l m out entry =
       magic = sym (eqb-true p.header.magic 17744 n.0);
       version = version_found p.header.version n.1.0;
       instance = (omega (arith, is_leader, small), omega (arith, is_number, number.0), omega (arith, is_number, high));
-      early = λ e. let le = number_early (version_in p) p.header.number number.1 e in omega (arith, is_number, le);
+      known = omega (arith, is_number, number.1);
       leader = is_leader;
       number = is_number;
       leader_small = small;
@@ -226,8 +225,8 @@ attrs_found p s c len d =
     let r = rising_found p.deps both.0 in
     record { low = n.0; high = n.1; few = omega (arith, few, most, len); rising = r.0; instances = r.1 }
 
-attrs_early : (p : Parts) → deps_allowed (version_in p) p.deps ≡ true → version_in p ≡ V1 → AreEarlyDeps p.deps
-attrs_early p d e = deps_early (version_in p) p.deps (and_parts (are_deps p.deps) (are_in (version_in p) p.deps) d).1 e
+attrs_known : (p : Parts) → deps_allowed (version_in p) p.deps ≡ true → AreDepsIn (version_in p) p.deps
+attrs_known p d = let both = and_parts (are_deps p.deps) (are_in (version_in p) p.deps) d in deps_found (version_in p) p.deps (rising_found p.deps both.0).1 both.1
 
 record NoAttrs (seq count : ℕ) (deps : List ℕ) : Type 0 where
   seq_is : 0 ≡ seq
@@ -239,7 +238,7 @@ no_attrs seq count deps s c len = let ec = eqb-true count 0 c in record { seq_is
 
 record DecreeIs (p : Parts) : Type 0 where
   is : IsDecree (decree_of p)
-  early : version_in p ≡ V1 → IsEarlyDecree (decree_of p)
+  known : IsDecreeIn (version_in p) (decree_of p)
   op_is : op_code (decree_of p).command ≡ p.header.op
   kl_is : length (key_in (decree_of p).command) ≡ p.header.key_len
   vl_is : length (value_in (decree_of p).command) ≡ p.header.value_len
@@ -257,7 +256,7 @@ decree_found p s o k v n lk lv ld d a bk bv =
     let same : op_code (decree_of p).command ≡ p.header.op = c.op_is in
     record {
       is = record { command = c.is; attrs = attrs_found p s n ld d };
-      early = λ e. (no_swap (decree_of p).command (let le = op_early (version_in p) p.header.op op.1 e in omega (arith, same, le)), attrs_early p d e);
+      known = (op_known (version_in p) (decree_of p).command c.is (omega (arith, same, op.1)), attrs_known p d);
       op_is = c.op_is;
       kl_is = ap length c.key_is ∙ lk;
       vl_is = ap length c.value_is ∙ lv;
@@ -276,7 +275,7 @@ kind1 p g =
     record {
       origin = f.origin;
       message = (f.instance, b.is, x.is);
-      sayable = said (version_in p) (message_of (with_kind 1 p)) (λ e. (f.early e, x.early e));
+      sayable = (f.known, x.known);
       is = λ t. made (with_kind 1 p) (f.magic t) (f.version t) (f.leader t) (f.number t) (b.counter_is t) (b.replica_is t) (sym es t) (sym ec t) (sym er t)
           p.header.seq (x.op_is t) (x.kl_is t) (x.vl_is t) (g.count t) (x.key_is t) (x.value_is t) p.deps;
     }
@@ -290,7 +289,7 @@ kind2 p g =
     record {
       origin = f.origin;
       message = (f.instance, b.is, attrs_found p g.body.0 g.body.1.1.1.1.0 g.count g.deps);
-      sayable = said (version_in p) (message_of (with_kind 2 p)) (λ e. (f.early e, attrs_early p g.deps e));
+      sayable = (f.known, attrs_known p g.deps);
       is = λ t. made (with_kind 2 p) (f.magic t) (f.version t) (f.leader t) (f.number t) (b.counter_is t) (b.replica_is t) (sym es t) (sym ec t) (sym er t)
           p.header.seq (c.op_is t) (c.kl_is t) (c.vl_is t) (g.count t) (c.key_is t) (c.value_is t) p.deps;
     }
@@ -304,7 +303,7 @@ kind3 p g =
     record {
       origin = f.origin;
       message = (f.instance, b.is, x.is);
-      sayable = said (version_in p) (message_of (with_kind 3 p)) (λ e. (f.early e, x.early e));
+      sayable = (f.known, x.known);
       is = λ t. made (with_kind 3 p) (f.magic t) (f.version t) (f.leader t) (f.number t) (b.counter_is t) (b.replica_is t) (sym es t) (sym ec t) (sym er t)
           p.header.seq (x.op_is t) (x.kl_is t) (x.vl_is t) (g.count t) (x.key_is t) (x.value_is t) p.deps;
     }
@@ -319,7 +318,7 @@ kind4 p g =
     record {
       origin = f.origin;
       message = (f.instance, b.is);
-      sayable = said (version_in p) (message_of (with_kind 4 p)) (λ e. f.early e);
+      sayable = f.known;
       is = λ t. made (with_kind 4 p) (f.magic t) (f.version t) (f.leader t) (f.number t) (b.counter_is t) (b.replica_is t) (sym es t) (sym ec t) (sym er t)
           (a.seq_is t) (c.op_is t) (c.kl_is t) (c.vl_is t) (a.count_is t) (c.key_is t) (c.value_is t) (a.deps_is t);
     }
@@ -333,7 +332,7 @@ kind5 p g =
     record {
       origin = f.origin;
       message = (f.instance, x.is);
-      sayable = said (version_in p) (message_of (with_kind 5 p)) (λ e. (f.early e, x.early e));
+      sayable = (f.known, x.known);
       is = λ t. made (with_kind 5 p) (f.magic t) (f.version t) (f.leader t) (f.number t) (sym bc t) (sym br t) (sym es t) (sym ec t) (sym er t)
           p.header.seq (x.op_is t) (x.kl_is t) (x.vl_is t) (g.count t) (x.key_is t) (x.value_is t) p.deps;
     }
@@ -348,7 +347,7 @@ kind6 p g =
     record {
       origin = f.origin;
       message = (f.instance, b.is);
-      sayable = said (version_in p) (message_of (with_kind 6 p)) (λ e. f.early e);
+      sayable = f.known;
       is = λ t. made (with_kind 6 p) (f.magic t) (f.version t) (f.leader t) (f.number t) (b.counter_is t) (b.replica_is t) (sym es t) (sym ec t) (sym er t)
           (a.seq_is t) (c.op_is t) (c.kl_is t) (c.vl_is t) (a.count_is t) (c.key_is t) (c.value_is t) (a.deps_is t);
     }
@@ -365,7 +364,7 @@ kind8 p g =
     record {
       origin = f.origin;
       message = (f.instance, b.is, omega (arith, pc, n.0), omega (arith, pc, n.1), omega (arith, pr, r));
-      sayable = said (version_in p) (message_of (with_kind 8 p)) (λ e. f.early e);
+      sayable = f.known;
       is = λ t. made (with_kind 8 p) (f.magic t) (f.version t) (f.leader t) (f.number t) (b.counter_is t) (b.replica_is t) (sym es t) (pc t) (pr t)
           (a.seq_is t) (c.op_is t) (c.kl_is t) (c.vl_is t) (a.count_is t) (c.key_is t) (c.value_is t) (a.deps_is t);
     }
@@ -381,7 +380,7 @@ status0 p g =
     record {
       origin = f.origin;
       message = (f.instance, b.is, tt);
-      sayable = said (version_in p) (message_of (with_status 0 p)) (λ e. (f.early e, tt));
+      sayable = (f.known, tt);
       is = λ t. made (with_status 0 p) (f.magic t) (f.version t) (f.leader t) (f.number t) (b.counter_is t) (b.replica_is t) 0 (sym ec t) ((f.leader ∙ sym er) t)
           (a.seq_is t) (c.op_is t) (c.kl_is t) (c.vl_is t) (a.count_is t) (c.key_is t) (c.value_is t) (a.deps_is t);
     }
@@ -407,7 +406,7 @@ vote_found p s st code e g =
     record {
       origin = f.origin;
       message = (f.instance, b.is, (v.is, x.is));
-      sayable = said (version_in p) (voted p st) (λ e. (f.early e, x.early e));
+      sayable = (f.known, x.known);
       is = λ t. made (with_status s p) (f.magic t) (f.version t) (f.leader t) (f.number t) (b.counter_is t) (b.replica_is t) (code t) (v.counter_is t) (v.replica_is t)
           p.header.seq (x.op_is t) (x.kl_is t) (x.vl_is t) (g.count t) (x.key_is t) (x.value_is t) p.deps;
     }

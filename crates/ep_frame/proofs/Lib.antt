@@ -12,6 +12,8 @@ pub mod Frames
 pub mod Meanings
 pub mod DepBytes
 pub mod Reorigin
+pub mod Repeating
+pub mod Joining
 pub mod Upgrading
 pub mod Told
 pub mod Within

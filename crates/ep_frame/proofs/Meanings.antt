@@ -7,7 +7,7 @@ use Rattle.ep_base.specs.Versions.{version_number, version_of}
 use Rattle.ep_base.proofs.Versions.{version_again}
 use Rattle.ep_base.specs.declared.decree.Decree.{Decree}
 use Rattle.ep_base.specs.declared.command.Command.{Command}
-use Rattle.ep_base.specs.declared.command.Command.TheVariants.{Noop, Get, Put, Del, Swap}
+use Rattle.ep_base.specs.declared.command.Command.TheVariants.{Noop, Get, Put, Del, Swap, Cas, Seal, Opaque}
 use Rattle.ep_base.specs.declared.version.Version.{Version}
 use Rattle.ep_base.specs.declared.vote.Vote.{Vote}
 use Rattle.ep_base.specs.declared.vote.Status.{Status}
@@ -16,46 +16,48 @@ use Rattle.ep_base.specs.declared.message.Message.{Message}
 use Rattle.ep_base.specs.declared.message.Message.TheVariants.{PreAccept, PreAcceptOk, Accept, AcceptOk, Commit, Prepare, PrepareOk, Nack}
 use Rattle.ep_frame.specs.declared.origin.Origin.{Origin}
 use Rattle.ep_frame.specs.Meaning.{origin_in, instance_in, instance_at, command_of, status_of, message_of, version_at, sender_at, origin_at, message_at}
-use Rattle.ep_frame.specs.Spelling.{Parts, parts_at, parts_of, Spells, op_code, key_in, value_in, status_code}
+use Rattle.ep_frame.specs.Spelling.{Parts, parts_at, parts_of, Spells, IsCommand, IsDecree, IsMessage, op_code, key_in, value_in, status_code}
 use Rattle.ep_frame.proofs.Packing.{instance_again, ballot_again}
 use Rattle.ep_frame.proofs.Again.{parts_again}
-use Rattle.ep_frame.proofs.Saying.{early_of}
 use Rattle.ep_frame.proofs.Sound.{sound, has_status}
 
-command_again : (c : Command) → command_of (op_code c) (key_in c) (value_in c) ≡ c
-command_again Noop = refl
-command_again (Get k) = refl
-command_again (Put k v) = refl
-command_again (Del k) = refl
-command_again (Swap p) = refl
+command_again : (c : Command) → IsCommand c → command_of (op_code c) (key_in c) (value_in c) ≡ c
+command_again Noop h = refl
+command_again (Get k) h = refl
+command_again (Put k v) h = refl
+command_again (Del k) h = refl
+command_again (Swap p) h = refl
+command_again (Cas k x y) h = absurd h
+command_again (Seal x) h = absurd h
+command_again (Opaque p b) h = absurd h
 
 status_again : (s : Status) → status_of (status_code s) ≡ s
 status_again PreAccepted = refl
 status_again Accepted = refl
 status_again Committed = refl
 
-decree_again : (x : Decree) → record { command = command_of (op_code x.command) (key_in x.command) (value_in x.command); attrs = x.attrs } ≡ x
-decree_again x = λ t. record { command = command_again x.command t; attrs = x.attrs }
+decree_again : (x : Decree) → IsDecree x → record { command = command_of (op_code x.command) (key_in x.command) (value_in x.command); attrs = x.attrs } ≡ x
+decree_again x h = λ t. record { command = command_again x.command h.command t; attrs = x.attrs }
 
 abbrev vote_made : Status → ℕ → Decree → Option Vote
 vote_made s b x = Some (record { status = s; ballot = b; decree = x })
 
-vote_again : (v : Vote) → cond (eqb (status_code v.status) 0) None
+vote_again : (v : Vote) → IsDecree v.decree → cond (eqb (status_code v.status) 0) None
     (vote_made (status_of (status_code v.status)) (ballot_of (counter_of v.ballot) (owner_of v.ballot)) (record { command = command_of (op_code v.decree.command) (key_in v.decree.command) (value_in v.decree.command); attrs = v.decree.attrs }))
     ≡ Some v
-vote_again v =
-    (λ t. cond (has_status v.status t) None (vote_made (status_again v.status t) (ballot_again v.ballot t) (decree_again v.decree t)))
+vote_again v h =
+    (λ t. cond (has_status v.status t) None (vote_made (status_again v.status t) (ballot_again v.ballot t) (decree_again v.decree h t)))
 
-pub message_again : (v : Version) (from : ℕ) (o : Origin) (m : Message) → message_of (parts_of v from o m) ≡ m
-message_again v from o (PreAccept i b x) = λ t. PreAccept (instance_again i t) (ballot_again b t) (decree_again x t)
-message_again v from o (PreAcceptOk i b a) = λ t. PreAcceptOk (instance_again i t) (ballot_again b t) a
-message_again v from o (Accept i b x) = λ t. Accept (instance_again i t) (ballot_again b t) (decree_again x t)
-message_again v from o (AcceptOk i b) = λ t. AcceptOk (instance_again i t) (ballot_again b t)
-message_again v from o (Commit i x) = λ t. Commit (instance_again i t) (decree_again x t)
-message_again v from o (Prepare i b) = λ t. Prepare (instance_again i t) (ballot_again b t)
-message_again v from o (PrepareOk i b None) = λ t. PrepareOk (instance_again i t) (ballot_again b t) None
-message_again v from o (PrepareOk i b (Some x)) = λ t. PrepareOk (instance_again i t) (ballot_again b t) (vote_again x t)
-message_again v from o (Nack i p q) = λ t. Nack (instance_again i t) (ballot_again p t) (ballot_again q t)
+pub message_again : (v : Version) (from : ℕ) (o : Origin) (m : Message) → IsMessage m → message_of (parts_of v from o m) ≡ m
+message_again v from o (PreAccept i b x) h = λ t. PreAccept (instance_again i t) (ballot_again b t) (decree_again x h.2 t)
+message_again v from o (PreAcceptOk i b a) h = λ t. PreAcceptOk (instance_again i t) (ballot_again b t) a
+message_again v from o (Accept i b x) h = λ t. Accept (instance_again i t) (ballot_again b t) (decree_again x h.2 t)
+message_again v from o (AcceptOk i b) h = λ t. AcceptOk (instance_again i t) (ballot_again b t)
+message_again v from o (Commit i x) h = λ t. Commit (instance_again i t) (decree_again x h.1 t)
+message_again v from o (Prepare i b) h = λ t. Prepare (instance_again i t) (ballot_again b t)
+message_again v from o (PrepareOk i b None) h = λ t. PrepareOk (instance_again i t) (ballot_again b t) None
+message_again v from o (PrepareOk i b (Some x)) h = λ t. PrepareOk (instance_again i t) (ballot_again b t) (vote_again x h.2.1 t)
+message_again v from o (Nack i p q) h = λ t. Nack (instance_again i t) (ballot_again p t) (ballot_again q t)
 
 origin_again : (v : Version) (from : ℕ) (o : Origin) (m : Message) → origin_in (parts_of v from o m).header ≡ o
 origin_again v from o (PreAccept i b x) = refl
@@ -91,7 +93,7 @@ version_kept v from o (PrepareOk i b (Some x)) = refl
 version_kept v from o (Nack i p q) = refl
 
 parts_spelled : (v : Version) (b : List ℕ) (from : ℕ) (o : Origin) (m : Message) → Spells v b from o m → parts_at b ≡ parts_of v from o m
-parts_spelled v b from o m s = ap parts_at s.is ∙ parts_again (parts_of v from o m) (sound v from o m s.origin s.message (early_of v m s.sayable)).fits
+parts_spelled v b from o m s = ap parts_at s.is ∙ parts_again (parts_of v from o m) (sound v from o m s.origin s.message s.sayable).fits
 
 -- the bytes that spell a message stand for it
 pub version_spelled : (v : Version) (b : List ℕ) (from : ℕ) (o : Origin) (m : Message) → Spells v b from o m → version_at b ≡ v
@@ -104,7 +106,7 @@ pub origin_spelled : (v : Version) (b : List ℕ) (from : ℕ) (o : Origin) (m :
 origin_spelled v b from o m s = ap (λ (p : Parts). origin_in p.header) (parts_spelled v b from o m s) ∙ origin_again v from o m
 
 pub message_spelled : (v : Version) (b : List ℕ) (from : ℕ) (o : Origin) (m : Message) → Spells v b from o m → message_at b ≡ m
-message_spelled v b from o m s = ap message_of (parts_spelled v b from o m s) ∙ message_again v from o m
+message_spelled v b from o m s = ap message_of (parts_spelled v b from o m s) ∙ message_again v from o m s.message
 
 by_test : (i : ℕ) (b : Bool) (m n : Message) → instance_of_message m ≡ i → instance_of_message n ≡ i → instance_of_message (cond b m n) ≡ i
 by_test i true m n d e = d

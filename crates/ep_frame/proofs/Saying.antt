@@ -2,19 +2,17 @@
 use Rattle.std.proofs.Common.{◌≡◌, ◌≢◌, ℕ, ◌≤◌, Bool, true, false, leb, List, [], ◌∷◌, length, refl, sym, ◌∙◌, true≢false, arith}
 use Rattle.std.proofs.lemmas.Bool.{leb-true, le-leb, and_parts, and_from}
 use Rattle.ep_base.specs.Attributes.{same_list}
-use Rattle.ep_base.specs.Deps.{IsRising, AreInstances, most_deps}
-use Rattle.ep_base.specs.Instances.{number_of, IsInstance}
-use Rattle.ep_base.specs.Interference.{is_swap}
-use Rattle.ep_base.specs.Versions.{version_number, highest_in, most_deps_in, IsEarlyInstance, AreEarlyDeps, IsEarly, CanSay}
+use Rattle.ep_base.specs.Deps.{AreInstances}
+use Rattle.ep_base.specs.Instances.{number_of}
+use Rattle.ep_base.specs.Versions.{version_number, highest_in, most_deps_in, knows, AreDepsIn}
 use Rattle.ep_base.specs.declared.command.Command.{Command}
-use Rattle.ep_base.specs.declared.command.Command.TheVariants.{Noop, Get, Put, Del, Swap}
-use Rattle.ep_base.specs.declared.message.Message.{Message}
+use Rattle.ep_base.specs.declared.command.Command.TheVariants.{Noop, Get, Put, Del, Swap, Cas, Seal, Opaque}
 use Rattle.ep_base.specs.declared.version.Version.{Version}
 use Rattle.ep_base.specs.declared.version.Version.TheVariants.{V1, V2}
 use Rattle.ep_base.proofs.Same.{Decides-same_list}
-use Rattle.ep_base.proofs.Versions.{length-early}
+use Rattle.ep_base.proofs.Versions.{deps_in_last}
 use Rattle.ep_frame.specs.Faults.{highest_op, are_early, are_in}
-use Rattle.ep_frame.specs.Spelling.{op_code}
+use Rattle.ep_frame.specs.Spelling.{op_code, IsCommand}
 
 -- each version's limits are within those of the last one
 
@@ -34,68 +32,58 @@ pub count_low : (v : Version) → most_deps_in v ≤ 14000
 count_low V1 = omega arith
 count_low V2 = omega arith
 
--- what is of a version keeps to its limits
+-- what a version has keeps to its limits
 
-pub number_within : (v : Version) (i : ℕ) → IsInstance i → (v ≡ V1 → IsEarlyInstance i) → number_of i ≤ highest_in v
-number_within V1 i h e = e refl
-number_within V2 i h e = h.2
-
-pub op_within : (v : Version) (c : Command) → (v ≡ V1 → is_swap c ≡ false) → op_code c ≤ highest_op v
+pub op_within : (v : Version) (c : Command) → knows v c ≡ true → op_code c ≤ highest_op v
 op_within V1 Noop e = omega arith
 op_within V1 (Get k) e = omega arith
 op_within V1 (Put k x) e = omega arith
 op_within V1 (Del k) e = omega arith
-op_within V1 (Swap p) e = absurd (true≢false (e refl))
+op_within V1 (Swap p) e = absurd (true≢false (sym e))
+op_within V1 (Cas k x y) e = absurd (true≢false (sym e))
+op_within V1 (Seal x) e = absurd (true≢false (sym e))
+op_within V1 (Opaque p b) e = absurd (true≢false (sym e))
 op_within V2 Noop e = omega arith
 op_within V2 (Get k) e = omega arith
 op_within V2 (Put k x) e = omega arith
 op_within V2 (Del k) e = omega arith
 op_within V2 (Swap p) e = omega arith
+op_within V2 (Cas k x y) e = absurd (true≢false (sym e))
+op_within V2 (Seal x) e = absurd (true≢false (sym e))
+op_within V2 (Opaque p b) e = absurd (true≢false (sym e))
 
-pub count_within : (v : Version) (is : List ℕ) → IsRising is → AreInstances is → length is ≤ most_deps → (v ≡ V1 → AreEarlyDeps is) → length is ≤ most_deps_in v
-count_within V1 is r h few e = length-early is r h (e refl)
-count_within V2 is r h few e = few
-
-early_again : (is : List ℕ) → AreEarlyDeps is → are_early is ≡ true
+early_again : (is : List ℕ) → AreDepsIn V1 is → are_early is ≡ true
 early_again [] h = refl
 early_again (i ∷ is) h = and_from (leb (number_of i) 1000) (are_early is) (le-leb _ _ h.0) (early_again is h.1)
 
-pub deps_within : (v : Version) (is : List ℕ) → (v ≡ V1 → AreEarlyDeps is) → are_in v is ≡ true
-deps_within V1 is e = early_again is (e refl)
-deps_within V2 is e = refl
+pub deps_within : (v : Version) (is : List ℕ) → AreDepsIn v is → are_in v is ≡ true
+deps_within V1 is h = early_again is h
+deps_within V2 is h = refl
 
--- and what keeps to them is of the version
+-- and the version has what keeps to them
 
-pub number_early : (v : Version) (n : ℕ) → n ≤ highest_in v → v ≡ V1 → n ≤ 1000
-number_early V1 n h e = h
-number_early V2 n h e = absurd cc
+pub op_known : (v : Version) (c : Command) → IsCommand c → op_code c ≤ highest_op v → knows v c ≡ true
+op_known V1 Noop is h = refl
+op_known V1 (Get k) is h = refl
+op_known V1 (Put k x) is h = refl
+op_known V1 (Del k) is h = refl
+op_known V1 (Swap p) is h = absurd (omega (arith, h))
+op_known V2 Noop is h = refl
+op_known V2 (Get k) is h = refl
+op_known V2 (Put k x) is h = refl
+op_known V2 (Del k) is h = refl
+op_known V2 (Swap p) is h = refl
+op_known v (Cas k x y) is h = absurd is
+op_known v (Seal x) is h = absurd is
+op_known v (Opaque p b) is h = absurd is
 
-pub op_early : (v : Version) (n : ℕ) → n ≤ highest_op v → v ≡ V1 → n ≤ 4
-op_early V1 n h e = h
-op_early V2 n h e = absurd cc
-
-pub no_swap : (c : Command) → op_code c ≤ 4 → is_swap c ≡ false
-no_swap Noop h = refl
-no_swap (Get k) h = refl
-no_swap (Put k x) h = refl
-no_swap (Del k) h = refl
-no_swap (Swap p) h = absurd (omega (arith, h))
-
-early_found : (is : List ℕ) → are_early is ≡ true → AreEarlyDeps is
+early_found : (is : List ℕ) → are_early is ≡ true → AreDepsIn V1 is
 early_found [] e = tt
 early_found (i ∷ is) e = let p = and_parts (leb (number_of i) 1000) (are_early is) e in (leb-true _ _ p.0, early_found is p.1)
 
-pub deps_early : (v : Version) (is : List ℕ) → are_in v is ≡ true → v ≡ V1 → AreEarlyDeps is
-deps_early V1 is t e = early_found is t
-deps_early V2 is t e = absurd cc
-
-pub early_of : (v : Version) (m : Message) → CanSay v m → v ≡ V1 → IsEarly m
-early_of V1 m s e = s
-early_of V2 m s e = absurd cc
-
-pub said : (v : Version) (m : Message) → (v ≡ V1 → IsEarly m) → CanSay v m
-said V1 m e = e refl
-said V2 m e = tt
+pub deps_found : (v : Version) (is : List ℕ) → AreInstances is → are_in v is ≡ true → AreDepsIn v is
+deps_found V1 is h e = early_found is e
+deps_found V2 is h e = deps_in_last is h
 
 -- keys that differ
 

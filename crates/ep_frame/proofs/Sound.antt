@@ -7,14 +7,14 @@ use Rattle.ep_base.specs.Instances.{leader_of, number_of, IsInstance}
 use Rattle.ep_base.specs.Ballots.{counter_of, owner_of}
 use Rattle.ep_base.specs.Attributes.{same_list}
 use Rattle.ep_base.specs.Deps.{IsRising, IsBelowFirst}
-use Rattle.ep_base.specs.Versions.{version_number, version_of, highest_in, most_deps_in, IsEarlyInstance, AreEarlyDeps, IsEarlyDecree, IsEarly}
+use Rattle.ep_base.specs.Versions.{version_number, version_of, highest_in, most_deps_in, knows, IsInstanceIn, AreDepsIn, IsDecreeIn, CanSay}
 use Rattle.ep_base.specs.declared.version.Version.{Version}
 use Rattle.ep_base.specs.declared.version.Version.TheVariants.{V1, V2}
-use Rattle.ep_base.proofs.Versions.{version_again}
+use Rattle.ep_base.proofs.Versions.{version_again, length_in}
 use Rattle.ep_base.specs.declared.attrs.Attrs.{Attrs}
 use Rattle.ep_base.specs.declared.decree.Decree.{Decree}
 use Rattle.ep_base.specs.declared.command.Command.{Command}
-use Rattle.ep_base.specs.declared.command.Command.TheVariants.{Noop, Get, Put, Del, Swap}
+use Rattle.ep_base.specs.declared.command.Command.TheVariants.{Noop, Get, Put, Del, Swap, Cas, Seal, Opaque}
 use Rattle.ep_base.specs.declared.vote.Status.{Status}
 use Rattle.ep_base.specs.declared.vote.Status.TheVariants.{PreAccepted, Accepted, Committed}
 use Rattle.ep_base.specs.declared.message.Message.{Message}
@@ -27,7 +27,7 @@ use Rattle.ep_frame.specs.Faults.{◌>>◌, names_rows, ballot_rows, vote_rows, 
 use Rattle.ep_frame.specs.Spelling.{Parts, parts_at, parts_of, op_code, key_in, value_in, status_code, IsBallot, IsCommand, AreAttrs, IsDecree, IsMessage, IsOrigin, Spells}
 use Rattle.ep_frame.proofs.Rows.{AllPass, fine, all_pass, within-from, apart-from, choose, choose_other}
 use Rattle.ep_frame.proofs.Again.{PartsFit, parts_again, length-parts_bytes}
-use Rattle.ep_frame.proofs.Saying.{version_low, op_low, number_within, op_within, count_within, deps_within, early_of, differ_again}
+use Rattle.ep_frame.proofs.Saying.{version_low, op_low, op_within, deps_within, differ_again}
 
 -- parts with these fields
 abbrev frame : (v : Version) (k from : ℕ) (o : Origin) (i counter replica status other_counter other_replica seq op : ℕ) (key value deps : List ℕ) → Parts
@@ -146,8 +146,8 @@ record InstanceIs (v : Version) (i : ℕ) : Type 0 where
   is : IsInstance i
   high : number_of i ≤ highest_in v
 
-instance_is : (v : Version) (i : ℕ) → IsInstance i → (v ≡ V1 → IsEarlyInstance i) → InstanceIs v i
-instance_is v i h e = record { is = h; high = number_within v i h e }
+instance_is : (v : Version) (i : ℕ) → IsInstance i → IsInstanceIn v i → InstanceIs v i
+instance_is v i h e = record { is = h; high = e }
 
 ballot_rows_pass : (v : Version) (i : ℕ) (counter replica : Bool) → InstanceIs v i → counter ≡ true → replica ≡ true → AllPass (ballot_rows_of v i counter replica)
 ballot_rows_pass v i counter replica n c r = (le-leb _ _ n.is.0, (within-from 1 (highest_in v) (number_of i) n.is.1 n.high, (c, (r, tt))))
@@ -206,7 +206,7 @@ rising_again (i ∷ is) r h =
     first [] h = refl
     first (j ∷ js) h = lt-ltb _ _ h
 
-allowed_again : (v : Version) (ds : List ℕ) → IsRising ds → AllByRecursion IsInstance ds → (v ≡ V1 → AreEarlyDeps ds) → deps_allowed v ds ≡ true
+allowed_again : (v : Version) (ds : List ℕ) → IsRising ds → AllByRecursion IsInstance ds → AreDepsIn v ds → deps_allowed v ds ≡ true
 allowed_again v ds r h e = and_from (are_deps ds) (are_in v ds) (rising_again ds r h) (deps_within v ds e)
 
 record CommandPart (v : Version) (op : ℕ) (key value : List ℕ) : Type 0 where
@@ -232,6 +232,9 @@ command_part v (Swap p) h high = record {
   value_small = omega (arith, h.1.1);
   keys_differ = differ_again p.first p.second h.2;
 }
+command_part v (Cas k x y) h high = absurd h
+command_part v (Seal x) h high = absurd h
+command_part v (Opaque p b) h high = absurd h
 
 -- the rows of a frame that has attributes or not, and a command or not
 abbrev body_rows_of : (v : Version) (attributes command : Bool) (seq op kl vl count : ℕ) → List (FrameFault × Bool)
@@ -240,11 +243,11 @@ body_rows_of v attributes command seq op kl vl count =
     ∷ (Field 35, cond (within 2 5 op) (within 1 255 kl) (eqb kl 0)) ∷ (Field 36, cond (eqb op 3) (leb vl 1024) (cond (eqb op 5) (within 1 255 vl) (eqb vl 0)))
     ∷ (Field 38, cond attributes (leb count (most_deps_in v)) (eqb count 0)) ∷ []
 
-decree_body : (v : Version) (attributes command : Bool) → attributes ≡ true → command ≡ true → (x : Decree) → IsDecree x → (v ≡ V1 → IsEarlyDecree x)
+decree_body : (v : Version) (attributes command : Bool) → attributes ≡ true → command ≡ true → (x : Decree) → IsDecree x → IsDecreeIn v x
     → BodyPart v (body_rows_of v attributes command x.attrs.seq (op_code x.command) (length (key_in x.command)) (length (value_in x.command)) (length x.attrs.deps))
     x.attrs.seq (op_code x.command) (key_in x.command) (value_in x.command) x.attrs.deps
 decree_body v attributes command ta tc x h e =
-    let high : op_code x.command ≤ highest_op v = op_within v x.command (λ u. (e u).0) in
+    let high : op_code x.command ≤ highest_op v = op_within v x.command e.0 in
     let c = command_part v x.command h.command high in let a = h.attrs in
     let most = op_low v in
     record {
@@ -252,7 +255,7 @@ decree_body v attributes command ta tc x h e =
         choose _ _ _ ta (within-from 1 1000000 x.attrs.seq a.low a.high),
         (
           choose _ _ _ tc (within-from 1 (highest_op v) (op_code x.command) c.low c.high),
-          (c.key_row, (c.value_row, (choose _ _ _ ta (le-leb _ _ (count_within v x.attrs.deps a.rising a.instances a.few (λ u. (e u).1))), tt))),
+          (c.key_row, (c.value_row, (choose _ _ _ ta (le-leb _ _ (length_in v x.attrs.deps a.rising a.instances a.few e.1)), tt))),
         ),
       );
       seq_small = a.high;
@@ -260,15 +263,15 @@ decree_body v attributes command ta tc x h e =
       key_small = c.key_small;
       value_small = c.value_small;
       deps_small = a.few;
-      rising = allowed_again v x.attrs.deps a.rising a.instances (λ u. (e u).1);
+      rising = allowed_again v x.attrs.deps a.rising a.instances e.1;
       keys_differ = c.keys_differ;
       instances = a.instances;
     }
 
-attrs_body : (v : Version) (x : Attrs) → AreAttrs x → (v ≡ V1 → AreEarlyDeps x.deps) → BodyPart v (body_rows_of v true false x.seq 0 0 0 (length x.deps)) x.seq 0 [] [] x.deps
+attrs_body : (v : Version) (x : Attrs) → AreAttrs x → AreDepsIn v x.deps → BodyPart v (body_rows_of v true false x.seq 0 0 0 (length x.deps)) x.seq 0 [] [] x.deps
 attrs_body v x a e =
     record {
-      pass = (within-from 1 1000000 x.seq a.low a.high, (refl, (refl, (refl, (le-leb _ _ (count_within v x.deps a.rising a.instances a.few e), tt)))));
+      pass = (within-from 1 1000000 x.seq a.low a.high, (refl, (refl, (refl, (le-leb _ _ (length_in v x.deps a.rising a.instances a.few e), tt)))));
       seq_small = a.high;
       op_small = omega arith;
       key_small = omega arith;
@@ -288,39 +291,39 @@ no_body v =
       key_small = omega arith;
       value_small = omega arith;
       deps_small = omega arith;
-      rising = allowed_again v [] tt tt (λ u. tt);
+      rising = allowed_again v [] tt tt tt;
       keys_differ = refl;
       instances = tt;
     }
 
 -- ---- messages
 
-pub sound : (v : Version) (from : ℕ) (o : Origin) (m : Message) → IsOrigin from o → IsMessage m → (v ≡ V1 → IsEarly m) → Sound (parts_of v from o m)
+pub sound : (v : Version) (from : ℕ) (o : Origin) (m : Message) → IsOrigin from o → IsMessage m → CanSay v m → Sound (parts_of v from o m)
 sound v from o (PreAccept i b x) g m e =
-    let n = instance_is v i m.0 (λ u. (e u).0) in
-    sound_frame v 1 from o i _ _ 0 0 0 _ _ _ _ _ g m.0 (omega arith) (omega arith) (any_ballot v i b n m.1) no_vote (decree_body v true true refl refl x m.2 (λ u. (e u).1))
+    let n = instance_is v i m.0 e.0 in
+    sound_frame v 1 from o i _ _ 0 0 0 _ _ _ _ _ g m.0 (omega arith) (omega arith) (any_ballot v i b n m.1) no_vote (decree_body v true true refl refl x m.2 e.1)
 sound v from o (PreAcceptOk i b a) g m e =
-    let n = instance_is v i m.0 (λ u. (e u).0) in
-    sound_frame v 2 from o i _ _ 0 0 0 _ 0 [] [] _ g m.0 (omega arith) (omega arith) (any_ballot v i b n m.1) no_vote (attrs_body v a m.2 (λ u. (e u).1))
+    let n = instance_is v i m.0 e.0 in
+    sound_frame v 2 from o i _ _ 0 0 0 _ 0 [] [] _ g m.0 (omega arith) (omega arith) (any_ballot v i b n m.1) no_vote (attrs_body v a m.2 e.1)
 sound v from o (Accept i b x) g m e =
-    let n = instance_is v i m.0 (λ u. (e u).0) in
-    sound_frame v 3 from o i _ _ 0 0 0 _ _ _ _ _ g m.0 (omega arith) (omega arith) (any_ballot v i b n m.1) no_vote (decree_body v true true refl refl x m.2 (λ u. (e u).1))
+    let n = instance_is v i m.0 e.0 in
+    sound_frame v 3 from o i _ _ 0 0 0 _ _ _ _ _ g m.0 (omega arith) (omega arith) (any_ballot v i b n m.1) no_vote (decree_body v true true refl refl x m.2 e.1)
 sound v from o (AcceptOk i b) g m e =
     let n = instance_is v i m.0 e in sound_frame v 4 from o i _ _ 0 0 0 0 0 [] [] [] g m.0 (omega arith) (omega arith) (any_ballot v i b n m.1) no_vote (no_body v)
 sound v from o (Commit i x) g m e =
-    let n = instance_is v i m.0 (λ u. (e u).0) in
-    sound_frame v 5 from o i 0 0 0 0 0 _ _ _ _ _ g m.0 (omega arith) (omega arith) (no_ballot v i n) no_vote (decree_body v true true refl refl x m.1 (λ u. (e u).1))
+    let n = instance_is v i m.0 e.0 in
+    sound_frame v 5 from o i 0 0 0 0 0 _ _ _ _ _ g m.0 (omega arith) (omega arith) (no_ballot v i n) no_vote (decree_body v true true refl refl x m.1 e.1)
 sound v from o (Prepare i b) g m e =
     let n = instance_is v i m.0 e in sound_frame v 6 from o i _ _ 0 0 0 0 0 [] [] [] g m.0 (omega arith) (omega arith) (joined_ballot v i b n m.1) no_vote (no_body v)
 sound v from o (PrepareOk i b None) g m e =
-    let n = instance_is v i m.0 (λ u. (e u).0) in
+    let n = instance_is v i m.0 e.0 in
     sound_frame v 7 from o i _ _ 0 0 (leader_of i) 0 0 [] [] [] g m.0 (omega arith) (omega arith) (joined_ballot v i b n m.1)
     (record { pass = (refl, (refl, (eq-eqb (leader_of i) (leader_of i) refl, tt))); status_small = omega arith; counter_small = omega arith; replica_small = m.0.0 }) (no_body v)
 sound v from o (PrepareOk i b (Some x)) g m e =
-    let n = instance_is v i m.0 (λ u. (e u).0) in
+    let n = instance_is v i m.0 e.0 in
     let has = ap not (has_status x.status) in
     sound_frame v 7 from o i _ _ (status_code x.status) (counter_of x.ballot) (owner_of x.ballot) _ _ _ _ _ g m.0 (omega arith) (omega arith) (joined_ballot v i b n m.1)
-    (some_vote i x.status x.ballot m.2.0) (decree_body v (not (eqb (status_code x.status) 0)) (not (eqb (status_code x.status) 0)) has has x.decree m.2.1 (λ u. (e u).1))
+    (some_vote i x.status x.ballot m.2.0) (decree_body v (not (eqb (status_code x.status) 0)) (not (eqb (status_code x.status) 0)) has has x.decree m.2.1 e.1)
 sound v from o (Nack i b p) g m e =
     let n = instance_is v i m.0 e in
     sound_frame v 8 from o i _ _ 0 (counter_of p) (owner_of p) 0 0 [] [] [] g m.0 (omega arith) (omega arith) (any_ballot v i b n m.1)
@@ -342,7 +345,7 @@ no_fault b p is long len header deps apart =
 pub frame_again : (v : Version) (b : List ℕ) (from : ℕ) (o : Origin) (m : Message) → Spells v b from o m → fault_of b ≡ fine
 frame_again v b from o m s =
     let p = parts_of v from o m in
-    let q = sound v from o m s.origin s.message (early_of v m s.sayable) in
+    let q = sound v from o m s.origin s.message s.sayable in
     let at : parts_at b ≡ p = ap parts_at s.is ∙ parts_again p q.fits in
     let len = ap length s.is ∙ length-parts_bytes p q.fits q.count in
     no_fault b p at (omega (arith, len)) len q.header q.deps q.keys_differ

@@ -1,6 +1,7 @@
 -- A frame written again in version 2 says what it said.
 use Rattle.std.proofs.Common.{◌≡◌, ℕ, ◌≤◌, List, [], ◌∷◌, ◌++◌, length, take, drop, refl, sym, ap, subst, ◌∙◌, arith}
 use Rattle.std.specs.Prelude.{Some, None, slice_set as set}
+use Rattle.ep_base.proofs.Versions.{said_later}
 use Rattle.ep_base.specs.declared.message.Message.{Message}
 use Rattle.ep_base.specs.declared.message.Message.TheVariants.{PreAccept, PreAcceptOk, Accept, AcceptOk, Commit, Prepare, PrepareOk, Nack}
 use Rattle.ep_base.specs.declared.version.Version.TheVariants.{V1, V2}
@@ -57,7 +58,7 @@ upgraded_1 : (b : List ℕ) (from : ℕ) (o : Origin) (m : Message) → Spells V
 upgraded_1 b from o m s = record {
   origin = s.origin;
   message = s.message;
-  sayable = tt;
+  sayable = said_later V1 m s.sayable;
   is = ap in_version_2 s.is ∙ sym (changed (parts_of V1 from o m)) ∙ ap parts_bytes (sym (same_parts from o m));
 }
 

@@ -17,7 +17,6 @@ use Rattle.ep_frame.specs.declared.origin.Origin.{Origin}
 use Rattle.ep_frame.proofs.Again.{parts_again}
 use Rattle.ep_frame.proofs.BigEndian.{IsBytes}
 use Rattle.ep_frame.proofs.Frames.{frame_found}
-use Rattle.ep_frame.proofs.Saying.{early_of}
 use Rattle.ep_frame.proofs.Sound.{sound}
 
 after : (s x y : Bool) → (s ≡ true → x ≡ y) → (s && x) ≡ (s && y)
@@ -55,7 +54,7 @@ named n v from o (Nack i p q) =
 spelled_within : (n : ℕ) (v : Version) (b : List ℕ) (from : ℕ) (o : Origin) (m : Message) → Spells v b from o m → parts_within n (parts_at b) ≡ (ltb from n && (ltb o.to n && message_within n m))
 spelled_within n v b from o m s =
     ap (λ (c : List ℕ). parts_within n (parts_at c)) s.is
-    ∙ ap (parts_within n) (parts_again (parts_of v from o m) (sound v from o m s.origin s.message (early_of v m s.sayable)).fits)
+    ∙ ap (parts_within n) (parts_again (parts_of v from o m) (sound v from o m s.origin s.message s.sayable).fits)
     ∙ named n v from o m
 
 pub within_is : (n : ℕ) (b : List ℕ) → IsBytes b → HasNoFault b → parts_within n (parts_at b) ≡ is_within n b

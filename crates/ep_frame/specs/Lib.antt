@@ -6,4 +6,5 @@ pub mod Meaning
 pub mod Ranges
 pub mod DepBytes
 pub mod Origins
+pub mod Rounds
 pub mod Upgrading

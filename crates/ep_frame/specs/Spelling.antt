@@ -6,7 +6,7 @@ use Rattle.ep_base.specs.Ballots.{counter_of, owner_of, highest_counter}
 use Rattle.ep_base.specs.Deps.{IsRising, AreInstances, most_deps}
 use Rattle.ep_base.specs.Versions.{version_number, CanSay}
 use Rattle.ep_base.specs.declared.command.Command.{Command}
-use Rattle.ep_base.specs.declared.command.Command.TheVariants.{Noop, Get, Put, Del, Swap}
+use Rattle.ep_base.specs.declared.command.Command.TheVariants.{Noop, Get, Put, Del, Swap, Cas, Seal, Opaque}
 use Rattle.ep_base.specs.declared.attrs.Attrs.{Attrs}
 use Rattle.ep_base.specs.declared.decree.Decree.{Decree}
 use Rattle.ep_base.specs.declared.message.Message.{Message}
@@ -90,12 +90,16 @@ with_attrs a p = record p { header = record p.header { seq = a.seq; count = leng
 abbrev pub with_op : ℕ → List ℕ → List ℕ → Parts → Parts
 with_op op key value p = record p { header = record p.header { op = op; key_len = length key; value_len = length value }; key = key; value = value }
 
+-- the op of a command, 0 where no version has it
 abbrev pub op_code : Command → ℕ
 op_code Noop = 1
 op_code (Get key) = 2
 op_code (Put key value) = 3
 op_code (Del key) = 4
 op_code (Swap keys) = 5
+op_code (Cas key expected new) = 0
+op_code (Seal value) = 0
+op_code (Opaque p body) = 0
 
 abbrev pub key_in : Command → List ℕ
 key_in Noop = []
@@ -103,6 +107,9 @@ key_in (Get key) = key
 key_in (Put key value) = key
 key_in (Del key) = key
 key_in (Swap keys) = keys.first
+key_in (Cas key expected new) = []
+key_in (Seal value) = []
+key_in (Opaque p body) = []
 
 abbrev pub value_in : Command → List ℕ
 value_in Noop = []
@@ -110,6 +117,9 @@ value_in (Get key) = []
 value_in (Put key value) = value
 value_in (Del key) = []
 value_in (Swap keys) = keys.second
+value_in (Cas key expected new) = []
+value_in (Seal value) = []
+value_in (Opaque p body) = []
 
 abbrev pub with_decree : Decree → Parts → Parts
 with_decree x p = with_attrs x.attrs (with_op (op_code x.command) (key_in x.command) (value_in x.command) p)
@@ -154,12 +164,16 @@ AreBytes bs = (k : ℕ) → slice_index bs k < 256
 abbrev pub IsKey : List ℕ → Type 0
 IsKey k = (1 ≤ length k) × (length k ≤ 255) × AreBytes k
 
+-- a command that some version has
 abbrev pub IsCommand : Command → Type 0
 IsCommand Noop = Unit {0}
 IsCommand (Get key) = IsKey key
 IsCommand (Put key value) = IsKey key × (length value ≤ 1024) × AreBytes value
 IsCommand (Del key) = IsKey key
 IsCommand (Swap keys) = IsKey keys.first × IsKey keys.second × (keys.first ≢ keys.second)
+IsCommand (Cas key expected new) = ⊥
+IsCommand (Seal value) = ⊥
+IsCommand (Opaque p body) = ⊥
 
 pub record AreAttrs (a : Attrs) : Type 0 where
   pub low : 1 ≤ a.seq

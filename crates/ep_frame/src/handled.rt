@@ -163,6 +163,7 @@ fn has_command_in(bytes: &[u8], command: &Command) -> bool
         Command::Swap(keys) => {
             op == 5 && key == keys.first().as_slice() && text == keys.second().as_slice()
         }
+        Command::Cas { .. } | Command::Seal(_) | Command::Opaque(_, _) => false,
     }
 }
 
@@ -283,7 +284,7 @@ impl<'a> FrameView<'a> {
         has_command_in(self.bytes, &decree.command) && has_attrs_in(self.bytes, &decree.attrs)
     }
 
-    /// Joins these to its attributes.
+    /// Joins its attributes to these. It takes no memory where they are the same.
     #[tactic(auto, using(crate::proofs::Told::attrs_there))]
     pub fn join_to(&self, alloc: Global, attrs: &mut Attrs) -> Result<(), AllocError>
         requires { tells_attrs (kind_at self.now) ≡ true }
@@ -291,6 +292,9 @@ impl<'a> FrameView<'a> {
         ensures err { OnErr result (attrs.new ≡ attrs.old) }
     {
         are_known(self.bytes);
+        if has_attrs_in(self.bytes, attrs) {
+            return Ok(());
+        }
         let mut joined = attrs_in(alloc, self.bytes)?;
         joined.merge(alloc, attrs)?;
         *attrs = joined;

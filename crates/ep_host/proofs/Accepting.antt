@@ -37,6 +37,7 @@ use Rattle.ep_host.specs.Rings.{handled_by, frames_handled, place}
 use Rattle.ep_host.specs.declared.link.Link.{Link}
 use Rattle.ep_host.proofs.Hosts.{all_taken}
 use Rattle.ep_host.specs.Sent.{frames_of}
+use Rattle.ep_rules.specs.OneMap.{opened, empty}
 
 -- From the code's lists.
 
@@ -113,9 +114,9 @@ module _ (f : ℕ) (nodes : List Node) (host : IsHost f nodes) (know : All Knows
       let t = handled_at (get_or nodes r blank).replica.entries e m (subst (λ (es : List rules.Entry). In e es) (journal_is r) stands) is in
       let u = sent r blank t.0 low t.1 in
       let o = sent_in (get_or nodes u.0 blank).replica.entries t.0 u.2 in
-      let run = subst (λ (es : List rules.Entry). IsLocalRun f u.0 es) (sym (journal_is u.0)) (runs_at u.0 u.1).run in
+      let run = subst (λ (es : List rules.Entry). IsLocalRun (opened empty) f u.0 es) (sym (journal_is u.0)) (runs_at u.0 u.1).run in
       subst (λ (z : Frame). WasSent (their_journals (replicas_in nodes)) z) t.2
-      (frames_were_sent_lem f (their_journals (replicas_in nodes)) u.0 o.0 (frame_at t.0) run (subst (λ (es : List rules.Entry). In o.0 es) (sym (journal_is u.0)) o.1) o.2).1)
+      (frames_were_sent_lem (opened empty) f (their_journals (replicas_in nodes)) u.0 o.0 (frame_at t.0) run (subst (λ (es : List rules.Entry). In o.0 es) (sym (journal_is u.0)) o.1) o.2).1)
       (λ (ge : length nodes ≤ r). absurd (subst (λ (es : List Entry). In e (entries_of es)) (none_after nodes r ge) stands))
       (cases_lt r (length nodes))
 
@@ -124,11 +125,11 @@ pub all_from : (f : ℕ) (nodes : List Node) → IsHost f nodes → All Knows no
 all_from f nodes host know begins = λ j d e b low c.
     let t = all_taken f nodes j d b host know begins low c in
     let o = sent_in (get_or nodes t.from d).replica.entries b t.out in
-    let run : IsLocalRun f t.from (entries_of (get_or nodes t.from d).replica.entries) =
+    let run : IsLocalRun (opened empty) f t.from (entries_of (get_or nodes t.from d).replica.entries) =
     (let j = (know t.from d t.low).journal in
     (subst (λ (q : ℕ). IsJournal V2 f q (get_or nodes t.from d).replica.entries) (host.me t.from d t.low)
     (subst (λ (q : ℕ). IsJournal V2 q (get_or nodes t.from d).replica.me (get_or nodes t.from d).replica.entries) (host.faults t.from d t.low) j)).run) in
-    let is : sender_at b ≡ t.from = (frames_were_sent_lem f (λ (r : ℕ). entries_of (get_or nodes t.from d).replica.entries) t.from o.0 (frame_at b) run o.1 o.2).0.sender in
+    let is : sender_at b ≡ t.from = (frames_were_sent_lem (opened empty) f (λ (r : ℕ). entries_of (get_or nodes t.from d).replica.entries) t.from o.0 (frame_at b) run o.1 o.2).0.sender in
     subst (λ (n : ℕ). (n < length nodes) × Contains (received (get_or (get_or nodes j d).links (place j n) e).from) b × Contains (frames_of (get_or nodes n d).replica.entries) b) (sym is) (t.low, t.taken e, t.out)
 
 -- the node whose receipt it is
@@ -140,22 +141,22 @@ receipt_at (n ∷ ns) t h = elim (in_split t (receipts_after n.replica.me 0 (ent
 ]
 
 -- all their receipts are their own
-pub receipts_own : (f : ℕ) (nodes : List Node) → IsHost f nodes → All Knows nodes → AreOwn f (their_journals (replicas_in nodes)) (their_receipts (replicas_in nodes))
+pub receipts_own : (f : ℕ) (nodes : List Node) → IsHost f nodes → All Knows nodes → AreOwn (opened empty) f (their_journals (replicas_in nodes)) (their_receipts (replicas_in nodes))
 receipts_own f nodes host know t h =
     let u = receipt_at nodes t h in
     let n = get_or nodes u.0 blank in
     let k = know u.0 blank u.1 in
-    let own : IsOwn n.replica.faults n.replica.me (entries_of n.replica.entries) t = receipts_are_own n.replica.faults n.replica.me 0 (entries_of n.replica.entries) k.some k.journal.run.1 t u.2 in (
+    let own : IsOwn (opened empty) n.replica.faults n.replica.me (entries_of n.replica.entries) t = receipts_are_own n.replica.faults n.replica.me 0 (entries_of n.replica.entries) k.some k.journal.run.1 t u.2 in (
       u.0,
-      subst (λ (es : List rules.Entry). IsOwn f u.0 es t) (sym (journal_is f nodes host know u.0))
-          (subst (λ (q : ℕ). IsOwn f q (entries_of n.replica.entries) t) (host.me u.0 blank u.1) (subst (λ (q : ℕ). IsOwn q n.replica.me (entries_of n.replica.entries) t) (host.faults u.0 blank u.1) own)),
+      subst (λ (es : List rules.Entry). IsOwn (opened empty) f u.0 es t) (sym (journal_is f nodes host know u.0))
+          (subst (λ (q : ℕ). IsOwn (opened empty) f q (entries_of n.replica.entries) t) (host.me u.0 blank u.1) (subst (λ (q : ℕ). IsOwn (opened empty) q n.replica.me (entries_of n.replica.entries) t) (host.faults u.0 blank u.1) own)),
     )
 
 -- no audit of them with receipts of their own finds a fault
 pub host_accepted :
-    (f : ℕ) (nodes : List Node) (receipts : List Receipt) → IsHost f nodes → All Knows nodes → AllSent nodes → AreOwn f (their_journals (replicas_in nodes)) receipts → IsAccepted f (their_journals (replicas_in nodes)) receipts
+    (f : ℕ) (nodes : List Node) (receipts : List Receipt) → IsHost f nodes → All Knows nodes → AllSent nodes → AreOwn (opened empty) f (their_journals (replicas_in nodes)) receipts → IsAccepted (opened empty) f (their_journals (replicas_in nodes)) receipts
 host_accepted f nodes receipts host know sent own =
-    clocked_accepted_lem f (their_journals (replicas_in nodes)) (clocked_at f nodes host know) (sent_at f nodes host know sent) receipts own
+    clocked_accepted_lem (opened empty) (λ _. 0) f (their_journals (replicas_in nodes)) (clocked_at f nodes host know) (sent_at f nodes host know sent) receipts own
 
 -- Lists of nodes.
 
@@ -240,11 +241,11 @@ is_end f nodes after j ls receipts host looked logs order entries are =
 pub end_in_order : (f : ℕ) (nodes after : List Node) (ls : List Log) → IsHost f nodes → All Knows nodes → Each Looked nodes after → ls ≡ logs_of (replicas_in after) → AreInOrder V2 f 0 ls
 end_in_order f nodes after ls host know looked logs = subst (λ (l : List Log). AreInOrder V2 f 0 l) (sym (logs ∙ ap logs_of (looked_replicas nodes after looked))) (host_in_order f nodes host know)
 
-pub end_accepted : (f : ℕ) (nodes : List Node) (j : Collected) (receipts : List Receipt) → IsHost f nodes → All Knows nodes → AllSent nodes → IsEnd f nodes j receipts → IsAccepted j.faults (journals_of j) receipts
+pub end_accepted : (f : ℕ) (nodes : List Node) (j : Collected) (receipts : List Receipt) → IsHost f nodes → All Knows nodes → AllSent nodes → IsEnd f nodes j receipts → IsAccepted (opened empty) j.faults (journals_of j) receipts
 end_accepted f nodes j receipts host know sent e =
-    subst (λ (g : ℕ). IsAccepted g (journals_of j) receipts) (sym e.faults)
-    (subst (λ (J : Journals). IsAccepted f J receipts) (sym e.journals)
-    (subst (λ (l : List Receipt). IsAccepted f (their_journals (replicas_in nodes)) l) (sym e.told) (host_accepted f nodes (their_receipts (replicas_in nodes)) host know sent (receipts_own f nodes host know))))
+    subst (λ (g : ℕ). IsAccepted (opened empty) g (journals_of j) receipts) (sym e.faults)
+    (subst (λ (J : Journals). IsAccepted (opened empty) f J receipts) (sym e.journals)
+    (subst (λ (l : List Receipt). IsAccepted (opened empty) f (their_journals (replicas_in nodes)) l) (sym e.told) (host_accepted f nodes (their_receipts (replicas_in nodes)) host know sent (receipts_own f nodes host know))))
 
 pub end_audited :
     (f : ℕ) (nodes : List Node) (j : Collected) (receipts : List Receipt) → IsEnd f nodes j receipts → (r : Result Verdict AllocError) → IfOk r (λ v. IsAudited j.faults (journals_of j) receipts v) →
@@ -275,7 +276,7 @@ ended_version f nodes after j ls host looked logs order =
 
 pub ended_accepted :
     (f : ℕ) (nodes : List Node) (j : Collected) (ts : List Receipt) → IsHost f nodes → All Knows nodes → AllSent nodes → (j.faults ≡ f) × (j.entries ≡ entries_in (replicas_in nodes)) →
-    AreOwn f (their_journals (replicas_in nodes)) ts → IsAccepted j.faults (journals_of j) ts
+    AreOwn (opened empty) f (their_journals (replicas_in nodes)) ts → IsAccepted (opened empty) j.faults (journals_of j) ts
 ended_accepted f nodes j ts host know sent is own =
     let same : journals_of j ≡ their_journals (replicas_in nodes) = ap (λ (es : List (List Entry)). λ (r : ℕ). entries_of (get_or es r [])) is.1 in
-    subst (λ (g : ℕ). IsAccepted g (journals_of j) ts) (sym is.0) (subst (λ (J : Journals). IsAccepted f J ts) (sym same) (host_accepted f nodes ts host know sent own))
+    subst (λ (g : ℕ). IsAccepted (opened empty) g (journals_of j) ts) (sym is.0) (subst (λ (J : Journals). IsAccepted (opened empty) f J ts) (sym same) (host_accepted f nodes ts host know sent own))

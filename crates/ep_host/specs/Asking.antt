@@ -20,6 +20,7 @@ use Rattle.ep_host.specs.declared.host_fault.HostFault.TheVariants.{Memory, OutO
 use Rattle.ep_host.specs.declared.tended.Tended.{Tended}
 use Rattle.ep_host.specs.declared.turn.Turn.{Turn}
 use Rattle.ep_host.specs.declared.turn.Turn.TheVariants.{Moved, Idle}
+use Rattle.ep_rules.specs.OneMap.{opened, empty}
 
 -- a replica's journal, which is of version 2
 abbrev pub IsKept : Kept → Type 0
@@ -85,7 +86,7 @@ pub record IsOutcome (i : ℕ) (t : Receipt) : Type 0 where
   pub kept : Kept
   pub run : IsKept kept
   pub instance : t.instance ≡ i
-  pub own : IsOwn kept.faults kept.me (entries_of kept.entries) t
+  pub own : IsOwn (opened empty) kept.faults kept.me (entries_of kept.entries) t
   pub first : outcome_of kept.me (entries_of kept.entries) i ≡ Some t
 
 -- the same, of an instance that a replica of the cluster leads

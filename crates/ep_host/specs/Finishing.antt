@@ -7,11 +7,12 @@ use Rattle.ep_report.specs.Refusals.{fault_of}
 use Rattle.ep_rules.specs.Audits.{IsFault}
 use Rattle.ep_rules.specs.declared.receipt.Receipt.{Receipt}
 use Rattle.ep_host.specs.declared.finished.Finished.{Finished}
+use Rattle.ep_rules.specs.OneMap.{opened, empty}
 
 -- the verdict on the journals with these receipts; or the first fault of theirs
 abbrev pub IsFinished : List Receipt → Finished → Type 0
 IsFinished receipts f =
-    MatchResult f.verdict (λ v. IsAudited f.journals.faults (journals_of f.journals) receipts v) (λ fault. IsFault f.journals.faults (journals_of f.journals) receipts (fault_of fault))
+    MatchResult f.verdict (λ v. IsAudited f.journals.faults (journals_of f.journals) receipts v) (λ fault. IsFault (opened empty) f.journals.faults (journals_of f.journals) receipts (fault_of fault))
 
 -- the journals are of version 2
 abbrev pub AreVersion2 : List Log → Type 0

@@ -10,6 +10,7 @@ ghost use Rattle.ep_host.specs.RingFinishing.{replicas_in, their_journals, their
 ghost use Rattle.ep_rules.specs.Audits.{IsAccepted};
 ghost use Rattle.ep_rules.specs.Verdicts.{AreOwn};
 ghost use Rattle.ep_rules.specs.declared.receipt.Receipt.{Receipt};
+ghost use Rattle.ep_rules.specs.OneMap.{opened, empty};
 
 use crate::link::Link;
 use crate::putting::place;
@@ -117,8 +118,8 @@ pub(crate) fn look_at_all(nodes: &mut [RingNode])
 /// are: a law, for which both ends of every ring are looked at.
 pub fn are_accepted(nodes: &mut [RingNode])
     requires { (f : ℕ) × IsHost f nodes.old }
-    ensures accepted { (f : ℕ) (receipts : List Receipt) → IsHost f nodes.old → AreOwn f (their_journals (replicas_in nodes.old)) receipts → IsAccepted f (their_journals (replicas_in nodes.old)) receipts }
-    ensures own { (f : ℕ) → IsHost f nodes.old → AreOwn f (their_journals (replicas_in nodes.old)) (their_receipts (replicas_in nodes.old)) }
+    ensures accepted { (f : ℕ) (receipts : List Receipt) → IsHost f nodes.old → AreOwn (opened empty) f (their_journals (replicas_in nodes.old)) receipts → IsAccepted (opened empty) f (their_journals (replicas_in nodes.old)) receipts }
+    ensures own { (f : ℕ) → IsHost f nodes.old → AreOwn (opened empty) f (their_journals (replicas_in nodes.old)) (their_receipts (replicas_in nodes.old)) }
     ensures host { (f : ℕ) → IsHost f nodes.old → IsHost f nodes.new }
     ensures replicas { replicas_in nodes.new ≡ replicas_in nodes.old }
 {

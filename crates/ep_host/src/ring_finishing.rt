@@ -9,6 +9,7 @@ ghost use Rattle.ep_host.specs.Finishing.{IsFinished};
 ghost use Rattle.ep_host.specs.Host.{IsHost, AllBegin, AllFrom};
 ghost use Rattle.ep_host.specs.RingFinishing.{replicas_in, entries_in, their_journals, their_receipts, logs_of};
 ghost use Rattle.ep_rules.specs.Verdicts.{AreOwn};
+ghost use Rattle.ep_rules.specs.OneMap.{opened, empty};
 
 use crate::account::taken_was_sent;
 use crate::finished::Finished;
@@ -42,7 +43,7 @@ fn collected(alloc: Global, nodes: Vec<RingNode>) -> Result<Vec<Journal>, AllocE
 
 /// The audit of journals with receipts that it accepts.
 fn accepted(alloc: Global, journals: &Journals, receipts: &[Receipt]) -> Result<Verdict, AllocError>
-    requires { IsAccepted journals.now.faults (journals_of journals.now) receipts.now }
+    requires { IsAccepted (opened empty) journals.now.faults (journals_of journals.now) receipts.now }
     ensures { IfOk result (λ v. IsAudited journals.now.faults (journals_of journals.now) receipts.now v) }
 {
     match audit(alloc, journals, receipts) {
@@ -73,7 +74,7 @@ pub fn finish_with(
     mut nodes: Vec<RingNode>,
     receipts: &[Receipt],
 ) -> Result<Finished, AllocError>
-    requires { (f : ℕ) × IsHost f nodes.items × AreOwn f (their_journals (replicas_in nodes.items)) receipts.now }
+    requires { (f : ℕ) × IsHost f nodes.items × AreOwn (opened empty) f (their_journals (replicas_in nodes.items)) receipts.now }
     ensures finished { IfOk result (IsFinished receipts.now) }
     ensures accepted { IfOk result (λ r. IsOk r.verdict) }
     ensures version { IfOk result (λ r. r.journals.version ≡ V2) }

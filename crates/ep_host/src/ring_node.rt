@@ -1,6 +1,7 @@
 //! A node of a ring host.
 
 ghost use Rattle.std.specs.Prelude.{◌≡◌};
+ghost use Rattle.ep_rules.specs.OneMap.{opened, empty};
 
 use crate::acting::{act, handle, pop};
 use crate::host_fault::HostFault;
@@ -260,7 +261,7 @@ impl RingNode {
     /// The receipts that the replica gave after this entry, in order: of what was proposed and executed here.
     pub fn receipts_after(&self, alloc: Global, entry: u32) -> Result<Vec<Receipt>, AllocError>
         ensures told { IfOk result (λ ts. ts.items ≡ receipts_after self.now.replica.me entry (entries_of self.now.replica.entries)) }
-        ensures own { IfOk result (λ ts. (t : Told) → In t ts.items → IsOwn self.now.replica.faults self.now.replica.me (entries_of self.now.replica.entries) t) }
+        ensures own { IfOk result (λ ts. (t : Told) → In t ts.items → IsOwn (opened empty) self.now.replica.faults self.now.replica.me (entries_of self.now.replica.entries) t) }
     {
         // Nothing is done with these: that the entries are a run, and that some replica may fail, is known by asking.
         let _run = self.replica.journal().entries();

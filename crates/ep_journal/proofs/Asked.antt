@@ -12,7 +12,7 @@ use Rattle.ep_phase.specs.Known.{known_of}
 use Rattle.ep_phase.specs.Leads.{Leads}
 use Rattle.ep_rules.specs.Cells.{SpaceFull}
 use Rattle.ep_rules.specs.InterferenceSet.{interference}
-use Rattle.ep_rules.specs.OneMap.{Contents}
+use Rattle.ep_rules.specs.OneMap.{Store}
 use Rattle.ep_rules.specs.Phases.{propose}
 use Rattle.ep_rules.specs.States.{free_number}
 use Rattle.ep_rules.specs.Steps.{at, handled, proposed, screened, Handle as Handles}
@@ -25,7 +25,7 @@ use Rattle.ep_journal.specs.declared.event.Event.TheVariants.{Propose, Handle, G
 use Rattle.ep_journal.specs.declared.input.Input.TheVariants as input
 use Rattle.ep_journal.specs.declared.parts.Parts.{Parts}
 
-handled_same : (me : ℕ) (s : Records) (l : Leads) (done : List ℕ) (store : Contents) (from : ℕ) (m : Message) →
+handled_same : (me : ℕ) (s : Records) (l : Leads) (done : List ℕ) (store : Store) (from : ℕ) (m : Message) →
     at (instance_of_message m) (handled s.faults me from (state_of s l done store) m) ≡ at (instance_of_message m) (handled_at (known_of me s l (instance_of_message m)) from m)
 handled_same me s l done store from (PreAccept i b x) = refl
 handled_same me s l done store from (PreAcceptOk i b a) = refl

@@ -5,7 +5,7 @@ use Rattle.ep_exec.specs.Refusal.{Refuses}
 use Rattle.ep_exec.specs.declared.plan_fault.PlanFault.{PlanFault}
 use Rattle.ep_exec.specs.declared.plan_fault.PlanFault.TheVariants.{Memory as PlanMemory, NotCommitted as PlanNotCommitted}
 use Rattle.ep_rules.specs.Graph.{Graph}
-use Rattle.ep_rules.specs.OneMap.{Contents, after_all, answers_of}
+use Rattle.ep_rules.specs.OneMap.{Store, after_all, answers_of}
 use Rattle.ep_rules.specs.Order.{IsPlan}
 use Rattle.ep_rules.specs.States.{command_in, graph_in}
 use Rattle.ep_rules.specs.Steps.{order_of, answers_in}
@@ -24,7 +24,7 @@ pub order_fresh : (g : Graph) (root : ℕ) (order added executed before : List �
 order_fresh g root order added executed before plan new same = subst (λ is. AreFresh before is) (sym new) (subst (λ is. AreFresh is order) (sym same) (fresh_plan g executed root order plan))
 
 -- the order, done in turn and added to what was executed, is the root's execution
-pub executed_whole : (s : Records) (root : ℕ) (order tried added executed before executed' : List ℕ) (store store' : Contents) (done : List (ℕ × Answer)) →
+pub executed_whole : (s : Records) (root : ℕ) (order tried added executed before executed' : List ℕ) (store store' : Store) (done : List (ℕ × Answer)) →
     IsPlan (graph_in s.records) executed root order → tried ≡ order → done ≡ done_by (command_in s.records) store tried → store' ≡ after_all (command_in s.records) store tried →
     added ≡ order → before ≡ executed → executed' ≡ before ++ added → IsExecuted s root done executed store executed' store'
 executed_whole s root order tried added executed before executed' store store' done plan all is map new kept listed =

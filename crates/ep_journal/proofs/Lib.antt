@@ -1,5 +1,6 @@
-pub mod Early
-pub mod EarlyExecution
+pub mod Answering
+pub mod Holding
+pub mod Planned
 pub mod Fresh
 pub mod DoneBy
 pub mod Spelling

@@ -1,97 +1,59 @@
--- Frames that are written one after the other.
-use Rattle.std.proofs.Common.{◌≡◌, ◌≢◌, ℕ, zero, suc, ◌+◌, ◌-◌, ◌<◌, ◌≤◌, Bool, true, false, cond, List, [], ◌∷◌, ◌++◌, length, refl, sym, ap, subst, arith}
-use Rattle.std.proofs.lemmas.List.{append-nil, length-append}
+-- The frames of one message to several replicas.
+use Rattle.std.proofs.Common.{◌≡◌, ◌≢◌, ℕ, suc, ◌+◌, ◌≤◌, Bool, true, false, cond, List, [], ◌∷◌, ◌++◌, length, refl, sym, ap, subst, ◌∙◌, arith}
+use Rattle.std.specs.List.{AllByRecursion}
+use Rattle.std.proofs.lemmas.List.{append-nil}
 use Rattle.ep_base.specs.Fitting.{BallotsFit}
+use Rattle.ep_base.specs.Versions.{CanSay}
 use Rattle.ep_base.specs.declared.message.Message.{Message}
 use Rattle.ep_base.specs.declared.version.Version.{Version}
-use Rattle.ep_base.specs.Versions.{CanSay}
-use Rattle.ep_frame.specs.Spelling.{Spells}
+use Rattle.ep_frame.specs.Rounds.{AreFramesTo}
 use Rattle.ep_rules.specs.Counting.{to_those}
 use Rattle.ep_rules.specs.Fitting.{AllFit}
 use Rattle.ep_rules.specs.Steps.{sent_from}
-use Rattle.ep_journal.specs.Early.{AllSayable}
 use Rattle.ep_journal.specs.Events.{AreSpelled}
+use Rattle.ep_journal.specs.Holding.{AllSayable}
+use Rattle.ep_journal.specs.Several.{to_each}
 
--- as many frames as messages
-pub as_many : (v : Version) (n stamp k me : ℕ) (bs : List (List ℕ)) (ms : List (ℕ × Message)) → AreSpelled v n stamp k bs (sent_from me ms) → length bs ≡ length ms
-as_many v n stamp k me [] [] h = refl
-as_many v n stamp k me [] (m ∷ ms) h = absurd h
-as_many v n stamp k me (b ∷ bs) [] h = absurd h
-as_many v n stamp k me (b ∷ bs) (m ∷ ms) h = ap suc (as_many v n stamp (suc k) me bs ms h.1)
+-- they are the frames of what is sent
+pub each_spelled : (v : Version) (n stamp k me : ℕ) (m : Message) (rs : List ℕ) (bs : List (List ℕ)) → AreFramesTo v me m n stamp k rs bs → AreSpelled v n stamp k bs (sent_from me (to_each rs m))
+each_spelled v n stamp k me m [] [] h = tt
+each_spelled v n stamp k me m [] (b ∷ bs) h = absurd h
+each_spelled v n stamp k me m (r ∷ rs) [] h = absurd h
+each_spelled v n stamp k me m (r ∷ rs) (b ∷ bs) h = (h.0, each_spelled v n stamp (suc k) me m rs bs h.1)
 
--- one frame more, at the next place
-pub one_more : (v : Version) (n stamp k me : ℕ) (bs : List (List ℕ)) (ms : List (ℕ × Message)) (b : List ℕ) (to place : ℕ) (m : Message) → AreSpelled v n stamp k bs (sent_from me ms) → place ≡ k + length bs →
-    Spells v b me (record { to = to; out = place; entry = n; stamp = stamp }) m → AreSpelled v n stamp k (bs ++ b ∷ []) (sent_from me (ms ++ (to, m) ∷ []))
-one_more v n stamp k me [] [] b to place m h is s = let at : place ≡ k = omega (arith, is) in (subst (λ p. Spells v b me (record { to = to; out = p; entry = n; stamp = stamp }) m) at s, tt)
-one_more v n stamp k me [] (x ∷ xs) b to place m h is s = absurd h
-one_more v n stamp k me (c ∷ bs) [] b to place m h is s = absurd h
-one_more v n stamp k me (c ∷ bs) (x ∷ xs) b to place m h is s = let at : place ≡ suc k + length bs = omega (arith, is) in (h.0, one_more v n stamp (suc k) me bs xs b to place m h.1 at s)
+-- each receiver is another replica
+pub each_apart : (me : ℕ) (m : Message) (rs : List ℕ) → AllFit me (to_each rs m) → AllByRecursion (λ r. r ≢ me) rs
+each_apart me m [] h = tt
+each_apart me m (r ∷ rs) h = (h.0, each_apart me m rs h.2)
 
--- what is sent to one that passes
-fit_last : (me r : ℕ) (ms : List (ℕ × Message)) (m : Message) → AllFit me (ms ++ (r, m) ∷ []) → (r ≢ me) × BallotsFit m
-fit_last me r [] m h = (h.0, h.1)
-fit_last me r (x ∷ xs) m h = fit_last me r xs m h.2
+-- where there is one, the message has a spelling, and the version can say it
+pub each_fits : (me : ℕ) (m : Message) (rs : List ℕ) → 1 ≤ length rs → AllFit me (to_each rs m) → BallotsFit m
+each_fits me m [] some h = absurd (omega (arith, some))
+each_fits me m (r ∷ rs) some h = h.1
 
-fit_front : (me : ℕ) (ms more : List (ℕ × Message)) → AllFit me (ms ++ more) → AllFit me ms
-fit_front me [] more h = tt
-fit_front me (x ∷ xs) more h = (h.0, h.1, fit_front me xs more h.2)
+pub each_sayable : (v : Version) (m : Message) (rs : List ℕ) → 1 ≤ length rs → AllSayable v (to_each rs m) → CanSay v m
+each_sayable v m [] some h = absurd (omega (arith, some))
+each_sayable v m (r ∷ rs) some h = h.0
 
--- where all of them fit, so do those below r
-fit_below : (me : ℕ) (p : ℕ → Bool) (m : Message) (r k n : ℕ) → n ≡ k + r → AllFit me (to_those p n m) → AllFit me (to_those p r m)
-fit_below me p m r zero n e h = let is : n ≡ r = omega (arith, e) in subst (λ j. AllFit me (to_those p j m)) is h
-fit_below me p m r (suc k) n e h =
-    let is : n ≡ suc (k + r) = omega (arith, e) in
-    fit_below me p m r k (k + r) refl (fit_front me (to_those p (k + r) m) _ (subst (λ j. AllFit me (to_those p j m)) is h))
+each_more : (rs : List ℕ) (r : ℕ) (m : Message) → to_each (rs ++ r ∷ []) m ≡ to_each rs m ++ (r, m) ∷ []
+each_more [] r m = refl
+each_more (s ∷ rs) r m = ap (λ (ms : List (ℕ × Message)). (s, m) ∷ ms) (each_more rs r m)
 
-pub fit_at : (me : ℕ) (p : ℕ → Bool) (m : Message) (r n : ℕ) → r < n → p r ≡ true → AllFit me (to_those p n m) → (r ≢ me) × BallotsFit m
-fit_at me p m r n less passes h =
-    let e : n ≡ (n - suc r) + suc r = omega (arith, less) in
-    let here : AllFit me (to_those p (suc r) m) = fit_below me p m (suc r) (n - suc r) n e h in
-    fit_last me r (to_those p r m) m (subst (λ c. AllFit me (to_those p r m ++ cond c ((r, m) ∷ []) [])) passes here)
+-- one receiver more
+pub each_added : (p : Bool) (rs rs' : List ℕ) (r q : ℕ) (m : Message) → p ≡ true → rs' ≡ rs ++ q ∷ [] → q ≡ r → to_each rs' m ≡ to_each rs m ++ cond p ((r, m) ∷ []) []
+each_added p rs rs' r q m passes is same =
+    ap (λ (xs : List ℕ). to_each xs m) is ∙ each_more rs q m ∙ ap (λ (s : ℕ). to_each rs m ++ (s, m) ∷ []) same ∙ sym (ap (λ (b : Bool). to_each rs m ++ cond b ((r, m) ∷ []) []) passes)
 
--- so of what the version can say
-said_last : (v : Version) (r : ℕ) (ms : List (ℕ × Message)) (m : Message) → AllSayable v (ms ++ (r, m) ∷ []) → CanSay v m
-said_last v r [] m h = h.0
-said_last v r (x ∷ xs) m h = said_last v r xs m h.1
+pub each_passed : (p : Bool) (rs : List ℕ) (r : ℕ) (m : Message) → p ≡ false → to_each rs m ≡ to_each rs m ++ cond p ((r, m) ∷ []) []
+each_passed p rs r m fails = sym (append-nil (to_each rs m)) ∙ sym (ap (λ (b : Bool). to_each rs m ++ cond b ((r, m) ∷ []) []) fails)
 
-said_front : (v : Version) (ms more : List (ℕ × Message)) → AllSayable v (ms ++ more) → AllSayable v ms
-said_front v [] more h = tt
-said_front v (x ∷ xs) more h = (h.0, said_front v xs more h.1)
+-- those below the next number
+pub those_next : (p : ℕ → Bool) (r : ℕ) (m : Message) (rs rs' : List ℕ) → to_each rs m ≡ to_those p r m → to_each rs' m ≡ to_each rs m ++ cond (p r) ((r, m) ∷ []) [] → to_each rs' m ≡ to_those p (r + 1) m
+those_next p r m rs rs' before is =
+    let next : suc r ≡ r + 1 = omega arith in
+    is ∙ ap (λ (ms : List (ℕ × Message)). ms ++ cond (p r) ((r, m) ∷ []) []) before ∙ ap (λ (j : ℕ). to_those p j m) next
 
-said_below : (v : Version) (p : ℕ → Bool) (m : Message) (r k n : ℕ) → n ≡ k + r → AllSayable v (to_those p n m) → AllSayable v (to_those p r m)
-said_below v p m r zero n e h = let is : n ≡ r = omega (arith, e) in subst (λ j. AllSayable v (to_those p j m)) is h
-said_below v p m r (suc k) n e h =
-    let is : n ≡ suc (k + r) = omega (arith, e) in
-    said_below v p m r k (k + r) refl (said_front v (to_those p (k + r) m) _ (subst (λ j. AllSayable v (to_those p j m)) is h))
-
-pub said_at : (v : Version) (p : ℕ → Bool) (m : Message) (r n : ℕ) → r < n → p r ≡ true → AllSayable v (to_those p n m) → CanSay v m
-said_at v p m r n less passes h =
-    let e : n ≡ (n - suc r) + suc r = omega (arith, less) in
-    let here : AllSayable v (to_those p (suc r) m) = said_below v p m (suc r) (n - suc r) n e h in
-    said_last v r (to_those p r m) m (subst (λ c. AllSayable v (to_those p r m ++ cond c ((r, m) ∷ []) [])) passes here)
-
-one_at_most : (b : Bool) (n : ℕ) (m : Message) → length (cond {A = List (ℕ × Message)} b ((n, m) ∷ []) []) ≤ 1
-one_at_most true n m = omega arith
-one_at_most false n m = omega arith
-
-pub those_few : (p : ℕ → Bool) (n : ℕ) (m : Message) → length (to_those p n m) ≤ n
-those_few p zero m = omega arith
-those_few p (suc n) m =
-    let last : List (ℕ × Message) = cond (p n) ((n, m) ∷ []) [] in
-    let rest : length (to_those p n m) ≤ n = those_few p n m in
-    let one : length last ≤ 1 = one_at_most (p n) n m in
-    omega (arith, length-append (to_those p n m) last)
-
--- r passes, and its frame was written next
-pub next_spelled : (v : Version) (n stamp me : ℕ) (p : ℕ → Bool) (r : ℕ) (m : Message) (items items' : List (List ℕ)) (b : List ℕ) → p r ≡ true → AreSpelled v n stamp 0 items (sent_from me (to_those p r m)) → items' ≡ items ++ b ∷ [] →
-    Spells v b me (record { to = r; out = length items; entry = n; stamp = stamp }) m → AreSpelled v n stamp 0 items' (sent_from me (to_those p (suc r) m))
-next_spelled v n stamp me p r m items items' b passes h is s =
-    let place : length items ≡ 0 + length items = omega arith in
-    let more : AreSpelled v n stamp 0 (items ++ b ∷ []) (sent_from me (to_those p r m ++ (r, m) ∷ [])) = one_more v n stamp 0 me items (to_those p r m) b r (length items) m h place s in
-    subst (λ bs. AreSpelled v n stamp 0 bs (sent_from me (to_those p (suc r) m))) (sym is) (subst (λ c. AreSpelled v n stamp 0 (items ++ b ∷ []) (sent_from me (to_those p r m ++ cond c ((r, m) ∷ []) []))) (sym passes) more)
-
--- r doesn't
-pub skip_spelled : (v : Version) (n stamp me : ℕ) (p : ℕ → Bool) (r : ℕ) (m : Message) (items : List (List ℕ)) → p r ≡ false → AreSpelled v n stamp 0 items (sent_from me (to_those p r m)) → AreSpelled v n stamp 0 items (sent_from me (to_those p (suc r) m))
-skip_spelled v n stamp me p r m items fails h =
-    let same : AreSpelled v n stamp 0 items (sent_from me (to_those p r m ++ [])) = subst (λ ms. AreSpelled v n stamp 0 items (sent_from me ms)) (sym (append-nil (to_those p r m))) h in
-    subst (λ c. AreSpelled v n stamp 0 items (sent_from me (to_those p r m ++ cond c ((r, m) ∷ []) []))) (sym fails) same
+-- where there is no receiver, there is no frame
+pub none_spelled : (v : Version) (n stamp me : ℕ) (m : Message) (rs : List ℕ) (bs : List (List ℕ)) (ms : List (ℕ × Message)) → length rs ≤ 0 → to_each rs m ≡ ms → bs ≡ [] → AreSpelled v n stamp 0 bs (sent_from me ms)
+none_spelled v n stamp me m [] bs ms none is empty = subst (λ (x : List (ℕ × Message)). AreSpelled v n stamp 0 bs (sent_from me x)) is (subst (λ (y : List (List ℕ)). AreSpelled v n stamp 0 y []) (sym empty) tt)
+none_spelled v n stamp me m (r ∷ rs) bs ms none is empty = absurd (omega (arith, none))

@@ -2,6 +2,7 @@
 use Rattle.std.proofs.Common.{◌≡◌, inl, inr, ℕ, suc, ◌≤◌, Bool, true, false, cond, leb, arith, List, [], ◌∷◌, Option, Some, None, Result, Ok, Err, IfOk, IfErr, OnErr, refl, sym, ap, subst, ◌∙◌, append-nil}
 use Rattle.std.proofs.lemmas.Bool.{leb-true}
 use Rattle.std.specs.Prelude.{IsErrAnd}
+use Rattle.std.specs.List.{AllByRecursion}
 use Rattle.ep_base.specs.Instances.{number_of}
 use Rattle.ep_base.specs.Versions.{highest_in, knows, CanSay}
 use Rattle.ep_base.specs.declared.version.Version.{Version}
@@ -17,10 +18,10 @@ use Rattle.ep_phase.specs.Leads.{Leads}
 use Rattle.ep_rules.specs.Cells.{Change, Refusal}
 use Rattle.ep_rules.specs.Journals as rules
 use Rattle.ep_rules.specs.Journals.{messages_of, AreMarked}
-use Rattle.ep_rules.specs.OneMap.{Contents}
+use Rattle.ep_rules.specs.OneMap.{Store, answers_of}
 use Rattle.ep_rules.specs.Order.{IsPlan}
-use Rattle.ep_rules.specs.States.{State, free_number, graph_in}
-use Rattle.ep_rules.specs.Steps.{Sent, Frame, order_of, screened, sent_by, IsTaken, IsStep, changed_by}
+use Rattle.ep_rules.specs.States.{State, command_in, free_number, graph_in}
+use Rattle.ep_rules.specs.Steps.{Sent, Frame, order_of, answers_in, screened, sent_by, IsTaken, IsStep, changed_by}
 use Rattle.ep_space.specs.Records.{Records}
 use Rattle.ep_base.specs.Fitting.{BallotsFit, VoteFits}
 use Rattle.ep_base.specs.declared.reply.Answer.{Answer}
@@ -29,8 +30,8 @@ use Rattle.ep_frame.specs.Spelling.{IsMessage, IsVote}
 use Rattle.ep_rules.specs.Fitting.{EventFits}
 use Rattle.ep_rules.proofs.Closed.{leaves_closed}
 use Rattle.ep_rules.proofs.Fitting.{leaves_fit}
-use Rattle.ep_journal.specs.Early.{Holds, HasEvent}
-use Rattle.ep_journal.specs.Entries.{entry_of, frames_at, AreFrames, AreFramesIn, AreNumbersIn}
+use Rattle.ep_journal.specs.Holding.{Holds, HasEvent}
+use Rattle.ep_journal.specs.Entries.{entry_of, frames_at, AreFrames, AreFramesIn, AreNumbersIn, IsAnswerIn, AreAnswersIn}
 use Rattle.ep_journal.specs.Events.{frame_at, event_of, IsReadable, AreSpelled, lacking, numbered_in, spelled_in}
 use Rattle.ep_journal.specs.Executing.{IsExecuted, IsUnexecuted}
 use Rattle.ep_journal.specs.Inputs.{IsWritable}
@@ -48,8 +49,9 @@ use Rattle.ep_journal.specs.declared.parts.Parts.{Parts}
 use Rattle.ep_journal.specs.declared.step_fault.StepFault.{StepFault}
 use Rattle.ep_journal.specs.declared.step_fault.StepFault.TheVariants.{Memory, OutOfRange, NotMine, OtherVersion, StampFull, SpaceFull, SeqExhausted, NotLeading, TooFewAnswers, AlreadyCommitted, BallotsExhausted, NotCommitted}
 use Rattle.ep_journal.proofs.Asked.{request_full}
-use Rattle.ep_journal.proofs.Early.{acts_held, leaves_held}
-use Rattle.ep_journal.proofs.EarlyExecution.{planned_early}
+use Rattle.ep_journal.proofs.Answering.{answers_open}
+use Rattle.ep_journal.proofs.Holding.{acts_in, command_known, leaves_held}
+use Rattle.ep_journal.proofs.Planned.{planned_in}
 use Rattle.ep_journal.proofs.Writable.{step_writable}
 
 -- Frames.
@@ -98,7 +100,7 @@ pub record Moved (v : Version) (me : ℕ) (s s' : State) (mark : Mark) (out : Li
   pub sent : AreSpelled v mark.number mark.stamp 0 out (sent_by me r)
   pub changed : changed_by s r ≡ s'
 
-moved : (v : Version) (me : ℕ) (s s' : Records) (l l' : Leads) (done : List ℕ) (store : Contents) (mark : Mark) (out : List (List ℕ)) (r : Result (ℕ × Change) Refusal) →
+moved : (v : Version) (me : ℕ) (s s' : Records) (l l' : Leads) (done : List ℕ) (store : Store) (mark : Mark) (out : List (List ℕ)) (r : Result (ℕ × Change) Refusal) →
     Acted r v me mark (known s l) (known s' l') out → Moved v me (state_of s l done store) (state_of s' l' done store) mark out r
 moved v me s s' l l' done store mark out (Err e) h = absurd h
 moved v me s s' l l' done store mark out (Ok p) h =
@@ -110,8 +112,7 @@ abbrev sent : List (List ℕ) → Taken
 sent out = record { frames = out; done = [] }
 
 none_numbered : (v : Version) → AreNumbersIn v []
-none_numbered V1 = tt
-none_numbered V2 = tt
+none_numbered v = tt
 
 -- what is asked by an event and done is the event's step
 advanced : (p p' : Parts) (event : Happening) (mark : Mark) (out : List (List ℕ)) (r : Result (ℕ × Change) Refusal) → IsAsked (standing_of p) event r → Moves r mark p (sent out) p' →
@@ -128,7 +129,7 @@ advanced p p' event mark out r a moves =
       marked = marked_spelled s.version (entry_of (entry_by mark event (sent out))) 0 out _ m.sent;
       readable = a.through.readable;
       frames = frames_spelled s.version mark.number mark.stamp 0 out _ m.sent;
-      versioned = record { event = a.through.versioned; frames = versions_spelled s.version mark.number mark.stamp 0 out _ m.sent; done = none_numbered s.version };
+      versioned = record { event = a.through.versioned; frames = versions_spelled s.version mark.number mark.stamp 0 out _ m.sent; done = none_numbered s.version; answers = tt };
       room = a.room;
       leaves = λ t. record {
         version = moves.version t;
@@ -251,8 +252,11 @@ steps_as s s' event e mark told is h = subst (λ x. Steps s x mark told s') (sym
 
 -- what is planned has numbers of the version
 numbers_planned : (v : Version) (s : State) (executed : List ℕ) (root : ℕ) (done : List (ℕ × Answer)) → Holds v s → IsPlan (graph_in s.records) executed root (order_of done) → AreNumbersIn v done
-numbers_planned V1 s executed root done held plan = planned_early s executed root (order_of done) held plan
-numbers_planned V2 s executed root done held plan = tt
+numbers_planned v s executed root done held plan = planned_in v s executed root (order_of done) held plan
+
+-- and the version has its answers
+answers_planned : (v : Version) (s : State) (done : List (ℕ × Answer)) → Holds v s → answers_in done ≡ answers_of (command_in s.records) s.store (order_of done) → AreAnswersIn v done
+answers_planned v s done held is = subst (λ (xs : List Answer). AllByRecursion (IsAnswerIn v) xs) (sym is) (answers_open v (command_in s.records) (command_known v s held) s.store (order_of done) held.unsealed)
 
 executed_here : (p p' : Parts) (m : Mark) (root : ℕ) (done : List (ℕ × Answer)) → Holds p.space.version (standing_of p).state → IsLet (standing_of p) (Execute root) →
     p'.me ≡ p.me → p'.space ≡ p.space → p'.lead ≡ p.lead → IsExecuted p.space root done p.executed.list p.store p'.executed.list p'.store →
@@ -265,7 +269,7 @@ executed_here p p' m root done held through me space lead h = record {
   marked = tt;
   readable = tt;
   frames = tt;
-  versioned = record { event = through.versioned; frames = tt; done = numbers_planned p.space.version (standing_of p).state p.executed.list root done held h.plan };
+  versioned = record { event = through.versioned; frames = tt; done = numbers_planned p.space.version (standing_of p).state p.executed.list root done held h.plan; answers = answers_planned p.space.version (standing_of p).state done held h.answers };
   room = tt;
   leaves = λ t. record {
     version = (space t).version;
@@ -374,5 +378,5 @@ stays s s' event mark (Err fault) h steps = subst IsSound (sym steps.1) h
 -- what is asked by an event that is let through has a spelling
 pub asked_writable : (s : Standing) (event : Happening) (r : Result (ℕ × Change) Refusal) → IsSound s → IsAsked s event r → IsWritable s.version s.me r
 asked_writable s event r sound a =
-    let held = acts_held s.version s.faults s.me s.state (event_of event) sound.held (event_had s.version event a.through.readable a.through.versioned) a.room in
+    let held = acts_in s.version s.state sound.held s.faults s.me (event_of event) (event_had s.version event a.through.readable a.through.versioned) a.room in
     subst (λ x. IsWritable s.version s.me x) a.asked (step_writable s.version s.faults s.me s.state (event_of event) sound.few sound.here sound.fits (event_fits event a.through.readable) a.through.unscreened held)

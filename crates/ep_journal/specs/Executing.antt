@@ -3,7 +3,7 @@ use Rattle.std.specs.Prelude.{◌≡◌, ℕ, List, [], ◌∷◌, ◌++◌}
 use Rattle.ep_base.specs.declared.command.Command.{Command}
 use Rattle.ep_base.specs.declared.reply.Answer.{Answer}
 use Rattle.ep_base.specs.Places.{Has}
-use Rattle.ep_rules.specs.OneMap.{Contents, after, after_all, answer, answers_of}
+use Rattle.ep_rules.specs.OneMap.{Store, after, after_all, answer, answers_of}
 use Rattle.ep_rules.specs.Order.{IsPlan, IsBlocked}
 use Rattle.ep_rules.specs.States.{command_in, graph_in}
 use Rattle.ep_rules.specs.Steps.{order_of, answers_in}
@@ -12,7 +12,7 @@ use Rattle.ep_journal.specs.declared.step_fault.StepFault.{StepFault}
 use Rattle.ep_journal.specs.declared.step_fault.StepFault.TheVariants.{Memory, OutOfRange, NotMine, OtherVersion, StampFull, SpaceFull, SeqExhausted, NotLeading, TooFewAnswers, AlreadyCommitted, BallotsExhausted, NotCommitted}
 
 -- the instances, each with its answer, where their commands are done in turn
-abbrev pub done_by : (ℕ → Command) → Contents → List ℕ → List (ℕ × Answer)
+abbrev pub done_by : (ℕ → Command) → Store → List ℕ → List (ℕ × Answer)
 done_by c m [] = []
 done_by c m (i ∷ is) = (i, answer m (c i)) ∷ done_by c (after m (c i)) is
 
@@ -22,7 +22,7 @@ AreFresh done [] = Unit {0}
 AreFresh done (i ∷ is) = (¬ Has done i) × AreFresh (done ++ (i ∷ [])) is
 
 -- from what was executed, and the map, the root was executed, the whole of what it waits for
-pub record IsExecuted (s : Records) (root : ℕ) (done : List (ℕ × Answer)) (executed : List ℕ) (store : Contents) (executed' : List ℕ) (store' : Contents) : Type 0 where
+pub record IsExecuted (s : Records) (root : ℕ) (done : List (ℕ × Answer)) (executed : List ℕ) (store : Store) (executed' : List ℕ) (store' : Store) : Type 0 where
   pub plan : IsPlan (graph_in s.records) executed root (order_of done)
   pub answers : answers_in done ≡ answers_of (command_in s.records) store (order_of done)
   pub order : executed' ≡ executed ++ order_of done

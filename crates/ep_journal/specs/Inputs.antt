@@ -15,7 +15,7 @@ use Rattle.ep_rules.specs.Fitting.{AllFit}
 use Rattle.ep_rules.specs.InterferenceSet.{interference}
 use Rattle.ep_rules.specs.Phases.{Outcome, propose, give_up, on_pre_accept, on_pre_accept_ok, on_accept, on_accept_ok, on_commit}
 use Rattle.ep_rules.specs.Recovery.{recover, on_prepare, on_prepare_ok, on_nack}
-use Rattle.ep_journal.specs.Early.{AllSayable}
+use Rattle.ep_journal.specs.Holding.{AllSayable}
 use Rattle.ep_journal.specs.declared.input.Input.{Input}
 use Rattle.ep_journal.specs.declared.input.Input.TheVariants.{Start, Message as Handles, GiveUp, Recover}
 

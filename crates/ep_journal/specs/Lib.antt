@@ -1,9 +1,10 @@
-pub mod Early
+pub mod Holding
 pub mod Executing
 pub mod Events
 pub mod Refused
 pub mod Parts
 pub mod Inputs
+pub mod Several
 pub mod Stepping
 pub mod Entries
 pub mod Standing

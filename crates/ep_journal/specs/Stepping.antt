@@ -5,7 +5,7 @@ use Rattle.ep_phase.specs.Known.{known_of}
 use Rattle.ep_rules.specs.Cells.{Change, Refusal}
 use Rattle.ep_rules.specs.States.{State, changed}
 use Rattle.ep_rules.specs.Steps.{at, acts, screened, sent_from, Executes}
-use Rattle.ep_journal.specs.Early.{HasRoom}
+use Rattle.ep_journal.specs.Holding.{HasRoom}
 use Rattle.ep_journal.specs.Events.{event_of, IsReadable, lacking, AreSpelled}
 use Rattle.ep_journal.specs.Inputs.{outcome_at}
 use Rattle.ep_journal.specs.Parts.{known}

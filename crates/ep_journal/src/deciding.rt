@@ -17,6 +17,7 @@ use ep_prepare::{on_nack, on_prepare, on_prepare_ok, recover};
 use std::alloc::Global;
 
 /// Decides what is asked of the cell's instance; nothing has changed then.
+#[inline(always)]
 pub(crate) fn decide(
     alloc: Global,
     cell: &Cell<'_>,
@@ -34,6 +35,7 @@ pub(crate) fn decide(
 }
 
 /// Decides what comes of the frame's message.
+#[inline(always)]
 #[tactic(auto, using(crate::proofs::Handled::handled_ok, crate::proofs::Handled::handled_refused))]
 fn handle(alloc: Global, cell: &Cell<'_>, frame: &FrameView<'_>) -> Result<Change, DecisionFault>
     ensures ok { IfOk result (λ ch. handled_at cell.now (sender_at frame.now) (message_at frame.now) ≡ Ok (change_of cell.now ch)) }
@@ -43,6 +45,7 @@ fn handle(alloc: Global, cell: &Cell<'_>, frame: &FrameView<'_>) -> Result<Chang
 }
 
 /// The same of a frame whose message is of this kind.
+#[inline(always)]
 #[tactic(auto, using(crate::proofs::Handled::rule_ok, crate::proofs::Handled::rule_refused))]
 fn handle_by(
     alloc: Global,

@@ -1,6 +1,6 @@
 //! The frames that a step sends.
 
-ghost use Rattle.std.specs.Prelude.{◌≡◌, ◌≢◌, ◌≤◌, ◌<◌, ◌+◌, [], ◌∷◌, IfOk, OnOk};
+ghost use Rattle.std.specs.Prelude.{◌≡◌, ◌≢◌, ◌≤◌, ◌+◌, ◌++◌, [], ◌∷◌, cond, length, IfOk, OnOk};
 ghost use Rattle.ep_base.specs.Fitting.{BallotsFit};
 ghost use Rattle.ep_base.specs.Messages.{says};
 ghost use Rattle.ep_base.specs.Quorums.{size};
@@ -10,14 +10,17 @@ ghost use Rattle.ep_rules.specs.Counting.{to_those};
 ghost use Rattle.ep_rules.specs.Fitting.{AllFit};
 ghost use Rattle.ep_rules.specs.Steps.{sent_from};
 ghost use Rattle.ep_frame.specs.Upgrading.{IsUpgradedFrame};
-ghost use Rattle.ep_journal.specs.Early.{AllSayable};
+ghost use Rattle.ep_journal.specs.Holding.{AllSayable};
 ghost use Rattle.ep_journal.specs.Events.{AreSpelled};
+ghost use Rattle.ep_base.specs.declared.message.Message.{Message};
 ghost use Rattle.ep_journal.specs.Inputs.{receives};
+ghost use Rattle.ep_journal.specs.Several.{to_each};
 ghost use Rattle.ep_journal.specs.Upgrading.{AreUpgradedFrames};
 
+use crate::chosen::Chosen;
 use crate::mark::Mark;
 use ep_base::{ReplicaId, Version};
-use ep_frame::{Frame, Origin, Telling, write_said};
+use ep_frame::{Frame, Origin, Round, Telling, write_each, write_said};
 use ep_phase::{Cell, Change, Receivers, is_fast};
 use std::alloc::{AllocError, Global};
 use std::marker::Model;
@@ -158,18 +161,50 @@ fn written_to(
     Ok(Frames { items })
 }
 
-/// The frames of what is told to each of several replicas, by rising receiver.
+/// The frames of what is told to each of several replicas, by rising receiver. They share one run of bytes.
 fn written_to_each(alloc: Global, cell: &Cell<'_>, told: &Told<'_>) -> Result<Frames, AllocError>
     requires number { 1 ≤ told.now.mark.number }
     requires fit { AllFit cell.now.me (to_those (receives cell.now told.now.to) (size cell.now.faults) (says told.now.telling.now.instance told.now.telling.now.said)) }
     requires said { AllSayable told.now.version (to_those (receives cell.now told.now.to) (size cell.now.faults) (says told.now.telling.now.instance told.now.telling.now.said)) }
     ensures { IfOk result (λ f. AreSpelled told.now.version told.now.mark.number told.now.mark.stamp 0 f (sent_from cell.now.me (to_those (receives cell.now told.now.to) (size cell.now.faults) (says told.now.telling.now.instance told.now.telling.now.said)))) }
 {
-    let mut items = Vec::with_capacity(alloc, 6)?;
-    for r in 0..cell.size().count() {
-        add_if(alloc, &mut items, cell, told, r)?;
+    let chosen = receivers_of(cell, told);
+    let receivers = chosen.as_slice();
+    if receivers.is_empty() {
+        return Ok(Frames::none(alloc));
     }
+    let round = Round {
+        entry: told.mark.number,
+        stamp: told.mark.stamp,
+        receivers,
+    };
+    let items = write_each(alloc, told.version, cell.me(), told.telling, &round)?;
     Ok(Frames { items })
+}
+
+/// The cluster's replicas that are receivers, by rising number.
+fn receivers_of(cell: &Cell<'_>, told: &Told<'_>) -> Chosen
+    ensures few { length result ≤ 7 }
+    ensures sent { (m : Message) → to_each result m ≡ to_those (receives cell.now told.now.to) (size cell.now.faults) m }
+{
+    let mut chosen = Chosen::none(cell.me());
+    for r in 0..cell.size().count() {
+        add_if(&mut chosen, cell, told, r);
+    }
+    chosen
+}
+
+/// Adds the replica of this number, if it is one of the receivers.
+#[tactic(auto, using(crate::proofs::Spelling::each_added, crate::proofs::Spelling::each_passed))]
+fn add_if(chosen: &mut Chosen, cell: &Cell<'_>, told: &Told<'_>, r: u8)
+    requires replica { r ≤ 6 }
+    requires room { length chosen.old ≤ r }
+    ensures few { length chosen.new ≤ r + 1 }
+    ensures sent { (m : Message) → to_each chosen.new m ≡ to_each chosen.old m ++ cond (receives cell.now told.now.to r) ((r, m) ∷ []) [] }
+{
+    if is_receiver(cell, told.to, r) {
+        chosen.push(replica(r));
+    }
 }
 
 /// Whether the replica is one of these receivers.
@@ -181,36 +216,6 @@ fn is_receiver(cell: &Cell<'_>, to: Receivers, replica: u8) -> bool
         Receivers::FastQuorum => is_fast(cell.size(), cell.id().replica(), replica),
         Receivers::Others => replica != cell.me().index(),
     }
-}
-
-/// Adds the frame to the replica of this number, if it is one of the receivers.
-fn add_if(
-    alloc: Global,
-    items: &mut Vec<Frame>,
-    cell: &Cell<'_>,
-    told: &Told<'_>,
-    r: u8,
-) -> Result<(), AllocError>
-    requires number { 1 ≤ told.now.mark.number }
-    requires replica { r ≤ 6 }
-    requires cluster { r < size cell.now.faults }
-    requires fit { AllFit cell.now.me (to_those (receives cell.now told.now.to) (size cell.now.faults) (says told.now.telling.now.instance told.now.telling.now.said)) }
-    requires said { AllSayable told.now.version (to_those (receives cell.now told.now.to) (size cell.now.faults) (says told.now.telling.now.instance told.now.telling.now.said)) }
-    requires before { AreSpelled told.now.version told.now.mark.number told.now.mark.stamp 0 items.old.items (sent_from cell.now.me (to_those (receives cell.now told.now.to) r (says told.now.telling.now.instance told.now.telling.now.said))) }
-    ensures { OnOk result (AreSpelled told.now.version told.now.mark.number told.now.mark.stamp 0 items.new.items (sent_from cell.now.me (to_those (receives cell.now told.now.to) (r + 1) (says told.now.telling.now.instance told.now.telling.now.said)))) }
-{
-    if !is_receiver(cell, told.to, r) {
-        return Ok(());
-    }
-    let origin = Origin {
-        to: replica(r),
-        out: items.len() as u16,
-        entry: told.mark.number,
-        stamp: told.mark.stamp,
-    };
-    let frame = write_said(alloc, told.version, cell.me(), told.telling, origin)?;
-    items.push(frame)?;
-    Ok(())
 }
 
 /// What an entry so marked tells, in this version, and whom.

@@ -13,6 +13,7 @@
 #![tactic(auto)]
 
 mod blocked;
+mod chosen;
 mod deciding;
 mod entry;
 mod event;

@@ -58,6 +58,7 @@ impl Parts {
     }
 
     /// Takes the step of an event, so marked: what came of it; or why it is refused. Where there is no mark, it is past its limits.
+    #[inline(always)]
     pub fn step(
         &mut self,
         alloc: Global,

@@ -7,10 +7,11 @@ use Rattle.ep_rules.specs.declared.receipt.Receipt.{Receipt}
 use Rattle.ep_replay.specs.declared.replayed.Replayed.{Replayed}
 use Rattle.ep_main.specs.Bundled.{IsPlayed, IsBundled}
 use Rattle.ep_main.specs.Outputs.{Output, Wrote}
+use Rattle.ep_rules.specs.OneMap.{opened, empty}
 
 pub bundled :
     (played : Replayed) (bytes : List ℕ) (zs : List ℕ) (out : Output) → bytes ≡ bundle_bytes played.journals played.receipts.items → IsPlayed zs played →
-    IsAccepted played.journals.faults (journals_of played.journals) played.receipts.items → Wrote out bytes → IsBundled zs out
+    IsAccepted (opened empty) played.journals.faults (journals_of played.journals) played.receipts.items → Wrote out bytes → IsBundled zs out
 bundled played bytes zs out same replay accepted wrote = record { played = played; replay = replay; accepted = accepted; wrote = subst (Wrote out) same wrote }
 
 -- the count of its receipts fits its field

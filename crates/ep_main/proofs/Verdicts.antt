@@ -21,6 +21,7 @@ use Rattle.ep_main.specs.declared.status.Status.{Status}
 use Rattle.ep_main.specs.declared.host.Host.{Host}
 use Rattle.ep_main.specs.declared.host.Host.TheVariants.{Lock, Ring}
 use Rattle.ep_main.specs.declared.status.Status.TheVariants.{Accepted, AuditRefused, Refused, OutOfMemory, Failed}
+use Rattle.ep_rules.specs.OneMap.{opened, empty}
 
 pub says_as : (a b : Emit) (ran : Ran) (status : Status) (text : List ℕ) → a ≡ b → SaysOfRun a ran status text → SaysOfRun b ran status text
 says_as a b ran status text is says = subst (λ e. SaysOfRun e ran status text) is says
@@ -31,15 +32,15 @@ pub accepted_in :
     IsAudited ran.finished.journals.faults (journals_of ran.finished.journals) ran.receipts.items v
 accepted_in ran v is finished =
     subst (λ (r : Result Verdict AuditFault). MatchResult r (λ v. IsAudited ran.finished.journals.faults (journals_of ran.finished.journals) ran.receipts.items v)
-    (λ fault. IsFault ran.finished.journals.faults (journals_of ran.finished.journals) ran.receipts.items (fault_of fault))) is finished
+    (λ fault. IsFault (opened empty) ran.finished.journals.faults (journals_of ran.finished.journals) ran.receipts.items (fault_of fault))) is finished
 
 -- the fault that it has is the first one
 pub refused_in :
     (ran : Ran) (e : AuditFault) → ran.finished.verdict ≡ Err e → IsFinished ran.receipts.items ran.finished →
-    IsFault ran.finished.journals.faults (journals_of ran.finished.journals) ran.receipts.items (fault_of e)
+    IsFault (opened empty) ran.finished.journals.faults (journals_of ran.finished.journals) ran.receipts.items (fault_of e)
 refused_in ran e is finished =
     subst (λ (r : Result Verdict AuditFault). MatchResult r (λ v. IsAudited ran.finished.journals.faults (journals_of ran.finished.journals) ran.receipts.items v)
-    (λ fault. IsFault ran.finished.journals.faults (journals_of ran.finished.journals) ran.receipts.items (fault_of fault))) is finished
+    (λ fault. IsFault (opened empty) ran.finished.journals.faults (journals_of ran.finished.journals) ran.receipts.items (fault_of fault))) is finished
 
 pub bundled_in :
     (ran : Ran) (v : Verdict) (text : List ℕ) → ran.finished.verdict ≡ Ok v → IsFinished ran.receipts.items ran.finished →

@@ -15,13 +15,14 @@ use Rattle.ep_main.specs.declared.asked.Emit.{Emit}
 use Rattle.ep_main.specs.declared.asked.Emit.TheVariants.{Report, Bundle}
 use Rattle.ep_main.specs.declared.status.Status.{Status}
 use Rattle.ep_main.specs.declared.status.Status.TheVariants.{Accepted, AuditRefused, Refused, OutOfMemory, Failed}
+use Rattle.ep_rules.specs.OneMap.{opened, empty}
 
 -- the audit accepts, and the text is this of its verdict; or it refuses, and the text is that of the first fault
 abbrev pub Judges : Collected → List Receipt → (Verdict → List ℕ) → (Fault → List ℕ) → Status → List ℕ → Type 0
 Judges journals receipts accepted refused Accepted text =
     (verdict : Verdict) × IsAudited journals.faults (journals_of journals) receipts verdict × (text ≡ accepted verdict)
 Judges journals receipts accepted refused AuditRefused text =
-    (fault : Fault) × IsFault journals.faults (journals_of journals) receipts fault × (text ≡ refused fault)
+    (fault : Fault) × IsFault (opened empty) journals.faults (journals_of journals) receipts fault × (text ≡ refused fault)
 Judges journals receipts accepted refused Refused text = ⊥
 Judges journals receipts accepted refused OutOfMemory text = ⊥
 Judges journals receipts accepted refused Failed text = ⊥

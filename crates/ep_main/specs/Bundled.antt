@@ -7,6 +7,7 @@ use Rattle.ep_script.specs.Plan.{Plan, script_of}
 use Rattle.ep_replay.specs.Outcome.{IsReplay}
 use Rattle.ep_replay.specs.declared.replayed.Replayed.{Replayed}
 use Rattle.ep_main.specs.Outputs.{Output, Wrote}
+use Rattle.ep_rules.specs.OneMap.{opened, empty}
 
 -- The bytes are a script, and this is what the protocol plays of it.
 pub record IsPlayed (zs : List ℕ) (played : Replayed) : Type 0 where
@@ -18,5 +19,5 @@ pub record IsPlayed (zs : List ℕ) (played : Replayed) : Type 0 where
 pub record IsBundled (zs : List ℕ) (out : Output) : Type 0 where
   pub played : Replayed
   pub replay : IsPlayed zs played
-  pub accepted : IsAccepted played.journals.faults (journals_of played.journals) played.receipts.items
+  pub accepted : IsAccepted (opened empty) played.journals.faults (journals_of played.journals) played.receipts.items
   pub wrote : Wrote out (bundle_bytes played.journals played.receipts.items)

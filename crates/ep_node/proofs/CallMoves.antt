@@ -16,6 +16,7 @@ use Rattle.ep_node.specs.Crashes.{Cluster, IsTaken, Move, Take, HandOut, ComeBac
 use Rattle.ep_node.proofs.CrashMoves.{at_same}
 use Rattle.ep_node.proofs.CrashTraces.{at_other}
 use Rattle.ep_node.proofs.Opened.{entries_of-take, length-entries_of}
+use Rattle.ep_rules.specs.OneMap.{opened, empty}
 
 entries_of-push : (es : List Entry) (e : Entry) → entries_of (es ++ e ∷ []) ≡ entries_of es ++ (entry_of e ∷ [])
 entries_of-push [] e = refl
@@ -27,8 +28,8 @@ module _ (f n : ℕ) (c : Cluster) (k : Kept) (h : IsNode f c k n) where
 
   taken : (event : Happening) (e : Entry) (k' : Kept) → Applied k event e k' → IsTaken f k.me (c.journal k.me) (entry_of e)
   taken event e k' a = record {
-    entry = subst (λ (es : List rules.Entry). IsEntry f k.me (left f k.me fresh_state es) (entry_of e)) (sym h.journal)
-        (subst (λ (g : ℕ). IsEntry g k.me (left g k.me fresh_state (entries_of k.entries)) (entry_of e)) h.faults a.step);
+    entry = subst (λ (es : List rules.Entry). IsEntry f k.me (left f k.me (fresh_state (opened empty)) es) (entry_of e)) (sym h.journal)
+        (subst (λ (g : ℕ). IsEntry g k.me (left g k.me (fresh_state (opened empty)) (entries_of k.entries)) (entry_of e)) h.faults a.step);
     number = a.number ∙ ap (λ (m : ℕ). m + 1) (sym count);
     stamp = subst (λ (es : List rules.Entry). e.stamp ≡ 1 + max (last_stamp es) (heard (event_of e.event))) (sym h.journal)
         (subst (λ (z : Happening). e.stamp ≡ 1 + max (last_stamp (entries_of k.entries)) (heard (event_of z))) (sym a.event) a.stamp);

@@ -10,6 +10,7 @@ use Rattle.ep_rules.specs.Worlds.{In}
 use Rattle.ep_rules.proofs.JournalsGrow.{local_runs_grow_lem, clocks_grow_lem}
 use Rattle.ep_rules.proofs.Merged.{in_left, in_right, in_split}
 use Rattle.ep_node.specs.Crashes.{Cluster, fresh_cluster, Move, Take, HandOut, ComeBack, IsMove, frames_in, with_at, moved, AreMoves, cluster_after, handed_out, IsBeginning, Lasts}
+use Rattle.ep_rules.specs.OneMap.{opened, empty}
 
 -- Beginnings.
 
@@ -48,10 +49,10 @@ clocked_front : (last : ℕ) (xs ys : List Entry) → AreClocked last (xs ++ ys)
 clocked_front last [] ys h = tt
 clocked_front last (x ∷ xs) ys h = (h.0, clocked_front x.stamp xs ys h.1)
 
-run_take : (f me n : ℕ) (es : List Entry) → IsLocalRun f me es → IsLocalRun f me (take n es)
+run_take : (f me n : ℕ) (es : List Entry) → IsLocalRun (opened empty) f me es → IsLocalRun (opened empty) f me (take n es)
 run_take f me n es h =
-    let whole : IsLocalRun f me (take n es ++ drop n es) = subst (IsLocalRun f me) (sym (take-append-drop n es)) h in
-    (numbered_front 1 0 (take n es) (drop n es) whole.0, steps_front f me fresh_state (take n es) (drop n es) whole.1)
+    let whole : IsLocalRun (opened empty) f me (take n es ++ drop n es) = subst (IsLocalRun (opened empty) f me) (sym (take-append-drop n es)) h in
+    (numbered_front 1 0 (take n es) (drop n es) whole.0, steps_front f me (fresh_state (opened empty)) (take n es) (drop n es) whole.1)
 
 pub numbered_take : (n : ℕ) (es : List Entry) → AreNumbered 1 0 es → AreNumbered 1 0 (take n es)
 numbered_take n es h = numbered_front 1 0 (take n es) (drop n es) (subst (AreNumbered 1 0) (sym (take-append-drop n es)) h)
@@ -88,7 +89,7 @@ pub record IsOut (c : Cluster) (m : Frame) : Type 0 where
 
 -- what holds of a cluster, whatever crashed
 pub record Holds (f : ℕ) (c : Cluster) : Type 0 where
-  pub local : (r : ℕ) → IsLocalRun f r (c.journal r)
+  pub local : (r : ℕ) → IsLocalRun (opened empty) f r (c.journal r)
   pub clocked : (r : ℕ) → AreClocked 0 (c.journal r)
   pub others : (r : ℕ) → size f ≤ r → c.journal r ≡ []
   pub within : (r : ℕ) → c.out r ≤ length (c.journal r)
@@ -155,8 +156,8 @@ module _ (f : ℕ) (c : Cluster) (h : Holds f c) where
   move_holds (Take r e) k =
       let new : List Entry = c.journal r ++ (e ∷ []) in
       record {
-        local = at_each (IsLocalRun f) r new c.journal (local_runs_grow_lem f r (c.journal r) e (h.local r) k.1.entry k.1.number (let s = k.1.stamp in omega arith) k.1.marked) h.local;
-        clocked = at_each (λ q es. AreClocked 0 es) r new c.journal (clocks_grow_lem (c.journal r) e (h.clocked r) k.1.stamp) h.clocked;
+        local = at_each (IsLocalRun (opened empty) f) r new c.journal (local_runs_grow_lem (opened empty) f r (c.journal r) e (h.local r) k.1.entry k.1.number (let s = k.1.stamp in omega arith) k.1.marked) h.local;
+        clocked = at_each (λ q es. AreClocked 0 es) r new c.journal (clocks_grow_lem 0 (c.journal r) e (h.clocked r) k.1.stamp) h.clocked;
         others = at_each (λ q es. size f ≤ q → es ≡ []) r new c.journal (λ ge. absurd (let lt = k.0 in omega arith)) h.others;
         within = at_each (λ q es. c.out q ≤ length es) r new c.journal (let le = h.within r in omega (arith, length-append (c.journal r) (e ∷ []))) h.within;
         handled = at_each (λ q es. (d : Entry) (m : Frame) → In d es → d.event ≡ Handle m → In m c.given) r new c.journal (taken_handles r e k.2) h.handled;
@@ -176,7 +177,7 @@ module _ (f : ℕ) (c : Cluster) (h : Holds f c) where
   move_holds (ComeBack r n) k =
       let kept : List Entry = take n (c.journal r) in
       record {
-        local = at_each (IsLocalRun f) r kept c.journal (run_take f r n (c.journal r) (h.local r)) h.local;
+        local = at_each (IsLocalRun (opened empty) f) r kept c.journal (run_take f r n (c.journal r) (h.local r)) h.local;
         clocked = at_each (λ q es. AreClocked 0 es) r kept c.journal (clocked_take n (c.journal r) (h.clocked r)) h.clocked;
         others = at_each (λ q es. size f ≤ q → es ≡ []) r kept c.journal (λ ge. absurd (let lt = k.0 in omega arith)) h.others;
         within = at_each (λ q es. c.out q ≤ length es) r kept c.journal (let le = k.1.least in omega (arith, length-take-le n (c.journal r) k.1.most)) h.within;

@@ -16,6 +16,7 @@ use Rattle.ep_node.specs.Crashes.{Cluster, fresh_cluster, Move, Take, HandOut, C
 use Rattle.ep_node.proofs.CrashMoves.{Holds, fresh_holds, move_holds, moves_hold, at_same, in_frames, in_drop, in_begins, take_begins, numbered_take}
 use Rattle.ep_node.proofs.CrashRuns.{steps_next}
 use Rattle.ep_node.proofs.CrashTraces.{at_other, out_next}
+use Rattle.ep_rules.specs.OneMap.{opened, empty}
 
 -- What is kept of each replica.
 
@@ -238,9 +239,9 @@ crashing_runs_are_linearizable_lem f some few moves k =
     let these : List Scheduled = standing [] moves in
     let h : Holds f c = moves_hold f fresh_cluster moves (fresh_holds f) k in
     let s : Stands c these = stands_after f fresh_cluster moves [] (fresh_holds f) (record { own = λ r. refl; sound = tt; given = λ m g. absurd g }) k in
-    let local : AreLocalRuns f c.journal = record { local = h.local; others = h.others } in
+    let local : AreLocalRuns (opened empty) f c.journal = record { local = h.local; others = h.others } in
     let below : (a : Scheduled) → In a these → a.replica < size f =
-    (λ a there. in_journal f c.journal a.replica a.entry local (subst (λ es. In a.entry es) (s.own a.replica) (in_of a these there))) in
-    let played : ArePlayed f opening [] these = plays f c.out [] these opening below (λ r. subst (λ es. AreSteps f r fresh_state es) (sym (s.own r)) (h.local r).1) s.sound in
-    let run = played_is_a_run_lem f these played in
-    record { own = s.own; played = played; run = run; linearizable = linearizability_holds f some few (acts_of these) run }
+    (λ a there. in_journal (opened empty) f c.journal a.replica a.entry local (subst (λ es. In a.entry es) (s.own a.replica) (in_of a these there))) in
+    let played : ArePlayed f (opening (opened empty)) [] these = plays f c.out [] these (opening (opened empty)) below (λ r. subst (λ es. AreSteps f r (fresh_state (opened empty)) es) (sym (s.own r)) (h.local r).1) s.sound in
+    let run = played_is_a_run_lem (opened empty) f these played in
+    record { own = s.own; played = played; run = run; linearizable = linearizability_holds (opened empty) f some few (acts_of these) run }

@@ -11,6 +11,7 @@ use Rattle.ep_rules.proofs.JournalsGrow.{left_grows}
 use Rattle.ep_node.specs.Crashes.{IsTaken, Cluster, fresh_cluster, Take, HandOut, IsMove, frames_in, moved, PlayedRunsAreMoves}
 use Rattle.ep_node.proofs.CrashMoves.{at_same}
 use Rattle.ep_node.proofs.CrashTraces.{Leads, leads_on}
+use Rattle.ep_rules.specs.OneMap.{opened, empty}
 
 -- The entry after these, in a numbered and in a clocked journal.
 
@@ -34,7 +35,7 @@ handed_more es e =
 
 -- the world, its frames and the cluster are at one point, and these are still to be played
 record Meets (f : ℕ) (w : World) (frames : List Frame) (c : Cluster) (these : List Scheduled) : Type 0 where
-  pub states : (r : ℕ) → w.states r ≡ left f r fresh_state (c.journal r)
+  pub states : (r : ℕ) → w.states r ≡ left f r (fresh_state (opened empty)) (c.journal r)
   pub given : c.given ≡ frames
   pub out : (r : ℕ) → c.out r ≡ length (c.journal r)
   pub numbered : (r : ℕ) → AreNumbered 1 0 (c.journal r ++ of r these)
@@ -74,13 +75,13 @@ module _ (f : ℕ) (w : World) (frames : List Frame) (c : Cluster) (a : Schedule
       go true e = subst (λ p. c.journal p ++ (a.entry ∷ of p these) ≡ (es ++ (a.entry ∷ [])) ++ of p these) (eqb-true r q e) (sym (append_assoc es (a.entry ∷ []) (of r these)))
       go false e = refl
 
-  state_next : (q : ℕ) → (worlds.moved f w (act_of a)).states q ≡ left f q fresh_state (given.journal q)
+  state_next : (q : ℕ) → (worlds.moved f w (act_of a)).states q ≡ left f q (fresh_state (opened empty)) (given.journal q)
   state_next q = go (eqb r q) refl
     where
-      go : (b : Bool) → eqb r q ≡ b → cond b (leaves f q (w.states q) a.entry.event a.entry.done) (w.states q) ≡ left f q fresh_state (cond b (es ++ (a.entry ∷ [])) (c.journal q))
+      go : (b : Bool) → eqb r q ≡ b → cond b (leaves f q (w.states q) a.entry.event a.entry.done) (w.states q) ≡ left f q (fresh_state (opened empty)) (cond b (es ++ (a.entry ∷ [])) (c.journal q))
       go true e =
-          subst (λ p. leaves f p (w.states p) a.entry.event a.entry.done ≡ left f p fresh_state (es ++ (a.entry ∷ []))) (eqb-true r q e)
-          (ap (λ s. leaves f r s a.entry.event a.entry.done) (m.states r) ∙ sym (left_grows f r fresh_state es a.entry))
+          subst (λ p. leaves f p (w.states p) a.entry.event a.entry.done ≡ left f p (fresh_state (opened empty)) (es ++ (a.entry ∷ []))) (eqb-true r q e)
+          (ap (λ s. leaves f r s a.entry.event a.entry.done) (m.states r) ∙ sym (left_grows f r (fresh_state (opened empty)) es a.entry))
       go false e = m.states q
 
   longer : length (taken.journal r) ≡ length es + 1
@@ -135,6 +136,6 @@ makes f (a ∷ these) w frames c played m =
 
 pub played_runs_are_moves_lem : PlayedRunsAreMoves
 played_runs_are_moves_lem f schedule played numbered clocked =
-    let start : Meets f opening [] fresh_cluster schedule = record { states = λ r. refl; given = refl; out = λ r. refl; numbered = numbered; clocked = clocked } in
-    let t = makes f schedule opening [] fresh_cluster played start in
+    let start : Meets f (opening (opened empty)) [] fresh_cluster schedule = record { states = λ r. refl; given = refl; out = λ r. refl; numbered = numbered; clocked = clocked } in
+    let t = makes f schedule (opening (opened empty)) [] fresh_cluster played start in
     (t.leads.moves, t.leads.calm, t.leads.are, λ r. ap (λ (c : Cluster). c.journal r) t.leads.ends ∙ t.journal r)

@@ -15,12 +15,13 @@ use Rattle.ep_rules.specs.Steps.{Frame}
 use Rattle.ep_rules.specs.Verdicts.{committed_by, command_at, history_of, IsReply, IsOwn, AreOwn}
 use Rattle.ep_rules.specs.Worlds.{opening, In, IsRun, ends}
 use Rattle.ep_rules.specs.declared.receipt.Receipt.{Receipt}
+use Rattle.ep_rules.specs.OneMap.{opened, empty}
 
 -- One node.
 
 -- the entry goes on from these entries: the next step, numbered next, stamped by the clock, with its frames marked
 pub record IsTaken (f me : ℕ) (es : List Entry) (e : Entry) : Type 0 where
-  pub entry : IsEntry f me (left f me fresh_state es) e
+  pub entry : IsEntry f me (left f me (fresh_state (opened empty)) es) e
   pub number : e.number ≡ length es + 1
   pub stamp : e.stamp ≡ 1 + max (last_stamp es) (heard e.event)
   pub marked : AreMarked e 0 e.out
@@ -95,15 +96,15 @@ handed_out c r = take (c.out r) (c.journal r)
 -- the nodes' entries are the journals of one run without a crash, whose states the nodes have
 pub record IsOneRun (f : ℕ) (c : Cluster) : Type 0 where
   pub schedule : List Scheduled
-  pub merges : Merges f c.journal schedule
-  pub run : IsRun f opening (acts_of schedule)
-  pub states : (r : ℕ) → (ends f opening (acts_of schedule)).states r ≡ left f r fresh_state (c.journal r)
+  pub merges : Merges (opened empty) f c.journal schedule
+  pub run : IsRun f (opening (opened empty)) (acts_of schedule)
+  pub states : (r : ℕ) → (ends f (opening (opened empty)) (acts_of schedule)).states r ≡ left f r (fresh_state (opened empty)) (c.journal r)
   -- what was handed out of stands, and the run has sent each frame that was handed out
   pub within : (r : ℕ) → c.out r ≤ length (c.journal r)
-  pub given : (m : Frame) → In m c.given → WasSent c.journal m × In m.sent (ends f opening (acts_of schedule)).sent
+  pub given : (m : Frame) → In m c.given → WasSent c.journal m × In m.sent (ends f (opening (opened empty)) (acts_of schedule)).sent
   -- no audit of them finds a fault
   pub clocked : (r : ℕ) → AreClocked 0 (c.journal r)
-  pub accepted : (receipts : List Receipt) → AreOwn f c.journal receipts → IsAccepted f c.journal receipts
+  pub accepted : (receipts : List Receipt) → AreOwn (opened empty) f c.journal receipts → IsAccepted (opened empty) f c.journal receipts
 
 -- What is left of a run with crashes is a run without.
 abbrev pub CrashingRunsAreRuns : Type 0
@@ -129,9 +130,9 @@ standing these (m ∷ ms) = standing (stand_after m these) ms
 -- the entries, in this order, are the nodes', and a linearizable run
 pub record IsInRealTime (f : ℕ) (c : Cluster) (these : List Scheduled) : Type 0 where
   pub own : (r : ℕ) → of r these ≡ c.journal r
-  pub played : ArePlayed f opening [] these
-  pub run : IsRun f opening (acts_of these)
-  pub linearizable : IsLinearizable f (acts_of these)
+  pub played : ArePlayed f (opening (opened empty)) [] these
+  pub run : IsRun f (opening (opened empty)) (acts_of these)
+  pub linearizable : IsLinearizable (opened empty) f (acts_of these)
 
 -- What stands of a run with crashes is linearizable, in the order in which it was taken.
 abbrev pub CrashingRunsAreLinearizable : Type 0
@@ -156,7 +157,7 @@ CrashesLeaveNoTrace =
 -- Whatever a world plays by the clock, moves without a crash lead to: the runs with crashes have all runs without.
 abbrev pub PlayedRunsAreMoves : Type 0
 PlayedRunsAreMoves =
-    (f : ℕ) (schedule : List Scheduled) → ArePlayed f opening [] schedule → ((r : ℕ) → AreNumbered 1 0 (of r schedule)) → ((r : ℕ) → AreClocked 0 (of r schedule)) →
+    (f : ℕ) (schedule : List Scheduled) → ArePlayed f (opening (opened empty)) [] schedule → ((r : ℕ) → AreNumbered 1 0 (of r schedule)) → ((r : ℕ) → AreClocked 0 (of r schedule)) →
     (moves : List Move) × IsCalm moves × AreMoves f fresh_cluster moves × ((r : ℕ) → (cluster_after fresh_cluster moves).journal r ≡ of r schedule)
 
 -- What was handed out.
@@ -182,14 +183,14 @@ AtTwoPoints P =
 
 -- what the entries that r was handed out of commit in instance i
 abbrev pub CommittedOut : ℕ → Cluster → ℕ → ℕ → Decree → Type 0
-CommittedOut f c r i x = committed_in (left f r fresh_state (handed_out c r)).records i ≡ Some x
+CommittedOut f c r i x = committed_in (left f r (fresh_state (opened empty)) (handed_out c r)).records i ≡ Some x
 
 -- What was handed out of a node and what any node commits later agree: its own commits stay, no two of one instance differ, and of two that interfere one depends on the other.
 pub record AgreeOver (f : ℕ) (before after : Cluster) : Type 0 where
-  pub stays : (r i : ℕ) (x : Decree) → CommittedOut f before r i x → committed_by f after.journal r i ≡ Some x
-  pub agree : (i r q : ℕ) (x y : Decree) → CommittedOut f before r i x → committed_by f after.journal q i ≡ Some y → x ≡ y
+  pub stays : (r i : ℕ) (x : Decree) → CommittedOut f before r i x → committed_by (opened empty) f after.journal r i ≡ Some x
+  pub agree : (i r q : ℕ) (x y : Decree) → CommittedOut f before r i x → committed_by (opened empty) f after.journal q i ≡ Some y → x ≡ y
   pub depend :
-      (i j r q : ℕ) (x y : Decree) → i ≢ j → CommittedOut f before r i x → committed_by f after.journal q j ≡ Some y →
+      (i j r q : ℕ) (x y : Decree) → i ≢ j → CommittedOut f before r i x → committed_by (opened empty) f after.journal q j ≡ Some y →
       interfere x.command y.command ≡ true → Has x.attrs.deps j ⊎ Has y.attrs.deps i
 
 abbrev pub CrashesKeepAgreement : Type 0
@@ -199,21 +200,21 @@ CrashesKeepAgreement = AtTwoPoints AgreeOver
 
 -- the receipt was handed out of the replica that proposed and executed its command
 abbrev pub IsHandedOut : ℕ → Cluster → Receipt → Type 0
-IsHandedOut f c t = (r : ℕ) × IsOwn f r (handed_out c r) t
+IsHandedOut f c t = (r : ℕ) × IsOwn (opened empty) f r (handed_out c r) t
 
 -- Receipts that were handed out are right at every later point.
 pub record ReceiptsStay (f : ℕ) (before after : Cluster) : Type 0 where
   -- their replicas' entries have them still, and no audit finds a fault in them
-  pub own : (r : ℕ) (t : Receipt) → IsOwn f r (handed_out before r) t → IsOwn f r (after.journal r) t
-  pub accepted : (receipts : List Receipt) → ((t : Receipt) → In t receipts → IsHandedOut f before t) → IsAccepted f after.journal receipts
+  pub own : (r : ℕ) (t : Receipt) → IsOwn (opened empty) f r (handed_out before r) t → IsOwn (opened empty) f r (after.journal r) t
+  pub accepted : (receipts : List Receipt) → ((t : Receipt) → In t receipts → IsHandedOut f before t) → IsAccepted (opened empty) f after.journal receipts
   -- each answer is one map's reply to the history of that point
   pub replies :
       (schedule : List Scheduled) → IsSchedule after.journal schedule → (t : Receipt) → IsHandedOut f before t →
-      IsReply (command_at f after.journal) (history_of (command_at f after.journal) schedule) t.instance t.answer
+      IsReply (opened empty) (command_at (opened empty) f after.journal) (history_of (command_at (opened empty) f after.journal) schedule) t.instance t.answer
   -- there, what a client proposes after it saw an earlier receipt's stamp stands after that receipt's command
   pub order :
       (schedule : List Scheduled) → IsSchedule after.journal schedule → (t u : Receipt) → IsHandedOut f after t → IsHandedOut f before u → u.stamp ≤ t.seen →
-      let h = history_of (command_at f after.journal) schedule in
+      let h = history_of (command_at (opened empty) f after.journal) schedule in
       Has h t.instance → Has h u.instance → place h u.instance < place h t.instance
 
 abbrev pub CrashesKeepReceipts : Type 0

@@ -67,7 +67,8 @@ pub(crate) const TAIL: &[u8] = b"</script>
 <script>
 'use strict';
 // What the page has is what `epaxos show` writes: a line an entry. All else is read off its words.
-const lines = JSON.parse(document.getElementById('shown').textContent).split('\\n').filter(line => line);
+const told = JSON.parse(document.getElementById('shown').textContent).split('\\n').filter(line => line);
+const lines = told.filter(line => line.startsWith('stamp '));
 const colors = {PreAccept: '#0b62a8', PreAcceptOK: '#0b62a8', Accept: '#a04a00', AcceptOK: '#a04a00', Commit: '#0a7a4b', Prepare: '#7a2ea0', PrepareOK: '#7a2ea0', Nack: '#444'};
 const letters = {PreAccept: 'PA', PreAcceptOK: 'PAok', Accept: 'A', AcceptOK: 'Aok', Commit: 'C', Prepare: 'P', PrepareOK: 'Pok', Nack: 'N'};
 const pathColors = {fast: '#0a7a4b', slow: '#a04a00', recovered: '#7a2ea0', open: '#777'};
@@ -227,11 +228,13 @@ function keep() {
   clamp(); paint(); listRows();
 }
 
-const X = replica => LEFT + (replica + 0.5) * columnWidth * view.zoom + view.x;
+// (the replicas' lines stay apart, however many events are in sight)
+const across = zoom => columnWidth * Math.max(zoom, 0.4);
+const X = replica => LEFT + (replica + 0.5) * across(view.zoom) + view.x;
 const Y = place => TOP + (place + 0.7) * ROW * view.zoom + view.y;
 
 function clamp() {
-  const high = (rows.length + 1) * ROW * view.zoom, wide = LEFT + count * columnWidth * view.zoom;
+  const high = (rows.length + 1) * ROW * view.zoom, wide = LEFT + count * across(view.zoom);
   view.y = Math.min(0, Math.max(view.y, Math.min(0, view.height - TOP - high)));
   view.x = Math.min(0, Math.max(view.x, -wide));
 }
@@ -282,12 +285,14 @@ function draw() {
     }
     if (zoom >= 0.8) { const back = Math.min(long * 0.5, 52 * zoom); labels.push([it, ex - ux * back, ey - uy * back]); }
   }
+  c.globalAlpha = zoom < 0.1 ? 0.25 : 1;
   for (const kind in paths) {
     const {path, heads, dashed} = paths[kind];
     c.strokeStyle = colors[kind]; c.lineWidth = Math.max(0.5, (kind === 'Commit' ? 2.4 : 1.5) * Math.min(1, zoom));
     c.setLineDash(dashed && zoom > 0.3 ? [7, 4] : []); c.stroke(path);
     c.setLineDash([]); c.stroke(heads);
   }
+  c.globalAlpha = 1;
   // names of frames
   c.font = `${11 * Math.min(1.2, Math.max(0.8, zoom))}px ui-monospace,'DejaVu Sans Mono',monospace`;
   c.textAlign = 'center'; c.textBaseline = 'middle';
@@ -298,14 +303,15 @@ function draw() {
     c.fillStyle = colors[it.kind]; c.fillText(text, x, y);
   }
   // dots, stamps and words
-  const right = X(count - 1) + columnWidth * zoom * 0.5 + 10;
+  const right = X(count - 1) + across(zoom) * 0.5 + 10;
   for (let k = first; k <= last; k++) {
     const it = rows[k], x = X(it.replica), y = Y(k);
     if (it.commits) {
-      const s = dot + 3.5;
+      const s = dot + 3.5 * Math.min(1, 2 * zoom);
       c.fillStyle = pathColors[instances.get(it.commits).path];
       c.beginPath(); c.moveTo(x, y - s - 1); c.lineTo(x + s + 1, y); c.lineTo(x, y + s + 1); c.lineTo(x - s - 1, y); c.fill();
     }
+    if (zoom < 0.1) continue;
     c.beginPath(); c.arc(x, y, dot, 0, 7);
     c.fillStyle = it.kind === 'propose' ? '#222' : it.kind === 'give up' || it.kind === 'recover' ? '#bbb' : '#fff';
     c.fill(); c.strokeStyle = '#222'; c.lineWidth = (it.kind === 'execute' || it.done.length ? 3 : 1.4) * Math.min(1, zoom + 0.2); c.stroke();
@@ -323,7 +329,7 @@ function draw() {
   // names of replicas
   c.fillStyle = '#f5f7f9'; c.fillRect(0, 0, width, TOP - 4);
   c.fillStyle = '#222'; c.textAlign = 'center'; c.font = \"bold 13px system-ui,'DejaVu Sans',sans-serif\";
-  for (let r = 0; r < count; r++) c.fillText(columnWidth * zoom > 70 ? `replica ${r}` : r, X(r), TOP / 2);
+  for (let r = 0; r < count; r++) c.fillText(across(zoom) > 70 ? `replica ${r}` : r, X(r), TOP / 2);
   c.textAlign = 'left'; c.fillText('stamp', 8, TOP / 2);
 }
 
@@ -338,8 +344,9 @@ function resize() {
 }
 
 function zoomAt(factor, x, y) {
-  const zoom = Math.min(3, Math.max(0.02, view.zoom * factor)), by = zoom / view.zoom;
-  view.x = (x - LEFT) * (1 - by) + view.x * by;
+  const least = Math.min(0.02, (view.height - TOP) / ((rows.length + 1) * ROW));
+  const zoom = Math.min(3, Math.max(least, view.zoom * factor)), by = zoom / view.zoom, wider = across(zoom) / across(view.zoom);
+  view.x = (x - LEFT) * (1 - wider) + view.x * wider;
   view.y = (y - TOP) * (1 - by) + view.y * by;
   view.zoom = zoom;
   clamp(); paint();
@@ -467,6 +474,9 @@ for (const path of ['fast', 'slow', 'recovered']) if (ordered.some(it => it.path
   key.append(item);
 }
 if (arrows.some(it => it.to < 0)) key.append('\\u2715 never handled');
+
+// Where no entry is kept, `show` says of how many.
+if (!lines.length && told.length) words.textContent = told[0];
 
 new ResizeObserver(resize).observe(stage);
 resize();

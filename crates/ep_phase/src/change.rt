@@ -2,13 +2,12 @@
 
 ghost use Rattle.std.specs.Prelude.{◌≡◌, [], false, cond, None, Some, IsOk, OnOk, OnErr, IfSome, IfNone};
 ghost use Rattle.std.specs.Option.{option_copied};
-ghost use Rattle.ep_base.specs.Interference.{keys_of};
 ghost use Rattle.ep_base.specs.declared.message.Message.TheVariants.{Nack};
 ghost use Rattle.ep_rules.specs.Cells as rules;
 ghost use Rattle.ep_rules.specs.Maps.{get};
 ghost use Rattle.ep_rules.specs.States.{with_entry, with_led};
 ghost use Rattle.ep_space.specs.Held.{HasPlace};
-ghost use Rattle.ep_space.specs.Keys.{keys_at, NeedsNoRoom};
+ghost use Rattle.ep_space.specs.Keys.{index_keys, keys_at, NeedsNoRoom};
 ghost use Rattle.ep_space.specs.Records.{record_at};
 ghost use Rattle.ep_phase.specs.Changes.{adds_answer, change_of, decree_in, entry_of, led_of, message_in, new_record, sends, to_receivers, voted_decree, voted_for, HasRecordPlace, HasLeadPlace, HasToldPlace};
 ghost use Rattle.ep_phase.specs.Known.{Known, record_of};
@@ -112,6 +111,7 @@ impl Change {
 
     /// Puts the change in place. A vote for another key than before may take memory, and so may an answer more, which is all that changes
     /// then: at want of memory nothing has changed.
+    #[inline(always)]
     pub fn install(
         self,
         space: &mut Space,
@@ -125,7 +125,7 @@ impl Change {
         ensures leads { OnOk result (lead.new ≡ record lead.old { leads = with_led lead.old.leads id (led_of (get lead.old.leads id) self.led); told = with_entry lead.old.told id self.told }) }
         ensures records_stay { OnErr result (space.new ≡ space.old) }
         ensures leads_stay { OnErr result (lead.new ≡ lead.old) }
-        ensures succeeds { adds_answer self.led ≡ false → IfSome (voted_for self.entry) (λ x. NeedsNoRoom (keys_at space.old.records id) (keys_of x.command)) → IsOk result }
+        ensures succeeds { adds_answer self.led ≡ false → IfSome (voted_for self.entry) (λ x. NeedsNoRoom (keys_at space.old.records id) (index_keys x.command)) → IsOk result }
     {
         let Change {
             entry,
@@ -216,6 +216,7 @@ fn reserve_told(told: &Option<u16>, lead: &mut Lead, id: InstanceId) -> Result<(
 }
 
 /// Writes what is recorded and led. All that may fail comes first.
+#[inline(always)]
 fn write(
     space: &mut Space,
     lead: &mut Lead,
@@ -229,7 +230,7 @@ fn write(
     ensures leads { OnOk result (lead.new ≡ record lead.old { leads = with_led lead.old.leads id (led_of (get lead.old.leads id) led) }) }
     ensures records_stay { OnErr result (space.new ≡ space.old) }
     ensures leads_stay { OnErr result (lead.new ≡ lead.old) }
-    ensures succeeds { adds_answer led ≡ false → IfSome (voted_for entry) (λ x. NeedsNoRoom (keys_at space.old.records id) (keys_of x.command)) → IsOk result }
+    ensures succeeds { adds_answer led ≡ false → IfSome (voted_for entry) (λ x. NeedsNoRoom (keys_at space.old.records id) (index_keys x.command)) → IsOk result }
 {
     match led {
         Leading::Stays => write_record(space, id, entry),
@@ -252,7 +253,7 @@ fn write_record(space: &mut Space, id: InstanceId, entry: Recorded) -> Result<()
     requires { HasRecordPlace entry space.old.places id }
     ensures ok { OnOk result (space.new ≡ record space.old { records = with_entry space.old.records id (entry_of id (record_at space.old id) entry) }) }
     ensures err { OnErr result (space.new ≡ space.old) }
-    ensures succeeds { IfSome (voted_for entry) (λ x. NeedsNoRoom (keys_at space.old.records id) (keys_of x.command)) → IsOk result }
+    ensures succeeds { IfSome (voted_for entry) (λ x. NeedsNoRoom (keys_at space.old.records id) (index_keys x.command)) → IsOk result }
 {
     match entry {
         Recorded::Stays => Ok(()),

@@ -25,6 +25,7 @@ use Rattle.ep_rules.proofs.Places.{Once, once-append, once_filter, has_cons, has
 use Rattle.ep_replica.specs.Receipts.{own_proposal, proposal_of, receipt_of, receipts_for, receipts_of}
 use Rattle.ep_replica.specs.declared.proposal.Proposal.{Proposal}
 use Rattle.ep_replay.specs.Told.{instances_of}
+use Rattle.ep_rules.specs.OneMap.{opened, empty}
 
 -- Lists.
 
@@ -66,18 +67,18 @@ its_own me es i h = go (eqb (leader_of i) me) refl h
 -- Each instance has one receipt at most, which its leader gave, and executed it.
 
 abbrev executed_by : ℕ → Journals → ℕ → List ℕ
-executed_by f journal r = (left f r fresh_state (journal r)).executed
+executed_by f journal r = (left f r (fresh_state (opened empty)) (journal r)).executed
 
 pub record Sole (f : ℕ) (journal : Journals) (ts : List Receipt) : Type 0 where
-  pub steps : (r : ℕ) → AreSteps f r fresh_state (journal r)
+  pub steps : (r : ℕ) → AreSteps f r (fresh_state (opened empty)) (journal r)
   pub done : (i : ℕ) → Has (instances_of ts) i → Has (executed_by f journal (leader_of i)) i
   pub once : Once (instances_of ts)
 
 pub none_sole : (f : ℕ) (journal : Journals) → ((r : ℕ) → journal r ≡ []) → Sole f journal []
-none_sole f journal none = record { steps = λ r. subst (λ es. AreSteps f r fresh_state es) (sym (none r)) tt; done = λ i h. absurd (omega arith); once = tt }
+none_sole f journal none = record { steps = λ r. subst (λ es. AreSteps f r (fresh_state (opened empty)) es) (sym (none r)) tt; done = λ i h. absurd (omega arith); once = tt }
 
 -- one entry more, with its receipts
-module _ (f : ℕ) (old new : Journals) (ts : List Receipt) (r : ℕ) (e : Entry) (here : new r ≡ old r ++ (e ∷ [])) (other : (q : ℕ) → r ≢ q → new q ≡ old q) (step : IsEntry f r (left f r fresh_state (old r)) e) (s : Sole f old ts) where
+module _ (f : ℕ) (old new : Journals) (ts : List Receipt) (r : ℕ) (e : Entry) (here : new r ≡ old r ++ (e ∷ [])) (other : (q : ℕ) → r ≢ q → new q ≡ old q) (step : IsEntry f r (left f r (fresh_state (opened empty)) (old r)) e) (s : Sole f old ts) where
   abbrev told : List ℕ
   told = instances_of (receipts_of r (new r) e)
 
@@ -85,10 +86,10 @@ module _ (f : ℕ) (old new : Journals) (ts : List Receipt) (r : ℕ) (e : Entry
   told_is = these_told r (new r) e e.done
 
   executes : executed_by f new r ≡ executed_by f old r ++ order_of e.done
-  executes = ap (λ es. (left f r fresh_state es).executed) here ∙ ap (λ (t : State). t.executed) (left_grows f r fresh_state (old r) e)
+  executes = ap (λ es. (left f r (fresh_state (opened empty)) es).executed) here ∙ ap (λ (t : State). t.executed) (left_grows f r (fresh_state (opened empty)) (old r) e)
 
   once_here : Once (executed_by f old r ++ order_of e.done)
-  once_here = event_once (left f r fresh_state (old r)) e.event e.done step.step.executes (steps_once f r fresh_state (old r) (s.steps r) tt)
+  once_here = event_once (left f r (fresh_state (opened empty)) (old r)) e.event e.done step.step.executes (steps_once f r (fresh_state (opened empty)) (old r) (s.steps r) tt)
 
   told_here : (i : ℕ) → Has told i → Has (order_of e.done) i × (leader_of i ≡ r)
   told_here i h =
@@ -100,16 +101,16 @@ module _ (f : ℕ) (old new : Journals) (ts : List Receipt) (r : ℕ) (e : Entry
       let t = told_here i k in
       once_apart (executed_by f old r) (order_of e.done) i once_here (subst (λ q. Has (executed_by f old q) i) t.1 (s.done i h)) t.0
 
-  steps_after : (q : ℕ) → AreSteps f q fresh_state (new q)
+  steps_after : (q : ℕ) → AreSteps f q (fresh_state (opened empty)) (new q)
   steps_after q = elim (cases_eq r q) [
-    | inl is ↦ subst (λ z. AreSteps f z fresh_state (new z)) is (subst (λ es. AreSteps f r fresh_state es) (sym here) (steps_grow f r fresh_state (old r) e (s.steps r) step))
-    | inr ne ↦ subst (λ es. AreSteps f q fresh_state es) (sym (other q ne)) (s.steps q)
+    | inl is ↦ subst (λ z. AreSteps f z (fresh_state (opened empty)) (new z)) is (subst (λ es. AreSteps f r (fresh_state (opened empty)) es) (sym here) (steps_grow f r (fresh_state (opened empty)) (old r) e (s.steps r) step))
+    | inr ne ↦ subst (λ es. AreSteps f q (fresh_state (opened empty)) es) (sym (other q ne)) (s.steps q)
   ]
 
   still_done : (q i : ℕ) → Has (executed_by f old q) i → Has (executed_by f new q) i
   still_done q i h = elim (cases_eq r q) [
     | inl is ↦ subst (λ z. Has (executed_by f new z) i) is (subst (λ l. Has l i) (sym executes) (has_left (executed_by f old r) (order_of e.done) i (subst (λ z. Has (executed_by f old z) i) (sym is) h)))
-    | inr ne ↦ subst (λ es. Has (left f q fresh_state es).executed i) (sym (other q ne)) h
+    | inr ne ↦ subst (λ es. Has (left f q (fresh_state (opened empty)) es).executed i) (sym (other q ne)) h
   ]
 
   now_done : (i : ℕ) → Has told i → Has (executed_by f new (leader_of i)) i
@@ -129,12 +130,12 @@ module _ (f : ℕ) (old new : Journals) (ts : List Receipt) (r : ℕ) (e : Entry
 -- There are at most as many receipts as instances.
 
 -- what the journals' replicas propose is an instance
-proposed_instance : (f : ℕ) (journal : Journals) (i client request : ℕ) → f ≤ 3 → AreLocalRuns f journal → Proposes f (leader_of i) (journal (leader_of i)) i client request → IsInstance i
+proposed_instance : (f : ℕ) (journal : Journals) (i client request : ℕ) → f ≤ 3 → AreLocalRuns (opened empty) f journal → Proposes (opened empty) f (leader_of i) (journal (leader_of i)) i client request → IsInstance i
 proposed_instance f journal i client request small local p =
     let me : ℕ = leader_of i in
     let stands : In p.proposal (journal me) = subst (λ es. In p.proposal es) p.split (in_right p.proposal p.before (p.proposal ∷ p.rest) (inl refl)) in
-    let low : me < size f = in_journal f journal me p.proposal local stands in
-    let number : p.number < highest_number = (free_found (left f me fresh_state p.before).records me p.number p.free).0 in
+    let low : me < size f = in_journal (opened empty) f journal me p.proposal local stands in
+    let number : p.number < highest_number = (free_found (left f me (fresh_state (opened empty)) p.before).records me p.number p.free).0 in
     let is : instance_of me (p.number + 1) ≡ i = p.instance in
     (omega arith, omega arith, omega arith)
 
@@ -149,7 +150,7 @@ count_told : (ts : List Receipt) → length (instances_of ts) ≡ length ts
 count_told [] = refl
 count_told (t ∷ ts) = ap suc (count_told ts)
 
-pub few_receipts : (f : ℕ) (journal : Journals) (ts : List Receipt) → f ≤ 3 → AreLocalRuns f journal → IsAccepted f journal ts → Once (instances_of ts) → length ts ≤ most_deps
+pub few_receipts : (f : ℕ) (journal : Journals) (ts : List Receipt) → f ≤ 3 → AreLocalRuns (opened empty) f journal → IsAccepted (opened empty) f journal ts → Once (instances_of ts) → length ts ≤ most_deps
 few_receipts f journal ts small local accepted once =
     let few = few_instances (instances_of ts) once (are_instances ts (λ t h. (let k = (accepted.agree t h).known in proposed_instance f journal t.instance t.client t.request small local k.proposed))) in
     let count = count_told ts in

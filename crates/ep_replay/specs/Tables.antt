@@ -11,6 +11,7 @@ use Rattle.ep_replay.specs.declared.clients.Client.{Client}
 use Rattle.ep_replay.specs.declared.clients.Clients.{Clients}
 use Rattle.ep_replay.specs.declared.given.Given.{Given}
 use Rattle.ep_replay.specs.declared.player.Player.{Player}
+use Rattle.ep_rules.specs.OneMap.{opened, empty}
 
 -- Clients.
 
@@ -37,7 +38,7 @@ pub record AreFlagged (flags : Given) (given : List ℕ) : Type 0 where
 
 -- each is of a command that its replica proposed and executed
 abbrev pub AreOwn : Played → List Receipt → Type 0
-AreOwn w receipts = (t : Receipt) → In t receipts → (r : ℕ) × IsOwn w.faults r (journals_in w r) t
+AreOwn w receipts = (t : Receipt) → In t receipts → (r : ℕ) × IsOwn (opened empty) w.faults r (journals_in w r) t
 
 -- Players.
 

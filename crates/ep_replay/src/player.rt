@@ -13,6 +13,7 @@ ghost use Rattle.ep_replay.specs.Outcome.{IsReplay};
 ghost use Rattle.ep_replay.specs.Replays.{was_sent};
 ghost use Rattle.ep_replay.specs.Tables.{AreCounted, AreOwn};
 ghost use Rattle.ep_replay.specs.Told.{instances_of};
+ghost use Rattle.ep_rules.specs.OneMap.{opened, empty};
 
 use crate::causes::list;
 use crate::clients::Clients;
@@ -286,7 +287,7 @@ impl Player {
         ensures journals { IfOk result (λ d. d.journals ≡ collected self.world) }
         ensures receipts { IfOk result (λ d. d.receipts.items ≡ self.receipts.items) }
         ensures refused { IfOk result (λ d. d.refused.items ≡ self.refused.items) }
-        ensures accepted { IfOk result (λ d. AreOwn self.world self.receipts.items → IsAccepted d.journals.faults (journals_of d.journals) d.receipts.items) }
+        ensures accepted { IfOk result (λ d. AreOwn self.world self.receipts.items → IsAccepted (opened empty) d.journals.faults (journals_of d.journals) d.receipts.items) }
     {
         self.world.journals_are_accepted();
         let Player {
@@ -314,7 +315,7 @@ impl Player {
 /// each instance, so at most 14,000 in all. The audit accepts what a replay leaves.
 pub fn replay(alloc: Global, script: &Script) -> Result<Replayed, AllocError>
     ensures value { IfOk result (λ d. IsReplay script.now d) }
-    ensures accepted { IfOk result (λ d. IsAccepted d.journals.faults (journals_of d.journals) d.receipts.items) }
+    ensures accepted { IfOk result (λ d. IsAccepted (opened empty) d.journals.faults (journals_of d.journals) d.receipts.items) }
     ensures once { IfOk result (λ d. AreOnce (instances_of d.receipts.items)) }
     ensures few { IfOk result (λ d. length d.receipts.items ≤ 14000) }
 {

@@ -9,7 +9,7 @@ use Rattle.ep_rules.specs.States.{State}
 use Rattle.ep_rules.specs.Steps.{Event, Propose, Handle, GiveUp, Recover, Execute}
 use Rattle.ep_rules.proofs.JournalsGrow.{clocks_grow_lem}
 use Rattle.ep_rules.proofs.Local.{free_found}
-use Rattle.ep_journal.specs.Early.{HasRoom}
+use Rattle.ep_journal.specs.Holding.{HasRoom}
 use Rattle.ep_journal.specs.Entries.{Log, entry_of, entries_of, IsEntryIn, IsJournal}
 use Rattle.ep_journal.specs.Events.{event_of}
 use Rattle.ep_journal.specs.Leaving.{state_left, MarksNext, Continues}
@@ -50,7 +50,7 @@ journal_grows k event e k' j a = next_journal V2 k.faults k.me k.entries e j a.n
 pub clock_grows : (k : Kept) (event : Happening) (e : Entry) (k' : Kept) → AreClocked 0 (entries_of k.entries) → Applied k event e k' → AreClocked 0 (entries_of (k.entries ++ e ∷ []))
 clock_grows k event e k' h a =
     subst (λ xs. AreClocked 0 xs) (sym (entries_grow k.entries e))
-    (clocks_grow_lem (entries_of k.entries) (entry_of e) h (a.stamp ∙ ap (λ (h : Happening). next_stamp k.entries h) (sym a.event)))
+    (clocks_grow_lem 0 (entries_of k.entries) (entry_of e) h (a.stamp ∙ ap (λ (h : Happening). next_stamp k.entries h) (sym a.event)))
 
 mark_is : (number stamp : ℕ) (m : Mark) → Some m ≡ mark_of number stamp → (m.number ≡ number) × (m.stamp ≡ stamp)
 mark_is number stamp m is = go (ltb number 4294967296 && ltb stamp 281474976710656) is

@@ -34,6 +34,7 @@ use Rattle.ep_replica.specs.Blockers.{is_due, blocker_of, IsBlockedBy, Remembers
 use Rattle.ep_replica.specs.Kept.{Kept}
 use Rattle.ep_replica.specs.Pending.{state_of, IsPending, IsWaiting}
 use Rattle.ep_replica.proofs.Waking.{wakes_more}
+use Rattle.ep_rules.specs.OneMap.{opened, empty}
 
 -- Which instance a step may commit.
 
@@ -263,8 +264,8 @@ nothing_yet k due blockers new no_due no_blockers = record {
   blocked = λ n le. subst (λ bs. IfSome (blocker_of bs n) (IsBlockedBy k (instance_of k.me n))) (sym no_blockers) tt;
   found = λ n some le p. absurd (
       let i : ℕ = instance_of k.me n in
-      let fresh : committed_in (state_of k).records i ≡ committed_in fresh_state.records i = ap (λ es. committed_in (state_left k.faults k.me es).records i) new in
-      let nothing : committed_in fresh_state.records i ≡ None = ap (λ o. committed_decree (record_or_fresh i o).vote) (none_there i) in
+      let fresh : committed_in (state_of k).records i ≡ committed_in (fresh_state (opened empty)).records i = ap (λ es. committed_in (state_left k.faults k.me es).records i) new in
+      let nothing : committed_in (fresh_state (opened empty)).records i ≡ None = ap (λ o. committed_decree (record_or_fresh i o).vote) (none_there i) in
       let e : None ≡ Some p.decree = sym (fresh ∙ nothing) ∙ p.committed in
       cc);
 }

@@ -8,6 +8,7 @@ use Rattle.ep_rules.specs.Steps.{Frame, Event, Propose, Handle, GiveUp, Recover,
 use Rattle.ep_rules.specs.Verdicts.{Proposes, HasDone}
 use Rattle.ep_rules.specs.declared.receipt.Receipt.{Receipt}
 use Rattle.ep_replica.specs.declared.proposal.Proposal.{Proposal}
+use Rattle.ep_rules.specs.OneMap.{opened, empty}
 
 -- the proposal of instance i that an event with these frames is: the first frame is about the instance
 abbrev pub proposed_by : Event → List Frame → ℕ → Option Proposal
@@ -68,7 +69,7 @@ pub record IsSettled (f me : ℕ) (es : List Entry) (i : ℕ) : Type 0 where
   pub leader : leader_of i ≡ me
   pub client : ℕ
   pub request : ℕ
-  pub proposed : Proposes f me es i client request
+  pub proposed : Proposes (opened empty) f me es i client request
   pub number : ℕ
   pub stamp : ℕ
   pub answer : Answer

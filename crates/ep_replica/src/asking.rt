@@ -16,7 +16,7 @@ impl Replica {
     ///
     /// A local read, which may be old: other replicas may have executed more. A client's read is a command, which is proposed.
     pub fn get(&self, key: &Key) -> Option<&Value>
-        ensures { option_copied result ≡ value_at (state_of self.now).store key.now }
+        ensures { option_copied result ≡ value_at (state_of self.now).store.contents key.now }
     {
         self.journal().value(key)
     }

@@ -1,10 +1,10 @@
 -- What instances, commands and answers are printed as.
-use Rattle.std.specs.Prelude.{ℕ, List, [], ◌∷◌, ◌++◌, codes, decimal}
+use Rattle.std.specs.Prelude.{ℕ, Bool, true, false, List, [], ◌∷◌, ◌++◌, Option, Some, None, codes, decimal}
 use Rattle.ep_base.specs.Instances.{leader_of, number_of}
 use Rattle.ep_base.specs.declared.command.Command.{Command}
-use Rattle.ep_base.specs.declared.command.Command.TheVariants.{Noop, Get, Put, Del, Swap}
+use Rattle.ep_base.specs.declared.command.Command.TheVariants.{Noop, Get, Put, Del, Swap, Cas, Seal, Opaque}
 use Rattle.ep_base.specs.declared.reply.Reply.{Reply}
-use Rattle.ep_base.specs.declared.reply.Reply.TheVariants.{Absent, Present}
+use Rattle.ep_base.specs.declared.reply.Reply.TheVariants.{Absent, Present, Closed, Ordered}
 use Rattle.ep_base.specs.declared.reply.Answer.{Answer}
 use Rattle.ep_base.specs.declared.reply.Answer.TheVariants.{Lost, Told}
 use Rattle.ep_script.specs.Word.{word_of}
@@ -23,16 +23,36 @@ abbrev pub deps_text : List ℕ → List ℕ
 deps_text [] = codes "-"
 deps_text (i ∷ is) = instance_text i ++ more_deps is
 
+-- a value, or that there is none
+abbrev pub option_text : Option (List ℕ) → List ℕ
+option_text None = codes "%!"
+option_text (Some value) = word_of value
+
+-- a command of a machine outside is asked where it only reads
+abbrev pub request_text : Bool → List ℕ
+request_text true = codes "ask "
+request_text false = codes "act "
+
+-- a blank and the second key, where there is one
+abbrev pub second_key_text : Option (List ℕ) → List ℕ
+second_key_text None = []
+second_key_text (Some key) = codes " " ++ word_of key
+
 abbrev pub command_text : Command → List ℕ
 command_text Noop = codes "noop"
 command_text (Get key) = codes "get " ++ word_of key
 command_text (Put key value) = codes "put " ++ word_of key ++ codes " " ++ word_of value
 command_text (Del key) = codes "del " ++ word_of key
 command_text (Swap keys) = codes "swap " ++ word_of keys.first ++ codes " " ++ word_of keys.second
+command_text (Cas key expected new) = codes "cas " ++ word_of key ++ codes " " ++ option_text expected ++ codes " " ++ option_text new
+command_text (Seal value) = codes "seal " ++ word_of value
+command_text (Opaque own body) = request_text own.reads ++ word_of own.first ++ second_key_text own.second ++ codes " " ++ word_of body
 
 abbrev pub reply_text : Reply → List ℕ
 reply_text Absent = codes "absent"
 reply_text (Present value) = codes "present " ++ word_of value
+reply_text Closed = codes "closed"
+reply_text Ordered = codes "ordered"
 
 abbrev pub answer_text : Answer → List ℕ
 answer_text Lost = codes "lost"

@@ -1,10 +1,11 @@
 //! The parts of which lines are made.
 
 ghost use Rattle.std.specs.Prelude.{◌≡◌, ◌<◌, ◌≤◌, ◌+◌, ◌++◌, OnOk, decimal};
-ghost use Rattle.ep_report.specs.Parts.{instance_text, deps_text, more_deps, command_text, reply_text, answer_text};
+ghost use Rattle.std.specs.Option.{option_copied};
+ghost use Rattle.ep_report.specs.Parts.{instance_text, deps_text, more_deps, option_text, request_text, second_key_text, command_text, reply_text, answer_text};
 ghost use Rattle.ep_script.specs.Word.{word_of};
 
-use ep_base::{Answer, Command, Deps, InstanceId, KeyPair, Reply};
+use ep_base::{Answer, Command, Deps, Footprint, InstanceId, Key, KeyPair, Reply, Value};
 use ep_script::push_word;
 use itoa::Buffer;
 use std::alloc::AllocError;
@@ -101,6 +102,9 @@ pub fn push_command(text: &mut Vec<u8>, command: &Command) -> Result<(), AllocEr
         Command::Put(key, value) => push_put(text, key.as_slice(), value.as_slice()),
         Command::Del(key) => push_spelled(text, b"del ", key.as_slice()),
         Command::Swap(keys) => push_swap(text, keys),
+        Command::Cas { key, expected, new } => push_cas(text, key, expected, new),
+        Command::Seal(value) => push_spelled(text, b"seal ", value.as_slice()),
+        Command::Opaque(own, body) => push_opaque(text, own, body),
     }
 }
 
@@ -118,6 +122,61 @@ fn push_swap(text: &mut Vec<u8>, keys: &KeyPair) -> Result<(), AllocError>
     push_spelled(text, b" ", keys.second().as_slice())
 }
 
+fn push_cas(
+    text: &mut Vec<u8>,
+    key: &Key,
+    expected: &Option<Value>,
+    new: &Option<Value>,
+) -> Result<(), AllocError>
+    ensures { OnOk result (text.new.items ≡ text.old.items ++ command_text (Command.Cas key.now expected.now new.now)) }
+{
+    push_spelled(text, b"cas ", key.as_slice())?;
+    text.push(b' ')?;
+    push_option(text, expected)?;
+    text.push(b' ')?;
+    push_option(text, new)
+}
+
+// Appends a value, or that there is none.
+fn push_option(text: &mut Vec<u8>, value: &Option<Value>) -> Result<(), AllocError>
+    ensures { OnOk result (text.new.items ≡ text.old.items ++ option_text value.now) }
+{
+    match value {
+        None => text.extend_from_slice(b"%!"),
+        Some(value) => push_word(text, value.as_slice()),
+    }
+}
+
+fn push_opaque(text: &mut Vec<u8>, own: &Footprint, body: &Value) -> Result<(), AllocError>
+    ensures { OnOk result (text.new.items ≡ text.old.items ++ command_text (Command.Opaque own.now body.now)) }
+{
+    push_request(text, own.only_reads())?;
+    push_word(text, own.first().as_slice())?;
+    push_second_key(text, own.second())?;
+    push_spelled(text, b" ", body.as_slice())
+}
+
+// Appends how a machine outside is asked.
+fn push_request(text: &mut Vec<u8>, only_reads: bool) -> Result<(), AllocError>
+    ensures { OnOk result (text.new.items ≡ text.old.items ++ request_text only_reads) }
+{
+    if only_reads {
+        text.extend_from_slice(b"ask ")
+    } else {
+        text.extend_from_slice(b"act ")
+    }
+}
+
+// Appends a blank and the second key, where there is one.
+fn push_second_key(text: &mut Vec<u8>, key: Option<&Key>) -> Result<(), AllocError>
+    ensures { OnOk result (text.new.items ≡ text.old.items ++ second_key_text (option_copied key.entry)) }
+{
+    match key {
+        None => Ok(()),
+        Some(key) => push_spelled(text, b" ", key.as_slice()),
+    }
+}
+
 // Appends a text, and then a word of bytes.
 fn push_spelled(text: &mut Vec<u8>, before: &[u8], bytes: &[u8]) -> Result<(), AllocError>
     ensures { OnOk result (text.new.items ≡ text.old.items ++ before.now ++ word_of bytes.now) }
@@ -133,6 +192,8 @@ pub fn push_reply(text: &mut Vec<u8>, reply: &Reply) -> Result<(), AllocError>
     match reply {
         Reply::Absent => text.extend_from_slice(b"absent"),
         Reply::Present(value) => push_spelled(text, b"present ", value.as_slice()),
+        Reply::Closed => text.extend_from_slice(b"closed"),
+        Reply::Ordered => text.extend_from_slice(b"ordered"),
     }
 }
 

@@ -1,3 +1,5 @@
 pub mod Playing
 pub mod Rows
 pub mod OneByOne
+pub mod Compared
+pub mod Seals

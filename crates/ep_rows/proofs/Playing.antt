@@ -1,9 +1,16 @@
 -- Playing a list of events, in which a message is named by its place among those sent (from 1).
 use Rattle.std.proofs.Common.{ℕ, pred, List, [], ◌∷◌, ◌++◌, Option, Some, None, slice_get}
 use Rattle.std.specs.Prelude.{Result, Ok, Err}
+use Rattle.ep_base.specs.Instances.{instance_of}
+use Rattle.ep_base.specs.declared.attrs.Attrs.{Attrs}
 use Rattle.ep_base.specs.declared.command.Command.{Command}
+use Rattle.ep_base.specs.declared.command.Command.TheVariants.{Get, Put}
+use Rattle.ep_base.specs.declared.decree.Decree.{Decree}
 use Rattle.ep_base.specs.declared.reply.Answer.{Answer}
 use Rattle.ep_rules.specs.Cells.{Change, Refusal, OutOfRange}
+use Rattle.ep_rows.specs.OneMap.{Contents, empty, opened}
+use Rattle.ep_rows.specs.Operations.{Operation}
+use Rattle.ep_rows.specs.States.{committed_in}
 use Rattle.ep_rows.specs.Steps.{Sent, Event, Propose, Handle, GiveUp, Recover, Execute, screened, acts}
 use Rattle.ep_rows.specs.Worlds.{World, opening, Act, moved}
 
@@ -56,9 +63,35 @@ abbrev pub play : ℕ → Played → List Line → Played
 play f p [] = p
 play f p (l ∷ ls) = play f (take f p (act_of p.world l)) ls
 
+-- nothing is played yet, and each map has these contents
+abbrev pub opening_on : Contents → Played
+opening_on m = record { world = opening (opened m); acts = []; refused = [] }
+
 abbrev pub fresh : Played
-fresh = record { world = opening; acts = []; refused = [] }
+fresh = opening_on empty
 
 abbrev pub given : List ℕ → List Line → List Line
 given [] ls = ls
 given (m ∷ ms) ls = Deliver m ∷ given ms ls
+
+-- What rows speak of.
+
+-- what the replica has committed of an instance
+abbrev pub committed : Played → ℕ → ℕ → Option Decree
+committed p r i = committed_in (p.world.states r).records i
+
+abbrev pub put_x : ℕ → Command
+put_x n = Put (120 ∷ []) (n ∷ [])
+
+abbrev pub get_x : Command
+get_x = Get (120 ∷ [])
+
+abbrev pub attrs : ℕ → List ℕ → Attrs
+attrs seq deps = record { seq = seq; deps = deps }
+
+abbrev pub decree : Command → ℕ → List ℕ → Decree
+decree c seq deps = record { command = c; attrs = attrs seq deps }
+
+-- the put as the first instance of replica r
+abbrev pub put_as : ℕ → ℕ → Operation
+put_as r n = record { instance = instance_of r 1; command = put_x n }

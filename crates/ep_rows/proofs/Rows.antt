@@ -3,40 +3,19 @@ use Rattle.std.proofs.Common.{◌≡◌, ℕ, false, List, [], ◌∷◌, map, O
 use Rattle.ep_base.specs.Ballots.{ballot_of}
 use Rattle.ep_base.specs.Instances.{instance_of}
 use Rattle.ep_base.specs.Interference.{interfere}
-use Rattle.ep_base.specs.declared.attrs.Attrs.{Attrs}
 use Rattle.ep_base.specs.declared.command.Command.{Command}
 use Rattle.ep_base.specs.declared.command.Command.TheVariants.{Noop, Put, Get, Swap}
-use Rattle.ep_base.specs.declared.decree.Decree.{Decree}
 use Rattle.ep_base.specs.declared.message.Message.TheVariants.{PrepareOk, Nack}
 use Rattle.ep_base.specs.declared.reply.Answer.TheVariants.{Told}
 use Rattle.ep_base.specs.declared.reply.Reply.TheVariants.{Absent, Present}
 use Rattle.ep_base.specs.declared.vote.Status.TheVariants.{PreAccepted}
 use Rattle.ep_rules.specs.Cells.{TooFewAnswers}
-use Rattle.ep_rows.specs.OneMap.{empty, after, reply, answers_of}
-use Rattle.ep_rows.specs.Operations.{Operation, history_of}
-use Rattle.ep_rows.specs.States.{State, committed_in, command_in}
+use Rattle.ep_rows.specs.OneMap.{empty, opened, after, reply, answers_of}
+use Rattle.ep_rows.specs.Operations.{history_of}
+use Rattle.ep_rows.specs.States.{State, command_in}
 use Rattle.ep_rows.specs.Steps.{IsExecution}
 use Rattle.ep_rows.proofs.OneByOne.{execution, closed_none, closed_one}
-use Rattle.ep_rows.proofs.Playing.{Line, Proposal, Resignation, Recovery, Deliver, Execution, Played, play, fresh, given}
-
-abbrev committed : Played → ℕ → ℕ → Option Decree
-committed p r i = committed_in (p.world.states r).records i
-
-abbrev put_x : ℕ → Command
-put_x n = Put (120 ∷ []) (n ∷ [])
-
-abbrev get_x : Command
-get_x = Get (120 ∷ [])
-
-abbrev attrs : ℕ → List ℕ → Attrs
-attrs seq deps = record { seq = seq; deps = deps }
-
-abbrev decree : Command → ℕ → List ℕ → Decree
-decree c seq deps = record { command = c; attrs = attrs seq deps }
-
--- the put as the first instance of replica r
-abbrev put_as : ℕ → ℕ → Operation
-put_as r n = record { instance = instance_of r 1; command = put_x n }
+use Rattle.ep_rows.proofs.Playing.{Line, Proposal, Resignation, Recovery, Deliver, Execution, Played, play, fresh, given, committed, put_x, get_x, attrs, decree, put_as}
 
 -- one put, three replicas: the fast path, and all three commit
 abbrev one_put : Played
@@ -150,7 +129,7 @@ in_turn_refuses_nothing = refl
 in_turn_commits : map (λ i. committed both_in_turn 1 i) (instance_of 0 1 ∷ instance_of 1 1 ∷ []) ≡ Some (decree (put_x 49) 1 []) ∷ Some (decree (put_x 50) 2 (instance_of 0 1 ∷ [])) ∷ []
 in_turn_commits = refl
 
-in_turn_history : history_of 1 both_in_turn.acts ≡ put_as 0 49 ∷ (put_as 1 50 ∷ [])
+in_turn_history : history_of (opened empty) 1 both_in_turn.acts ≡ put_as 0 49 ∷ (put_as 1 50 ∷ [])
 in_turn_history = refl
 
 -- the first and the last execution are what the definition gives in the states that they find
@@ -178,11 +157,11 @@ leader_last = overtaken (Execution 0 (instance_of 0 1) (Told Absent) ∷ [])
 overtaken_refuses_nothing : leader_last.refused ≡ []
 overtaken_refuses_nothing = refl
 
-overtaken_history : history_of 1 leader_last.acts ≡ put_as 0 49 ∷ (put_as 1 50 ∷ [])
+overtaken_history : history_of (opened empty) 1 leader_last.acts ≡ put_as 0 49 ∷ (put_as 1 50 ∷ [])
 overtaken_history = refl
 
 -- before its leader has answered it has its place already
-overtaken_history_before : history_of 1 (overtaken []).acts ≡ put_as 0 49 ∷ (put_as 1 50 ∷ [])
+overtaken_history_before : history_of (opened empty) 1 (overtaken []).acts ≡ put_as 0 49 ∷ (put_as 1 50 ∷ [])
 overtaken_history_before = refl
 
 abbrev leader_executes : State
@@ -227,11 +206,11 @@ no_shared_key : interfere (swap_of 120 121) (swap_of 122 123) ≡ false
 no_shared_key = refl
 
 -- a key without a value leaves the other one without one, and again
-swap_away : after (after empty (put_x 49)) (swap_of 120 121) ≡ after empty (Put (121 ∷ []) (49 ∷ []))
+swap_away : after (after (opened empty) (put_x 49)) (swap_of 120 121) ≡ after (opened empty) (Put (121 ∷ []) (49 ∷ []))
 swap_away = refl
 
-swap_back : after (after (after empty (put_x 49)) (swap_of 120 121)) (swap_of 120 121) ≡ after empty (put_x 49)
+swap_back : after (after (after (opened empty) (put_x 49)) (swap_of 120 121)) (swap_of 120 121) ≡ after (opened empty) (put_x 49)
 swap_back = refl
 
-swap_tells_its_first_key : reply (after empty (put_x 49)) (swap_of 121 120) ≡ Absent
+swap_tells_its_first_key : reply (after (opened empty) (put_x 49)) (swap_of 121 120) ≡ Absent
 swap_tells_its_first_key = refl

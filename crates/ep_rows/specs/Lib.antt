@@ -6,3 +6,5 @@ pub mod States
 pub mod Steps
 pub mod Worlds
 pub mod Operations
+pub mod Closing
+pub mod Generations

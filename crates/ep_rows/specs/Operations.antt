@@ -6,6 +6,7 @@ use Rattle.ep_rules.specs.History.{is_new}
 use Rattle.ep_rows.specs.States.{command_in}
 use Rattle.ep_rows.specs.Steps.{order_of}
 use Rattle.ep_rows.specs.Worlds.{World, opening, Act, moved}
+use Rattle.ep_rows.specs.OneMap.{Store}
 
 -- a command other than a no-op, named by its instance
 pub record Operation : Type 0 where
@@ -39,5 +40,5 @@ history_after f w h [] = h
 history_after f w h (a ∷ acts) = history_after f (moved f w a) (h ++ new_to h (executed_by w a)) acts
 
 -- the history of a run: its operations, each once, in the order of their first executions at any replica
-abbrev pub history_of : ℕ → List Act → List Operation
-history_of f acts = history_after f opening [] acts
+abbrev pub history_of : (base : Store) → ℕ → List Act → List Operation
+history_of base f acts = history_after f (opening base) [] acts

@@ -5,14 +5,15 @@ use Rattle.ep_base.specs.declared.decree.Decree.{Decree}
 use Rattle.ep_base.specs.declared.reply.Answer.{Answer}
 use Rattle.ep_rows.specs.States.{State, fresh_state, committed_in}
 use Rattle.ep_rows.specs.Steps.{Sent, Event, Propose, Handle, GiveUp, Recover, Execute, IsStep, leaves, sends}
+use Rattle.ep_rows.specs.OneMap.{Store}
 
 -- the replicas' states, and every message that was ever sent: it only grows
 pub record World : Type 0 where
   pub states : ℕ → State
   pub sent : List Sent
 
-abbrev pub opening : World
-opening = record { states = λ r. fresh_state; sent = [] }
+abbrev pub opening : (base : Store) → World
+opening base = record { states = λ r. fresh_state base; sent = [] }
 
 abbrev pub In : {X : Type 0} → X → List X → Type 0
 In x [] = ⊥

@@ -31,9 +31,9 @@ done_by_place_lem es numbered number stamp i answer = (
 )
 
 pub agrees_by_stamp_lem : AgreesByStamp
-agrees_by_stamp_lem f journal local t known client request p =
+agrees_by_stamp_lem base f journal local t known client request p =
     let l : ℕ = leader_of t.instance in
-    let same = one_proposal_lem f l (journal l) (local.local l).1 t.instance t.client t.request client request known.proposed p in (
-      (λ a. subst (λ (e : Entry). t.seen < e.stamp) (one_proposal_lem f l (journal l) (local.local l).1 t.instance t.client t.request client request a.known.proposed p) a.later),
+    let same = one_proposal_lem base f l (journal l) (local.local l).1 t.instance t.client t.request client request known.proposed p in (
+      (λ a. subst (λ (e : Entry). t.seen < e.stamp) (one_proposal_lem base f l (journal l) (local.local l).1 t.instance t.client t.request client request a.known.proposed p) a.later),
       (λ lt. record { known = known; later = subst (λ (e : Entry). t.seen < e.stamp) (sym same) lt }),
     )

@@ -18,6 +18,7 @@ use Rattle.ep_rules.proofs.Moves.{cell_here, cell_other}
 use Rattle.ep_rules.proofs.Permanence.{decree_of, cell_stays}
 use Rattle.ep_rules.proofs.Places.{has_left, has_split}
 use Rattle.ep_rules.proofs.Reaching.{reach_trans}
+use Rattle.ep_rules.specs.OneMap.{Store}
 
 pub closed_nil : (g : Graph) → IsClosed g []
 closed_nil g i h = absurd (omega arith)
@@ -88,5 +89,5 @@ leaves_closed f me s e done closed step =
     (λ i a is. (let x = attrs_some (committed_in s.records i) a is in ap attrs_of (committed_stays s (acts f me s e) (local_acts f me s e) i x.0 x.1) ∙ ap Some x.2))
     (closed_after s e done step.executes closed)
 
-pub fresh_closed : IsClosed (graph_in fresh_state.records) fresh_state.executed
-fresh_closed = closed_nil (graph_in fresh_state.records)
+pub fresh_closed : (base : Store) → IsClosed (graph_in (fresh_state base).records) (fresh_state base).executed
+fresh_closed base = closed_nil (graph_in (fresh_state base).records)

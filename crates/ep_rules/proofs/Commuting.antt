@@ -1,5 +1,5 @@
 -- Commands that don't interfere commute. All that is said of replies rests on these two facts, and on no key.
-use Rattle.std.proofs.Common.{◌≡◌, List, Option, Some, None, Bool, true, false, cond, ◌&&◌, ◌||◌, refl, sym, ap, ◌∙◌, ℕ}
+use Rattle.std.proofs.Common.{◌≡◌, ◌⊎◌, inl, inr, List, Option, Some, None, Bool, true, false, cond, ◌&&◌, ◌||◌, refl, sym, ap, subst, ◌∙◌, ℕ}
 use Rattle.std.proofs.lemmas.Bool.{false≢true}
 use Rattle.std.proofs.lemmas.Cmp.{nat_list_cmp_total}
 use Rattle.std.proofs.lemmas.Map.Lookups.{exact_bytes}
@@ -8,12 +8,14 @@ use Rattle.std.specs.Ordering.{nat_cmp, eq_by_cmp}
 use Rattle.std.specs.Cmp.Lexicographic.{slice_cmp, nat_list_eq_equiv}
 use Rattle.std.specs.FinMap.{get-insert, get-remove, same_map}
 use Rattle.ep_base.specs.declared.command.Command.{Command}
-use Rattle.ep_base.specs.declared.command.Command.TheVariants.{Noop, Get, Put, Del, Swap}
+use Rattle.ep_base.specs.declared.command.Command.TheVariants.{Noop, Get, Put, Del, Swap, Cas, Seal, Opaque}
 use Rattle.ep_base.specs.Attributes.{same_list}
-use Rattle.ep_base.specs.Interference.{interfere}
+use Rattle.ep_base.specs.Interference.{interfere, meet, part, has_key, keys_of, is_seal}
+use Rattle.ep_base.specs.Sameness.{same_option}
 use Rattle.ep_base.specs.TwoKeys.{TwoKeys}
 use Rattle.ep_base.proofs.Same.{Decides-same_list}
-use Rattle.ep_rules.specs.OneMap.{Contents, value_at, with_key, after, reply, told}
+use Rattle.ep_base.specs.declared.reply.Reply.TheVariants.{Absent}
+use Rattle.ep_rules.specs.OneMap.{Contents, value_at, with_key, written, read, told, Store, sealed_by, after_under, after, reply_under, reply}
 
 abbrev pub is_key : List ℕ → List ℕ → Bool
 is_key q k = eq_by_cmp (slice_cmp nat_cmp) q k
@@ -47,29 +49,15 @@ unseen_key m k l o n = value_with m k o l ∙ go (is_key l k) refl
     go true e = absurd (false≢true (sym n ∙ same_key k l (sym (tells_apart exact_bytes l k e))))
     go false e = refl
 
--- the keys differ where two commands of one key each don't interfere, one of them being no get
-apart : (b : Bool) → (((b || false) || false) && true) ≡ false → b ≡ false
-apart true e = e
-apart false e = refl
+-- what is none of a command's keys
 
--- the same where one of the two names two keys, or both do
+alone : (b : Bool) → (b || false) ≡ false → b ≡ false
+alone true e = e
+alone false e = refl
 
-apart_both : (a b : Bool) → (((a || (b || false)) || false) && true) ≡ false → (a ≡ false) × (b ≡ false)
-apart_both true b e = absurd (false≢true (sym e))
-apart_both false true e = absurd (false≢true (sym e))
-apart_both false false e = (refl, refl)
-
-both_apart : (a b : Bool) → (((a || false) || ((b || false) || false)) && true) ≡ false → (a ≡ false) × (b ≡ false)
-both_apart true b e = absurd (false≢true (sym e))
-both_apart false true e = absurd (false≢true (sym e))
-both_apart false false e = (refl, refl)
-
-all_apart : (a b c d : Bool) → (((a || (b || false)) || ((c || (d || false)) || false)) && true) ≡ false → (a ≡ false) × (b ≡ false) × (c ≡ false) × (d ≡ false)
-all_apart true b c d e = absurd (false≢true (sym e))
-all_apart false true c d e = absurd (false≢true (sym e))
-all_apart false false true d e = absurd (false≢true (sym e))
-all_apart false false false true e = absurd (false≢true (sym e))
-all_apart false false false false e = (refl, refl, refl, refl)
+neither : (a b : Bool) → (a || b) ≡ false → (a ≡ false) × (b ≡ false)
+neither true b e = absurd (false≢true (sym e))
+neither false b e = (refl, e)
 
 turned : (k l : List ℕ) → same_list k l ≡ false → same_list l k ≡ false
 turned k l n = go (same_list l k) refl
@@ -78,7 +66,7 @@ turned k l n = go (same_list l k) refl
     go true e = absurd (false≢true (sym n ∙ same_key k l (sym ((Decides-same_list l k).0 e))))
     go false e = refl
 
-write_swap : (m : Contents) (k : List ℕ) (p : TwoKeys) (o : Option (List ℕ)) → same_list k p.first ≡ false → same_list k p.second ≡ false → after (with_key m k o) (Swap p) ≡ with_key (after m (Swap p)) k o
+write_swap : (m : Contents) (k : List ℕ) (p : TwoKeys) (o : Option (List ℕ)) → same_list k p.first ≡ false → same_list k p.second ≡ false → written (with_key m k o) (Swap p) ≡ with_key (written m (Swap p)) k o
 write_swap m k p o a b =
     let x : Option (List ℕ) = value_at m p.second in
     let y : Option (List ℕ) = value_at m p.first in
@@ -87,59 +75,216 @@ write_swap m k p o a b =
     ∙ ap (λ (n : Contents). with_key n p.second y) (keys_commute m k p.first o x a)
     ∙ keys_commute (with_key m p.first x) k p.second o y b
 
-unseen_swap : (m : Contents) (p : TwoKeys) (k : List ℕ) → same_list p.first k ≡ false → same_list p.second k ≡ false → value_at (after m (Swap p)) k ≡ value_at m k
+unseen_swap : (m : Contents) (p : TwoKeys) (k : List ℕ) → same_list p.first k ≡ false → same_list p.second k ≡ false → value_at (written m (Swap p)) k ≡ value_at m k
 unseen_swap m p k a b =
     unseen_key (with_key m p.first (value_at m p.second)) p.second k (value_at m p.first) b ∙ unseen_key m p.first k (value_at m p.second) a
 
-swaps_commute : (m : Contents) (p q : TwoKeys) → same_list p.first q.first ≡ false → same_list p.first q.second ≡ false → same_list p.second q.first ≡ false → same_list p.second q.second ≡ false
-    → after (after m (Swap p)) (Swap q) ≡ after (after m (Swap q)) (Swap p)
-swaps_commute m p q a b c d =
+-- a key that a command doesn't name: what is written there is of no matter to it
+
+write_past : (m : Contents) (k : List ℕ) (o : Option (List ℕ)) (b : Command) → has_key k (keys_of b) ≡ false → written (with_key m k o) b ≡ with_key (written m b) k o
+write_past m k o Noop e = refl
+write_past m k o (Get l) e = refl
+write_past m k o (Put l w) e = keys_commute m k l o (Some w) (alone (same_list k l) e)
+write_past m k o (Del l) e = keys_commute m k l o None (alone (same_list k l) e)
+write_past m k o (Swap p) e = let n = neither (same_list k p.first) (same_list k p.second || false) e in write_swap m k p o n.0 (alone (same_list k p.second) n.1)
+write_past m k o (Cas l x n) e =
+    ap (λ (z : Option (List ℕ)). cond (same_option z x) (with_key (with_key m k o) l n) (with_key m k o)) (unseen_key m k l o (alone (same_list k l) e))
+    ∙ go (same_option (value_at m l) x)
+  where
+    go : (b : Bool) → cond b (with_key (with_key m k o) l n) (with_key m k o) ≡ with_key (cond b (with_key m l n) m) k o
+    go true = keys_commute m k l o n (alone (same_list k l) e)
+    go false = refl
+write_past m k o (Seal v) e = refl
+write_past m k o (Opaque q w) e = refl
+
+read_past : (m : Contents) (k : List ℕ) (o : Option (List ℕ)) (b : Command) → has_key k (keys_of b) ≡ false → read (with_key m k o) b ≡ read m b
+read_past m k o Noop e = refl
+read_past m k o (Get l) e = ap told (unseen_key m k l o (alone (same_list k l) e))
+read_past m k o (Put l w) e = ap told (unseen_key m k l o (alone (same_list k l) e))
+read_past m k o (Del l) e = ap told (unseen_key m k l o (alone (same_list k l) e))
+read_past m k o (Swap p) e = ap told (unseen_key m k p.first o (neither (same_list k p.first) (same_list k p.second || false) e).0)
+read_past m k o (Cas l x n) e = ap told (unseen_key m k l o (alone (same_list k l) e))
+read_past m k o (Seal v) e = refl
+read_past m k o (Opaque q w) e = refl
+
+untouched : (m : Contents) (b : Command) (k : List ℕ) → has_key k (keys_of b) ≡ false → value_at (written m b) k ≡ value_at m k
+untouched m Noop k e = refl
+untouched m (Get l) k e = refl
+untouched m (Put l w) k e = unseen_key m l k (Some w) (turned k l (alone (same_list k l) e))
+untouched m (Del l) k e = unseen_key m l k None (turned k l (alone (same_list k l) e))
+untouched m (Swap p) k e = let n = neither (same_list k p.first) (same_list k p.second || false) e in unseen_swap m p k (turned k p.first n.0) (turned k p.second (alone (same_list k p.second) n.1))
+untouched m (Cas l x n) k e = go (same_option (value_at m l) x)
+  where
+    go : (b : Bool) → value_at (cond b (with_key m l n) m) k ≡ value_at m k
+    go true = unseen_key m l k n (turned k l (alone (same_list k l) e))
+    go false = refl
+untouched m (Seal v) k e = refl
+untouched m (Opaque q w) k e = refl
+
+-- the keys of a command that doesn't interfere with one of one key that is no get, or with one of two
+
+apart : (a p : Bool) → (((a || false) && true) || p) ≡ false → a ≡ false
+apart true p e = absurd (false≢true (sym e))
+apart false p e = refl
+
+apart_both : (a b p : Bool) → (((a || (b || false)) && true) || p) ≡ false → (a ≡ false) × (b ≡ false)
+apart_both true b p e = absurd (false≢true (sym e))
+apart_both false true p e = absurd (false≢true (sym e))
+apart_both false false p e = (refl, refl)
+
+-- two commands that don't interfere write one open map in either order
+commutes_open : (m : Contents) (a b : Command) → interfere a b ≡ false → written (written m a) b ≡ written (written m b) a
+commutes_open m Noop b e = refl
+commutes_open m (Get k) b e = refl
+commutes_open m (Put k v) b e = write_past m k (Some v) b (apart (has_key k (keys_of b)) (part (Put k v) b) e)
+commutes_open m (Del k) b e = write_past m k None b (apart (has_key k (keys_of b)) (part (Del k) b) e)
+commutes_open m (Swap p) b e =
+    let n = apart_both (has_key p.first (keys_of b)) (has_key p.second (keys_of b)) (part (Swap p) b) e in
     let x : Option (List ℕ) = value_at m p.second in
     let y : Option (List ℕ) = value_at m p.first in
-    let n : Contents = after m (Swap q) in
-    write_swap (with_key m p.first x) p.second q y c d
-    ∙ ap (λ (z : Contents). with_key z p.second y) (write_swap m p.first q x a b)
-    ∙ ap (λ (z : Option (List ℕ)). with_key (with_key n p.first z) p.second y) (sym (unseen_swap m q p.second (turned p.second q.first c) (turned p.second q.second d)))
-    ∙ ap (λ (z : Option (List ℕ)). with_key (with_key n p.first (value_at n p.second)) p.second z) (sym (unseen_swap m q p.first (turned p.first q.first a) (turned p.first q.second b)))
+    write_past (with_key m p.first x) p.second y b n.1
+    ∙ ap (λ (z : Contents). with_key z p.second y) (write_past m p.first x b n.0)
+    ∙ ap (λ (z : Option (List ℕ)). with_key (with_key (written m b) p.first z) p.second y) (sym (untouched m b p.second n.1))
+    ∙ ap (λ (z : Option (List ℕ)). with_key (with_key (written m b) p.first (value_at (written m b) p.second)) p.second z) (sym (untouched m b p.first n.0))
+commutes_open m (Cas k x n) b e =
+    go (same_option (value_at m k) x)
+    ∙ ap (λ (z : Option (List ℕ)). cond (same_option z x) (with_key (written m b) k n) (written m b)) (sym (untouched m b k (apart (has_key k (keys_of b)) (part (Cas k x n) b) e)))
+  where
+    go : (t : Bool) → written (cond t (with_key m k n) m) b ≡ cond t (with_key (written m b) k n) (written m b)
+    go true = write_past m k n b (apart (has_key k (keys_of b)) (part (Cas k x n) b) e)
+    go false = refl
+commutes_open m (Seal v) b e = refl
+commutes_open m (Opaque q w) b e = refl
+
+unseen_open : (m : Contents) (a b : Command) → interfere a b ≡ false → read (written m a) b ≡ read m b
+unseen_open m Noop b e = refl
+unseen_open m (Get k) b e = refl
+unseen_open m (Put k v) b e = read_past m k (Some v) b (apart (has_key k (keys_of b)) (part (Put k v) b) e)
+unseen_open m (Del k) b e = read_past m k None b (apart (has_key k (keys_of b)) (part (Del k) b) e)
+unseen_open m (Swap p) b e =
+    let n = apart_both (has_key p.first (keys_of b)) (has_key p.second (keys_of b)) (part (Swap p) b) e in
+    read_past (with_key m p.first (value_at m p.second)) p.second (value_at m p.first) b n.1 ∙ read_past m p.first (value_at m p.second) b n.0
+unseen_open m (Cas k x n) b e = go (same_option (value_at m k) x)
+  where
+    go : (t : Bool) → read (cond t (with_key m k n) m) b ≡ read m b
+    go true = read_past m k n b (apart (has_key k (keys_of b)) (part (Cas k x n) b) e)
+    go false = refl
+unseen_open m (Seal v) b e = refl
+unseen_open m (Opaque q w) b e = refl
+
+-- Seals: only a no-op doesn't interfere with one.
+
+pub no_seal : (c : Command) → (sealed_by c ≡ None) ⊎ (is_seal c ≡ true)
+no_seal Noop = inl refl
+no_seal (Get k) = inl refl
+no_seal (Put k v) = inl refl
+no_seal (Del k) = inl refl
+no_seal (Swap p) = inl refl
+no_seal (Cas k x n) = inl refl
+no_seal (Seal v) = inr refl
+no_seal (Opaque q w) = inl refl
+
+-- the value of a seal
+pub seal_value : (c : Command) → is_seal c ≡ true → (v : List ℕ) × (c ≡ Seal v)
+seal_value Noop e = absurd (false≢true e)
+seal_value (Get k) e = absurd (false≢true e)
+seal_value (Put k v) e = absurd (false≢true e)
+seal_value (Del k) e = absurd (false≢true e)
+seal_value (Swap p) e = absurd (false≢true e)
+seal_value (Cas k x n) e = absurd (false≢true e)
+seal_value (Seal v) e = (v, refl)
+seal_value (Opaque q w) e = absurd (false≢true e)
+
+or_true : (b : Bool) → (b || true) ≡ true
+or_true true = refl
+or_true false = refl
+
+pub before_seal : (v : List ℕ) (a : Command) → interfere a (Seal v) ≡ false → a ≡ Noop
+before_seal v Noop e = refl
+before_seal v (Get k) e = absurd (false≢true (sym e))
+before_seal v (Put k w) e = absurd (false≢true (sym e))
+before_seal v (Del k) e = absurd (false≢true (sym e))
+before_seal v (Swap p) e = absurd (false≢true (sym e))
+before_seal v (Cas k x n) e = absurd (false≢true (sym e))
+before_seal v (Seal w) e = absurd (false≢true (sym e))
+before_seal v (Opaque q w) e = absurd (false≢true (sym e ∙ or_true (meet (Opaque q w) (Seal v))))
+
+after_seal : (v : List ℕ) (b : Command) → interfere (Seal v) b ≡ false → b ≡ Noop
+after_seal v Noop e = refl
+after_seal v (Get k) e = absurd (false≢true (sym e))
+after_seal v (Put k w) e = absurd (false≢true (sym e))
+after_seal v (Del k) e = absurd (false≢true (sym e))
+after_seal v (Swap p) e = absurd (false≢true (sym e))
+after_seal v (Cas k x n) e = absurd (false≢true (sym e))
+after_seal v (Seal w) e = absurd (false≢true (sym e))
+after_seal v (Opaque q w) e = absurd (false≢true (sym e))
+
+-- a no-op leaves the map as it is
+under_noop : (o : Option (List ℕ)) (m : Contents) → after_under o m Noop ≡ record { contents = m; seal = o }
+under_noop None m = refl
+under_noop (Some v) m = refl
+
+pub after_noop : (s : Store) → after s Noop ≡ s
+after_noop s = under_noop s.seal s.contents
+
+pub noop_passes : (s : Store) (c : Command) → after (after s Noop) c ≡ after (after s c) Noop
+noop_passes s c = ap (λ t. after t c) (after_noop s) ∙ sym (after_noop (after s c))
+
+abbrev pub map_of : Contents → Option (List ℕ) → Store
+map_of m o = record { contents = m; seal = o }
+
+store_from : (m n : Contents) (o p : Option (List ℕ)) → m ≡ n → o ≡ p → map_of m o ≡ map_of n p
+store_from m n o p e f = λ t. record { contents = e t; seal = f t }
+
+two_open : (m : Contents) (a b : Command) → sealed_by a ≡ None → sealed_by b ≡ None → written (written m a) b ≡ written (written m b) a → after (after_under None m a) b ≡ after (after_under None m b) a
+two_open m a b ea eb e =
+    ap (λ o. after_under o (written m a) b) ea
+    ∙ store_from (written (written m a) b) (written (written m b) a) (sealed_by b) (sealed_by a) e (eb ∙ sym ea)
+    ∙ sym (ap (λ o. after_under o (written m b) a) eb)
+
+commutes_under : (o : Option (List ℕ)) (m : Contents) (a b : Command) → interfere a b ≡ false → after (after_under o m a) b ≡ after (after_under o m b) a
+commutes_under (Some v) m a b e = refl
+commutes_under None m a b e = elim (no_seal a) [
+  | inl ea ↦ elim (no_seal b) [
+    | inl eb ↦ two_open m a b ea eb (commutes_open m a b e)
+    | inr sb ↦ last (seal_value b sb)
+  ]
+  | inr sa ↦ first (seal_value a sa)
+]
+  where
+    last : (v : List ℕ) × (b ≡ Seal v) → after (after_under None m a) b ≡ after (after_under None m b) a
+    last s =
+        let n : a ≡ Noop = before_seal s.0 a (subst (λ d. interfere a d ≡ false) s.1 e) in
+        subst (λ d. after (after_under None m d) b ≡ after (after_under None m b) d) (sym n) (noop_passes (record { contents = m; seal = None }) b)
+
+    first : (v : List ℕ) × (a ≡ Seal v) → after (after_under None m a) b ≡ after (after_under None m b) a
+    first s =
+        let n : b ≡ Noop = after_seal s.0 b (subst (λ d. interfere d b ≡ false) s.1 e) in
+        subst (λ d. after (after_under None m a) d ≡ after (after_under None m d) a) (sym n) (sym (noop_passes (record { contents = m; seal = None }) a))
 
 -- two commands that don't interfere leave one map in either order
-pub commutes : (m : Contents) (a b : Command) → interfere a b ≡ false → after (after m a) b ≡ after (after m b) a
-commutes m Noop b e = refl
-commutes m (Get k) b e = refl
-commutes m (Put k v) Noop e = refl
-commutes m (Put k v) (Get l) e = refl
-commutes m (Put k v) (Put l w) e = keys_commute m k l (Some v) (Some w) (apart (same_list k l) e)
-commutes m (Put k v) (Del l) e = keys_commute m k l (Some v) None (apart (same_list k l) e)
-commutes m (Del k) Noop e = refl
-commutes m (Del k) (Get l) e = refl
-commutes m (Del k) (Put l w) e = keys_commute m k l None (Some w) (apart (same_list k l) e)
-commutes m (Del k) (Del l) e = keys_commute m k l None None (apart (same_list k l) e)
-commutes m (Put k v) (Swap p) e = let n = apart_both (same_list k p.first) (same_list k p.second) e in write_swap m k p (Some v) n.0 n.1
-commutes m (Del k) (Swap p) e = let n = apart_both (same_list k p.first) (same_list k p.second) e in write_swap m k p None n.0 n.1
-commutes m (Swap p) Noop e = refl
-commutes m (Swap p) (Get k) e = refl
-commutes m (Swap p) (Put k v) e = let n = both_apart (same_list p.first k) (same_list p.second k) e in sym (write_swap m k p (Some v) (turned p.first k n.0) (turned p.second k n.1))
-commutes m (Swap p) (Del k) e = let n = both_apart (same_list p.first k) (same_list p.second k) e in sym (write_swap m k p None (turned p.first k n.0) (turned p.second k n.1))
-commutes m (Swap p) (Swap q) e =
-    let n = all_apart (same_list p.first q.first) (same_list p.first q.second) (same_list p.second q.first) (same_list p.second q.second) e in swaps_commute m p q n.0 n.1 n.2 n.3
+pub commutes : (s : Store) (a b : Command) → interfere a b ≡ false → after (after s a) b ≡ after (after s b) a
+commutes s a b e = commutes_under s.seal s.contents a b e
+
+noop_reply : (s : Store) → reply s Noop ≡ Absent
+noop_reply s = go s.seal
+  where
+    go : (o : Option (List ℕ)) → reply_under o s.contents Noop ≡ Absent
+    go None = refl
+    go (Some v) = refl
+
+unseen_under : (o : Option (List ℕ)) (m : Contents) (a b : Command) → interfere a b ≡ false → reply (after_under o m a) b ≡ reply_under o m b
+unseen_under (Some v) m a b e = refl
+unseen_under None m a b e = elim (no_seal a) [
+  | inl ea ↦ ap (λ o. reply_under o (written m a) b) ea ∙ unseen_open m a b e
+  | inr sa ↦ first (seal_value a sa)
+]
+  where
+    first : (v : List ℕ) × (a ≡ Seal v) → reply (after_under None m a) b ≡ reply_under None m b
+    first s =
+        let n : b ≡ Noop = after_seal s.0 b (subst (λ d. interfere d b ≡ false) s.1 e) in
+        subst (λ d. reply (after_under None m a) d ≡ reply_under None m d) (sym n) (noop_reply (after_under None m a))
 
 -- and the one has the reply that it has without the other
-pub unseen : (m : Contents) (a b : Command) → interfere a b ≡ false → reply (after m a) b ≡ reply m b
-unseen m Noop b e = refl
-unseen m (Get k) b e = refl
-unseen m (Put k v) Noop e = refl
-unseen m (Put k v) (Get l) e = ap told (unseen_key m k l (Some v) (apart (same_list k l) e))
-unseen m (Put k v) (Put l w) e = ap told (unseen_key m k l (Some v) (apart (same_list k l) e))
-unseen m (Put k v) (Del l) e = ap told (unseen_key m k l (Some v) (apart (same_list k l) e))
-unseen m (Del k) Noop e = refl
-unseen m (Del k) (Get l) e = ap told (unseen_key m k l None (apart (same_list k l) e))
-unseen m (Del k) (Put l w) e = ap told (unseen_key m k l None (apart (same_list k l) e))
-unseen m (Del k) (Del l) e = ap told (unseen_key m k l None (apart (same_list k l) e))
-unseen m (Put k v) (Swap p) e = ap told (unseen_key m k p.first (Some v) (apart_both (same_list k p.first) (same_list k p.second) e).0)
-unseen m (Del k) (Swap p) e = ap told (unseen_key m k p.first None (apart_both (same_list k p.first) (same_list k p.second) e).0)
-unseen m (Swap p) Noop e = refl
-unseen m (Swap p) (Get k) e = let n = both_apart (same_list p.first k) (same_list p.second k) e in ap told (unseen_swap m p k n.0 n.1)
-unseen m (Swap p) (Put k v) e = let n = both_apart (same_list p.first k) (same_list p.second k) e in ap told (unseen_swap m p k n.0 n.1)
-unseen m (Swap p) (Del k) e = let n = both_apart (same_list p.first k) (same_list p.second k) e in ap told (unseen_swap m p k n.0 n.1)
-unseen m (Swap p) (Swap q) e =
-    let n = all_apart (same_list p.first q.first) (same_list p.first q.second) (same_list p.second q.first) (same_list p.second q.second) e in ap told (unseen_swap m p q.first n.0 n.2)
+pub unseen : (s : Store) (a b : Command) → interfere a b ≡ false → reply (after s a) b ≡ reply s b
+unseen s a b e = unseen_under s.seal s.contents a b e

@@ -8,7 +8,7 @@ use Rattle.ep_rules.proofs.Places.{has_or, has_left, has_right, has_split, filte
 use Rattle.ep_rules.specs.History.{Execution, Done, nothing, with_done, done_after, Agrees, is_new, merged}
 use Rattle.ep_base.specs.declared.command.Command.{Command}
 use Rattle.ep_rules.specs.Order.{IsPlan}
-use Rattle.ep_rules.specs.OneMap.{empty, after_all, answers_of}
+use Rattle.ep_rules.specs.OneMap.{after_all, answers_of, Store}
 use Rattle.ep_rules.proofs.Wells.{Well, well_nil, well_plan, well_merge, same_news, new_yes}
 
 pub record AllWell (g : Graph) (done : Done) (h : List ℕ) : Type 0 where
@@ -54,9 +54,9 @@ AreExecuted all done [] = Unit {0}
 AreExecuted all done (e ∷ es) = Agrees e.graph all × IsPlan e.graph (done e.replica) e.root e.order × AreExecuted all (with_done done e) es
 
 -- each execution answers by its replica's own map, which what was executed there has left
-abbrev pub AreAnswered : (ℕ → Command) → Done → List Execution → Type 0
-AreAnswered c done [] = Unit {0}
-AreAnswered c done (e ∷ es) = (e.answers ≡ answers_of c (after_all c empty (done e.replica)) e.order) × AreAnswered c (with_done done e) es
+abbrev pub AreAnswered : (base : Store) → (ℕ → Command) → Done → List Execution → Type 0
+AreAnswered base c done [] = Unit {0}
+AreAnswered base c done (e ∷ es) = (e.answers ≡ answers_of c (after_all c base (done e.replica)) e.order) × AreAnswered base c (with_done done e) es
 
 pub all_well : (g : Graph) (done : Done) (h : List ℕ) (es : List Execution) → AllWell g done h → AreExecuted g done es → AllWell g (done_after done es) (merged h es)
 all_well g done h [] w x = w

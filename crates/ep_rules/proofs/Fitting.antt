@@ -31,6 +31,7 @@ use Rattle.ep_rules.proofs.Lookups.{insert_same, insert_other, none_there}
 use Rattle.ep_rules.specs.declared.led.Led.{Led}
 use Rattle.ep_rules.specs.declared.led.Led.TheVariants.{Proposing, Accepting, Preparing}
 use Rattle.ep_rules.specs.declared.record.Record.{Record}
+use Rattle.ep_rules.specs.OneMap.{Store}
 
 abbrev EntryFits : ℕ → Option Record → Type 0
 EntryFits i None = Unit {0}
@@ -351,5 +352,5 @@ leaves_fit f me s e done few here fits event sc = changed_fits me s (acts f me s
 pub sends_fit : (f me : ℕ) (s : State) (e : Event) → size f ≤ 256 → me < size f → StateFits s → EventFits e → screened f me e ≡ None → AllSpellable me (sends f me s e)
 sends_fit f me s e few here fits event sc = sent_fits me (acts f me s e) (acts_fit f me s e few here fits event sc)
 
-pub fresh_fits : StateFits fresh_state
-fresh_fits i r h = absurd (let n : get (none {X = Record}) i ≡ None = none_there i in cc)
+pub fresh_fits : (base : Store) → StateFits (fresh_state base)
+fresh_fits base i r h = absurd (let n : get (none {X = Record}) i ≡ None = none_there i in cc)

@@ -11,25 +11,26 @@ use Rattle.ep_rules.proofs.Wells.{well_plan, same_order, linked, well_ordered}
 use Rattle.ep_rules.proofs.Replies.{one_reply}
 use Rattle.ep_rules.proofs.Executions.{AreExecuted, AreAnswered, AllWell, all_well, all_well_next, start}
 use Rattle.ep_rules.proofs.Answered.{one_history_of}
+use Rattle.ep_rules.specs.OneMap.{Store}
 
 -- after the first execution the runs are local still
-local_next : (all : Graph) (c : ℕ → Command) (done : Done) (e : Execution) (es : List Execution) (r : ℕ) (b : Bool) → IsLocal all c (done r) (cond b (e ∷ of r es) (of r es)) → IsLocal all c (cond b (done r ++ e.order) (done r)) (of r es)
-local_next all c done e es r true h = h.3
-local_next all c done e es r false h = h
+local_next : (base : Store) → (all : Graph) (c : ℕ → Command) (done : Done) (e : Execution) (es : List Execution) (r : ℕ) (b : Bool) → IsLocal base all c (done r) (cond b (e ∷ of r es) (of r es)) → IsLocal base all c (cond b (done r ++ e.order) (done r)) (of r es)
+local_next base all c done e es r true h = h.3
+local_next base all c done e es r false h = h
 
-pub interleaved : (all : Graph) (c : ℕ → Command) (done : Done) (es : List Execution) → ((r : ℕ) → IsLocal all c (done r) (of r es)) → AreExecuted all done es × AreAnswered c done es
-interleaved all c done [] h = (tt, tt)
-interleaved all c done (e ∷ es) h =
-    let mine : IsLocal all c (done e.replica) (e ∷ of e.replica es) = subst (λ b. IsLocal all c (done e.replica) (cond b (e ∷ of e.replica es) (of e.replica es))) (eq-eqb e.replica e.replica refl) (h e.replica) in
-    let rest = interleaved all c (with_done done e) es (λ r. local_next all c done e es r (eqb e.replica r) (h r)) in
+pub interleaved : (base : Store) → (all : Graph) (c : ℕ → Command) (done : Done) (es : List Execution) → ((r : ℕ) → IsLocal base all c (done r) (of r es)) → AreExecuted all done es × AreAnswered base c done es
+interleaved base all c done [] h = (tt, tt)
+interleaved base all c done (e ∷ es) h =
+    let mine : IsLocal base all c (done e.replica) (e ∷ of e.replica es) = subst (λ b. IsLocal base all c (done e.replica) (cond b (e ∷ of e.replica es) (of e.replica es))) (eq-eqb e.replica e.replica refl) (h e.replica) in
+    let rest = interleaved base all c (with_done done e) es (λ r. local_next base all c done e es r (eqb e.replica r) (h r)) in
     ((mine.0, mine.1, rest.0), (mine.2, rest.1))
 
 pub one_history_lem : OneHistory
-one_history_lem all c es dep h = let x = interleaved all c nothing es h in one_history_of all c es dep x.0 x.1
+one_history_lem base all c es dep h = let x = interleaved base all c nothing es h in one_history_of base all c es dep x.0 x.1
 
 pub one_order_lem : OneOrder
-one_order_lem all c es dep h r i j hi hj ne inter =
-    let w = all_well all nothing [] es (start all) (interleaved all c nothing es h).0 in
+one_order_lem base all c es dep h r i j hi hj ne inter =
+    let w = all_well all nothing [] es (start all) (interleaved base all c nothing es h).0 in
     let d = w.each r in
     let link = linked all c dep i j ne (d.committed i hi) (d.committed j hj) inter in (
       same_order all (done_after nothing es r) (merged [] es) d w.whole i j (w.within r i hi) hj link,
@@ -37,11 +38,11 @@ one_order_lem all c es dep h r i j hi hj ne inter =
     )
 
 pub one_reply_lem : OneReply
-one_reply_lem all c es dep h r i hi =
-    let w = all_well all nothing [] es (start all) (interleaved all c nothing es h).0 in
+one_reply_lem base all c es dep h r i hi =
+    let w = all_well all nothing [] es (start all) (interleaved base all c nothing es h).0 in
     let d = w.each r in
     let hw = w.within r i hi in
-    (hw, one_reply c i (done_after nothing es r) (merged [] es) d.once w.whole.once hi hw (well_ordered all c dep (done_after nothing es r) (merged [] es) d w.whole))
+    (hw, one_reply base c i (done_after nothing es r) (merged [] es) d.once w.whole.once hi hw (well_ordered all c dep (done_after nothing es r) (merged [] es) d w.whole))
 
 -- in a list with each once, what stands in the second part doesn't in the first
 apart : (xs ys : List ℕ) (i : ℕ) → Once (xs ++ ys) → Has xs i → Has ys i → ⊥
@@ -63,6 +64,6 @@ whole_each all done h (e ∷ es) w x =
     )
 
 pub components_lem : Components
-components_lem all c es h =
-    let x = interleaved all c nothing es h in
+components_lem base all c es h =
+    let x = interleaved base all c nothing es h in
     (whole_each all nothing [] es (start all) x.0, λ r i j hi q. ((all_well all nothing [] es (start all) x.0).each r).closed i j hi q)

@@ -1,5 +1,5 @@
 -- Each caller's order is kept.
-use Rattle.std.proofs.Common.{◌≡◌, ℕ, ◌<◌, ◌≤◌, Bool, true, false, cond, inl, inr, Some, None, List, [], ◌∷◌, ◌++◌, refl, sym, ap, subst, ◌∙◌, arith}
+use Rattle.std.proofs.Common.{◌≡◌, ℕ, ◌<◌, Bool, true, false, cond, inl, inr, Some, None, List, [], ◌∷◌, ◌++◌, refl, sym, ap, subst, ◌∙◌, arith}
 use Rattle.std.proofs.lemmas.Bool.{false≢true}
 use Rattle.ep_base.specs.Instances.{leader_of}
 use Rattle.ep_base.specs.Sameness.{is_noop}
@@ -24,8 +24,9 @@ use Rattle.ep_rules.proofs.JournalsExecutions.{exec_of, executions, nothing_done
 use Rattle.ep_rules.proofs.JournalsUnproposed.{unproposed_lem}
 use Rattle.ep_rules.proofs.OneProposal.{was_free}
 use Rattle.ep_rules.proofs.JournalsReplies.{real, all_known, history_same}
+use Rattle.ep_rules.specs.OneMap.{Store}
 
-in_has : (ds : List (ℕ × Answer)) (i : ℕ) (x : Answer) → In (i, x) ds → Has (order_of ds) i
+pub in_has : (ds : List (ℕ × Answer)) (i : ℕ) (x : Answer) → In (i, x) ds → Has (order_of ds) i
 in_has [] i x h = absurd h
 in_has (d ∷ ds) i x (inl e) = subst (λ z. Has (order_of (d ∷ ds)) z) (ap (λ z. z.0) e) (let p = place_head d.0 (order_of ds) in omega arith)
 in_has (d ∷ ds) i x (inr h) = has_tail d.0 i (order_of ds) (in_has ds i x h)
@@ -96,11 +97,11 @@ is_real : (c : ℕ → Command) (i : ℕ) (b : Bool) → is_noop (c i) ≡ b →
 is_real c i true e h = absurd (false≢true h)
 is_real c i false e h = e
 
-module _ (f : ℕ) (journal : Journals) (schedule : List Scheduled) (given : Merges f journal schedule) where
-  in_history : (i : ℕ) → Has (history_of (command_at f journal) schedule) i → is_noop (command_at f journal i) ≡ false
-  in_history i h = is_real (command_at f journal) i (is_noop (command_at f journal i)) refl (has_filter (real (command_at f journal)) (merged_of [] schedule) i h).1
+module _ (base : Store) (f : ℕ) (journal : Journals) (schedule : List Scheduled) (given : Merges base f journal schedule) where
+  in_history : (i : ℕ) → Has (history_of (command_at base f journal) schedule) i → is_noop (command_at base f journal i) ≡ false
+  in_history i h = is_real (command_at base f journal) i (is_noop (command_at base f journal i)) refl (has_filter (real (command_at base f journal)) (merged_of [] schedule) i h).1
 
-  module _ (t : Receipt) (ht : Agrees f journal t) where
+  module _ (t : Receipt) (ht : Agrees base f journal t) where
     abbrev now : Scheduled
     now = record { replica = leader_of t.instance; entry = ht.known.proposed.proposal }
 
@@ -109,49 +110,56 @@ module _ (f : ℕ) (journal : Journals) (schedule : List Scheduled) (given : Mer
       acts_whole : acts_of early ++ acts_of (now ∷ late) ≡ acts_of schedule
       acts_whole = sym (acts_both early (now ∷ late)) ∙ ap acts_of whole
 
-      run_early : IsRun f opening (acts_of early)
-      run_early = (run_parts f (acts_of early) (acts_of (now ∷ late)) opening (subst (IsRun f opening) (sym acts_whole) (is_run f journal schedule given))).0
+      run_early : IsRun f (opening base) (acts_of early)
+      run_early = (run_parts f (acts_of early) (acts_of (now ∷ late)) (opening base) (subst (IsRun f (opening base)) (sym acts_whole) (is_run base f journal schedule given))).0
 
       -- before its proposal nobody executes a command other than a no-op there
-      not_yet : of (leader_of t.instance) early ≡ ht.known.proposed.before → is_noop (command_at f journal t.instance) ≡ false → IsExecutedIn (executions f opening (acts_of early)) t.instance → ⊥
+      not_yet : of (leader_of t.instance) early ≡ ht.known.proposed.before → is_noop (command_at base f journal t.instance) ≡ false → IsExecutedIn (executions f (opening base) (acts_of early)) t.instance → ⊥
       not_yet own is_command k =
           let p = ht.known.proposed in
-          let x = executed_in f t.instance (acts_of early) opening run_early k in
-          let there : Committed (ends f opening (acts_of early)) x.replica t.instance x.decree =
-          subst (λ these. Committed (ends f opening these) x.replica t.instance x.decree) x.whole
-          (keeps f x.early x.late (subst (IsRun f opening) (sym x.whole) run_early) x.replica t.instance x.decree x.committed) in
-          let state : (ends f opening (acts_of early)).states (leader_of t.instance) ≡ left f (leader_of t.instance) fresh_state p.before =
-          ends_left f (leader_of t.instance) early opening ∙ ap (λ es. left f (leader_of t.instance) fresh_state es) own in
-          let none : get ((ends f opening (acts_of early)).states (leader_of t.instance)).records t.instance ≡ None =
-          ap (λ (s : State). get s.records t.instance) state ∙ was_free f (leader_of t.instance) (journal (leader_of t.instance)) t.instance t.client t.request p in
-          let noop : is_noop x.decree.command ≡ true = unproposed_lem f given.some given.few (acts_of early) run_early t.instance x.replica x.decree none there in
-          let same : agreed f journal t.instance ≡ Some x.decree = all_known f journal schedule given (acts_of early) (acts_of (now ∷ late)) acts_whole x.replica t.instance x.decree there in
+          let x = executed_in f t.instance (acts_of early) (opening base) run_early k in
+          let there : Committed (ends f (opening base) (acts_of early)) x.replica t.instance x.decree =
+          subst (λ these. Committed (ends f (opening base) these) x.replica t.instance x.decree) x.whole
+          (keeps base f x.early x.late (subst (IsRun f (opening base)) (sym x.whole) run_early) x.replica t.instance x.decree x.committed) in
+          let state : (ends f (opening base) (acts_of early)).states (leader_of t.instance) ≡ left f (leader_of t.instance) (fresh_state base) p.before =
+          ends_left f (leader_of t.instance) early (opening base) ∙ ap (λ es. left f (leader_of t.instance) (fresh_state base) es) own in
+          let none : get ((ends f (opening base) (acts_of early)).states (leader_of t.instance)).records t.instance ≡ None =
+          ap (λ (s : State). get s.records t.instance) state ∙ was_free base f (leader_of t.instance) (journal (leader_of t.instance)) t.instance t.client t.request p in
+          let noop : is_noop x.decree.command ≡ true = unproposed_lem base f given.some given.few (acts_of early) run_early t.instance x.replica x.decree none there in
+          let same : agreed base f journal t.instance ≡ Some x.decree = all_known base f journal schedule given (acts_of early) (acts_of (now ∷ late)) acts_whole x.replica t.instance x.decree there in
           false≢true (sym is_command ∙ ap (λ o. is_noop (command_of o)) same ∙ noop)
 
-      -- before it the other receipt's instance was executed
-      done_by : (u : Receipt) → Agrees f journal u → u.stamp ≤ t.seen → IsExecutedIn (executions f opening (acts_of early)) u.instance
-      done_by u hu le =
-          let e = hu.known.executed in
-          let b = of_in u.replica e.entry schedule (subst (λ es. In e.entry es) (sym (given.scheduled.0 u.replica)) e.stands) in
-          let s : b.0.entry.stamp ≡ u.stamp = ap (λ (z : Entry). z.stamp) b.3 ∙ e.is_stamp in
-          let lt : b.0.entry.stamp < ht.known.proposed.proposal.stamp = (let l = ht.later in omega arith) in
-          let first : In b.0 early = in_before early late now b.0 (subst Rises (sym whole) given.scheduled.1) (subst (λ z. In b.0 z) (sym whole) b.1) lt in
-          is_executed f u.instance early opening run_early b.0 first (subst (λ (z : Entry). Has (order_of z.done) u.instance) (sym b.3) (in_has e.entry.done u.instance u.answer e.done))
+      -- before it what an entry of a lower stamp executes was executed
+      done_early : (b : Scheduled) → In b schedule → b.entry.stamp < ht.known.proposed.proposal.stamp → (z : ℕ) → Has (order_of b.entry.done) z → IsExecutedIn (executions f (opening base) (acts_of early)) z
+      done_early b m lt z k =
+          let first : In b early = in_before early late now b (subst Rises (sym whole) given.scheduled.1) (subst (λ z. In b z) (sym whole) m) lt in
+          is_executed f z early (opening base) run_early b first k
 
-    kept : Cut (leader_of t.instance) ht.known.proposed.before ht.known.proposed.proposal schedule → (u : Receipt) → Agrees f journal u → u.stamp ≤ t.seen →
-        Has (history_of (command_at f journal) schedule) t.instance → Has (history_of (command_at f journal) schedule) u.instance →
-        place (history_of (command_at f journal) schedule) u.instance < place (history_of (command_at f journal) schedule) t.instance
-    kept at u hu le in_t in_u =
+    kept : Cut (leader_of t.instance) ht.known.proposed.before ht.known.proposed.proposal schedule → (b : Scheduled) → In b schedule → b.entry.stamp < ht.known.proposed.proposal.stamp → (z : ℕ) → Has (order_of b.entry.done) z →
+        Has (history_of (command_at base f journal) schedule) t.instance → Has (history_of (command_at base f journal) schedule) z →
+        place (history_of (command_at base f journal) schedule) z < place (history_of (command_at base f journal) schedule) t.instance
+    kept at b m less z k in_t in_z =
         let early : List Act = acts_of at.early in
         let late : List Act = acts_of (now ∷ at.late) in
-        let e : executions f opening (acts_of schedule) ≡ executions f opening early ++ executions f (ends f opening early) late =
-        ap (λ these. executions f opening these) (sym (acts_whole at.early at.late at.whole)) ∙ executions_both f early late opening in
-        let lt = earlier_first_lem (command_at f journal) (executions f opening early) (executions f (ends f opening early) late) t.instance u.instance (in_history t.instance in_t) (in_history u.instance in_u)
-        (done_by at.early at.late at.whole u hu le) (not_yet at.early at.late at.whole at.own (in_history t.instance in_t)) in
-        subst (λ h. place h u.instance < place h t.instance) (ap (λ es. history (command_at f journal) es) (sym e) ∙ history_same f journal schedule given) lt
+        let e : executions f (opening base) (acts_of schedule) ≡ executions f (opening base) early ++ executions f (ends f (opening base) early) late =
+        ap (λ these. executions f (opening base) these) (sym (acts_whole at.early at.late at.whole)) ∙ executions_both f early late (opening base) in
+        let lt = earlier_first_lem (command_at base f journal) (executions f (opening base) early) (executions f (ends f (opening base) early) late) t.instance z (in_history t.instance in_t) (in_history z in_z)
+        (done_early at.early at.late at.whole b m less z k) (not_yet at.early at.late at.whole at.own (in_history t.instance in_t)) in
+        subst (λ h. place h z < place h t.instance) (ap (λ es. history (command_at base f journal) es) (sym e) ∙ history_same base f journal schedule given) lt
+
+    -- what an entry of a lower stamp executes stands before
+    pub entry_before : (r : ℕ) (e : Entry) → In e (journal r) → e.stamp < ht.known.proposed.proposal.stamp → (z : ℕ) → Has (order_of e.done) z →
+        Has (history_of (command_at base f journal) schedule) t.instance → Has (history_of (command_at base f journal) schedule) z →
+        place (history_of (command_at base f journal) schedule) z < place (history_of (command_at base f journal) schedule) t.instance
+    entry_before r e m less z k in_t in_z =
+        let p = ht.known.proposed in
+        let at = cut (leader_of t.instance) p.before p.proposal p.rest schedule (given.scheduled.0 (leader_of t.instance) ∙ sym p.split) in
+        let b = of_in r e schedule (subst (λ es. In e es) (sym (given.scheduled.0 r)) m) in
+        kept at b.0 b.1 (subst (λ (d : Entry). d.stamp < ht.known.proposed.proposal.stamp) (sym b.3) less) z (subst (λ (d : Entry). Has (order_of d.done) z) (sym b.3) k) in_t in_z
 
 pub caller_order_lem : CallerOrder
-caller_order_lem f journal schedule given t u ht hu le in_t in_u =
-    let p = ht.known.proposed in
-    let at = cut (leader_of t.instance) p.before p.proposal p.rest schedule (given.scheduled.0 (leader_of t.instance) ∙ sym p.split) in
-    kept f journal schedule given t ht at u hu le in_t in_u
+caller_order_lem base f journal schedule given t u ht hu le in_t in_u =
+    let e = hu.known.executed in
+    let s = e.is_stamp in
+    let l = ht.later in
+    entry_before base f journal schedule given t ht u.replica e.entry e.stands (omega arith) u.instance (in_has e.entry.done u.instance u.answer e.done) in_t in_u

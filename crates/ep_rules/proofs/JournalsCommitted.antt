@@ -16,6 +16,7 @@ use Rattle.ep_rules.proofs.Runs.{agreement_holds, validity_holds}
 use Rattle.ep_rules.proofs.Pairs.{dependency_holds}
 use Rattle.ep_rules.proofs.Permanence.{permanence_holds}
 use Rattle.ep_rules.proofs.Merged.{merged_is_a_run_lem}
+use Rattle.ep_rules.specs.OneMap.{Store}
 
 pub some_same : {X : Type 0} (x y : X) → Some x ≡ Some y → x ≡ y
 some_same x y e = cc
@@ -56,29 +57,29 @@ of_both r (a ∷ xs) ys = ap (λ z. cond (eqb a.replica r) (a.entry ∷ z) z) (o
     go false = refl
 
 -- What a replica has committed it keeps.
-pub keeps : (f : ℕ) (early late : List Act) → IsRun f opening (early ++ late) → (r i : ℕ) (x : Decree) → Committed (ends f opening early) r i x → Committed (ends f opening (early ++ late)) r i x
-keeps f early late h r i x e =
-    subst (λ w. Committed w r i x) (sym (ends_both f early late opening)) (permanence_holds f (ends f opening early) late (run_parts f early late opening h).1 i r x e)
+pub keeps : (base : Store) → (f : ℕ) (early late : List Act) → IsRun f (opening base) (early ++ late) → (r i : ℕ) (x : Decree) → Committed (ends f (opening base) early) r i x → Committed (ends f (opening base) (early ++ late)) r i x
+keeps base f early late h r i x e =
+    subst (λ w. Committed w r i x) (sym (ends_both f early late (opening base))) (permanence_holds f (ends f (opening base) early) late (run_parts f early late (opening base) h).1 i r x e)
 
 -- One run of the journals.
-module _ (f : ℕ) (journal : Journals) (schedule : List Scheduled) (given : Merges f journal schedule) where
-  pub is_run : IsRun f opening (acts_of schedule)
-  is_run = merged_is_a_run_lem f journal schedule given.local given.matched given.scheduled
+module _ (base : Store) (f : ℕ) (journal : Journals) (schedule : List Scheduled) (given : Merges base f journal schedule) where
+  pub is_run : IsRun f (opening base) (acts_of schedule)
+  is_run = merged_is_a_run_lem base f journal schedule given.local given.matched given.scheduled
 
   -- and the same with nothing after
-  pub is_run_nil : IsRun f opening (acts_of schedule ++ [])
-  is_run_nil = subst (IsRun f opening) (sym (append-nil (acts_of schedule))) is_run
+  pub is_run_nil : IsRun f (opening base) (acts_of schedule ++ [])
+  is_run_nil = subst (IsRun f (opening base)) (sym (append-nil (acts_of schedule))) is_run
 
-  pub state_is : (r : ℕ) → (ends f opening (acts_of schedule)).states r ≡ left f r fresh_state (journal r)
-  state_is r = ends_left f r schedule opening ∙ ap (λ es. left f r fresh_state es) (given.scheduled.0 r)
+  pub state_is : (r : ℕ) → (ends f (opening base) (acts_of schedule)).states r ≡ left f r (fresh_state base) (journal r)
+  state_is r = ends_left f r schedule (opening base) ∙ ap (λ es. left f r (fresh_state base) es) (given.scheduled.0 r)
 
-  pub commits_end : (r i : ℕ) (x : Decree) → committed_by f journal r i ≡ Some x → Committed (ends f opening (acts_of schedule)) r i x
+  pub commits_end : (r i : ℕ) (x : Decree) → committed_by base f journal r i ≡ Some x → Committed (ends f (opening base) (acts_of schedule)) r i x
   commits_end r i x e = ap (λ (s : State). committed_in s.records i) (state_is r) ∙ e
 
-  pub commits_nil : (r i : ℕ) (x : Decree) → committed_by f journal r i ≡ Some x → Committed (ends f opening (acts_of schedule ++ [])) r i x
-  commits_nil r i x e = subst (λ these. Committed (ends f opening these) r i x) (sym (append-nil (acts_of schedule))) (commits_end r i x e)
+  pub commits_nil : (r i : ℕ) (x : Decree) → committed_by base f journal r i ≡ Some x → Committed (ends f (opening base) (acts_of schedule ++ [])) r i x
+  commits_nil r i x e = subst (λ these. Committed (ends f (opening base) these) r i x) (sym (append-nil (acts_of schedule))) (commits_end r i x e)
 
-  pub end_commits : (r i : ℕ) (x : Decree) → Committed (ends f opening (acts_of schedule)) r i x → committed_by f journal r i ≡ Some x
+  pub end_commits : (r i : ℕ) (x : Decree) → Committed (ends f (opening base) (acts_of schedule)) r i x → committed_by base f journal r i ≡ Some x
   end_commits r i x e = ap (λ (s : State). committed_in s.records i) (sym (state_is r)) ∙ e
 
 -- A schedule in two parts, at an entry of a journal.
@@ -114,12 +115,12 @@ cut r before e rest (a ∷ these) h = go (eqb a.replica r) refl before h (λ b. 
 -- The laws.
 
 pub journals_agree_lem : JournalsAgree
-journals_agree_lem f journal schedule given i r q x y ex ey =
-    agreement_holds f given.some given.few (acts_of schedule) [] (is_run_nil f journal schedule given) i r q x y (commits_end f journal schedule given r i x ex) (commits_nil f journal schedule given q i y ey)
+journals_agree_lem base f journal schedule given i r q x y ex ey =
+    agreement_holds base f given.some given.few (acts_of schedule) [] (is_run_nil base f journal schedule given) i r q x y (commits_end base f journal schedule given r i x ex) (commits_nil base f journal schedule given q i y ey)
 
 pub journals_depend_lem : JournalsDepend
-journals_depend_lem f journal schedule given i j r q x y ne ex ey meet =
-    dependency_holds f given.some given.few (acts_of schedule) [] (is_run_nil f journal schedule given) i j r q x y ne (commits_end f journal schedule given r i x ex) (commits_nil f journal schedule given q j y ey) meet
+journals_depend_lem base f journal schedule given i j r q x y ne ex ey meet =
+    dependency_holds base f given.some given.few (acts_of schedule) [] (is_run_nil base f journal schedule given) i j r q x y ne (commits_end base f journal schedule given r i x ex) (commits_nil base f journal schedule given q j y ey) meet
 
 -- an act of a schedule, in its place
 pub record ActIn (before : List Act) (a : Act) (schedule : List Scheduled) : Type 0 where
@@ -157,14 +158,14 @@ split_of l early at late schedule es whole mine own =
     let here : of l (at ∷ late) ≡ at.entry ∷ of l late = ap (λ b. cond b (at.entry ∷ of l late) (of l late)) (eq-eqb at.replica l mine) in
     ap (λ es. of l early ++ es) (sym here) ∙ sym (of_both l early (at ∷ late)) ∙ ap (λ z. of l z) whole ∙ own
 
-free_then : (f l : ℕ) (early : List Scheduled) (before : List Act) (n : ℕ) → acts_of early ≡ before → free_number ((ends f opening before).states l).records l ≡ Some n → free_number (left f l fresh_state (of l early)).records l ≡ Some n
-free_then f l early before n is free =
-    let same : (ends f opening before).states l ≡ left f l fresh_state (of l early) = subst (λ these. (ends f opening these).states l ≡ left f l fresh_state (of l early)) is (ends_left f l early opening) in
+free_then : (base : Store) → (f l : ℕ) (early : List Scheduled) (before : List Act) (n : ℕ) → acts_of early ≡ before → free_number ((ends f (opening base) before).states l).records l ≡ Some n → free_number (left f l (fresh_state base) (of l early)).records l ≡ Some n
+free_then base f l early before n is free =
+    let same : (ends f (opening base) before).states l ≡ left f l (fresh_state base) (of l early) = subst (λ these. (ends f (opening base) these).states l ≡ left f l (fresh_state base) (of l early)) is (ends_left f l early (opening base)) in
     subst (λ (s : State). free_number s.records l ≡ Some n) same free
 
 pub journals_propose_lem : JournalsPropose
-journals_propose_lem f journal schedule given r i x e real =
-    let t = validity_holds f given.some given.few (acts_of schedule) (is_run f journal schedule given) i r x (commits_end f journal schedule given r i x e) real in
+journals_propose_lem base f journal schedule given r i x e real =
+    let t = validity_holds base f given.some given.few (acts_of schedule) (is_run base f journal schedule given) i r x (commits_end base f journal schedule given r i x e) real in
     let p = act_in t.before t.proposal t.after schedule t.stands in
     let mine : p.at.replica ≡ leader_of i = ap (λ (z : Act). z.replica) p.act_is ∙ t.replica in (
       t.client,
@@ -178,7 +179,7 @@ journals_propose_lem f journal schedule given r i x e real =
         seen = t.seen;
         event = ap (λ (z : Act). z.event) p.act_is ∙ t.event;
         number = t.number;
-        free = free_then f (leader_of i) p.early t.before t.number p.before_is t.free;
+        free = free_then base f (leader_of i) p.early t.before t.number p.before_is t.free;
         instance = t.instance;
       },
       refl,
@@ -187,36 +188,36 @@ journals_propose_lem f journal schedule given r i x e real =
 -- What is agreed on.
 
 -- a journal that commits is a replica's
-committer : (f : ℕ) (journal : Journals) (schedule : List Scheduled) → Merges f journal schedule → (r i : ℕ) (x : Decree) → committed_by f journal r i ≡ Some x → r < size f
-committer f journal schedule given r i x e = elim (cases_lt r (size f)) [
+committer : (base : Store) → (f : ℕ) (journal : Journals) (schedule : List Scheduled) → Merges base f journal schedule → (r i : ℕ) (x : Decree) → committed_by base f journal r i ≡ Some x → r < size f
+committer base f journal schedule given r i x e = elim (cases_lt r (size f)) [
   | inl lt ↦ lt
-  | inr ge ↦ none_some x (sym (ap (λ o. committed_decree (record_or_fresh i o).vote) (none_there i)) ∙ sym (ap (λ es. committed_in (left f r fresh_state es).records i) (given.local.others r ge)) ∙ e)
+  | inr ge ↦ none_some x (sym (ap (λ o. committed_decree (record_or_fresh i o).vote) (none_there i)) ∙ sym (ap (λ es. committed_in (left f r (fresh_state base) es).records i) (given.local.others r ge)) ∙ e)
 ]
 
-pub agreed_back : (n f : ℕ) (journal : Journals) (i : ℕ) (x : Decree) → agreed_below n f journal i ≡ Some x → (k : ℕ) × (k < n) × (committed_by f journal k i ≡ Some x)
-agreed_back zero f journal i x e = none_some x e
-agreed_back (suc n) f journal i x e = go (agreed_below n f journal i) e (agreed_back n f journal i x)
+pub agreed_back : (base : Store) → (n f : ℕ) (journal : Journals) (i : ℕ) (x : Decree) → agreed_below base n f journal i ≡ Some x → (k : ℕ) × (k < n) × (committed_by base f journal k i ≡ Some x)
+agreed_back base zero f journal i x e = none_some x e
+agreed_back base (suc n) f journal i x e = go (agreed_below base n f journal i) e (agreed_back base n f journal i x)
   where
-    go : (o : Option Decree) → or_else o (committed_by f journal n i) ≡ Some x → (o ≡ Some x → (k : ℕ) × (k < n) × (committed_by f journal k i ≡ Some x)) → (k : ℕ) × (k < suc n) × (committed_by f journal k i ≡ Some x)
+    go : (o : Option Decree) → or_else o (committed_by base f journal n i) ≡ Some x → (o ≡ Some x → (k : ℕ) × (k < n) × (committed_by base f journal k i ≡ Some x)) → (k : ℕ) × (k < suc n) × (committed_by base f journal k i ≡ Some x)
     go (Some y) q rec = let t = rec q in (t.0, (let l = t.1 in omega arith), t.2)
     go None q rec = (n, omega arith, q)
 
-agreed_forth : (n f : ℕ) (journal : Journals) (i k : ℕ) (x : Decree) → k < n → committed_by f journal k i ≡ Some x → (y : Decree) × (agreed_below n f journal i ≡ Some y)
-agreed_forth zero f journal i k x lt e = absurd (omega arith)
-agreed_forth (suc n) f journal i k x lt e = go (agreed_below n f journal i) refl (agreed_forth n f journal i k x)
+agreed_forth : (base : Store) → (n f : ℕ) (journal : Journals) (i k : ℕ) (x : Decree) → k < n → committed_by base f journal k i ≡ Some x → (y : Decree) × (agreed_below base n f journal i ≡ Some y)
+agreed_forth base zero f journal i k x lt e = absurd (omega arith)
+agreed_forth base (suc n) f journal i k x lt e = go (agreed_below base n f journal i) refl (agreed_forth base n f journal i k x)
   where
-    go : (o : Option Decree) → agreed_below n f journal i ≡ o → (k < n → committed_by f journal k i ≡ Some x → (y : Decree) × (o ≡ Some y)) → (y : Decree) × (or_else o (committed_by f journal n i) ≡ Some y)
+    go : (o : Option Decree) → agreed_below base n f journal i ≡ o → (k < n → committed_by base f journal k i ≡ Some x → (y : Decree) × (o ≡ Some y)) → (y : Decree) × (or_else o (committed_by base f journal n i) ≡ Some y)
     go (Some y) q rec = (y, refl)
     go None q rec = elim (cases_lt k n) [
       | inl l ↦ (let t = rec l e in none_some t.0 t.1)
-      | inr ge ↦ (x, (let is : n ≡ k = omega arith in ap (λ z. committed_by f journal z i) is ∙ e))
+      | inr ge ↦ (x, (let is : n ≡ k = omega arith in ap (λ z. committed_by base f journal z i) is ∙ e))
     ]
 
-pub commits_agreed : (f : ℕ) (journal : Journals) (schedule : List Scheduled) → Merges f journal schedule → (r i : ℕ) (x : Decree) → committed_by f journal r i ≡ Some x → agreed f journal i ≡ Some x
-commits_agreed f journal schedule given r i x e =
-    let y = agreed_forth (size f) f journal i r x (committer f journal schedule given r i x e) e in
-    let back = agreed_back (size f) f journal i y.0 y.1 in
-    y.1 ∙ ap Some (journals_agree_lem f journal schedule given i back.0 r y.0 x back.2 e)
+pub commits_agreed : (base : Store) → (f : ℕ) (journal : Journals) (schedule : List Scheduled) → Merges base f journal schedule → (r i : ℕ) (x : Decree) → committed_by base f journal r i ≡ Some x → agreed base f journal i ≡ Some x
+commits_agreed base f journal schedule given r i x e =
+    let y = agreed_forth base (size f) f journal i r x (committer base f journal schedule given r i x e) e in
+    let back = agreed_back base (size f) f journal i y.0 y.1 in
+    y.1 ∙ ap Some (journals_agree_lem base f journal schedule given i back.0 r y.0 x back.2 e)
 
 pub agreed_is_lem : AgreedIs
-agreed_is_lem f journal schedule given i x = (agreed_back (size f) f journal i x, λ t. commits_agreed f journal schedule given t.0 i x t.2)
+agreed_is_lem base f journal schedule given i x = (agreed_back base (size f) f journal i x, λ t. commits_agreed base f journal schedule given t.0 i x t.2)

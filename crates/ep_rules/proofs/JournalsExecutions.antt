@@ -9,7 +9,7 @@ use Rattle.ep_base.specs.declared.reply.Answer.{Answer}
 use Rattle.ep_base.specs.Places.{Has}
 use Rattle.ep_rules.specs.Graph.{Graph}
 use Rattle.ep_rules.specs.Order.{InBlocks, IsComplete, IsPlan}
-use Rattle.ep_rules.specs.OneMap.{Contents, empty, after, after_all, answer, answers_of}
+use Rattle.ep_rules.specs.OneMap.{Store, after, after_all, answer, answers_of}
 use Rattle.ep_rules.specs.History
 use Rattle.ep_rules.specs.History.{Execution, Done, nothing, done_after, Agrees, IsLocal}
 use Rattle.ep_rules.specs.States.{State, committed_in, attrs_of, command_of, graph_in, command_in}
@@ -66,15 +66,15 @@ step_known s (Execute root) done i h k =
 has_head : (x : ℕ) (xs : List ℕ) → Has (x ∷ xs) x
 has_head x xs = let e = place_head x xs in omega arith
 
-after_same : (c d : ℕ → Command) (m : Contents) (xs : List ℕ) → ((i : ℕ) → Has xs i → c i ≡ d i) → after_all c m xs ≡ after_all d m xs
+after_same : (c d : ℕ → Command) (m : Store) (xs : List ℕ) → ((i : ℕ) → Has xs i → c i ≡ d i) → after_all c m xs ≡ after_all d m xs
 after_same c d m [] h = refl
 after_same c d m (x ∷ xs) h = after_same c d (after m (c x)) xs (λ i k. h i (has_tail x i xs k)) ∙ ap (λ y. after_all d (after m y) xs) (h x (has_head x xs))
 
-answers_same : (c d : ℕ → Command) (m : Contents) (xs : List ℕ) → ((i : ℕ) → Has xs i → c i ≡ d i) → answers_of c m xs ≡ answers_of d m xs
+answers_same : (c d : ℕ → Command) (m : Store) (xs : List ℕ) → ((i : ℕ) → Has xs i → c i ≡ d i) → answers_of c m xs ≡ answers_of d m xs
 answers_same c d m [] h = refl
 answers_same c d m (x ∷ xs) h = ap (λ ys. answer m (c x) ∷ ys) (answers_same c d (after m (c x)) xs (λ i k. h i (has_tail x i xs k))) ∙ ap (λ y. answer m y ∷ answers_of d (after m y) xs) (h x (has_head x xs))
 
-module _ (f : ℕ) (all : ℕ → Option Decree) where
+module _ (base : Store) (f : ℕ) (all : ℕ → Option Decree) where
   abbrev pub graph : Graph
   graph i = attrs_of (all i)
 
@@ -87,7 +87,7 @@ module _ (f : ℕ) (all : ℕ → Option Decree) where
 
   -- each map is what was executed has left
   abbrev pub Stored : World → Type 0
-  Stored w = (r : ℕ) → (w.states r).store ≡ after_all told empty (w.states r).executed
+  Stored w = (r : ℕ) → (w.states r).store ≡ after_all told base (w.states r).executed
 
   pub known_next : (w : World) (a : Act) (these : List Act) → Known w (a ∷ these) → Known (moved f w a) these
   known_next w a these known early late e = known (a ∷ early) late (ap (λ z. a ∷ z) e)
@@ -98,15 +98,15 @@ module _ (f : ℕ) (all : ℕ → Option Decree) where
       let x = step_known (w.states a.replica) a.event a.done i h k in
       ap command_of x.1 ∙ sym (ap command_of (known [] (a ∷ these) refl a.replica i x.0 x.1))
 
-  stored_next : (w : World) (a : Act) (these : List Act) → Known w (a ∷ these) → Executes (w.states a.replica) a.event a.done → Stored w → Stored (moved f w a)
+  pub stored_next : (w : World) (a : Act) (these : List Act) → Known w (a ∷ these) → Executes (w.states a.replica) a.event a.done → Stored w → Stored (moved f w a)
   stored_next w a these known h stored r = go (eqb a.replica r) refl
     where
-      go : (b : Bool) → eqb a.replica r ≡ b → (cond b (leaves f r (w.states r) a.event a.done) (w.states r)).store ≡ after_all told empty (cond b (leaves f r (w.states r) a.event a.done) (w.states r)).executed
+      go : (b : Bool) → eqb a.replica r ≡ b → (cond b (leaves f r (w.states r) a.event a.done) (w.states r)).store ≡ after_all told base (cond b (leaves f r (w.states r) a.event a.done) (w.states r)).executed
       go false q = stored r
-      go true q = subst (λ z. (leaves f z (w.states z) a.event a.done).store ≡ after_all told empty (leaves f z (w.states z) a.event a.done).executed) (eqb-true a.replica r q)
+      go true q = subst (λ z. (leaves f z (w.states z) a.event a.done).store ≡ after_all told base (leaves f z (w.states z) a.event a.done).executed) (eqb-true a.replica r q)
           (after_same (command_in (w.states a.replica).records) told (w.states a.replica).store (order_of a.done) (same_commands w a these known h)
           ∙ ap (λ m. after_all told m (order_of a.done)) (stored a.replica)
-          ∙ sym (after_both told empty (w.states a.replica).executed (order_of a.done)))
+          ∙ sym (after_both told base (w.states a.replica).executed (order_of a.done)))
 
   module _ (w : World) (a : Act) (these : List Act) (known : Known w (a ∷ these)) (stored : Stored w) (r : ℕ) where
     abbrev rest : List Execution
@@ -117,7 +117,7 @@ module _ (f : ℕ) (all : ℕ → Option Decree) where
 
     -- the run from what r has executed, after this act
     abbrev After : Bool → Type 0
-    After b = IsLocal graph told (cond b (leaves f r (w.states r) a.event a.done) (w.states r)).executed (History.of r rest)
+    After b = IsLocal base graph told (cond b (leaves f r (w.states r) a.event a.done) (w.states r)).executed (History.of r rest)
 
     same_executed : (b : Bool) → a.done ≡ [] → (cond b (leaves f r (w.states r) a.event a.done) (w.states r)).executed ≡ (w.states r).executed
     same_executed true none = ap (λ d. (w.states r).executed ++ order_of d) none ∙ append-nil (w.states r).executed
@@ -130,23 +130,23 @@ module _ (f : ℕ) (all : ℕ → Option Decree) where
 
     executed_one : (root : ℕ) → ((i : ℕ) → Has (order_of a.done) i → command_in (w.states a.replica).records i ≡ told i) → IsPlan (graph_in (w.states a.replica).records) (w.states a.replica).executed root (order_of a.done) →
         answers_in a.done ≡ answers_of (command_in (w.states a.replica).records) (w.states a.replica).store (order_of a.done) →
-        (b : Bool) → eqb a.replica r ≡ b → After b → IsLocal graph told (w.states r).executed (cond b (one root ∷ History.of r rest) (History.of r rest))
+        (b : Bool) → eqb a.replica r ≡ b → After b → IsLocal base graph told (w.states r).executed (cond b (one root ∷ History.of r rest) (History.of r rest))
     executed_one root same plan answers false q rec = rec
     executed_one root same plan answers true q rec =
         let is = eqb-true a.replica r q in
-        let by : answers_in a.done ≡ answers_of told (after_all told empty (w.states a.replica).executed) (order_of a.done) =
+        let by : answers_in a.done ≡ answers_of told (after_all told base (w.states a.replica).executed) (order_of a.done) =
         answers ∙ answers_same (command_in (w.states a.replica).records) told (w.states a.replica).store (order_of a.done) same ∙ ap (λ m. answers_of told m (order_of a.done)) (stored a.replica) in (
           agrees,
           subst (λ z. IsPlan (graph_in (w.states a.replica).records) (w.states z).executed root (order_of a.done)) is plan,
-          subst (λ z. answers_in a.done ≡ answers_of told (after_all told empty (w.states z).executed) (order_of a.done)) is by,
+          subst (λ z. answers_in a.done ≡ answers_of told (after_all told base (w.states z).executed) (order_of a.done)) is by,
           rec,
         )
 
-    no_step : a.done ≡ [] → After (eqb a.replica r) → IsLocal graph told (w.states r).executed (History.of r rest)
-    no_step none rec = subst (λ xs. IsLocal graph told xs (History.of r rest)) (same_executed (eqb a.replica r) none) rec
+    no_step : a.done ≡ [] → After (eqb a.replica r) → IsLocal base graph told (w.states r).executed (History.of r rest)
+    no_step none rec = subst (λ xs. IsLocal base graph told xs (History.of r rest)) (same_executed (eqb a.replica r) none) rec
 
     local_step : (e : Event) → Executes (w.states a.replica) e a.done → ((i : ℕ) → Has (order_of a.done) i → command_in (w.states a.replica).records i ≡ told i) → After (eqb a.replica r) →
-        IsLocal graph told (w.states r).executed (History.of r (exec_of w a e rest))
+        IsLocal base graph told (w.states r).executed (History.of r (exec_of w a e rest))
     local_step (Propose client request c seen) h same rec = no_step h rec
     local_step (Handle m) h same rec = no_step h rec
     local_step (GiveUp i) h same rec = no_step h rec
@@ -154,7 +154,7 @@ module _ (f : ℕ) (all : ℕ → Option Decree) where
     local_step (Execute root) h same rec = executed_one root same h.0 h.1 (eqb a.replica r) refl rec
 
   -- each replica's executions are a local run
-  pub local_runs : (these : List Act) (w : World) → IsRun f w these → Known w these → Stored w → (r : ℕ) → IsLocal graph told (w.states r).executed (History.of r (executions f w these))
+  pub local_runs : (these : List Act) (w : World) → IsRun f w these → Known w these → Stored w → (r : ℕ) → IsLocal base graph told (w.states r).executed (History.of r (executions f w these))
   local_runs [] w h known stored r = tt
   local_runs (a ∷ these) w h known stored r =
       local_step w a these known stored r a.event h.0.step.executes (same_commands w a these known h.0.step.executes)

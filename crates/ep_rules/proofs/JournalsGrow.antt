@@ -1,10 +1,10 @@
 -- Journals, clocks, what was asked and what a world plays with more entries; entries by their number.
-use Rattle.std.proofs.Common.{◌≡◌, ℕ, zero, suc, ◌+◌, ◌<◌, max, length, Bool, true, false, cond, eqb, Some, List, [], ◌∷◌, ◌++◌, slice_get, refl, sym, ap, subst, ◌∙◌, arith, append-nil, append_assoc}
+use Rattle.std.proofs.Common.{◌≡◌, ℕ, zero, suc, ◌+◌, ◌<◌, max, length, Bool, true, false, cond, eqb, inl, inr, Some, List, [], ◌∷◌, ◌++◌, slice_get, refl, sym, ap, subst, ◌∙◌, arith, append-nil, append_assoc}
 use Rattle.ep_rules.specs.States.{State, fresh_state}
 use Rattle.ep_rules.specs.Steps.{Frame, Sent, leaves, sends}
 use Rattle.ep_rules.specs.Worlds.{World, opening, In, moved, ends}
 use Rattle.ep_rules.specs.Journals.{Entry, messages_of, of, IsEntry, AreSteps, left, AreMarked, AreNumbered, stamp_after, heard, AreClocked, asked_by, asked_in, Scheduled, act_of, acts_of, Plays, ArePlayed, frames_of}
-use Rattle.ep_rules.specs.Merging.{AskedGrows, LocalRunsGrow, ClocksGrow, PlayedGrows, PlayedSends, OwnEntriesLeave, NumbersArePlaces}
+use Rattle.ep_rules.specs.Merging.{AskedGrows, LocalRunsGrow, ClocksGrow, ClocksStayAbove, PlayedGrows, PlayedSends, OwnEntriesLeave, NumbersArePlaces}
 use Rattle.ep_rules.proofs.Merged.{at_in, in_at}
 use Rattle.ep_rules.proofs.Played.{messages_both}
 use Rattle.ep_rules.proofs.JournalsCommitted.{ends_left, of_both}
@@ -47,17 +47,22 @@ at_number es k e h there is =
     subst (λ j. slice_get es j ≡ Some e) q t.1
 
 pub local_runs_grow_lem : LocalRunsGrow
-local_runs_grow_lem f me es e h k number stamp marked = (numbered_grow 1 0 es e h.0 (omega arith) stamp marked, steps_grow f me fresh_state es e h.1 k)
+local_runs_grow_lem base f me es e h k number stamp marked = (numbered_grow 1 0 es e h.0 (omega arith) stamp marked, steps_grow f me (fresh_state base) es e h.1 k)
 
 pub clocks_grow_lem : ClocksGrow
-clocks_grow_lem es e h is = clocked_grow 0 es e h is
+clocks_grow_lem since es e h is = clocked_grow since es e h is
+
+pub clocks_stay_above_lem : ClocksStayAbove
+clocks_stay_above_lem since [] e h m = absurd m
+clocks_stay_above_lem since (x ∷ es) e h (inl is) = subst (λ (d : Entry). since < d.stamp) is (let t = h.0 in omega arith)
+clocks_stay_above_lem since (x ∷ es) e h (inr m) = let r = clocks_stay_above_lem x.stamp es e h.1 m in let t = h.0 in omega arith
 
 pub asked_grows_lem : AskedGrows
 asked_grows_lem [] more = refl
 asked_grows_lem (e ∷ es) more = ap (λ l. asked_by e.event ++ l) (asked_grows_lem es more) ∙ sym (append_assoc (asked_by e.event) (asked_in es) (asked_in more))
 
 pub played_grows_lem : PlayedGrows
-played_grows_lem f schedule a h k = played_on f opening [] schedule a h k
+played_grows_lem base f schedule a h k = played_on f (opening base) [] schedule a h k
 
 pub numbers_are_places_lem : NumbersArePlaces
 numbers_are_places_lem es h k e = ((λ is. (at_in es k e is, (let q = number_at 1 0 es k e h is in omega arith))), λ t. at_number es k e h t.0 t.1)
@@ -82,7 +87,7 @@ played_sent f (a ∷ these) w frames is h =
     ap messages_of (sym (append_assoc frames a.entry.out (frames_of these))) ∙ played_sent f these (moved f w (act_of a)) (frames ++ a.entry.out) next h.1
 
 pub played_sends_lem : PlayedSends
-played_sends_lem f schedule h = played_sent f schedule opening [] refl h
+played_sends_lem base f schedule h = played_sent f schedule (opening base) [] refl h
 
 pub own_entries_leave_lem : OwnEntriesLeave
-own_entries_leave_lem f schedule r = ends_left f r schedule opening
+own_entries_leave_lem base f schedule r = ends_left f r schedule (opening base)

@@ -52,4 +52,4 @@ left_parts f me s [] ys = refl
 left_parts f me s (x ∷ xs) ys = left_parts f me (leaves f me s x.event x.done) xs ys
 
 pub journals_keep_lem : JournalsKeep
-journals_keep_lem f me before rest i x h = ap (λ (s : State). committed_in s.records i) (left_parts f me fresh_state before rest) ∙ left_stays f me (left f me fresh_state before) rest i x h
+journals_keep_lem base f me before rest i x h = ap (λ (s : State). committed_in s.records i) (left_parts f me (fresh_state base) before rest) ∙ left_stays f me (left f me (fresh_state base) before) rest i x h

@@ -6,6 +6,7 @@ use Rattle.ep_rules.specs.Steps.{Frame, Event, Propose, Handle, GiveUp, Recover,
 use Rattle.ep_rules.specs.Worlds.{World, opening, In, IsThere, moved, IsRun}
 use Rattle.ep_rules.specs.Journals.{Entry, messages_of, AreSteps, AreMarked, AreNumbered, AreLocalRuns, Journals, IsMatched, Scheduled, of, Rises, IsSchedule, act_of, acts_of}
 use Rattle.ep_rules.specs.Merging.{MergedIsARun}
+use Rattle.ep_rules.specs.OneMap.{Store}
 
 -- membership
 pub in_left : {X : Type 0} (x : X) (xs ys : List X) → In x xs → In x (xs ++ ys)
@@ -68,8 +69,8 @@ in_of a (x ∷ these) (inr h) = go (eqb x.replica a.replica) (in_of a these h)
     go false k = k
 
 -- a journal that holds an entry is a replica's
-pub in_journal : (f : ℕ) (journal : Journals) (r : ℕ) (e : Entry) → AreLocalRuns f journal → In e (journal r) → r < size f
-in_journal f journal r e local h = elim (cases_lt r (size f)) [ inl lt ↦ lt | inr ge ↦ absurd (subst (λ es. In e es) (local.others r ge) h) ]
+pub in_journal : (base : Store) → (f : ℕ) (journal : Journals) (r : ℕ) (e : Entry) → AreLocalRuns base f journal → In e (journal r) → r < size f
+in_journal base f journal r e local h = elim (cases_lt r (size f)) [ inl lt ↦ lt | inr ge ↦ absurd (subst (λ es. In e es) (local.others r ge) h) ]
 
 -- what comes earlier stands before
 pub in_before : (before rest : List Scheduled) (a b : Scheduled) → Rises (before ++ (a ∷ rest)) → In b (before ++ (a ∷ rest)) → b.entry.stamp < a.entry.stamp → In b before
@@ -78,7 +79,7 @@ in_before [] rest a b rises (inr h) lt = absurd (let p = rises.0 b h in omega ar
 in_before (x ∷ before) rest a b rises (inl i) lt = inl i
 in_before (x ∷ before) rest a b rises (inr h) lt = inr (in_before before rest a b rises.1 h lt)
 
-module _ (f : ℕ) (journal : Journals) (whole : List Scheduled) (local : AreLocalRuns f journal) (matched : IsMatched journal) (scheduled : IsSchedule journal whole) where
+module _ (base : Store) (f : ℕ) (journal : Journals) (whole : List Scheduled) (local : AreLocalRuns base f journal) (matched : IsMatched journal) (scheduled : IsSchedule journal whole) where
   -- all that these sent is there
   abbrev AreSent : List Scheduled → World → Type 0
   AreSent before w = (b : Scheduled) (m : Frame) → In b before → In m b.entry.out → In m.sent w.sent
@@ -121,7 +122,7 @@ module _ (f : ℕ) (journal : Journals) (whole : List Scheduled) (local : AreLoc
   unrolls before (a ∷ rest) w is sent steps =
       let mine : AreSteps f a.replica (w.states a.replica) (a.entry ∷ of a.replica rest) = subst (λ b. AreSteps f a.replica (w.states a.replica) (cond b (a.entry ∷ of a.replica rest) (of a.replica rest))) (eq-eqb a.replica a.replica refl) (steps a.replica) in (
         record {
-          replica = in_journal f journal a.replica a.entry local (stands before rest a is);
+          replica = in_journal base f journal a.replica a.entry local (stands before rest a is);
           step = mine.0.step;
           there = there before rest a w is sent a.entry.event refl;
         },
@@ -129,5 +130,5 @@ module _ (f : ℕ) (journal : Journals) (whole : List Scheduled) (local : AreLoc
       )
 
 pub merged_is_a_run_lem : MergedIsARun
-merged_is_a_run_lem f journal schedule local matched scheduled =
-    unrolls f journal schedule local matched scheduled [] schedule opening refl (λ b m h. absurd h) (λ r. subst (λ es. AreSteps f r (opening.states r) es) (sym (scheduled.0 r)) (local.local r).1)
+merged_is_a_run_lem base f journal schedule local matched scheduled =
+    unrolls base f journal schedule local matched scheduled [] schedule (opening base) refl (λ b m h. absurd h) (λ r. subst (λ es. AreSteps f r ((opening base).states r) es) (sym (scheduled.0 r)) (local.local r).1)

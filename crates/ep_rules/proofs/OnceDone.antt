@@ -56,4 +56,4 @@ steps_once f me s [] steps o = o
 steps_once f me s (e ∷ es) steps o = steps_once f me (leaves f me s e.event e.done) es steps.1 (event_once s e.event e.done steps.0.step.executes o)
 
 pub executed_once_lem : ExecutedOnce
-executed_once_lem f me es run = as_once (left f me fresh_state es).executed (steps_once f me fresh_state es run.1 tt)
+executed_once_lem base f me es run = as_once (left f me (fresh_state base) es).executed (steps_once f me (fresh_state base) es run.1 tt)

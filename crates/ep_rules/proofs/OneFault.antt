@@ -12,11 +12,12 @@ use Rattle.ep_rules.proofs.Merged.{in_right}
 use Rattle.ep_rules.proofs.Played.{played_match_lem}
 use Rattle.ep_rules.proofs.OwnReceipts.{clocked_accepted_lem}
 use Rattle.ep_rules.proofs.OneProposal.{same, after, before, placed}
+use Rattle.ep_rules.specs.OneMap.{Store}
 
 pub played_accepted_lem : PlayedAccepted
-played_accepted_lem f journal schedule played own numbered clocked receipts are_own =
-    let matched = (played_match_lem f journal schedule played own numbered clocked).1 in
-    clocked_accepted_lem f journal clocked (λ r e m h is. (matched r e m h is).0) receipts are_own
+played_accepted_lem base since f journal schedule played own numbered clocked receipts are_own =
+    let matched = (played_match_lem base since f journal schedule played own numbered clocked).1 in
+    clocked_accepted_lem base since f journal clocked (λ r e m h is. (matched r e m h is).0) receipts are_own
 
 -- in the middle of a list
 in_middle : {X : Type 0} (xs : List X) (x : X) (ys whole : List X) → xs ++ (x ∷ ys) ≡ whole → In x whole
@@ -29,7 +30,7 @@ handled_same : (m n : Frame) → Handle m ≡ Handle n → m ≡ n
 handled_same m n e = cc
 
 -- two facts of which at most one holds
-module _ (f : ℕ) (journal : Journals) (receipts : List Receipt) where
+module _ (base : Store) (f : ℕ) (journal : Journals) (receipts : List Receipt) where
   -- what kind of fault a handled frame is
   data IsKind (r : ℕ) (e : Entry) (m : Frame) (x : Fault) : Type 0 where
     is_unsent : x ≡ UnsentFrame r e.number → ¬ HasOrigin journal m → IsKind r e m x
@@ -56,10 +57,10 @@ module _ (f : ℕ) (journal : Journals) (receipts : List Receipt) where
   kind_same r e m x y (is_early i w a) (is_early j v b) = i ∙ sym j
 
   data IsReceiptKind (place : ℕ) (t : Receipt) (x : Fault) : Type 0 where
-    is_unknown : x ≡ UnknownReceipt place → ¬ IsKnown f journal t → IsReceiptKind place t x
-    is_order : x ≡ CallerOrder place → IsKnown f journal t → ¬ Agrees f journal t → IsReceiptKind place t x
+    is_unknown : x ≡ UnknownReceipt place → ¬ IsKnown base f journal t → IsReceiptKind place t x
+    is_order : x ≡ CallerOrder place → IsKnown base f journal t → ¬ Agrees base f journal t → IsReceiptKind place t x
 
-  receipt_bad : (place : ℕ) (t : Receipt) (x : Fault) → IsReceiptKind place t x → Agrees f journal t → ⊥
+  receipt_bad : (place : ℕ) (t : Receipt) (x : Fault) → IsReceiptKind place t x → Agrees base f journal t → ⊥
   receipt_bad place t x (is_unknown i isnt) h = isnt h.known
   receipt_bad place t x (is_order i k isnt) h = isnt h
 
@@ -79,10 +80,10 @@ module _ (f : ℕ) (journal : Journals) (receipts : List Receipt) where
   record OfReceipt (x : Fault) : Type 0 where
     place : ℕ
     t : Receipt
-    first : IsFirstReceipt f journal receipts place t
+    first : IsFirstReceipt base f journal receipts place t
     kind : IsReceiptKind place t x
 
-  sorted : (x : Fault) → IsFault f journal receipts x → OfFrame x ⊎ OfReceipt x
+  sorted : (x : Fault) → IsFault base f journal receipts x → OfFrame x ⊎ OfReceipt x
   sorted _ (unsent r e m first isnt) = inl (record { r = r; e = e; m = m; first = first; kind = is_unsent refl isnt })
   sorted _ (changed r e m first o isnt) = inl (record { r = r; e = e; m = m; first = first; kind = is_changed refl o isnt })
   sorted _ (early r e m first w isnt) = inl (record { r = r; e = e; m = m; first = first; kind = is_early refl w isnt })
@@ -121,17 +122,17 @@ module _ (f : ℕ) (journal : Journals) (receipts : List Receipt) where
     | before more d ↦ absurd (receipt_bad b.place b.t y b.kind (a.first.agree b.t (in_after b.first.before b.t more a.first.before d)))
   ]
 
-  no_fault : IsAccepted f journal receipts → (x : Fault) → IsFault f journal receipts x → ⊥
+  no_fault : IsAccepted base f journal receipts → (x : Fault) → IsFault base f journal receipts x → ⊥
   no_fault ok x h = elim (sorted x h) [
     | inl a ↦ not_matched x a ok.matched
     | inr b ↦ receipt_bad b.place b.t x b.kind (ok.agree b.t (in_middle b.first.before b.t b.first.rest receipts b.first.split))
   ]
 
-  one_fault : (x y : Fault) → IsFault f journal receipts x → IsFault f journal receipts y → x ≡ y
+  one_fault : (x y : Fault) → IsFault base f journal receipts x → IsFault base f journal receipts y → x ≡ y
   one_fault x y hx hy = elim (sorted x hx) [
     | inl a ↦ (elim (sorted y hy) [ inl b ↦ frames_same x y a b | inr b ↦ absurd (not_matched x a b.first.matched) ])
     | inr a ↦ (elim (sorted y hy) [ inl b ↦ absurd (not_matched y b a.first.matched) | inr b ↦ receipts_same x y a b ])
   ]
 
 pub faults_are_first_lem : FaultsAreFirst
-faults_are_first_lem f journal receipts = record { none = no_fault f journal receipts; one = one_fault f journal receipts }
+faults_are_first_lem base f journal receipts = record { none = no_fault base f journal receipts; one = one_fault base f journal receipts }

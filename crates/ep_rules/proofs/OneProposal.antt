@@ -23,17 +23,18 @@ use Rattle.ep_rules.proofs.Merged.{at_in}
 use Rattle.ep_rules.proofs.Named.{proposals_name_lem}
 use Rattle.ep_rules.proofs.JournalsCommitted.{some_same, none_some}
 use Rattle.ep_rules.proofs.Counting.{least_some}
+use Rattle.ep_rules.specs.OneMap.{Store}
 
 pub none_of : {X : Type 0} (o : Option X) → is_none o ≡ true → o ≡ None
 none_of None e = refl
 none_of (Some x) e = absurd (false≢true e)
 
 -- what a proposal takes is free
-pub was_free : (f me : ℕ) (es : List Entry) (i client request : ℕ) (p : Proposes f me es i client request) → get (left f me fresh_state p.before).records i ≡ None
+pub was_free : (base : Store) → (f me : ℕ) (es : List Entry) (i client request : ℕ) (p : Proposes base f me es i client request) → get (left f me (fresh_state base) p.before).records i ≡ None
 unfolding free_number
-was_free f me es i client request p =
-    subst (λ j. get (left f me fresh_state p.before).records j ≡ None) p.instance
-    (none_of (get (left f me fresh_state p.before).records (instance_of me (p.number + 1))) (least_some highest_number (is_free (left f me fresh_state p.before).records me) p.number p.free).1)
+was_free base f me es i client request p =
+    subst (λ j. get (left f me (fresh_state base) p.before).records j ≡ None) p.instance
+    (none_of (get (left f me (fresh_state base) p.before).records (instance_of me (p.number + 1))) (least_some highest_number (is_free (left f me (fresh_state base) p.before).records me) p.number p.free).1)
 
 -- Lists in two parts.
 
@@ -123,32 +124,32 @@ taken_record f me s e done c client request seen n is free h =
     let t = subst (λ o. HasRecord (changed_by s o) (instance_of me (n + 1))) (sym whole) (proposed_record f me s c n (subst IsTaken whole h)) in
     (t.0, t.1)
 
-module _ (f me : ℕ) (es : List Entry) (steps : AreSteps f me fresh_state es) (i : ℕ) where
-  at_proposal : (client request : ℕ) (p : Proposes f me es i client request) → IsEntry f me (left f me fresh_state p.before) p.proposal
-  at_proposal client request p = step_at f me fresh_state p.before p.proposal p.rest (subst (AreSteps f me fresh_state) (sym p.split) steps)
+module _ (base : Store) (f me : ℕ) (es : List Entry) (steps : AreSteps f me (fresh_state base) es) (i : ℕ) where
+  at_proposal : (client request : ℕ) (p : Proposes base f me es i client request) → IsEntry f me (left f me (fresh_state base) p.before) p.proposal
+  at_proposal client request p = step_at f me (fresh_state base) p.before p.proposal p.rest (subst (AreSteps f me (fresh_state base)) (sym p.split) steps)
 
   -- no instance is proposed once more
-  never_again : (client request other_client other_request : ℕ) (p : Proposes f me es i client request) (q : Proposes f me es i other_client other_request) (more : List Entry) → q.before ≡ p.before ++ (p.proposal ∷ more) → ⊥
+  never_again : (client request other_client other_request : ℕ) (p : Proposes base f me es i client request) (q : Proposes base f me es i other_client other_request) (more : List Entry) → q.before ≡ p.before ++ (p.proposal ∷ more) → ⊥
   never_again client request other_client other_request p q more is =
-      let s : State = left f me fresh_state p.before in
+      let s : State = left f me (fresh_state base) p.before in
       let there : HasRecord (leaves f me s p.proposal.event p.proposal.done) i =
       subst (λ j. HasRecord (leaves f me s p.proposal.event p.proposal.done) j) p.instance (taken_record f me s p.proposal.event p.proposal.done p.command client request p.seen p.number p.event p.free (at_proposal client request p).step.taken) in
       let still = record_stays f me (leaves f me s p.proposal.event p.proposal.done) more i there in
-      let same : left f me fresh_state q.before ≡ left f me (leaves f me s p.proposal.event p.proposal.done) more = ap (λ l. left f me fresh_state l) is ∙ left_both f me fresh_state p.before (p.proposal ∷ more) in
-      none_some still.0 (sym (was_free f me es i other_client other_request q) ∙ ap (λ (z : State). get z.records i) same ∙ still.1)
+      let same : left f me (fresh_state base) q.before ≡ left f me (leaves f me s p.proposal.event p.proposal.done) more = ap (λ l. left f me (fresh_state base) l) is ∙ left_both f me (fresh_state base) p.before (p.proposal ∷ more) in
+      none_some still.0 (sym (was_free base f me es i other_client other_request q) ∙ ap (λ (z : State). get z.records i) same ∙ still.1)
 
 pub one_proposal_lem : OneProposal
-one_proposal_lem f me es steps i client request other_client other_request p q =
+one_proposal_lem base f me es steps i client request other_client other_request p q =
     elim (placed p.before p.proposal p.rest q.before q.proposal q.rest (p.split ∙ sym q.split)) [
       | same d e ↦ e
-      | after more e ↦ absurd (never_again f me es steps i client request other_client other_request p q more e)
-      | before more e ↦ absurd (never_again f me es steps i other_client other_request client request q p more e)
+      | after more e ↦ absurd (never_again base f me es steps i client request other_client other_request p q more e)
+      | before more e ↦ absurd (never_again base f me es steps i other_client other_request client request q p more e)
     ]
 
 pub proposals_tell_lem : ProposalsTell
-proposals_tell_lem f me es some steps i client request = (
+proposals_tell_lem base f me es some steps i client request = (
   (λ p.
-      let t : Takes me (left f me fresh_state p.before) p.proposal = proposals_name_lem f me (left f me fresh_state p.before) p.proposal client request p.seen p.command some p.event (at_proposal f me es steps i client request p) in
+      let t : Takes me (left f me (fresh_state base) p.before) p.proposal = proposals_name_lem f me (left f me (fresh_state base) p.before) p.proposal client request p.seen p.command some p.event (at_proposal base f me es steps i client request p) in
       let is : t.number ≡ p.number = some_same t.number p.number (sym t.free ∙ p.free) in
       record {
         command = p.command;
@@ -160,8 +161,8 @@ proposals_tell_lem f me es some steps i client request = (
       }),
   (λ e h tells.
       let at : Parts e es = parts e es h in
-      let mine : IsEntry f me (left f me fresh_state at.before) e = step_at f me fresh_state at.before e at.rest (subst (AreSteps f me fresh_state) (sym at.split) steps) in
-      let t : Takes me (left f me fresh_state at.before) e = proposals_name_lem f me (left f me fresh_state at.before) e client request tells.seen tells.command some tells.event mine in (
+      let mine : IsEntry f me (left f me (fresh_state base) at.before) e = step_at f me (fresh_state base) at.before e at.rest (subst (AreSteps f me (fresh_state base)) (sym at.split) steps) in
+      let t : Takes me (left f me (fresh_state base) at.before) e = proposals_name_lem f me (left f me (fresh_state base) at.before) e client request tells.seen tells.command some tells.event mine in (
         record {
           before = at.before;
           proposal = e;

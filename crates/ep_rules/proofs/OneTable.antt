@@ -35,4 +35,4 @@ one (x ∷ xs) (y ∷ ys) rx ry same =
     heads (inr h) (inr k) = absurd (let l = below y.0 ys x ry.0 ry.1 h in let m = below x.0 xs y rx.0 rx.1 k in omega arith)
 
 pub one_table_lem : OneTable
-one_table_lem f journal first second a b = one first second a.rises b.rises (λ z. (λ h. (b.holds z.0 z.1).1 ((a.holds z.0 z.1).0 h), λ h. (a.holds z.0 z.1).1 ((b.holds z.0 z.1).0 h)))
+one_table_lem base f journal first second a b = one first second a.rises b.rises (λ z. (λ h. (b.holds z.0 z.1).1 ((a.holds z.0 z.1).0 h), λ h. (a.holds z.0 z.1).1 ((b.holds z.0 z.1).0 h)))

@@ -4,13 +4,13 @@ use Rattle.std.proofs.lemmas.Bool.{or_left, and_parts, and_from, and_right, eqb-
 use Rattle.std.specs.Cmp.{unsigned_tied}
 use Rattle.std.specs.FinMap.{find, get-entries}
 use Rattle.std.specs.Ordering.{nat_cmp, eq_by_cmp}
-use Rattle.ep_base.proofs.Interfering.{Decides-interfere, Interferes-symmetric}
+use Rattle.ep_base.proofs.Interfering.{Decides-interfere, Interferes-symmetric, Interferes-noop}
 use Rattle.ep_base.specs.Instances.{leader_of}
 use Rattle.ep_base.specs.Interference.{interfere}
 use Rattle.ep_base.specs.Quorums.{size, spared}
 use Rattle.ep_base.specs.Sameness.{is_noop}
 use Rattle.ep_base.specs.declared.command.Command.{Command}
-use Rattle.ep_base.specs.declared.command.Command.TheVariants.{Noop, Get, Put, Del, Swap}
+use Rattle.ep_base.specs.declared.command.Command.TheVariants.{Noop, Get, Put, Del, Swap, Cas, Seal, Opaque}
 use Rattle.ep_base.specs.declared.decree.Decree.{Decree}
 use Rattle.ep_base.specs.declared.vote.Status.{Status}
 use Rattle.ep_base.specs.declared.vote.Status.TheVariants.{PreAccepted, Accepted, Committed}
@@ -32,6 +32,7 @@ use Rattle.ep_rules.proofs.Facts.{History, can_see, CanSee, Seen, sees, Backed, 
 use Rattle.ep_rules.proofs.Keeping.{record_of, Kept}
 use Rattle.ep_rules.proofs.Runs.{can_choose, Invariant, IsProposal, Step, step_here, step_elsewhere, step_of, opening_ok, nothing_seen_yet, committed_decided, decided_proposed, run_split, ends_append, committed_in_range}
 use Rattle.ep_rules.proofs.Stable.{holds_some, can_see_later, decided_kept}
+use Rattle.ep_rules.specs.OneMap.{Store}
 
 -- Interfering is symmetric, and a no-op interferes with nothing.
 
@@ -39,11 +40,14 @@ interfere_sym : (x y : Command) → interfere x y ≡ true → interfere y x ≡
 interfere_sym x y e = (Decides-interfere y x).1 (Interferes-symmetric x y ((Decides-interfere x y).0 e))
 
 interfere_real : (x y : Command) → interfere x y ≡ true → is_noop x ≡ false
-interfere_real Noop y e = absurd (cc)
+interfere_real Noop y e = absurd (Interferes-noop y ((Decides-interfere Noop y).0 e))
 interfere_real (Get k) y e = refl
 interfere_real (Put k v) y e = refl
 interfere_real (Del k) y e = refl
 interfere_real (Swap p) y e = refl
+interfere_real (Cas k x n) y e = refl
+interfere_real (Seal v) y e = refl
+interfere_real (Opaque q w) y e = refl
 
 -- What is recorded is in the interference set.
 
@@ -204,7 +208,7 @@ module _ (f : ℕ) (two : 0 < f) (few : size f ≤ 256) (i j : ℕ) (ne : i ≢ 
         kept_two = decided_kept f (leader_of j) a.replica p.two.history q.after q.advance;
       }
 
-module _ (f : ℕ) (two : 0 < f) (few : size f ≤ 256) (i j : ℕ) (ne : i ≢ j) where
+module _ (base : Store) (f : ℕ) (two : 0 < f) (few : size f ≤ 256) (i j : ℕ) (ne : i ≢ j) where
   step_one : (w : World) (a : Act) (p : Pair f i j w) → Step f w a i → PairLater f i j w (moved f w a) p
   step_one w a p s =
       let t = step_two f two few j i (λ e. ne (sym e)) w a (pair_swap f i j w p) s in
@@ -234,14 +238,14 @@ module _ (f : ℕ) (two : 0 < f) (few : size f ≤ 256) (i j : ℕ) (ne : i ≢ 
   pair_run : (acts : List Act) (w : World) (p : Pair f i j w) → IsRun f w acts → PairLater f i j w (ends f w acts) p
   pair_run [] w p run = record { next = p; kept_one = λ x d. d; kept_two = λ x d. d }
   pair_run (a ∷ acts) w p run =
-      let s = step_of f two few w a run.0 in
+      let s = step_of base f two few w a run.0 in
       let one = pair_step s.0 w a p s.1 in
       let rest = pair_run acts (moved f w a) one.next run.1 in
       record { next = rest.next; kept_one = λ x d. rest.kept_one x (one.kept_one x d); kept_two = λ x d. rest.kept_two x (one.kept_two x d) }
 
-  pair_first : Pair f i j opening
+  pair_first : Pair f i j (opening base)
   unfolding opening_ok
-  pair_first = record { one = opening_ok f two few i; two = opening_ok f two few j; cross = λ k m n d e x y sd. absurd (nothing_seen_yet f two few (leader_of i) k m d sd) }
+  pair_first = record { one = opening_ok base f two few i; two = opening_ok base f two few j; cross = λ k m n d e x y sd. absurd (nothing_seen_yet base f two few (leader_of i) k m d sd) }
 
 -- What is decided is backed by f+1 interference sets.
 
@@ -295,12 +299,12 @@ depend_on f two i j low_i low_j w p x y clash dx dy =
     ]
 
 pub dependency_holds : Dependency
-dependency_holds f two few early late run i j r q x y ne cx cy clash =
-    let runs = run_split f two few early late opening run in
-    let a = pair_run f two few i j ne early opening (pair_first f two few i j ne) runs.0 in
-    let b = pair_run f two few i j ne late (ends f opening early) a.next runs.1 in
-    let low_i = committed_in_range f two few early runs.0 r i x cx in
-    let low_j = committed_in_range f two few (early ++ late) run q j y cy in
-    let dx = b.kept_one x (committed_decided f two few i (ends f opening early) a.next.one r x cx) in
-    let dy = committed_decided f two few j (ends f (ends f opening early) late) b.next.two q y (subst (λ w. IsCommitted w q j y) (ends_append f two few early late opening) cy) in
-    depend_on f two i j low_i low_j (ends f (ends f opening early) late) b.next x y clash dx dy
+dependency_holds base f two few early late run i j r q x y ne cx cy clash =
+    let runs = run_split base f two few early late (opening base) run in
+    let a = pair_run base f two few i j ne early (opening base) (pair_first base f two few i j ne) runs.0 in
+    let b = pair_run base f two few i j ne late (ends f (opening base) early) a.next runs.1 in
+    let low_i = committed_in_range base f two few early runs.0 r i x cx in
+    let low_j = committed_in_range base f two few (early ++ late) run q j y cy in
+    let dx = b.kept_one x (committed_decided base f two few i (ends f (opening base) early) a.next.one r x cx) in
+    let dy = committed_decided base f two few j (ends f (ends f (opening base) early) late) b.next.two q y (subst (λ w. IsCommitted w q j y) (ends_append base f two few early late (opening base)) cy) in
+    depend_on f two i j low_i low_j (ends f (ends f (opening base) early) late) b.next x y clash dx dy

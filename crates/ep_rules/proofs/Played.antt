@@ -114,8 +114,8 @@ step_of f r s (x ∷ es) e a (inl is) = (s, subst (λ z. IsEntry f r s z) is a.0
 step_of f r s (x ∷ es) e a (inr h) = step_of f r (leaves f r s x.event x.done) es e a.1 h
 
 pub frames_were_sent_lem : FramesWereSent
-frames_were_sent_lem f journal r e m run stands out =
-    let step = step_of f r fresh_state (journal r) e run.1 stands in
+frames_were_sent_lem base f journal r e m run stands out =
+    let step = step_of f r (fresh_state base) (journal r) e run.1 stands in
     let from : m.sent.from ≡ r = from_entry f r step.0 e m step.1 out in
     let t = marked e 0 e.out m (numbered_marks 1 0 (journal r) e run.0 stands) out in
     let p : t.after ≡ m.place = (let q = t.place in omega arith) in
@@ -125,20 +125,20 @@ frames_were_sent_lem f journal r e m run stands out =
     )
 
 pub played_is_a_run_lem : PlayedIsARun
-played_is_a_run_lem f these h = played_run f these opening [] refl h
+played_is_a_run_lem base f these h = played_run f these (opening base) [] refl h
 
 pub played_match_lem : PlayedMatch
-played_match_lem f journal these h own numbered clocked =
-    let local : AreLocalRuns f journal = record {
-      local = λ r. (numbered r, subst (λ es. AreSteps f r fresh_state es) (own r) (steps_of f these opening [] h r));
-      others = λ r ge. sym (own r) ∙ none_of f these opening [] h r ge;
+played_match_lem base since f journal these h own numbered clocked =
+    let local : AreLocalRuns base f journal = record {
+      local = λ r. (numbered r, subst (λ es. AreSteps f r (fresh_state base) es) (own r) (steps_of f these (opening base) [] h r));
+      others = λ r ge. sym (own r) ∙ none_of f these (opening base) [] h r ge;
     } in (
       local,
       λ r e m stands is.
           let at = of_in r e these (subst (λ es. In e es) (sym (own r)) stands) in
-          let s = sender_of f these these opening [] (λ b k. k) (λ z k. absurd k) h at.0 m at.1 (ap (λ (z : Entry). z.event) at.3 ∙ is) in
+          let s = sender_of f these these (opening base) [] (λ b k. k) (λ z k. absurd k) h at.0 m at.1 (ap (λ (z : Entry). z.event) at.3 ∙ is) in
           let home : In s.act.entry (journal s.act.replica) = subst (λ es. In s.act.entry es) (own s.act.replica) (in_of s.act these s.stands) in (
-            (frames_were_sent_lem f journal s.act.replica s.act.entry m (local.local s.act.replica) home s.out).1,
-            subst (λ v. heard v < e.stamp) is (clocked_later 0 (journal r) e (clocked r) stands),
+            (frames_were_sent_lem base f journal s.act.replica s.act.entry m (local.local s.act.replica) home s.out).1,
+            subst (λ v. heard v < e.stamp) is (clocked_later (since r) (journal r) e (clocked r) stands),
           ),
     )

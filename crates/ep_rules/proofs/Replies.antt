@@ -1,240 +1,55 @@
--- The replies in two lists that order interfering commands alike, by commutation.
-use Rattle.std.proofs.Common.{◌≡◌, ℕ, suc, ◌<◌, ◌↔◌, inl, inr, List, [], ◌∷◌, length, take, Bool, true, false, cond, not, eqb, refl, sym, ap, subst, ◌∙◌, arith, length-take}
-use Rattle.std.proofs.lemmas.Bool.{cases_Bool, eq-eqb, false≢true, le-leb, leb-true}
-use Rattle.std.specs.Prelude.{nat_le}
+-- The replies of the map in two lists that order interfering commands alike: the map is a machine whose commands, where they don't interfere, commute.
+use Rattle.std.proofs.Common.{◌≡◌, ℕ, List, [], ◌∷◌, take, Bool, false, sym, ap, ◌∙◌, refl}
 use Rattle.std.specs.List.{filter}
 use Rattle.ep_base.specs.declared.command.Command.{Command}
+use Rattle.ep_base.specs.declared.command.Command.TheVariants.{Noop}
+use Rattle.ep_base.specs.declared.reply.Reply.{Reply}
 use Rattle.ep_base.specs.Interference.{interfere}
 use Rattle.ep_base.specs.Places.{place, Has}
-use Rattle.ep_rules.specs.OneMap.{Contents, empty, after, after_all, reply}
+use Rattle.ep_rules.specs.OneMap.{Store, after, after_all, reply}
 use Rattle.ep_rules.specs.History.{reply_in}
-use Rattle.ep_rules.proofs.Places.{place_cons, place_head, place_le, has_cons, has_tail, Once, once_take, place_take, once_filter, has_filter, filter_has, filter_forth, filter_back, filter_all, same_true}
-use Rattle.ep_rules.proofs.Commuting.{commutes, unseen}
+use Rattle.ep_rules.proofs.Places.{Once}
+use Rattle.ep_rules.proofs.Commuting.{commutes, unseen, after_noop}
+use Rattle.ep_rules.proofs.Turns.{run, Commute, AreUnseen, IsOrdered, idle_out, one_told, one_left}
 
-abbrev is_in : List ℕ → ℕ → Bool
-is_in xs i = nat_le (suc (place xs i)) (length xs)
+module _ (base : Store) (c : ℕ → Command) where
+  abbrev step : Store → ℕ → Store
+  step s i = after s (c i)
 
-in_yes : (xs : List ℕ) (i : ℕ) → Has xs i → is_in xs i ≡ true
-in_yes xs i h = le-leb (suc (place xs i)) (length xs) (omega arith)
+  abbrev ask : Store → ℕ → Reply
+  ask s i = reply s (c i)
 
-in_then : (xs : List ℕ) (i : ℕ) → is_in xs i ≡ true → Has xs i
-in_then xs i e = let l = leb-true (suc (place xs i)) (length xs) e in omega arith
+  abbrev pub meets : ℕ → ℕ → Bool
+  meets i j = interfere (c i) (c j)
 
-head_has : (x : ℕ) (xs : List ℕ) → Has (x ∷ xs) x
-head_has x xs = let e = place_head x xs in omega arith
+  commute : Commute step meets
+  commute s i j ne e = commutes s (c i) (c j) e
 
--- where each stands once, what stands in the tail stands one further
-tail_place : (x i : ℕ) (xs : List ℕ) → Once (x ∷ xs) → Has xs i → place (x ∷ xs) i ≡ suc (place xs i)
-tail_place x i xs o h = elim (place_cons x i xs) [ inl p ↦ absurd (o.0 (subst (λ y. Has xs y) (sym p.0) h)) | inr p ↦ p ]
+  are_unseen : AreUnseen step ask meets
+  are_unseen s i j ne e = unseen s (c i) (c j) e
 
-not_true : (b : Bool) → (b ≡ true → ⊥) → b ≡ false
-not_true true h = absurd (h refl)
-not_true false h = refl
+  runs : (s : Store) (xs : List ℕ) → after_all c s xs ≡ run step s xs
+  runs s [] = refl
+  runs s (x ∷ xs) = runs (after s (c x)) xs
 
-abbrev other_than : ℕ → ℕ → Bool
-other_than x y = not (eqb x y)
+  unchanged : (x : ℕ) → c x ≡ Noop → (s : Store) → after s (c x) ≡ s
+  unchanged x e s = ap (λ d. after s d) e ∙ after_noop s
 
-other_then : (x y : ℕ) → other_than x y ≡ true → (x ≡ y → ⊥)
-other_then x y e s = false≢true (ap not (sym (eq-eqb x y s)) ∙ e)
+  -- no-ops can be taken out
+  pub noops_out : (keep : ℕ → Bool) (m : Store) (xs : List ℕ) → ((x : ℕ) → Has xs x → keep x ≡ false → c x ≡ Noop) → after_all c m xs ≡ after_all c m (filter keep xs)
+  noops_out keep m xs h = runs m xs ∙ idle_out step meets commute keep m xs (λ x k e. unchanged x (h x k e)) ∙ sym (runs m (filter keep xs))
 
-other_yes : (x y : ℕ) → (x ≡ y → ⊥) → other_than x y ≡ true
-other_yes x y n = ap not (not_true (eqb x y) (λ e. n (same_true x y e)))
+  module _ (i : ℕ) (l m : List ℕ) (ol : Once l) (om : Once m) (hl : Has l i) (hm : Has m i) (alike : IsOrdered meets l m) where
+    -- two such lists give one reply
+    pub one_reply : reply_in base c l i ≡ reply_in base c m i
+    one_reply =
+        ap (λ s. reply s (c i)) (runs base (take (place l i) l))
+        ∙ one_told step meets commute i base l m ol om hl hm alike ask are_unseen
+        ∙ sym (ap (λ s. reply s (c i)) (runs base (take (place m i) m)))
 
-head_kept : (p : ℕ → Bool) (x : ℕ) (xs : List ℕ) → p x ≡ true → filter p (x ∷ xs) ≡ x ∷ filter p xs
-head_kept p x xs e = ap (λ b. cond b (x ∷ filter p xs) (filter p xs)) e
-
-head_left : (p : ℕ → Bool) (x : ℕ) (xs : List ℕ) → p x ≡ false → filter p (x ∷ xs) ≡ filter p xs
-head_left p x xs e = ap (λ b. cond b (x ∷ filter p xs) (filter p xs)) e
-
-module _ (c : ℕ → Command) where
-  -- a command that interferes with none of the list goes to the list's end
-  past : (m : Contents) (d : Command) (ys : List ℕ) → ((y : ℕ) → Has ys y → interfere d (c y) ≡ false) → after_all c (after m d) ys ≡ after (after_all c m ys) d
-  past m d [] h = refl
-  past m d (y ∷ ys) h = ap (λ n. after_all c n ys) (commutes m d (c y) (h y (head_has y ys))) ∙ past (after m (c y)) d ys (λ z k. h z (has_tail y z ys k))
-
-  -- x interferes neither with i nor with what is kept after it
-  abbrev IsIdle : (ℕ → Bool) → ℕ → List ℕ → ℕ → Type 0
-  IsIdle keep i xs x = (interfere (c x) (c i) ≡ false) × ((y : ℕ) → Has xs y → keep y ≡ true → place xs x < place xs y → interfere (c x) (c y) ≡ false)
-
-  -- what interferes with nothing kept after it can be taken out
-  taken_out : (keep : ℕ → Bool) (i : ℕ) (m : Contents) (xs : List ℕ) → Once xs → ((x : ℕ) → Has xs x → keep x ≡ false → IsIdle keep i xs x) → reply (after_all c m xs) (c i) ≡ reply (after_all c m (filter keep xs)) (c i)
-  taken_out keep i m [] o h = refl
-  taken_out keep i m (x ∷ xs) o h = go (keep x) refl (taken_out keep i (after m (c x)) xs o.1 rest)
-    where
-      rest : (z : ℕ) → Has xs z → keep z ≡ false → IsIdle keep i xs z
-      rest z hz e =
-          let idle = h z (has_tail x z xs hz) e in
-          (idle.0, λ y hy k lt. idle.1 y (has_tail x y xs hy) k (omega (arith, tail_place x z xs o hz, tail_place x y xs o hy)))
-
-      go : (b : Bool) → keep x ≡ b → reply (after_all c (after m (c x)) xs) (c i) ≡ reply (after_all c (after m (c x)) (filter keep xs)) (c i) → reply (after_all c (after m (c x)) xs) (c i) ≡ reply (after_all c m (cond b (x ∷ filter keep xs) (filter keep xs))) (c i)
-      go true e r = r
-      go false e r =
-          let idle = h x (head_has x xs) e in
-          r
-          ∙ ap (λ n. reply n (c i)) (past m (c x) (filter keep xs) (λ y hy. let f = has_filter keep xs y hy in idle.1 y (has_tail x y xs f.0) f.1 (omega (arith, place_head x xs, tail_place x y xs o f.0))))
-          ∙ unseen (after_all c m (filter keep xs)) (c x) (c i) idle.0
-
-  -- what interferes with nothing before it goes to the front
-  to_front : (m : Contents) (x : ℕ) (ys : List ℕ) → Once ys → Has ys x → ((u : ℕ) → place ys u < place ys x → interfere (c u) (c x) ≡ false) → after_all c m ys ≡ after_all c (after m (c x)) (filter (other_than x) ys)
-  to_front m x [] o h idle = absurd (omega arith)
-  to_front m x (y ∷ ys) o h idle = elim (cases_Bool (eqb x y)) [
-    | inl e ↦ first e (same_true x y e)
-    | inr e ↦ later (λ s. false≢true (sym e ∙ eq-eqb x y s)) (to_front (after m (c y)) x ys o.1)
-  ]
-    where
-      first : eqb x y ≡ true → x ≡ y → after_all c (after m (c y)) ys ≡ after_all c (after m (c x)) (filter (other_than x) (y ∷ ys))
-      first e s =
-          let none : (z : ℕ) → Has ys z → other_than x z ≡ true = (λ z k. other_yes x z (λ t. o.0 (subst (λ w. Has ys w) (sym t ∙ s) k))) in
-          ap (λ z. after_all c (after m (c z)) ys) (sym s)
-          ∙ ap (λ zs. after_all c (after m (c x)) zs) (sym (head_left (other_than x) y ys (ap not e) ∙ filter_all (other_than x) ys none))
-
-      later : (x ≡ y → ⊥) → (Has ys x → ((u : ℕ) → place ys u < place ys x → interfere (c u) (c x) ≡ false) → after_all c (after m (c y)) ys ≡ after_all c (after (after m (c y)) (c x)) (filter (other_than x) ys)) → after_all c (after m (c y)) ys ≡ after_all c (after m (c x)) (filter (other_than x) (y ∷ ys))
-      later n r =
-          let later_place : place (y ∷ ys) x ≡ suc (place ys x) = elim (place_cons y x ys) [ inl p ↦ absurd (n (sym p.0)) | inr p ↦ p ] in
-          r (omega arith) (λ u lt. idle u (let q = place_cons y u ys in omega arith))
-          ∙ ap (λ k. after_all c k (filter (other_than x) ys)) (commutes m (c y) (c x) (idle y (omega (arith, place_head y ys, later_place))))
-          ∙ ap (λ zs. after_all c (after m (c x)) zs) (sym (head_kept (other_than x) y ys (other_yes x y n)))
-
-  -- interfering commands that stand in both lists have one order in both
-  abbrev IsAlike : List ℕ → List ℕ → Type 0
-  IsAlike xs ys = (u w : ℕ) → Has xs u → Has ys u → Has xs w → Has ys w → interfere (c u) (c w) ≡ true → (place xs u < place xs w) ↔ (place ys u < place ys w)
-
-  -- two lists of the same instances leave one map
-  same_after : (m : Contents) (xs ys : List ℕ) → Once xs → Once ys → ((i : ℕ) → Has xs i ↔ Has ys i) → IsAlike xs ys → after_all c m xs ≡ after_all c m ys
-  same_after m [] [] ox oy same alike = refl
-  same_after m [] (y ∷ ys) ox oy same alike = absurd (let h = (same y).1 (head_has y ys) in omega arith)
-  same_after m (x ∷ xs) ys ox oy same alike =
-      same_after (after m (c x)) xs (filter (other_than x) ys) ox.1 (once_filter (other_than x) ys oy) members rest
-      ∙ sym (to_front m x ys oy ((same x).0 (head_has x xs)) idle)
-    where
-      idle : (u : ℕ) → place ys u < place ys x → interfere (c u) (c x) ≡ false
-      idle u lt = not_true (interfere (c u) (c x)) (λ e.
-          let hx : Has ys x = (same x).0 (head_has x xs) in
-          let hu : Has ys u = omega arith in
-          let k = (alike u x ((same u).1 hu) hu (head_has x xs) hx e).1 lt in
-          omega (arith, place_head x xs))
-
-      differs : (i : ℕ) → Has xs i → (x ≡ i → ⊥)
-      differs i h s = ox.0 (subst (λ y. Has xs y) (sym s) h)
-
-      members : (i : ℕ) → Has xs i ↔ Has (filter (other_than x) ys) i
-      members i = (
-        λ h. filter_has (other_than x) ys i (other_yes x i (differs i h)) ((same i).0 (has_tail x i xs h)),
-        λ h. let f = has_filter (other_than x) ys i h in elim (has_cons x i xs ((same i).1 f.0)) [ inl s ↦ absurd (other_then x i f.1 s) | inr k ↦ k ],
-      )
-
-      rest : IsAlike xs (filter (other_than x) ys)
-      rest u w hu hu' hw hw' e =
-          let fu = has_filter (other_than x) ys u hu' in
-          let fw = has_filter (other_than x) ys w hw' in
-          let a = alike u w (has_tail x u xs hu) fu.0 (has_tail x w xs hw) fw.0 e in
-          let pu = tail_place x u xs ox hu in
-          let pw = tail_place x w xs ox hw in (
-            λ lt. filter_forth (other_than x) ys u w fu.1 fw.1 (a.0 (omega arith)),
-            λ lt. let k = a.1 (filter_back (other_than x) ys u w fu.1 fw.1 fu.0 lt) in omega arith,
-          )
-
-  -- of two lists, each with some of the same instances: where one has u before w, both stand in the other, and u is there before w
-  abbrev pub IsOrdered : List ℕ → List ℕ → Type 0
-  IsOrdered l m = (u w : ℕ) → Has l w → Has m w → interfere (c u) (c w) ≡ true → (place l u < place l w) ↔ (place m u < place m w)
-
-  module _ (i : ℕ) where
-    -- what stands before i
-    front : List ℕ → List ℕ
-    front l = take (place l i) l
-
-    in_front : (l : List ℕ) (w : ℕ) → Has (front l) w → (place l w < place l i) × (place (front l) w ≡ place l w)
-    unfolding front
-    in_front l w h =
-        let p = place_take (place l i) l w in
-        let n = length-take (place l i) l in
-        let q = place_le l i in
-        (omega arith, omega arith)
-
-    front_has : (l : List ℕ) (w : ℕ) → place l w < place l i → Has (front l) w
-    unfolding front
-    front_has l w lt =
-        let p = place_take (place l i) l w in
-        let n = length-take (place l i) l in
-        let q = place_le l i in
-        omega arith
-
-    once_front : (l : List ℕ) → Once l → Once (front l)
-    unfolding front
-    once_front l o = once_take (place l i) l o
-
-    in_both : (l m : List ℕ) (w : ℕ) → Has l i → Has m i → Has (front l) w → Has (front m) w → Has l w × Has m w
-    in_both l m w hl hm hw hw' =
-        let a = in_front l w hw in
-        let b = in_front m w hw' in
-        (omega arith, omega arith)
-
-    module _ (l m : List ℕ) (hl : Has l i) (hm : Has m i) (alike : IsOrdered l m) where
-      -- what the other list hasn't before i interferes neither with i nor with what it has
-      idle : (x : ℕ) → Has (front l) x → is_in (front m) x ≡ false → IsIdle (is_in (front m)) i (front l) x
-      idle x hx e =
-          let a = in_front l x hx in
-          let out : ¬ Has (front m) x = (λ h. false≢true (sym e ∙ in_yes (front m) x h)) in (
-            not_true (interfere (c x) (c i)) (λ t. out (front_has m x ((alike x i hl hm t).0 a.0))),
-            λ y hy k lt. not_true (interfere (c x) (c y)) (λ t.
-                let ky = in_then (front m) y k in
-                let b = in_front l y hy in
-                let d = in_front m y ky in
-                let both = in_both l m y hl hm hy ky in
-                let s = (alike x y both.0 both.1 t).0 (omega arith) in
-                out (front_has m x (omega arith))),
-          )
-
-    turned : (l m : List ℕ) → IsOrdered l m → ((u w : ℕ) → Has m w → Has l w → interfere (c u) (c w) ≡ true → (place m u < place m w) ↔ (place l u < place l w))
-    turned l m alike u w hm hl e = let a = alike u w hl hm e in (a.1, a.0)
-
-    -- of what stands before i in the one list, what stands there in both
-    shared : List ℕ → List ℕ → List ℕ
-    shared xs ys = filter (is_in (front ys)) (front xs)
-
-    shared_has : (xs ys : List ℕ) (j : ℕ) → Has (shared xs ys) j → Has (front xs) j × Has (front ys) j
-    unfolding shared
-    shared_has xs ys j h = let f = has_filter (is_in (front ys)) (front xs) j h in (f.0, in_then (front ys) j f.1)
-
-    has_shared : (xs ys : List ℕ) (j : ℕ) → Has (front xs) j → Has (front ys) j → Has (shared xs ys) j
-    unfolding shared
-    has_shared xs ys j hx hy = filter_has (is_in (front ys)) (front xs) j (in_yes (front ys) j hy) hx
-
-    -- the order in the list is that among what is shared
-    order : (xs ys : List ℕ) (u w : ℕ) → Has (shared xs ys) u → Has (shared xs ys) w → (place (shared xs ys) u < place (shared xs ys) w) ↔ (place xs u < place xs w)
-    unfolding shared
-    order xs ys u w hu hw =
-        let fu = has_filter (is_in (front ys)) (front xs) u hu in
-        let fw = has_filter (is_in (front ys)) (front xs) w hw in
-        let a = in_front xs u fu.0 in
-        let b = in_front xs w fw.0 in (
-          λ lt. let k = filter_back (is_in (front ys)) (front xs) u w fu.1 fw.1 fu.0 lt in omega arith,
-          λ lt. filter_forth (is_in (front ys)) (front xs) u w fu.1 fw.1 (omega arith),
-        )
-
-    once_shared : (xs ys : List ℕ) → Once xs → Once (shared xs ys)
-    unfolding shared
-    once_shared xs ys o = once_filter (is_in (front ys)) (front xs) (once_front xs o)
-
-    module _ (l m : List ℕ) (ol : Once l) (om : Once m) (hl : Has l i) (hm : Has m i) (alike : IsOrdered l m) where
-      alike_shared : IsAlike (shared l m) (shared m l)
-      alike_shared u w hu hu' hw hw' e =
-          let f = shared_has l m w hw in
-          let both = in_both l m w hl hm f.0 f.1 in
-          let a = alike u w both.0 both.1 e in
-          let x = order l m u w hu hw in
-          let y = order m l u w hu' hw' in
-          (λ lt. y.1 (a.0 (x.0 lt)), λ lt. x.1 (a.1 (y.0 lt)))
-
-      same_left : after_all c empty (shared l m) ≡ after_all c empty (shared m l)
-      same_left = same_after empty (shared l m) (shared m l) (once_shared l m ol) (once_shared m l om)
-          (λ j. (λ h. let f = shared_has l m j h in has_shared m l j f.1 f.0, λ h. let f = shared_has m l j h in has_shared l m j f.1 f.0))
-          alike_shared
-
-      -- two such lists give one reply
-      pub one_reply : reply_in c l i ≡ reply_in c m i
-      unfolding front shared
-      one_reply =
-          taken_out (is_in (front m)) i empty (front l) (once_front l ol) (idle l m hl hm alike)
-          ∙ ap (λ n. reply n (c i)) same_left
-          ∙ sym (taken_out (is_in (front l)) i empty (front m) (once_front m om) (idle m l hm hl (turned l m alike)))
+    -- and before i they leave one map, where only no-ops don't interfere with i
+    pub one_map : ((x : ℕ) → interfere (c x) (c i) ≡ false → c x ≡ Noop) → after_all c base (take (place l i) l) ≡ after_all c base (take (place m i) m)
+    one_map noop =
+        runs base (take (place l i) l)
+        ∙ one_left step meets commute i base l m ol om hl hm alike (λ x e. unchanged x (noop x e))
+        ∙ sym (runs base (take (place m i) m))

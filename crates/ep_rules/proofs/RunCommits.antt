@@ -23,6 +23,7 @@ use Rattle.ep_rules.proofs.JournalsExecutions.{executions, attrs_some, Known, lo
 use Rattle.ep_rules.proofs.Lookups.{none_there}
 use Rattle.ep_rules.proofs.Pairs.{dependency_holds}
 use Rattle.ep_rules.proofs.Runs.{agreement_holds}
+use Rattle.ep_rules.specs.OneMap.{Store}
 
 -- what the least replica below n that has committed in i has committed there
 abbrev pub committed_below : ℕ → World → ℕ → Option Decree
@@ -30,14 +31,14 @@ committed_below zero w i = None
 committed_below (suc n) w i = or_else (committed_below n w i) (committed_in (w.states n).records i)
 
 -- what a run has committed in each instance
-abbrev pub decrees : ℕ → List Act → ℕ → Option Decree
-decrees f acts i = committed_below (size f) (ends f opening acts) i
+abbrev pub decrees : (base : Store) → ℕ → List Act → ℕ → Option Decree
+decrees base f acts i = committed_below (size f) (ends f (opening base) acts) i
 
-abbrev pub graph_of : ℕ → List Act → Graph
-graph_of f acts i = attrs_of (decrees f acts i)
+abbrev pub graph_of : (base : Store) → ℕ → List Act → Graph
+graph_of base f acts i = attrs_of (decrees base f acts i)
 
-abbrev pub told_in : ℕ → List Act → ℕ → Command
-told_in f acts i = command_of (decrees f acts i)
+abbrev pub told_in : (base : Store) → ℕ → List Act → ℕ → Command
+told_in base f acts i = command_of (decrees base f acts i)
 
 -- the states of those that are no replicas stay as they are
 outside : (f : ℕ) (acts : List Act) (w : World) → IsRun f w acts → (r : ℕ) → size f ≤ r → (ends f w acts).states r ≡ w.states r
@@ -67,50 +68,50 @@ committed_forth (suc n) w i k x lt e = go (committed_below n w i) refl (committe
       | inr ge ↦ (x, (let is : n ≡ k = omega arith in ap (λ z. committed_in (w.states z).records i) is ∙ e))
     ]
 
-module _ (f : ℕ) (some : 0 < f) (few : size f ≤ 256) (acts : List Act) (run : IsRun f opening acts) where
-  run_nil : IsRun f opening (acts ++ [])
-  run_nil = subst (IsRun f opening) (sym (append-nil acts)) run
+module _ (base : Store) (f : ℕ) (some : 0 < f) (few : size f ≤ 256) (acts : List Act) (run : IsRun f (opening base) acts) where
+  run_nil : IsRun f (opening base) (acts ++ [])
+  run_nil = subst (IsRun f (opening base)) (sym (append-nil acts)) run
 
-  end_nil : (r i : ℕ) (x : Decree) → Committed (ends f opening acts) r i x → Committed (ends f opening (acts ++ [])) r i x
-  end_nil r i x e = subst (λ these. Committed (ends f opening these) r i x) (sym (append-nil acts)) e
+  end_nil : (r i : ℕ) (x : Decree) → Committed (ends f (opening base) acts) r i x → Committed (ends f (opening base) (acts ++ [])) r i x
+  end_nil r i x e = subst (λ these. Committed (ends f (opening base) these) r i x) (sym (append-nil acts)) e
 
   -- who commits is a replica
-  committer : (r i : ℕ) (x : Decree) → Committed (ends f opening acts) r i x → r < size f
+  committer : (r i : ℕ) (x : Decree) → Committed (ends f (opening base) acts) r i x → r < size f
   committer r i x e = elim (cases_lt r (size f)) [
     | inl lt ↦ lt
-    | inr ge ↦ none_some x (sym (ap (λ o. committed_decree (record_or_fresh i o).vote) (none_there i)) ∙ sym (ap (λ (s : State). committed_in s.records i) (outside f acts opening run r ge)) ∙ e)
+    | inr ge ↦ none_some x (sym (ap (λ o. committed_decree (record_or_fresh i o).vote) (none_there i)) ∙ sym (ap (λ (s : State). committed_in s.records i) (outside f acts (opening base) run r ge)) ∙ e)
   ]
 
-  pub committed_is : (r i : ℕ) (x : Decree) → Committed (ends f opening acts) r i x → decrees f acts i ≡ Some x
+  pub committed_is : (r i : ℕ) (x : Decree) → Committed (ends f (opening base) acts) r i x → decrees base f acts i ≡ Some x
   committed_is r i x e =
-      let y = committed_forth (size f) (ends f opening acts) i r x (committer r i x e) e in
-      let back = committed_back (size f) (ends f opening acts) i y.0 y.1 in
-      y.1 ∙ ap Some (agreement_holds f some few acts [] run_nil i back.0 r y.0 x back.2 (end_nil r i x e))
+      let y = committed_forth (size f) (ends f (opening base) acts) i r x (committer r i x e) e in
+      let back = committed_back (size f) (ends f (opening base) acts) i y.0 y.1 in
+      y.1 ∙ ap Some (agreement_holds base f some few acts [] run_nil i back.0 r y.0 x back.2 (end_nil r i x e))
 
   -- at any time
-  pub all_known : Known f (decrees f acts) opening acts
+  pub all_known : Known base f (decrees base f acts) (opening base) acts
   all_known early late whole r i x e =
-      committed_is r i x (subst (λ these. Committed (ends f opening these) r i x) whole (keeps f early late (subst (IsRun f opening) (sym whole) run) r i x e))
+      committed_is r i x (subst (λ these. Committed (ends f (opening base) these) r i x) whole (keeps base f early late (subst (IsRun f (opening base)) (sym whole) run) r i x e))
 
-  pub locals : AreLocal (graph_of f acts) (told_in f acts) (executions f opening acts)
-  locals r = local_runs f (decrees f acts) acts opening run all_known (λ q. refl) r
+  pub locals : AreLocal base (graph_of base f acts) (told_in base f acts) (executions f (opening base) acts)
+  locals r = local_runs base f (decrees base f acts) acts (opening base) run all_known (λ q. refl) r
 
-  pub dependent : AreDependent (graph_of f acts) (told_in f acts)
+  pub dependent : AreDependent (graph_of base f acts) (told_in base f acts)
   dependent i j a b ne gi gj meet =
-      let x = attrs_some (decrees f acts i) a gi in
-      let y = attrs_some (decrees f acts j) b gj in
-      let r = committed_back (size f) (ends f opening acts) i x.0 x.1 in
-      let q = committed_back (size f) (ends f opening acts) j y.0 y.1 in
-      let m : interfere x.0.command y.0.command ≡ true = subst (λ o. interfere (command_of o) y.0.command ≡ true) x.1 (subst (λ o. interfere (told_in f acts i) (command_of o) ≡ true) y.1 meet) in
-      elim (dependency_holds f some few acts [] run_nil i j r.0 q.0 x.0 y.0 ne r.2 (end_nil q.0 j y.0 q.2) m) [
+      let x = attrs_some (decrees base f acts i) a gi in
+      let y = attrs_some (decrees base f acts j) b gj in
+      let r = committed_back (size f) (ends f (opening base) acts) i x.0 x.1 in
+      let q = committed_back (size f) (ends f (opening base) acts) j y.0 y.1 in
+      let m : interfere x.0.command y.0.command ≡ true = subst (λ o. interfere (command_of o) y.0.command ≡ true) x.1 (subst (λ o. interfere (told_in base f acts i) (command_of o) ≡ true) y.1 meet) in
+      elim (dependency_holds base f some few acts [] run_nil i j r.0 q.0 x.0 y.0 ne r.2 (end_nil q.0 j y.0 q.2) m) [
         | inl d ↦ inl (a, gi, subst (λ (z : Attrs). Has z.deps j) x.2 d)
         | inr d ↦ inr (b, gj, subst (λ (z : Attrs). Has z.deps i) y.2 d)
       ]
 
   -- each answer of each execution is one map's reply to the history
-  pub answered : AllByRecursion (AnswersBy (told_in f acts) (history (told_in f acts) (executions f opening acts))) (executions f opening acts)
-  answered = one_history_lem (graph_of f acts) (told_in f acts) (executions f opening acts) dependent locals
+  pub answered : AllByRecursion (AnswersBy base (told_in base f acts) (history (told_in base f acts) (executions f (opening base) acts))) (executions f (opening base) acts)
+  answered = one_history_lem base (graph_of base f acts) (told_in base f acts) (executions f (opening base) acts) dependent locals
 
   -- each replica's list, and the merged one, are in the order of execution
-  pub wells : AllWell (graph_of f acts) (History.done_after nothing (executions f opening acts)) (History.merged [] (executions f opening acts))
-  wells = all_well (graph_of f acts) nothing [] (executions f opening acts) (start (graph_of f acts)) (interleaved (graph_of f acts) (told_in f acts) nothing (executions f opening acts) locals).0
+  pub wells : AllWell (graph_of base f acts) (History.done_after nothing (executions f (opening base) acts)) (History.merged [] (executions f (opening base) acts))
+  wells = all_well (graph_of base f acts) nothing [] (executions f (opening base) acts) (start (graph_of base f acts)) (interleaved base (graph_of base f acts) (told_in base f acts) nothing (executions f (opening base) acts) locals).0

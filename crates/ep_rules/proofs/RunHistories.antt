@@ -16,6 +16,7 @@ use Rattle.ep_rules.specs.Worlds.{World, opening, Act, In, moved, IsRun, ends}
 use Rattle.ep_rules.proofs.JournalsExecutions.{executions, Known, told, same_commands, known_next}
 use Rattle.ep_rules.proofs.JournalsReplies.{real, merged_step}
 use Rattle.ep_rules.proofs.Places.{has_or, not_has, place_head, has_tail, filter_has, has_filter}
+use Rattle.ep_rules.specs.OneMap.{Store}
 
 -- Operations whose commands c tells.
 
@@ -59,7 +60,7 @@ instance_in (p ∷ h) o (inr k) = has_tail p.instance o.instance (instances_of h
 
 -- Their instances.
 
-instances_append : (xs ys : List Operation) → instances_of (xs ++ ys) ≡ instances_of xs ++ instances_of ys
+pub instances_append : (xs ys : List Operation) → instances_of (xs ++ ys) ≡ instances_of xs ++ instances_of ys
 instances_append [] ys = refl
 instances_append (o ∷ xs) ys = ap (λ is. o.instance ∷ is) (instances_append xs ys)
 
@@ -73,7 +74,7 @@ instances_filter p (o ∷ os) = go (p o.instance) (instances_filter p os)
     go false r = r
 
 -- the instances of operations are those that are no no-ops
-instances_real : (c d : ℕ → Command) (is : List ℕ) → ((i : ℕ) → Has is i → d i ≡ c i) → instances_of (operations_of d is) ≡ filter (real c) is
+pub instances_real : (c d : ℕ → Command) (is : List ℕ) → ((i : ℕ) → Has is i → d i ≡ c i) → instances_of (operations_of d is) ≡ filter (real c) is
 instances_real c d [] same = refl
 instances_real c d (i ∷ is) same =
     ap (λ b. instances_of (cond b (operations_of d is) (record { instance = i; command = d i } ∷ operations_of d is))) (ap is_noop (same i (let e = place_head i is in omega arith)))
@@ -136,25 +137,25 @@ after_grows f (a ∷ these) w h =
     (new_to h (executed_by w a) ++ t.0, t.1 ∙ append_assoc h (new_to h (executed_by w a)) t.0)
 
 pub history_grows_lem : HistoryGrows
-history_grows_lem f early late =
-    let t = after_grows f late (ends f opening early) (history_of f early) in
-    (t.0, after_both f early late opening [] ∙ t.1)
+history_grows_lem base f early late =
+    let t = after_grows f late (ends f (opening base) early) (history_of base f early) in
+    (t.0, after_both f early late (opening base) [] ∙ t.1)
 
 -- The history that acts make.
-module _ (f : ℕ) (all : ℕ → Option Decree) where
+module _ (base : Store) (f : ℕ) (all : ℕ → Option Decree) where
   pub record IsHistory (h : List Operation) (seen : List ℕ) : Type 0 where
-    pub instances : instances_of h ≡ filter (real (told f all)) seen
-    pub commands : AreOf (told f all) h
+    pub instances : instances_of h ≡ filter (real (told base f all)) seen
+    pub commands : AreOf (told base f all) h
 
-  pub history_is : (these : List Act) (w : World) (h : List Operation) (seen : List ℕ) → IsRun f w these → Known f all w these → IsHistory h seen →
+  pub history_is : (these : List Act) (w : World) (h : List Operation) (seen : List ℕ) → IsRun f w these → Known base f all w these → IsHistory h seen →
       IsHistory (history_after f w h these) (merged seen (executions f w these))
   history_is [] w h seen run known is = is
   history_is (a ∷ these) w h seen run known is =
-      let same : (i : ℕ) → Has (order_of a.done) i → command_in (w.states a.replica).records i ≡ told f all i = same_commands f all w a these known run.0.step.executes in
+      let same : (i : ℕ) → Has (order_of a.done) i → command_in (w.states a.replica).records i ≡ told base f all i = same_commands base f all w a these known run.0.step.executes in
       let d : ℕ → Command = command_in (w.states a.replica).records in
       let next : IsHistory (h ++ new_to h (executed_by w a)) (seen ++ filter (is_new seen) (order_of a.done)) = record {
-        instances = one_more (told f all) d h seen (order_of a.done) same is.instances;
-        commands = of_more (told f all) d h seen (order_of a.done) same is.commands;
+        instances = one_more (told base f all) d h seen (order_of a.done) same is.instances;
+        commands = of_more (told base f all) d h seen (order_of a.done) same is.commands;
       } in
       subst (λ m. IsHistory (history_after f (moved f w a) (h ++ new_to h (executed_by w a)) these) m) (sym (merged_step f w a seen (executions f (moved f w a) these) a.event run.0.step.executes))
-      (history_is these (moved f w a) (h ++ new_to h (executed_by w a)) (seen ++ filter (is_new seen) (order_of a.done)) run.1 (known_next f all w a these known) next)
+      (history_is these (moved f w a) (h ++ new_to h (executed_by w a)) (seen ++ filter (is_new seen) (order_of a.done)) run.1 (known_next base f all w a these known) next)

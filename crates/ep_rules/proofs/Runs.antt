@@ -31,6 +31,7 @@ use Rattle.ep_rules.proofs.Lookups.{none_there}
 use Rattle.ep_rules.proofs.Moves.{Moved, moves, taken_of, unscreened, IsIn, acts_in}
 use Rattle.ep_rules.proofs.Recovering.{keep_recover, keep_propose, keep_handled}
 use Rattle.ep_rules.proofs.Stable.{decided_kept, cell_other, message_kept}
+use Rattle.ep_rules.specs.OneMap.{Store}
 
 -- Two decrees that are decided are one.
 module _ (f l : ℕ) (h : History) (ok : HistoryOk f l h) where
@@ -216,7 +217,7 @@ module _ (f : ℕ) (two : 0 < f) (few : size f ≤ 256) (w : World) (a : Act) (s
       (keep_recover (interference s.records i) (IsProposal w a i) few small v.ok (v.cells a.replica)))
   keeps_act (Execute root) is within mine there = λ e. keep_nothing v.ok (v.cells a.replica)
 
-module _ (f : ℕ) (two : 0 < f) (few : size f ≤ 256) where
+module _ (base : Store) (f : ℕ) (two : 0 < f) (few : size f ≤ 256) where
   -- the instance that an act changes
   pub step_of : (w : World) (a : Act) → Happens f w a → (n : ℕ) × Step f w a n
   step_of w a p =
@@ -280,10 +281,10 @@ module _ (f : ℕ) (two : 0 < f) (few : size f ≤ 256) where
     fresh = λ e is. (refl, refl, refl);
   }
 
-  pub cell_at_first : (i : ℕ) → cell_in fresh_state i ≡ first_cell
+  pub cell_at_first : (i : ℕ) → cell_in (fresh_state base) i ≡ first_cell
   cell_at_first i = λ k. record { entry = none_there i k; led = none_there i k; told = ap or_zero (none_there i) k }
 
-  unfoldable pub opening_ok : (i : ℕ) → Invariant f i opening
+  unfoldable pub opening_ok : (i : ℕ) → Invariant f i (opening base)
   opening_ok i = record { history = first_history (leader_of i); ok = first_ok (leader_of i); cells = λ r. subst (λ c. CellOk f i (first_history (leader_of i)) r c) (sym (cell_at_first i)) (first_cell_ok i r); sent = tt }
 
   pub nothing_seen_yet : (l k m : ℕ) (d : List ℕ) → (first_history l).seen k m ≡ Some d → ⊥
@@ -331,8 +332,8 @@ module _ (f : ℕ) (two : 0 < f) (few : size f ≤ 256) where
         | inr ne ↦ (elim old [ inl e ↦ inl (ap (λ (c : Cell). c.entry) ((step.1).moved.elsewhere r i ne) ∙ e) | inr lt ↦ inr lt ])
       ])
 
-  pub committed_in_range : (late : List Act) → IsRun f opening late → (r i : ℕ) (x : Decree) → IsCommitted (ends f opening late) r i x → leader_of i < size f
-  committed_in_range late run r i x e = elim (range_kept late opening run r i (inl (none_there i))) [
+  pub committed_in_range : (late : List Act) → IsRun f (opening base) late → (r i : ℕ) (x : Decree) → IsCommitted (ends f (opening base) late) r i x → leader_of i < size f
+  committed_in_range late run r i x e = elim (range_kept late (opening base) run r i (inl (none_there i))) [
     | inl none ↦ absurd (let n = ap (λ o. committed_decree (record_or_fresh i o).vote) none in let t : None ≡ Some x = sym n ∙ e in cc)
     | inr lt ↦ lt
   ]
@@ -366,19 +367,19 @@ module _ (f : ℕ) (two : 0 < f) (few : size f ≤ 256) where
         ];
       }
 
-  agree : (i : ℕ) (early late : List Act) → IsRun f opening (early ++ late) → (r q : ℕ) (x y : Decree) → IsCommitted (ends f opening early) r i x → IsCommitted (ends f opening (early ++ late)) q i y → x ≡ y
+  agree : (i : ℕ) (early late : List Act) → IsRun f (opening base) (early ++ late) → (r q : ℕ) (x y : Decree) → IsCommitted (ends f (opening base) early) r i x → IsCommitted (ends f (opening base) (early ++ late)) q i y → x ≡ y
   agree i early late run r q x y cx cy =
-      let runs = run_split early late opening run in
-      let a = run_keeps i early opening (opening_ok i) runs.0 in
-      let b = run_keeps i late (ends f opening early) a.next runs.1 in
-      let dx = b.kept x (committed_decided i (ends f opening early) a.next r x cx) in
-      let dy = committed_decided i (ends f (ends f opening early) late) b.next q y (subst (λ w. IsCommitted w q i y) (ends_append early late opening) cy) in
+      let runs = run_split early late (opening base) run in
+      let a = run_keeps i early (opening base) (opening_ok i) runs.0 in
+      let b = run_keeps i late (ends f (opening base) early) a.next runs.1 in
+      let dx = b.kept x (committed_decided i (ends f (opening base) early) a.next r x cx) in
+      let dy = committed_decided i (ends f (ends f (opening base) early) late) b.next q y (subst (λ w. IsCommitted w q i y) (ends_append early late (opening base)) cy) in
       decided_agree f (leader_of i) b.next.history b.next.ok x y dx dy
 
-  valid : (late : List Act) → IsRun f opening late → (i r : ℕ) (x : Decree) → IsCommitted (ends f opening late) r i x → is_noop x.command ≡ false → WasProposed f late i x.command
+  valid : (late : List Act) → IsRun f (opening base) late → (i r : ℕ) (x : Decree) → IsCommitted (ends f (opening base) late) r i x → is_noop x.command ≡ false → WasProposed base f late i x.command
   valid late run i r x cx real =
-      let a = run_keeps i late opening (opening_ok i) run in
-      let d = committed_decided i (ends f opening late) a.next r x cx in
+      let a = run_keeps i late (opening base) (opening_ok i) run in
+      let d = committed_decided i (ends f (opening base) late) a.next r x cx in
       elim (a.proposed x.command (decided_proposed f (leader_of i) a.next.history a.next.ok x real d)) [
         | inl o ↦ absurd (nothing_proposed_yet i x.command o)
         | inr t ↦ (let p = t.is in record {
@@ -398,7 +399,7 @@ module _ (f : ℕ) (two : 0 < f) (few : size f ≤ 256) where
       ]
 
 pub agreement_holds : Agreement
-agreement_holds f two few early late run i r q x y cx cy = agree f two few i early late run r q x y cx cy
+agreement_holds base f two few early late run i r q x y cx cy = agree base f two few i early late run r q x y cx cy
 
 pub validity_holds : Validity
-validity_holds f two few late run i r x cx real = valid f two few late run i r x cx real
+validity_holds base f two few late run i r x cx real = valid base f two few late run i r x cx real

@@ -17,7 +17,7 @@ use Rattle.ep_rules.specs.History.{Execution, AnswersBy, IsExecutedIn, nothing, 
 use Rattle.ep_rules.specs.Counts.{AreOnce}
 use Rattle.ep_rules.specs.Linearizable.{Responds, IsLegal, Precedes, IsLinearizable, Linearizability}
 use Rattle.ep_rules.specs.Maps.{get}
-use Rattle.ep_rules.specs.OneMap.{empty, replies}
+use Rattle.ep_rules.specs.OneMap.{replies, Store}
 use Rattle.ep_rules.specs.Operations.{Operation, instances_of, commands_of, history_of}
 use Rattle.ep_rules.specs.Safety.{WasProposed}
 use Rattle.ep_rules.specs.States.{is_free, free_number, command_of}
@@ -45,7 +45,7 @@ not_noop : (b : Bool) → cond b false true ≡ true → b ≡ false
 not_noop true e = absurd (false≢true e)
 not_noop false e = refl
 
-has_in : (ds : List (ℕ × Answer)) (i : ℕ) → Has (order_of ds) i → (x : Answer) × In (i, x) ds
+pub has_in : (ds : List (ℕ × Answer)) (i : ℕ) → Has (order_of ds) i → (x : Answer) × In (i, x) ds
 has_in [] i k = absurd (omega arith)
 has_in (d ∷ ds) i k = elim (has_cons d.0 i (order_of ds) k) [
   | inl e ↦ (d.1, inl (ap (λ j. (j, d.1)) e))
@@ -57,7 +57,7 @@ flip (inl a) = inr a
 flip (inr b) = inl b
 
 -- Executions, and the acts that make them.
-module _ (f : ℕ) where
+module _ (base : Store) (f : ℕ) where
   act_step : (w : World) (a : Act) (rest : List Execution) (e : Event) (i : ℕ) → IsExecutedIn (exec_of w a e rest) i → Has (order_of a.done) i ⊎ IsExecutedIn rest i
   act_step w a rest (Propose client request c seen) i k = inr k
   act_step w a rest (Handle m) i k = inr k
@@ -78,126 +78,126 @@ module _ (f : ℕ) where
   is_executed (b ∷ these) w h i a (inr m) k = executed_rest f i w b (executions f (moved f w b) these) b.event (is_executed these (moved f w b) h.1 i a m k)
 
   -- each answer, where each execution answers by the history
-  each_reply : (c : ℕ → Command) (h : List ℕ) (these : List Act) (w : World) → IsRun f w these → AllByRecursion (AnswersBy c h) (executions f w these) →
-      (a : Act) (k i : ℕ) (x : Answer) → In a these → slice_get a.done k ≡ Some (i, x) → IsReply c h i x
+  each_reply : (c : ℕ → Command) (h : List ℕ) (these : List Act) (w : World) → IsRun f w these → AllByRecursion (AnswersBy base c h) (executions f w these) →
+      (a : Act) (k i : ℕ) (x : Answer) → In a these → slice_get a.done k ≡ Some (i, x) → IsReply base c h i x
   each_reply c h [] w run all a k i x m e = absurd m
   each_reply c h (b ∷ these) w run all a k i x (inl is) e =
-      here f c h w b (executions f (moved f w b) these) b.event run.0.step.executes all k i x (ap (λ (z : Act). slice_get z.done k) is ∙ e)
+      here base f c h w b (executions f (moved f w b) these) b.event run.0.step.executes all k i x (ap (λ (z : Act). slice_get z.done k) is ∙ e)
   each_reply c h (b ∷ these) w run all a k i x (inr m) e =
-      each_reply c h these (moved f w b) run.1 (all_rest f c h w b (executions f (moved f w b) these) b.event all) a k i x m e
+      each_reply c h these (moved f w b) run.1 (all_rest base f c h w b (executions f (moved f w b) these) b.event all) a k i x m e
 
 -- a reply to the history's instances, by its commands
-to_legal : (c : ℕ → Command) (h : List Operation) → AreOf c h → ((i : ℕ) → Has (instances_of h) i → real c i ≡ true) → (i : ℕ) (x : Answer) → IsReply c (instances_of h) i x → IsLegal h i x
-to_legal c h of are_real i x (inl p) = inl ((λ k. false≢true (sym (ap (λ b. cond b false true) p.0) ∙ are_real i k)), p.1)
-to_legal c h of are_real i x (inr p) = inr (p.0, p.1 ∙ ap (λ cs. Told (get_or (replies empty cs) (place (instances_of h) i) Absent)) (sym (commands_are c h of)))
+to_legal : (base : Store) → (c : ℕ → Command) (h : List Operation) → AreOf c h → ((i : ℕ) → Has (instances_of h) i → real c i ≡ true) → (i : ℕ) (x : Answer) → IsReply base c (instances_of h) i x → IsLegal base h i x
+to_legal base c h of are_real i x (inl p) = inl ((λ k. false≢true (sym (ap (λ b. cond b false true) p.0) ∙ are_real i k)), p.1)
+to_legal base c h of are_real i x (inr p) = inr (p.0, p.1 ∙ ap (λ cs. Told (get_or (replies base cs) (place (instances_of h) i) Absent)) (sym (commands_are c h of)))
 
 told_lost : {X : Type 0} (y : Reply) → Told y ≡ Lost → X
 told_lost y e = absurd (cc)
 
-module _ (f : ℕ) (some : 0 < f) (few : size f ≤ 256) (acts : List Act) (run : IsRun f opening acts) where
-  is_history : IsHistory f (decrees f acts) (history_of f acts) (merged [] (executions f opening acts))
-  is_history = history_is f (decrees f acts) acts opening [] [] run (all_known f some few acts run) (record { instances = refl; commands = tt })
+module _ (base : Store) (f : ℕ) (some : 0 < f) (few : size f ≤ 256) (acts : List Act) (run : IsRun f (opening base) acts) where
+  is_history : IsHistory base f (decrees base f acts) (history_of base f acts) (merged [] (executions f (opening base) acts))
+  is_history = history_is base f (decrees base f acts) acts (opening base) [] [] run (all_known base f some few acts run) (record { instances = refl; commands = tt })
 
   -- an instance of the history is executed, and is no no-op
-  in_history : (i : ℕ) → Has (instances_of (history_of f acts)) i → Has (merged [] (executions f opening acts)) i × (real (told_in f acts) i ≡ true)
-  in_history i k = has_filter (real (told_in f acts)) (merged [] (executions f opening acts)) i (subst (λ js. Has js i) is_history.instances k)
+  in_history : (i : ℕ) → Has (instances_of (history_of base f acts)) i → Has (merged [] (executions f (opening base) acts)) i × (real (told_in base f acts) i ≡ true)
+  in_history i k = has_filter (real (told_in base f acts)) (merged [] (executions f (opening base) acts)) i (subst (λ js. Has js i) is_history.instances k)
 
-  legal : (a : Act) (i : ℕ) (x : Answer) → In a acts → In (i, x) a.done → IsLegal (history_of f acts) i x
+  legal : (a : Act) (i : ℕ) (x : Answer) → In a acts → In (i, x) a.done → IsLegal base (history_of base f acts) i x
   legal a i x m k =
       let at = in_at a.done (i, x) k in
-      let all : AllByRecursion (AnswersBy (told_in f acts) (instances_of (history_of f acts))) (executions f opening acts) =
-      subst (λ js. AllByRecursion (AnswersBy (told_in f acts) js) (executions f opening acts)) (sym is_history.instances) (answered f some few acts run) in
-      to_legal (told_in f acts) (history_of f acts) is_history.commands (λ j n. (in_history j n).1) i x
-      (each_reply f (told_in f acts) (instances_of (history_of f acts)) acts opening run all a at.0 i x m at.1)
+      let all : AllByRecursion (AnswersBy base (told_in base f acts) (instances_of (history_of base f acts))) (executions f (opening base) acts) =
+      subst (λ js. AllByRecursion (AnswersBy base (told_in base f acts) js) (executions f (opening base) acts)) (sym is_history.instances) (answered base f some few acts run) in
+      to_legal base (told_in base f acts) (history_of base f acts) is_history.commands (λ j n. (in_history j n).1) i x
+      (each_reply base f (told_in base f acts) (instances_of (history_of base f acts)) acts (opening base) run all a at.0 i x m at.1)
 
-  responds : (i : ℕ) → Has (instances_of (history_of f acts)) i → Responds acts i
-  responds i k = elim (has_executed [] (executions f opening acts) i (in_history i k).0) [
+  responds : (i : ℕ) → Has (instances_of (history_of base f acts)) i → Responds acts i
+  responds i k = elim (has_executed [] (executions f (opening base) acts) i (in_history i k).0) [
     | inl none ↦ absurd (omega arith)
     | inr e ↦ (
-        let a = act_for f acts opening i e in
+        let a = act_for base f acts (opening base) i e in
         let x = has_in a.0.done i a.2 in
         elim (legal a.0 i x.0 a.1 x.1) [
           | inl lost ↦ absurd (lost.0 k)
-          | inr told ↦ (a.0, get_or (replies empty (commands_of (history_of f acts))) (place (instances_of (history_of f acts)) i) Absent, a.1, subst (λ (z : Answer). In (i, z) a.0.done) told.1 x.1)
+          | inr told ↦ (a.0, get_or (replies base (commands_of (history_of base f acts))) (place (instances_of (history_of base f acts)) i) Absent, a.1, subst (λ (z : Answer). In (i, z) a.0.done) told.1 x.1)
         ])
   ]
 
-  responded : (i : ℕ) → Responds acts i → Has (instances_of (history_of f acts)) i
+  responded : (i : ℕ) → Responds acts i → Has (instances_of (history_of base f acts)) i
   responded i t = elim (legal t.0 i (Told t.1) t.2 t.3) [ inl lost ↦ told_lost t.1 lost.1 | inr told ↦ told.0 ]
 
   -- the run in two parts
   module _ (before : List Act) (rest : List Act) (whole : before ++ rest ≡ acts) where
-    parts : IsRun f opening before × IsRun f (ends f opening before) rest
-    parts = run_parts f before rest opening (subst (IsRun f opening) (sym whole) run)
+    parts : IsRun f (opening base) before × IsRun f (ends f (opening base) before) rest
+    parts = run_parts f before rest (opening base) (subst (IsRun f (opening base)) (sym whole) run)
 
-    known_then : (r i : ℕ) (x : Decree) → Committed (ends f opening before) r i x → told_in f acts i ≡ x.command
-    known_then r i x e = ap command_of (all_known f some few acts run before rest whole r i x e)
+    known_then : (r i : ℕ) (x : Decree) → Committed (ends f (opening base) before) r i x → told_in base f acts i ≡ x.command
+    known_then r i x e = ap command_of (all_known base f some few acts run before rest whole r i x e)
 
-    executions_then : executions f opening acts ≡ executions f opening before ++ executions f (ends f opening before) rest
-    executions_then = ap (λ these. executions f opening these) (sym whole) ∙ executions_both f before rest opening
+    executions_then : executions f (opening base) acts ≡ executions f (opening base) before ++ executions f (ends f (opening base) before) rest
+    executions_then = ap (λ these. executions f (opening base) these) (sym whole) ∙ executions_both f before rest (opening base)
 
     -- what its leader has no record of isn't executed, where it is no no-op
-    not_yet : (i : ℕ) → get ((ends f opening before).states (leader_of i)).records i ≡ None → is_noop (told_in f acts i) ≡ false → IsExecutedIn (executions f opening before) i → ⊥
+    not_yet : (i : ℕ) → get ((ends f (opening base) before).states (leader_of i)).records i ≡ None → is_noop (told_in base f acts i) ≡ false → IsExecutedIn (executions f (opening base) before) i → ⊥
     not_yet i none is_command k =
-        let x = executed_in f i before opening parts.0 k in
-        let there : Committed (ends f opening before) x.replica i x.decree =
-        subst (λ these. Committed (ends f opening these) x.replica i x.decree) x.whole
-        (keeps f x.early x.late (subst (IsRun f opening) (sym x.whole) parts.0) x.replica i x.decree x.committed) in
-        let noop : is_noop x.decree.command ≡ true = unproposed_lem f some few before parts.0 i x.replica x.decree none there in
+        let x = executed_in f i before (opening base) parts.0 k in
+        let there : Committed (ends f (opening base) before) x.replica i x.decree =
+        subst (λ these. Committed (ends f (opening base) these) x.replica i x.decree) x.whole
+        (keeps base f x.early x.late (subst (IsRun f (opening base)) (sym x.whole) parts.0) x.replica i x.decree x.committed) in
+        let noop : is_noop x.decree.command ≡ true = unproposed_lem base f some few before parts.0 i x.replica x.decree none there in
         false≢true (sym is_command ∙ ap is_noop (known_then x.replica i x.decree there) ∙ noop)
 
-  proposed : (o : Operation) (before rest : List Act) (a : Act) → In o (history_of f acts) → before ++ (a ∷ rest) ≡ acts → Has (order_of a.done) o.instance → WasProposed f before o.instance o.command
+  proposed : (o : Operation) (before rest : List Act) (a : Act) → In o (history_of base f acts) → before ++ (a ∷ rest) ≡ acts → Has (order_of a.done) o.instance → WasProposed base f before o.instance o.command
   proposed o before rest a m whole k =
       let p = parts before (a ∷ rest) whole in
-      let x = step_known ((ends f opening before).states a.replica) a.event a.done o.instance p.1.0.step.executes k in
-      let same : told_in f acts o.instance ≡ x.0.command = known_then before (a ∷ rest) whole a.replica o.instance x.0 x.1 in
-      let is_command : is_noop (told_in f acts o.instance) ≡ false = not_noop (is_noop (told_in f acts o.instance)) (in_history o.instance (instance_in (history_of f acts) o m)).1 in
-      subst (λ d. WasProposed f before o.instance d) (sym same ∙ sym (command_is (told_in f acts) (history_of f acts) o is_history.commands m))
-      (validity_holds f some few before p.0 o.instance a.replica x.0 x.1 (sym (ap is_noop same) ∙ is_command))
+      let x = step_known ((ends f (opening base) before).states a.replica) a.event a.done o.instance p.1.0.step.executes k in
+      let same : told_in base f acts o.instance ≡ x.0.command = known_then before (a ∷ rest) whole a.replica o.instance x.0 x.1 in
+      let is_command : is_noop (told_in base f acts o.instance) ≡ false = not_noop (is_noop (told_in base f acts o.instance)) (in_history o.instance (instance_in (history_of base f acts) o m)).1 in
+      subst (λ d. WasProposed base f before o.instance d) (sym same ∙ sym (command_is (told_in base f acts) (history_of base f acts) o is_history.commands m))
+      (validity_holds base f some few before p.0 o.instance a.replica x.0 x.1 (sym (ap is_noop same) ∙ is_command))
 
-  was_free : (i : ℕ) (d : Command) (p : WasProposed f acts i d) → get ((ends f opening p.before).states (leader_of i)).records i ≡ None
+  was_free : (i : ℕ) (d : Command) (p : WasProposed base f acts i d) → get ((ends f (opening base) p.before).states (leader_of i)).records i ≡ None
   unfolding free_number
   was_free i d p =
-      let s = (ends f opening p.before).states (leader_of i) in
-      subst (λ j. get ((ends f opening p.before).states (leader_of i)).records j ≡ None) p.instance
+      let s = (ends f (opening base) p.before).states (leader_of i) in
+      subst (λ j. get ((ends f (opening base) p.before).states (leader_of i)).records j ≡ None) p.instance
       (none_of (get s.records (instance_of (leader_of i) (p.number + 1))) (least_some highest_number (is_free s.records (leader_of i)) p.number p.free).1)
 
-  real_time : (i j : ℕ) → Has (instances_of (history_of f acts)) i → Has (instances_of (history_of f acts)) j → Precedes f acts i j → place (instances_of (history_of f acts)) i < place (instances_of (history_of f acts)) j
+  real_time : (i j : ℕ) → Has (instances_of (history_of base f acts)) i → Has (instances_of (history_of base f acts)) j → Precedes base f acts i j → place (instances_of (history_of base f acts)) i < place (instances_of (history_of base f acts)) j
   real_time i j hi hj p =
       let before : List Act = p.proposed.before in
       let rest : List Act = p.proposed.proposal ∷ p.proposed.after in
       let whole : before ++ rest ≡ acts = p.proposed.stands in
-      let ri : is_noop (told_in f acts i) ≡ false = not_noop (is_noop (told_in f acts i)) (in_history i hi).1 in
-      let rj : is_noop (told_in f acts j) ≡ false = not_noop (is_noop (told_in f acts j)) (in_history j hj).1 in
-      let first : IsExecutedIn (executions f opening before) i = is_executed f before opening (parts before rest whole).0 i p.act p.earlier p.executed in
-      let lt = earlier_first_lem (told_in f acts) (executions f opening before) (executions f (ends f opening before) rest) j i rj ri first (not_yet before rest whole j (was_free j p.command p.proposed) rj) in
-      subst (λ js. place js i < place js j) (ap (λ xs. history (told_in f acts) xs) (sym (executions_then before rest whole)) ∙ sym is_history.instances) lt
+      let ri : is_noop (told_in base f acts i) ≡ false = not_noop (is_noop (told_in base f acts i)) (in_history i hi).1 in
+      let rj : is_noop (told_in base f acts j) ≡ false = not_noop (is_noop (told_in base f acts j)) (in_history j hj).1 in
+      let first : IsExecutedIn (executions f (opening base) before) i = is_executed base f before (opening base) (parts before rest whole).0 i p.act p.earlier p.executed in
+      let lt = earlier_first_lem (told_in base f acts) (executions f (opening base) before) (executions f (ends f (opening base) before) rest) j i rj ri first (not_yet before rest whole j (was_free j p.command p.proposed) rj) in
+      subst (λ js. place js i < place js j) (ap (λ xs. history (told_in base f acts) xs) (sym (executions_then before rest whole)) ∙ sym is_history.instances) lt
 
-  everywhere : (r : ℕ) (o p : Operation) → In o (history_of f acts) → In p (history_of f acts) → interfere o.command p.command ≡ true →
-      place (instances_of (history_of f acts)) o.instance < place (instances_of (history_of f acts)) p.instance →
-      Has ((ends f opening acts).states r).executed p.instance → place ((ends f opening acts).states r).executed o.instance < place ((ends f opening acts).states r).executed p.instance
+  everywhere : (r : ℕ) (o p : Operation) → In o (history_of base f acts) → In p (history_of base f acts) → interfere o.command p.command ≡ true →
+      place (instances_of (history_of base f acts)) o.instance < place (instances_of (history_of base f acts)) p.instance →
+      Has ((ends f (opening base) acts).states r).executed p.instance → place ((ends f (opening base) acts).states r).executed o.instance < place ((ends f (opening base) acts).states r).executed p.instance
   everywhere r o p mo mp meet lt k =
       let i : ℕ = o.instance in
       let j : ℕ = p.instance in
-      let m : List ℕ = merged [] (executions f opening acts) in
-      let d : List ℕ = done_after nothing (executions f opening acts) r in
-      let own : d ≡ ((ends f opening acts).states r).executed = done_is f acts opening nothing run (λ q. refl) r in
-      let w = wells f some few acts run in
-      let hi = in_history i (instance_in (history_of f acts) o mo) in
-      let hj = in_history j (instance_in (history_of f acts) p mp) in
+      let m : List ℕ = merged [] (executions f (opening base) acts) in
+      let d : List ℕ = done_after nothing (executions f (opening base) acts) r in
+      let own : d ≡ ((ends f (opening base) acts).states r).executed = done_is f acts (opening base) nothing run (λ q. refl) r in
+      let w = wells base f some few acts run in
+      let hi = in_history i (instance_in (history_of base f acts) o mo) in
+      let hj = in_history j (instance_in (history_of base f acts) p mp) in
       let kj : Has d j = subst (λ l. Has l j) (sym own) k in
-      let before : place m i < place m j = filter_back (real (told_in f acts)) m i j hi.1 hj.1 hi.0 (subst (λ js. place js i < place js j) is_history.instances lt) in
+      let before : place m i < place m j = filter_back (real (told_in base f acts)) m i j hi.1 hj.1 hi.0 (subst (λ js. place js i < place js j) is_history.instances lt) in
       let ne : i ≢ j = (λ e. let s : place m i ≡ place m j = ap (λ n. place m n) e in omega arith) in
-      let inter : interfere (told_in f acts i) (told_in f acts j) ≡ true =
-      ap (λ b. interfere b (told_in f acts j)) (sym (command_is (told_in f acts) (history_of f acts) o is_history.commands mo))
-      ∙ ap (λ b. interfere o.command b) (sym (command_is (told_in f acts) (history_of f acts) p is_history.commands mp)) ∙ meet in
-      let link = linked (graph_of f acts) (told_in f acts) (dependent f some few acts run) i j ne (w.whole.committed i hi.0) (w.whole.committed j hj.0) inter in
-      let ki : Has d i = has_before (graph_of f acts) d m (w.each r) w.whole j i kj (flip link) before in
-      subst (λ l. place l i < place l j) own (same_order (graph_of f acts) m d w.whole (w.each r) i j ki hj.0 link before)
+      let inter : interfere (told_in base f acts i) (told_in base f acts j) ≡ true =
+      ap (λ b. interfere b (told_in base f acts j)) (sym (command_is (told_in base f acts) (history_of base f acts) o is_history.commands mo))
+      ∙ ap (λ b. interfere o.command b) (sym (command_is (told_in base f acts) (history_of base f acts) p is_history.commands mp)) ∙ meet in
+      let link = linked (graph_of base f acts) (told_in base f acts) (dependent base f some few acts run) i j ne (w.whole.committed i hi.0) (w.whole.committed j hj.0) inter in
+      let ki : Has d i = has_before (graph_of base f acts) d m (w.each r) w.whole j i kj (flip link) before in
+      subst (λ l. place l i < place l j) own (same_order (graph_of base f acts) m d w.whole (w.each r) i j ki hj.0 link before)
 
-  is_linearizable : IsLinearizable f acts
+  is_linearizable : IsLinearizable base f acts
   is_linearizable = record {
-    once = subst AreOnce (sym is_history.instances) (as_once _ (once_filter (real (told_in f acts)) (merged [] (executions f opening acts)) (wells f some few acts run).whole.once));
+    once = subst AreOnce (sym is_history.instances) (as_once _ (once_filter (real (told_in base f acts)) (merged [] (executions f (opening base) acts)) (wells base f some few acts run).whole.once));
     complete = λ i. (responds i, responded i);
     proposed = proposed;
     legal = legal;
@@ -206,4 +206,4 @@ module _ (f : ℕ) (some : 0 < f) (few : size f ≤ 256) (acts : List Act) (run 
   }
 
 pub linearizability_holds : Linearizability
-linearizability_holds f some few acts run = is_linearizable f some few acts run
+linearizability_holds base f some few acts run = is_linearizable base f some few acts run

@@ -13,7 +13,7 @@ use Rattle.ep_rules.proofs.Places.{place_cons, place_head, place_le, has_or, not
 use Rattle.ep_base.specs.declared.command.Command.{Command}
 use Rattle.ep_base.specs.Interference.{interfere}
 use Rattle.ep_rules.specs.History.{Agrees, is_new, AreDependent, DependsOn}
-use Rattle.ep_rules.proofs.Replies.{IsOrdered}
+use Rattle.ep_rules.proofs.Turns.{IsOrdered}
 
 -- closed under reach, each once, dependencies first, and each component in its order
 pub record Well (g : Graph) (l : List ℕ) : Type 0 where
@@ -232,5 +232,5 @@ module _ (g : Graph) (c : ℕ → Command) (dep : AreDependent g c) where
       let hm' : Has m u = has_before g m l wm wl w u hm (elim link [ inl r ↦ inr r | inr r ↦ inl r ]) lt in
       same_order g l m wl wm u w hm' hl link lt
 
-  pub well_ordered : (l m : List ℕ) → Well g l → Well g m → IsOrdered c l m
+  pub well_ordered : (l m : List ℕ) → Well g l → Well g m → IsOrdered (λ u w. interfere (c u) (c w)) l m
   well_ordered l m wl wm u w hl hm e = (before_both l m wl wm u w hl hm e, before_both m l wm wl u w hm hl e)

@@ -5,11 +5,12 @@ use Rattle.ep_rules.specs.Worlds.{In}
 use Rattle.ep_rules.specs.Journals.{Entry, Journals, WasSent, IsMatched}
 use Rattle.ep_rules.specs.Verdicts.{IsKnown, Agrees}
 use Rattle.ep_rules.specs.declared.receipt.Receipt.{Receipt}
+use Rattle.ep_rules.specs.OneMap.{Store}
 
 -- each handled frame was sent, by an entry of a lower stamp, and each receipt agrees with the journals
-pub record IsAccepted (f : ℕ) (journal : Journals) (receipts : List Receipt) : Type 0 where
+pub record IsAccepted (base : Store) (f : ℕ) (journal : Journals) (receipts : List Receipt) : Type 0 where
   pub matched : IsMatched journal
-  pub agree : (t : Receipt) → In t receipts → Agrees f journal t
+  pub agree : (t : Receipt) → In t receipts → Agrees base f journal t
 
 -- Replica and entry are those of the handling; receipts are counted from 1.
 pub data Fault : Type 0 where
@@ -54,20 +55,20 @@ pub record IsFirstHandling (journal : Journals) (r : ℕ) (e : Entry) (m : Frame
 -- Receipts.
 
 -- the first receipt that doesn't agree, where all handled frames are fine
-pub record IsFirstReceipt (f : ℕ) (journal : Journals) (receipts : List Receipt) (place : ℕ) (t : Receipt) : Type 0 where
+pub record IsFirstReceipt (base : Store) (f : ℕ) (journal : Journals) (receipts : List Receipt) (place : ℕ) (t : Receipt) : Type 0 where
   pub matched : IsMatched journal
   pub before : List Receipt
   pub rest : List Receipt
   pub split : before ++ (t ∷ rest) ≡ receipts
   pub counted : place ≡ length before + 1
-  pub agree : (u : Receipt) → In u before → Agrees f journal u
+  pub agree : (u : Receipt) → In u before → Agrees base f journal u
 
 -- The first fault.
 
 -- of handled frames by (replica, entry), and of each what the faults' order says; then of receipts in their order
-pub data IsFault (f : ℕ) (journal : Journals) (receipts : List Receipt) : Fault → Type 0 where
-  unsent : (r : ℕ) (e : Entry) (m : Frame) → IsFirstHandling journal r e m → ¬ HasOrigin journal m → IsFault f journal receipts (UnsentFrame r e.number)
-  changed : (r : ℕ) (e : Entry) (m : Frame) → IsFirstHandling journal r e m → HasOrigin journal m → ¬ WasSent journal m → IsFault f journal receipts (ChangedFrame r e.number)
-  early : (r : ℕ) (e : Entry) (m : Frame) → IsFirstHandling journal r e m → WasSent journal m → ¬ (m.stamp < e.stamp) → IsFault f journal receipts (StampOrder r e.number)
-  unknown : (place : ℕ) (t : Receipt) → IsFirstReceipt f journal receipts place t → ¬ IsKnown f journal t → IsFault f journal receipts (UnknownReceipt place)
-  order : (place : ℕ) (t : Receipt) → IsFirstReceipt f journal receipts place t → IsKnown f journal t → ¬ Agrees f journal t → IsFault f journal receipts (CallerOrder place)
+pub data IsFault (base : Store) (f : ℕ) (journal : Journals) (receipts : List Receipt) : Fault → Type 0 where
+  unsent : (r : ℕ) (e : Entry) (m : Frame) → IsFirstHandling journal r e m → ¬ HasOrigin journal m → IsFault base f journal receipts (UnsentFrame r e.number)
+  changed : (r : ℕ) (e : Entry) (m : Frame) → IsFirstHandling journal r e m → HasOrigin journal m → ¬ WasSent journal m → IsFault base f journal receipts (ChangedFrame r e.number)
+  early : (r : ℕ) (e : Entry) (m : Frame) → IsFirstHandling journal r e m → WasSent journal m → ¬ (m.stamp < e.stamp) → IsFault base f journal receipts (StampOrder r e.number)
+  unknown : (place : ℕ) (t : Receipt) → IsFirstReceipt base f journal receipts place t → ¬ IsKnown base f journal t → IsFault base f journal receipts (UnknownReceipt place)
+  order : (place : ℕ) (t : Receipt) → IsFirstReceipt base f journal receipts place t → IsKnown base f journal t → ¬ Agrees base f journal t → IsFault base f journal receipts (CallerOrder place)

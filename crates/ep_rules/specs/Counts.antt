@@ -7,6 +7,7 @@ use Rattle.ep_base.specs.Quorums.{size}
 use Rattle.ep_rules.specs.Journals.{Entry, IsLocalRun, left}
 use Rattle.ep_rules.specs.States.{State, fresh_state}
 use Rattle.ep_rules.specs.Steps.{Event, sends}
+use Rattle.ep_rules.specs.OneMap.{Store}
 
 -- each of them stands once
 abbrev pub AreOnce : List ℕ → Type 0
@@ -19,7 +20,7 @@ SendsFew = (f me : ℕ) (s : State) (e : Event) → length (sends f me s e) ≤ 
 
 -- A replica executes no instance twice.
 abbrev pub ExecutedOnce : Type 0
-ExecutedOnce = (f me : ℕ) (es : List Entry) → IsLocalRun f me es → AreOnce (left f me fresh_state es).executed
+ExecutedOnce = (base : Store) → (f me : ℕ) (es : List Entry) → IsLocalRun base f me es → AreOnce (left f me (fresh_state base) es).executed
 
 -- There are at most 14,000 instances.
 abbrev pub InstancesAreFew : Type 0

@@ -12,7 +12,7 @@ use Rattle.ep_base.specs.Places.{place, Has}
 use Rattle.ep_rules.specs.Graph.{Graph, Reaches}
 use Rattle.ep_rules.specs.Order.{IsPlan}
 use Rattle.ep_base.specs.Sameness.{is_noop}
-use Rattle.ep_rules.specs.OneMap.{empty, after_all, reply, answers_of, replies}
+use Rattle.ep_rules.specs.OneMap.{after_all, reply, answers_of, replies, Store, is_closed}
 
 -- one execution: where, what was committed there then, the root, the instances executed, in order, and the answers
 pub record Execution : Type 0 where
@@ -41,17 +41,17 @@ abbrev pub Agrees : Graph → Graph → Type 0
 Agrees here all = (i : ℕ) (a : Attrs) → here i ≡ Some a → all i ≡ Some a
 
 -- one replica's own run: each execution is a plan after those before it, answered by its own map
-abbrev pub IsLocal : Graph → (ℕ → Command) → List ℕ → List Execution → Type 0
-IsLocal all c done [] = Unit {0}
-IsLocal all c done (e ∷ es) = Agrees e.graph all × IsPlan e.graph done e.root e.order × (e.answers ≡ answers_of c (after_all c empty done) e.order) × IsLocal all c (done ++ e.order) es
+abbrev pub IsLocal : (base : Store) → Graph → (ℕ → Command) → List ℕ → List Execution → Type 0
+IsLocal base all c done [] = Unit {0}
+IsLocal base all c done (e ∷ es) = Agrees e.graph all × IsPlan e.graph done e.root e.order × (e.answers ≡ answers_of c (after_all c base done) e.order) × IsLocal base all c (done ++ e.order) es
 
 -- the executions of one replica, in order
 abbrev pub of : ℕ → List Execution → List Execution
 of r es = filter (λ e. e.replica == r) es
 
 -- any interleaving of the replicas' own runs
-abbrev pub AreLocal : Graph → (ℕ → Command) → List Execution → Type 0
-AreLocal all c es = (r : ℕ) → IsLocal all c [] (of r es)
+abbrev pub AreLocal : (base : Store) → Graph → (ℕ → Command) → List Execution → Type 0
+AreLocal base all c es = (r : ℕ) → IsLocal base all c [] (of r es)
 
 abbrev pub is_new : List ℕ → ℕ → Bool
 is_new seen i = nat_le (length seen) (place seen i)
@@ -73,14 +73,14 @@ abbrev pub AreDependent : Graph → (ℕ → Command) → Type 0
 AreDependent g c = (i j : ℕ) (a b : Attrs) → i ≢ j → g i ≡ Some a → g j ≡ Some b → interfere (c i) (c j) ≡ true → DependsOn g i j ⊎ DependsOn g j i
 
 -- the reply to i where the instances of the list are executed in turn
-abbrev pub reply_in : (ℕ → Command) → List ℕ → ℕ → Reply
-reply_in c is i = reply (after_all c empty (take (place is i) is)) (c i)
+abbrev pub reply_in : (base : Store) → (ℕ → Command) → List ℕ → ℕ → Reply
+reply_in base c is i = reply (after_all c base (take (place is i) is)) (c i)
 
 -- the k-th answer is Lost at a no-op, and else the reply of one map to the history, at the instance's place there
-abbrev pub AnswersBy : (ℕ → Command) → List ℕ → Execution → Type 0
-AnswersBy c h e = (k i : ℕ) (x : Answer) → k < length e.order → get_or e.order k i ≡ i →
+abbrev pub AnswersBy : (base : Store) → (ℕ → Command) → List ℕ → Execution → Type 0
+AnswersBy base c h e = (k i : ℕ) (x : Answer) → k < length e.order → get_or e.order k i ≡ i →
     ((is_noop (c i) ≡ true) × (get_or e.answers k x ≡ Lost))
-    ⊎ (Has h i × (get_or e.answers k x ≡ Told (get_or (replies empty (map c h)) (place h i) Absent)))
+    ⊎ (Has h i × (get_or e.answers k x ≡ Told (get_or (replies base (map c h)) (place h i) Absent)))
 
 -- a component is executed whole in one execution
 abbrev pub IsWhole : Graph → Execution → Type 0
@@ -95,23 +95,28 @@ abbrev pub OnePlan : Type 0
 OnePlan = (g : Graph) (done : List ℕ) (root : ℕ) (first second : List ℕ) → IsPlan g done root first → IsPlan g done root second → first ≡ second
 
 abbrev pub Components : Type 0
-Components = (all : Graph) (c : ℕ → Command) (es : List Execution) → AreLocal all c es →
+Components = (base : Store) → (all : Graph) (c : ℕ → Command) (es : List Execution) → AreLocal base all c es →
     AllByRecursion (IsWhole all) es × ((r i j : ℕ) → Has (done_after nothing es r) i → Reaches all i j → Has (done_after nothing es r) j)
 
 abbrev pub OneOrder : Type 0
-OneOrder = (all : Graph) (c : ℕ → Command) (es : List Execution) → AreDependent all c → AreLocal all c es → (r i j : ℕ) →
+OneOrder = (base : Store) → (all : Graph) (c : ℕ → Command) (es : List Execution) → AreDependent all c → AreLocal base all c es → (r i j : ℕ) →
     Has (done_after nothing es r) i → Has (done_after nothing es r) j → i ≢ j → interfere (c i) (c j) ≡ true →
     (place (done_after nothing es r) i < place (done_after nothing es r) j) ↔ (place (merged [] es) i < place (merged [] es) j)
 
 abbrev pub OneReply : Type 0
-OneReply = (all : Graph) (c : ℕ → Command) (es : List Execution) → AreDependent all c → AreLocal all c es → (r i : ℕ) →
-    Has (done_after nothing es r) i → Has (merged [] es) i × (reply_in c (done_after nothing es r) i ≡ reply_in c (merged [] es) i)
+OneReply = (base : Store) → (all : Graph) (c : ℕ → Command) (es : List Execution) → AreDependent all c → AreLocal base all c es → (r i : ℕ) →
+    Has (done_after nothing es r) i → Has (merged [] es) i × (reply_in base c (done_after nothing es r) i ≡ reply_in base c (merged [] es) i)
 
 abbrev pub OneHistory : Type 0
-OneHistory = (all : Graph) (c : ℕ → Command) (es : List Execution) → AreDependent all c → AreLocal all c es →
-    AllByRecursion (AnswersBy c (history c es)) es
+OneHistory = (base : Store) → (all : Graph) (c : ℕ → Command) (es : List Execution) → AreDependent all c → AreLocal base all c es →
+    AllByRecursion (AnswersBy base c (history c es)) es
 
 -- what is executed before any execution of i stands before i in the history
 abbrev pub EarlierFirst : Type 0
 EarlierFirst = (c : ℕ → Command) (before rest : List Execution) (i j : ℕ) → is_noop (c i) ≡ false → is_noop (c j) ≡ false →
     IsExecutedIn before j → ¬ IsExecutedIn before i → place (history c (before ++ rest)) j < place (history c (before ++ rest)) i
+
+-- a replica that has executed a seal has the map that the history leaves
+abbrev pub OneClosing : Type 0
+OneClosing = (base : Store) (all : Graph) (c : ℕ → Command) (es : List Execution) → AreDependent all c → AreLocal base all c es → (r : ℕ) →
+    is_closed (after_all c base (done_after nothing es r)) ≡ true → after_all c base (done_after nothing es r) ≡ after_all c base (history c es)

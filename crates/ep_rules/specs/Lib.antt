@@ -16,8 +16,13 @@ pub mod Safety
 pub mod Journals
 pub mod History
 pub mod Operations
+pub mod Machines
+pub mod Closing
 pub mod Linearizable
+pub mod Generations
 pub mod Verdicts
 pub mod Audits
 pub mod Merging
+pub mod Chains
+pub mod MachineChains
 pub mod Counts

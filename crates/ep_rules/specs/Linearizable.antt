@@ -13,7 +13,7 @@ use Rattle.ep_base.specs.declared.reply.Answer.TheVariants.{Lost, Told}
 use Rattle.ep_base.specs.declared.reply.Reply.{Reply}
 use Rattle.ep_base.specs.declared.reply.Reply.TheVariants.{Absent}
 use Rattle.ep_rules.specs.Counts.{AreOnce}
-use Rattle.ep_rules.specs.OneMap.{empty, replies}
+use Rattle.ep_rules.specs.OneMap.{replies, Store}
 use Rattle.ep_rules.specs.Operations.{Operation, instances_of, commands_of, history_of}
 use Rattle.ep_rules.specs.Safety.{WasProposed}
 use Rattle.ep_rules.specs.Steps.{order_of}
@@ -24,46 +24,46 @@ abbrev pub Responds : List Act → ℕ → Type 0
 Responds acts i = (a : Act) × (reply : Reply) × In a acts × In (i, Told reply) a.done
 
 -- the answer is one map's reply to the history at i's place there; where i has none, it is lost
-abbrev pub IsLegal : List Operation → ℕ → Answer → Type 0
-IsLegal h i x =
+abbrev pub IsLegal : (base : Store) → List Operation → ℕ → Answer → Type 0
+IsLegal base h i x =
     ((¬ Has (instances_of h) i) × (x ≡ Lost))
-    ⊎ (Has (instances_of h) i × (x ≡ Told (get_or (replies empty (commands_of h)) (place (instances_of h) i) Absent)))
+    ⊎ (Has (instances_of h) i × (x ≡ Told (get_or (replies base (commands_of h)) (place (instances_of h) i) Absent)))
 
 -- i was executed, at whatever replica, before j was proposed, at whatever replica
-pub record Precedes (f : ℕ) (acts : List Act) (i j : ℕ) : Type 0 where
+pub record Precedes (base : Store) (f : ℕ) (acts : List Act) (i j : ℕ) : Type 0 where
   pub command : Command
-  pub proposed : WasProposed f acts j command
+  pub proposed : WasProposed base f acts j command
   pub act : Act
   pub earlier : In act proposed.before
   pub executed : Has (order_of act.done) i
 
 -- the sequential history h has the run's operations, with their replies, and extends their order in real time
-pub record IsLinearization (f : ℕ) (acts : List Act) (h : List Operation) : Type 0 where
+pub record IsLinearization (base : Store) (f : ℕ) (acts : List Act) (h : List Operation) : Type 0 where
   -- it has what was answered with a reply, each once, and nothing else
   pub once : AreOnce (instances_of h)
   pub complete : (i : ℕ) → Has (instances_of h) i ↔ Responds acts i
   -- each was proposed, as its instance, before whatever execution of it
   pub proposed :
       (o : Operation) (before rest : List Act) (a : Act) → In o h → before ++ (a ∷ rest) ≡ acts → Has (order_of a.done) o.instance →
-      WasProposed f before o.instance o.command
+      WasProposed base f before o.instance o.command
   -- legal: each answer of each execution is one map's reply at the operation's place
-  pub legal : (a : Act) (i : ℕ) (x : Answer) → In a acts → In (i, x) a.done → IsLegal h i x
+  pub legal : (a : Act) (i : ℕ) (x : Answer) → In a acts → In (i, x) a.done → IsLegal base h i x
   -- real time: what was executed before another one was proposed stands before it
-  pub real_time : (i j : ℕ) → Has (instances_of h) i → Has (instances_of h) j → Precedes f acts i j → place (instances_of h) i < place (instances_of h) j
+  pub real_time : (i j : ℕ) → Has (instances_of h) i → Has (instances_of h) j → Precedes base f acts i j → place (instances_of h) i < place (instances_of h) j
   -- everywhere the same: a replica that has executed an operation has executed before it each one that interferes with it and stands before it
   pub everywhere :
       (r : ℕ) (o p : Operation) → In o h → In p h → interfere o.command p.command ≡ true → place (instances_of h) o.instance < place (instances_of h) p.instance →
-      let own = ((ends f opening acts).states r).executed in
+      let own = ((ends f (opening base) acts).states r).executed in
       Has own p.instance → place own o.instance < place own p.instance
 
 -- the run's history, in the order of first executions, is a linearization of the run
-abbrev pub IsLinearizable : ℕ → List Act → Type 0
-IsLinearizable f acts = IsLinearization f acts (history_of f acts)
+abbrev pub IsLinearizable : (base : Store) → ℕ → List Act → Type 0
+IsLinearizable base f acts = IsLinearization base f acts (history_of base f acts)
 
 -- Every run is linearizable.
 abbrev pub Linearizability : Type 0
-Linearizability = (f : ℕ) → 0 < f → size f ≤ 256 → (acts : List Act) → IsRun f opening acts → IsLinearizable f acts
+Linearizability = (base : Store) → (f : ℕ) → 0 < f → size f ≤ 256 → (acts : List Act) → IsRun f (opening base) acts → IsLinearizable base f acts
 
 -- The history of a longer run begins with that of the shorter one: what has its place keeps it, with all that stands before.
 abbrev pub HistoryGrows : Type 0
-HistoryGrows = (f : ℕ) (early late : List Act) → (more : List Operation) × (history_of f (early ++ late) ≡ history_of f early ++ more)
+HistoryGrows = (base : Store) → (f : ℕ) (early late : List Act) → (more : List Operation) × (history_of base f (early ++ late) ≡ history_of base f early ++ more)

@@ -9,7 +9,7 @@ use Rattle.ep_rules.specs.Cells.{Change, Cell, record_or_fresh, committed_decree
 use Rattle.ep_rules.specs.Counting.{least}
 use Rattle.ep_rules.specs.Graph.{Graph}
 use Rattle.ep_rules.specs.Maps.{Map, none, get, insert, remove}
-use Rattle.ep_rules.specs.OneMap.{Contents, empty}
+use Rattle.ep_rules.specs.OneMap.{Store}
 use Rattle.ep_rules.specs.declared.led.Led.{Led}
 use Rattle.ep_rules.specs.declared.record.Record.{Record}
 
@@ -19,10 +19,10 @@ pub record State : Type 0 where
   pub leads : Map Led
   pub told : Map ℕ
   pub executed : List ℕ
-  pub store : Contents
+  pub store : Store
 
-abbrev pub fresh_state : State
-fresh_state = record { records = none; leads = none; told = none; executed = []; store = empty }
+abbrev pub fresh_state : (base : Store) → State
+fresh_state base = record { records = none; leads = none; told = none; executed = []; store = base }
 
 -- One instance.
 

@@ -12,7 +12,7 @@ use Rattle.ep_base.specs.declared.reply.Answer.{Answer}
 use Rattle.ep_base.specs.declared.reply.Answer.TheVariants.{Lost, Told}
 use Rattle.ep_base.specs.Places.{place, Has}
 use Rattle.ep_rules.specs.History.{is_new}
-use Rattle.ep_rules.specs.OneMap.{empty, replies}
+use Rattle.ep_rules.specs.OneMap.{replies, Store}
 use Rattle.ep_rules.specs.States.{fresh_state, free_number, committed_in, command_of}
 use Rattle.ep_rules.specs.Steps.{Propose, Frame, order_of}
 use Rattle.ep_rules.specs.Worlds.{In}
@@ -22,34 +22,34 @@ use Rattle.ep_rules.specs.declared.receipt.Receipt.{Receipt}
 -- What is committed.
 
 -- what r's journal commits in an instance
-abbrev pub committed_by : ℕ → Journals → ℕ → ℕ → Option Decree
-committed_by f journal r i = committed_in (left f r fresh_state (journal r)).records i
+abbrev pub committed_by : (base : Store) → ℕ → Journals → ℕ → ℕ → Option Decree
+committed_by base f journal r i = committed_in (left f r (fresh_state base) (journal r)).records i
 
 abbrev pub or_else : Option Decree → Option Decree → Option Decree
 or_else None other = other
 or_else (Some x) other = Some x
 
 -- what the least replica below n that commits there commits
-abbrev pub agreed_below : ℕ → ℕ → Journals → ℕ → Option Decree
-agreed_below zero f journal i = None
-agreed_below (suc n) f journal i = or_else (agreed_below n f journal i) (committed_by f journal n i)
+abbrev pub agreed_below : (base : Store) → ℕ → ℕ → Journals → ℕ → Option Decree
+agreed_below base zero f journal i = None
+agreed_below base (suc n) f journal i = or_else (agreed_below base n f journal i) (committed_by base f journal n i)
 
 -- what the journals commit in an instance: all that commit there commit the same
-abbrev pub agreed : ℕ → Journals → ℕ → Option Decree
-agreed f journal i = agreed_below (size f) f journal i
+abbrev pub agreed : (base : Store) → ℕ → Journals → ℕ → Option Decree
+agreed base f journal i = agreed_below base (size f) f journal i
 
 -- the command that they commit there
-abbrev pub command_at : ℕ → Journals → ℕ → Command
-command_at f journal i = command_of (agreed f journal i)
+abbrev pub command_at : (base : Store) → ℕ → Journals → ℕ → Command
+command_at base f journal i = command_of (agreed base f journal i)
 
 abbrev pub instances_of : List (ℕ × Decree) → List ℕ
 instances_of [] = []
 instances_of (e ∷ es) = e.0 ∷ instances_of es
 
 -- all that the journals commit, in rising order of instances
-pub record IsTable (f : ℕ) (journal : Journals) (table : List (ℕ × Decree)) : Type 0 where
+pub record IsTable (base : Store) (f : ℕ) (journal : Journals) (table : List (ℕ × Decree)) : Type 0 where
   pub rises : IsRising (instances_of table)
-  pub holds : (i : ℕ) (x : Decree) → In (i, x) table ↔ (agreed f journal i ≡ Some x)
+  pub holds : (i : ℕ) (x : Decree) → In (i, x) table ↔ (agreed base f journal i ≡ Some x)
 
 -- The history.
 
@@ -63,13 +63,13 @@ abbrev pub history_of : (ℕ → Command) → List Scheduled → List ℕ
 history_of c schedule = filter (λ i. cond (is_noop (c i)) false true) (merged_of [] schedule)
 
 -- a no-op's answer is Lost; any other one is one map's reply to the history, at the instance's place there
-abbrev pub IsReply : (ℕ → Command) → List ℕ → ℕ → Answer → Type 0
-IsReply c h i x = ((is_noop (c i) ≡ true) × (x ≡ Lost)) ⊎ (Has h i × (x ≡ Told (get_or (replies empty (map c h)) (place h i) Absent)))
+abbrev pub IsReply : (base : Store) → (ℕ → Command) → List ℕ → ℕ → Answer → Type 0
+IsReply base c h i x = ((is_noop (c i) ≡ true) × (x ≡ Lost)) ⊎ (Has h i × (x ≡ Told (get_or (replies base (map c h)) (place h i) Absent)))
 
 -- Receipts.
 
 -- the entries of a replica propose a command as instance i, the least one that is free, for this client and request
-pub record Proposes (f me : ℕ) (es : List Entry) (i client request : ℕ) : Type 0 where
+pub record Proposes (base : Store) (f me : ℕ) (es : List Entry) (i client request : ℕ) : Type 0 where
   pub before : List Entry
   pub proposal : Entry
   pub rest : List Entry
@@ -78,7 +78,7 @@ pub record Proposes (f me : ℕ) (es : List Entry) (i client request : ℕ) : Ty
   pub seen : ℕ
   pub event : proposal.event ≡ Propose client request command seen
   pub number : ℕ
-  pub free : free_number (left f me fresh_state before).records me ≡ Some number
+  pub free : free_number (left f me (fresh_state base) before).records me ≡ Some number
   pub instance : instance_of me (number + 1) ≡ i
 
 -- the entry is a proposal for this client and request, and the first frame that it sends is about instance i
@@ -99,23 +99,23 @@ pub record HasDone (es : List Entry) (number stamp i : ℕ) (answer : Answer) : 
   pub done : In (i, answer) entry.done
 
 -- the instance's leader proposed it for this client and request, and the replica's entry executed it
-pub record IsKnown (f : ℕ) (journal : Journals) (t : Receipt) : Type 0 where
-  pub proposed : Proposes f (leader_of t.instance) (journal (leader_of t.instance)) t.instance t.client t.request
+pub record IsKnown (base : Store) (f : ℕ) (journal : Journals) (t : Receipt) : Type 0 where
+  pub proposed : Proposes base f (leader_of t.instance) (journal (leader_of t.instance)) t.instance t.client t.request
   pub executed : HasDone (journal t.replica) t.entry t.stamp t.instance t.answer
 
 -- the receipt agrees with the journals: its proposal has a greater stamp than the client had seen
-pub record Agrees (f : ℕ) (journal : Journals) (t : Receipt) : Type 0 where
-  pub known : IsKnown f journal t
+pub record Agrees (base : Store) (f : ℕ) (journal : Journals) (t : Receipt) : Type 0 where
+  pub known : IsKnown base f journal t
   pub later : t.seen < known.proposed.proposal.stamp
 
 -- the receipt is of a command that the replica itself proposed and executed
-pub record IsOwn (f me : ℕ) (es : List Entry) (t : Receipt) : Type 0 where
+pub record IsOwn (base : Store) (f me : ℕ) (es : List Entry) (t : Receipt) : Type 0 where
   pub replica : t.replica ≡ me
   pub leader : leader_of t.instance ≡ me
-  pub proposed : Proposes f me es t.instance t.client t.request
+  pub proposed : Proposes base f me es t.instance t.client t.request
   pub seen : proposed.seen ≡ t.seen
   pub executed : HasDone es t.entry t.stamp t.instance t.answer
 
 -- each receipt is some replica's own
-abbrev pub AreOwn : ℕ → Journals → List Receipt → Type 0
-AreOwn f journal receipts = (t : Receipt) → In t receipts → (r : ℕ) × IsOwn f r (journal r) t
+abbrev pub AreOwn : (base : Store) → ℕ → Journals → List Receipt → Type 0
+AreOwn base f journal receipts = (t : Receipt) → In t receipts → (r : ℕ) × IsOwn base f r (journal r) t

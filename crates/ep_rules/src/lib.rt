@@ -12,11 +12,14 @@
 #![tactic(auto)]
 
 mod answers;
+pub mod closing;
 pub mod counts;
 mod duplicate;
+pub mod generations;
 pub mod history;
 mod led;
 pub mod linearizable;
+pub mod machines;
 pub mod merging;
 mod outgoing;
 mod receipt;

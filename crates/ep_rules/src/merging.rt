@@ -1,6 +1,6 @@
 //! Laws of journals: where they match, they are one run of a world, and what a world plays are journals that match.
 
-ghost use Rattle.ep_rules.specs.Merging.{AgreedIs, AgreesByStamp, AskedGrows, CallerOrder, ClockedAccepted, ClockedMatch, ClocksGrow, DoneByPlace, EachReply, FaultsAreFirst, FramesWereSent, JournalsAgree, JournalsDepend, JournalsKeep, JournalsOrder, JournalsPropose, LocalRunsGrow, MergedIsARun, NumbersArePlaces, OneProposal, OneSchedule, OneTable, OriginByPlace, OwnEntriesLeave, OwnReceiptsAgree, OwnStays, PlayedAccepted, PlayedGrows, PlayedIsARun, PlayedMatch, PlayedSends, ProposalsName, ProposalsTell, SentByPlace, SentStays, SomeSchedule};
+ghost use Rattle.ep_rules.specs.Merging.{AgreedIs, AgreesByStamp, AskedGrows, CallerOrder, ClockedAccepted, ClockedMatch, ClocksGrow, ClocksStayAbove, DoneByPlace, EachReply, FaultsAreFirst, FramesWereSent, JournalsAgree, JournalsDepend, JournalsKeep, JournalsOrder, JournalsPropose, LocalRunsGrow, MergedIsARun, NumbersArePlaces, OneProposal, OneSchedule, OneTable, OriginByPlace, OwnEntriesLeave, OwnReceiptsAgree, OwnStays, PlayedAccepted, PlayedGrows, PlayedIsARun, PlayedMatch, PlayedSends, ProposalsName, ProposalsTell, SentByPlace, SentStays, SomeSchedule};
 
 /// Matched journals, merged in the order of stamps, are a run of the world, whose replicas' own runs they are.
 pub fn merged_is_a_run()
@@ -110,6 +110,11 @@ pub fn local_runs_grow()
 /// A clocked journal with one entry more is clocked, where that entry's stamp is one more than the greatest one that was known.
 pub fn clocks_grow()
     ensures { ClocksGrow }
+{}
+
+/// Clocks that begin at a stamp stay above it.
+pub fn clocks_stay_above()
+    ensures { ClocksStayAbove }
 {}
 
 /// What a world plays goes on with what is played in the world that it leaves.

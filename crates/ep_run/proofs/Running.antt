@@ -37,6 +37,7 @@ use Rattle.ep_run.specs.Lines.{AreBeginnings, HaveAtMost, count_for, replica_of}
 use Rattle.ep_run.specs.Rings.{tasks_at, AreAssigned, AreOf, Collects, HasUsed, UsesUp, proposers_in, HasRun}
 use Rattle.ep_run.specs.declared.ring_run.RingRun.{RingRun}
 use Rattle.ep_run.proofs.Turning.{Passes}
+use Rattle.ep_rules.specs.OneMap.{opened, empty}
 
 -- What is asked.
 
@@ -154,15 +155,15 @@ beginnings_more (b ∷ c ∷ cs) xs h = (h.0, beginnings_more (c ∷ cs) xs h.1)
 
 -- Receipts.
 
-own_works : (a b : Node) (t : Receipt) → Works a b → IsOwn a.replica.faults a.replica.me (entries_of a.replica.entries) t → IsOwn b.replica.faults b.replica.me (entries_of b.replica.entries) t
+own_works : (a b : Node) (t : Receipt) → Works a b → IsOwn (opened empty) a.replica.faults a.replica.me (entries_of a.replica.entries) t → IsOwn (opened empty) b.replica.faults b.replica.me (entries_of b.replica.entries) t
 own_works a b t h own =
     let grown : entries_of b.replica.entries ≡ entries_of a.replica.entries ++ entries_of h.entries = ap entries_of h.journal ∙ entries_both a.replica.entries h.entries in
-    subst (λ (f : ℕ). IsOwn f b.replica.me (entries_of b.replica.entries) t) (sym h.faults)
-    (subst (λ (r : ℕ). IsOwn a.replica.faults r (entries_of b.replica.entries) t) (sym h.me)
-    (subst (λ (es : List rules.Entry). IsOwn a.replica.faults a.replica.me es t) (sym grown) (own_stays_lem a.replica.faults a.replica.me (entries_of a.replica.entries) (entries_of h.entries) t own)))
+    subst (λ (f : ℕ). IsOwn (opened empty) f b.replica.me (entries_of b.replica.entries) t) (sym h.faults)
+    (subst (λ (r : ℕ). IsOwn (opened empty) a.replica.faults r (entries_of b.replica.entries) t) (sym h.me)
+    (subst (λ (es : List rules.Entry). IsOwn (opened empty) a.replica.faults a.replica.me es t) (sym grown) (own_stays_lem (opened empty) a.replica.faults a.replica.me (entries_of a.replica.entries) (entries_of h.entries) t own)))
 
 -- the receipts of nodes are still theirs after what the nodes do
-pub of_related : (R : Node → Node → Type 0) (xs ys : List Node) (ts : List Receipt) → ((a b : Node) (t : Receipt) → R a b → IsOwn a.replica.faults a.replica.me (entries_of a.replica.entries) t → IsOwn b.replica.faults b.replica.me (entries_of b.replica.entries) t) →
+pub of_related : (R : Node → Node → Type 0) (xs ys : List Node) (ts : List Receipt) → ((a b : Node) (t : Receipt) → R a b → IsOwn (opened empty) a.replica.faults a.replica.me (entries_of a.replica.entries) t → IsOwn (opened empty) b.replica.faults b.replica.me (entries_of b.replica.entries) t) →
     Each R xs ys → AreOf xs ts → AreOf ys ts
 of_related R xs ys ts keeps each own t h =
     let o = own t h in (o.0, omega (arith, o.1, each.len), λ d. keeps (get_or xs o.0 d) (get_or ys o.0 d) t (each.at o.0 d o.1) (o.2 d))
@@ -175,7 +176,7 @@ of_assigned asked xs ys ts h own t is =
     let o = own t is in (
       o.0,
       omega (arith, o.1, h.len),
-      λ d. subst (λ (k : Kept). IsOwn k.faults k.me (entries_of k.entries) t) (sym (ap (λ (n : Node). n.replica) (h.at o.0 d o.1))) (o.2 d),
+      λ d. subst (λ (k : Kept). IsOwn (opened empty) k.faults k.me (entries_of k.entries) t) (sym (ap (λ (n : Node). n.replica) (h.at o.0 d o.1))) (o.2 d),
     )
 
 in_both : (t : Receipt) (xs ys : List Receipt) → In t (xs ++ ys) → In t xs ⊎ In t ys
@@ -333,11 +334,11 @@ entries_at [] r d low = absurd (omega (arith, low))
 entries_at (n ∷ ns) zero d low = refl
 entries_at (n ∷ ns) (suc r) d low = entries_at ns r d (omega (arith, low))
 
-pub of_own : (f : ℕ) (nodes : List Node) (ts : List Receipt) → IsHost f nodes → AreOf nodes ts → AreOwn f (their_journals (replicas_in nodes)) ts
+pub of_own : (f : ℕ) (nodes : List Node) (ts : List Receipt) → IsHost f nodes → AreOf nodes ts → AreOwn (opened empty) f (their_journals (replicas_in nodes)) ts
 of_own f nodes ts host of t is =
     let o = of t is in
     let n = get_or nodes o.0 blank in (
       o.0,
-      subst (λ (es : List rules.Entry). IsOwn f o.0 es t) (sym (entries_at nodes o.0 blank o.1))
-          (subst (λ (q : ℕ). IsOwn f q (entries_of n.replica.entries) t) (host.me o.0 blank o.1) (subst (λ (q : ℕ). IsOwn q n.replica.me (entries_of n.replica.entries) t) (host.faults o.0 blank o.1) (o.2 blank))),
+      subst (λ (es : List rules.Entry). IsOwn (opened empty) f o.0 es t) (sym (entries_at nodes o.0 blank o.1))
+          (subst (λ (q : ℕ). IsOwn (opened empty) f q (entries_of n.replica.entries) t) (host.me o.0 blank o.1) (subst (λ (q : ℕ). IsOwn (opened empty) q n.replica.me (entries_of n.replica.entries) t) (host.faults o.0 blank o.1) (o.2 blank))),
     )

@@ -21,6 +21,7 @@ use Rattle.ep_run.specs.Asking.{asked_in, proposers_of}
 use Rattle.ep_run.specs.Lines.{Fate, made, refused, left, Line, AreBeginnings, HaveAtMost}
 use Rattle.ep_run.specs.Weathers.{SetsOwn}
 use Rattle.ep_run.specs.declared.ring_run.RingRun.{RingRun}
+use Rattle.ep_rules.specs.OneMap.{opened, empty}
 
 abbrev pub fate_of : Option StepFault → Fate
 fate_of None = made
@@ -71,7 +72,7 @@ pub record Turns (turns : ℕ) (xs ys : List Node) : Type 0 where
 -- each is a receipt of one of the nodes' own
 abbrev pub AreOf : List Node → List Receipt → Type 0
 AreOf nodes receipts =
-    (t : Receipt) → In t receipts → (i : ℕ) × (i < length nodes) × ((d : Node) → IsOwn (get_or nodes i d).replica.faults (get_or nodes i d).replica.me (entries_of (get_or nodes i d).replica.entries) t)
+    (t : Receipt) → In t receipts → (i : ℕ) × (i < length nodes) × ((d : Node) → IsOwn (opened empty) (get_or nodes i d).replica.faults (get_or nodes i d).replica.me (entries_of (get_or nodes i d).replica.entries) t)
 
 -- receipts of the nodes' own are collected, and their clients have seen them
 pub record Collects (nodes : List Node) (clients : Clients) (receipts : List Receipt) (clients' : Clients) (receipts' : List Receipt) : Type 0 where

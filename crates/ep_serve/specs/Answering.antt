@@ -38,7 +38,7 @@ leading_of (phase.Preparing, n) = Preparing n
 abbrev pub IsTold : Kept → Due → List ℕ → Type 0
 IsTold k (Taken from count) bytes = bytes ≡ taken_bytes (number_bytes 4 count ++ told_from k from count)
 IsTold k (Refused refusal) bytes = bytes ≡ refused_bytes refusal
-IsTold k (Value key) bytes = bytes ≡ value_bytes (value_at (state_of k).store key)
+IsTold k (Value key) bytes = bytes ≡ value_bytes (value_at (state_of k).store.contents key)
 IsTold k (Open after) bytes = (found : Option ℕ) × IsNextOpen (state_of k).records after found × (bytes ≡ instance_bytes found)
 IsTold k (Leads i) bytes = bytes ≡ leading_bytes (option_map leading_of (progress_in k.faults k.me (get (state_of k).leads i)))
 IsTold k Synced bytes = bytes ≡ synced_bytes (length k.entries)

@@ -18,6 +18,10 @@ unless_goes true false f xs e = refl
 unless_goes false false f xs e = refl
 unless_goes b true f xs e = absurd (true≢false e)
 
+pub or_false : (b : Bool) → (b || false) ≡ b
+or_false true = refl
+or_false false = refl
+
 -- one key
 
 pub brings_one : (own : List (List ℕ)) (key k : List ℕ) → (same_list k key && not (has_key key own)) ≡ brings own (key ∷ []) k

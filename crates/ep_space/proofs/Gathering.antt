@@ -1,6 +1,6 @@
 -- What is gathered of the run of a command's key is its interference set.
-use Rattle.std.proofs.Common.{◌≡◌, ℕ, ◌+◌, Bool, true, false, cond, not, ◌&&◌, Option, Some, None, List, [], ◌∷◌, ◌++◌, max, refl, sym, ap, ◌∙◌, arith, append_assoc, append-nil, true≢false, eqb, subst, suc, drop}
-use Rattle.std.specs.Prelude.{slice_get}
+use Rattle.std.proofs.Common.{◌≡◌, ◌⊎◌, inl, inr, ℕ, ◌+◌, Bool, true, false, cond, not, ◌&&◌, ◌||◌, Option, Some, None, List, [], ◌∷◌, ◌++◌, max, refl, sym, ap, ◌∙◌, arith, append_assoc, append-nil, true≢false, eqb, subst, suc, drop, length}
+use Rattle.std.specs.Prelude.{slice_get, is_some}
 use Rattle.std.proofs.lemmas.Option.{slice_get_within, get_or_from_slice_get}
 use Rattle.std.proofs.Math.Seq.{drop-cons}
 use Rattle.std.specs.Cmp.{unsigned_tied}
@@ -9,18 +9,28 @@ use Rattle.std.specs.FinMap.{find, is_sorted}
 use Rattle.std.specs.FinMap.Entries.{below_all}
 use Rattle.std.specs.List.{AllByRecursion}
 use Rattle.std.specs.Ordering.{nat_cmp}
-use Rattle.std.proofs.lemmas.Bool.{and_parts, eq-eqb}
-use Rattle.ep_base.specs.Deps.{IsRising}
-use Rattle.ep_base.specs.Interference.{keys_of, share_key, is_get}
+use Rattle.std.proofs.lemmas.Bool.{and_parts, eq-eqb, eqb-true}
+use Rattle.ep_base.specs.Deps.{IsRising, union}
+use Rattle.ep_base.specs.Interference.{keys_of, has_key, share_key, only_reads, is_seal, meet, part, interfere}
+use Rattle.ep_base.specs.Places.{Has}
+use Rattle.ep_base.specs.Sameness.{is_noop}
 use Rattle.ep_base.specs.declared.command.Command.{Command}
+use Rattle.ep_base.specs.declared.command.Command.TheVariants.{Noop, Get, Put, Del, Swap, Cas, Seal, Opaque}
 use Rattle.ep_base.specs.declared.vote.Vote.{Vote}
 use Rattle.ep_rules.specs.InterferenceSet.{touches, votes_against, those, greatest_seq, seq_of, instances, interference}
 use Rattle.ep_rules.specs.Maps.{Map, get, entries}
 use Rattle.ep_rules.specs.declared.record.Record.{Record}
-use Rattle.ep_space.specs.Gathering.{gather, gather_all, next_attrs}
-use Rattle.ep_space.specs.Keys.{voted_keys, names_one, holders_of}
+use Rattle.ep_space.specs.Gathering.{gather, gather_all, next_attrs, recorded_in}
+use Rattle.ep_space.specs.Keys.{index_keys, voted_keys, recorded_keys, names_one, holders, holders_of, recorded, IsPlainVote, IsPlain, ArePlain}
+use Rattle.ep_space.specs.Open.{AreRecords}
 use Rattle.ep_space.specs.declared.gathered.Gathered.{Gathered}
-use Rattle.ep_space.proofs.Holders.{found_on, sorted_true}
+use Rattle.ep_rules.specs.Worlds.{In}
+use Rattle.ep_base.proofs.Interfering.{Decides-interfere, Interferes-noop}
+use Rattle.ep_base.proofs.Members.{same_members, union-cases, Has-union}
+use Rattle.ep_base.proofs.Union.{IsRising-union}
+use Rattle.ep_base.proofs.Places.{Has-empty, Has-cons_cases, Has-head}
+use Rattle.ep_space.proofs.Holders.{found_on, sorted_true, holders-more, key-holds, rising_those, those-found, found-those}
+use Rattle.ep_space.proofs.Rising.{all_from}
 
 abbrev Entry : Type 0
 Entry = ℕ × Record
@@ -80,35 +90,221 @@ those_within t h (e ∷ es) w = go (t e) (h e) refl refl (those_within t h es w)
     go false true p q rest = ap (λ x. cond x (e ∷ those t (those h es)) (those t (those h es))) p ∙ rest
     go false false p q rest = rest
 
-module _ (c : Command) (except : ℕ) where
-  touched_key : (e : Entry) → touches c except e ≡ true → names_one (keys_of c) e ≡ true
-  touched_key e h = go e.1.vote (and_parts (not (eqb e.0 except)) (votes_against c e.1.vote) h).1
-    where
-      go : (v : Option Vote) → votes_against c v ≡ true → share_key (keys_of c) (voted_keys v) ≡ true
-      go None x = absurd (true≢false (sym x))
-      go (Some v) x = (and_parts (share_key (keys_of c) (keys_of v.decree.command)) (not (is_get c && is_get v.decree.command)) x).0
+-- What stands under a command's keys, or is a seal.
 
-  pub gathered-run : (m : Map Record) → next_attrs (gather_all (touches c except) m (record { seq = 0; deps = [] }) (holders_of (keys_of c) m)) ≡ interference m except c
-  gathered-run m =
-      let some : Entry → Bool = names_one (keys_of c) in
+share_none : (ks : List (List ℕ)) → share_key ks [] ≡ false
+share_none [] = refl
+share_none (k ∷ ks) = share_none ks
+
+indexed : (ks : List (List ℕ)) (d : Command) → share_key ks (keys_of d) ≡ true → share_key ks (index_keys d) ≡ true
+indexed ks Noop e = e
+indexed ks (Get k) e = e
+indexed ks (Put k v) e = e
+indexed ks (Del k) e = e
+indexed ks (Swap p) e = e
+indexed ks (Cas k x n) e = e
+indexed ks (Seal v) e = absurd (true≢false (sym e ∙ share_none ks))
+indexed ks (Opaque p b) e = e
+
+seal_index : (d : Command) → is_seal d ≡ true → has_key [] (index_keys d) ≡ true
+seal_index Noop e = absurd (true≢false (sym e))
+seal_index (Get k) e = absurd (true≢false (sym e))
+seal_index (Put k v) e = absurd (true≢false (sym e))
+seal_index (Del k) e = absurd (true≢false (sym e))
+seal_index (Swap p) e = absurd (true≢false (sym e))
+seal_index (Cas k x n) e = absurd (true≢false (sym e))
+seal_index (Seal v) e = refl
+seal_index (Opaque p b) e = absurd (true≢false (sym e))
+
+share_end : (ks : List (List ℕ)) (k : List ℕ) (ls : List (List ℕ)) → share_key (ks ++ k ∷ []) ls ≡ (share_key ks ls || has_key k ls)
+share_end [] k ls = go (has_key k ls)
+  where
+    go : (b : Bool) → (b || false) ≡ b
+    go true = refl
+    go false = refl
+share_end (l ∷ ks) k ls = ap (λ b. has_key l ls || b) (share_end ks k ls) ∙ go (has_key l ls) (share_key ks ls) (has_key k ls)
+  where
+    go : (a b c : Bool) → (a || (b || c)) ≡ ((a || b) || c)
+    go true b c = refl
+    go false b c = refl
+
+or_cases : (a b : Bool) → (a || b) ≡ true → (a ≡ true) ⊎ (b ≡ true)
+or_cases true b e = inl refl
+or_cases false b e = inr e
+
+or_first : (a b : Bool) → a ≡ true → (a || b) ≡ true
+or_first true b e = refl
+or_first false b e = absurd (true≢false (sym e))
+
+or_second : (a b : Bool) → b ≡ true → (a || b) ≡ true
+or_second true b e = refl
+or_second false b e = e
+
+module _ (c : Command) (except : ℕ) where
+  pub gathered-some : (m : Map Record) (some : Entry → Bool) → ((e : Entry) → touches c except e ≡ true → some e ≡ true) →
+      next_attrs (gather_all (touches c except) m (record { seq = 0; deps = [] }) (instances (those some (entries m)))) ≡ interference m except c
+  gathered-some m some touched =
       let found : AllByRecursion (λ e. get m e.0 ≡ Some e.1) (those some (entries m)) =
       all_those (λ e. get m e.0 ≡ Some e.1) some (entries m)
       (all_map {P = λ e. find nat_cmp e.0 (entries m) ≡ Some e.1} {Q = λ e. get m e.0 ≡ Some e.1} (entries m) (λ e at. map.get-entries m e.0 ∙ at) (all_found (entries m) (sorted_true m))) in
       let least : (n : ℕ) → max 0 n ≡ n = λ n. omega arith in
       ap next_attrs (gathered_all (touches c except) m (those some (entries m)) found (record { seq = 0; deps = [] }))
-      ∙ ap (λ (es : List Entry). next_attrs (record { seq = max 0 (greatest_seq es); deps = instances es })) (those_within (touches c except) some (entries m) touched_key)
+      ∙ ap (λ (es : List Entry). next_attrs (record { seq = max 0 (greatest_seq es); deps = instances es })) (those_within (touches c except) some (entries m) touched)
       ∙ (λ d. next_attrs (record { seq = least (greatest_seq (those (touches c except) (entries m))) d; deps = instances (those (touches c except) (entries m)) }))
 
-  -- and so of those keys that are the command's
-  pub gathered-keys : (m : Map Record) (ks : List (List ℕ)) → keys_of c ≡ ks → next_attrs (gather_all (touches c except) m (record { seq = 0; deps = [] }) (holders_of ks m)) ≡ interference m except c
-  gathered-keys m ks is = ap (λ l. next_attrs (gather_all (touches c except) m (record { seq = 0; deps = [] }) (holders_of l m))) (sym is) ∙ gathered-run m
-
-  pub gathered-none : (m : Map Record) → keys_of c ≡ [] → next_attrs (record { seq = 0; deps = [] }) ≡ interference m except c
-  gathered-none m is = ap (λ xs. next_attrs (gather_all (touches c except) m (record { seq = 0; deps = [] }) xs)) (sym (nobody (entries m))) ∙ gathered-keys m [] is
+  touched_key : is_seal c ≡ false → (e : Entry) → touches c except e ≡ true → names_one (keys_of c ++ [] ∷ []) e ≡ true
+  touched_key none e h = go e.1.vote (and_parts (not (eqb e.0 except)) (votes_against c e.1.vote) h).1
     where
-      nobody : (es : List Entry) → instances (those (names_one []) es) ≡ []
+      go : (v : Option Vote) → votes_against c v ≡ true → share_key (keys_of c ++ [] ∷ []) (voted_keys v) ≡ true
+      go None x = absurd (true≢false (sym x))
+      go (Some v) x = share_end (keys_of c) [] (index_keys v.decree.command) ∙ elim (or_cases (meet c v.decree.command) (part c v.decree.command) x) [
+        | inl met ↦ or_first (share_key (keys_of c) (index_keys v.decree.command)) (has_key [] (index_keys v.decree.command))
+            (indexed (keys_of c) v.decree.command (and_parts (share_key (keys_of c) (keys_of v.decree.command)) (not (only_reads c && only_reads v.decree.command)) met).0)
+        | inr apart ↦ or_second (share_key (keys_of c) (index_keys v.decree.command)) (has_key [] (index_keys v.decree.command))
+            (seal_index v.decree.command (ap (λ b. b || is_seal v.decree.command) (sym none) ∙ (and_parts (is_seal c || is_seal v.decree.command) (not (is_noop c || is_noop v.decree.command)) apart).0))
+      ]
+
+  -- of a command that is no seal: the holders of its keys, and seals
+  pub gathered-keys : is_seal c ≡ false → (m : Map Record) → next_attrs (gather_all (touches c except) m (record { seq = 0; deps = [] }) (union (holders_of (keys_of c) m) (holders [] m))) ≡ interference m except c
+  gathered-keys none m =
+      ap (λ is. next_attrs (gather_all (touches c except) m (record { seq = 0; deps = [] }) is)) (holders-more (keys_of c) [] m (λ ls. share_end (keys_of c) [] ls))
+      ∙ gathered-some m (names_one (keys_of c ++ [] ∷ [])) (touched_key none)
+
+  -- of any command: all that is recorded
+  pub gathered-every : (m : Map Record) → next_attrs (gather_all (touches c except) m (record { seq = 0; deps = [] }) (recorded m)) ≡ interference m except c
+  gathered-every m =
+      ap (λ (es : List Entry). next_attrs (gather_all (touches c except) m (record { seq = 0; deps = [] }) (instances es))) (sym (all_of (entries m)))
+      ∙ gathered-some m (λ e. true) (λ e h. refl)
+    where
+      all_of : (es : List Entry) → those (λ e. true) es ≡ es
+      all_of [] = refl
+      all_of (e ∷ es) = ap (λ (fs : List Entry). e ∷ fs) (all_of es)
+
+  pub gathered-none : (m : Map Record) → c ≡ Noop → next_attrs (record { seq = 0; deps = [] }) ≡ interference m except c
+  gathered-none m is = ap (λ (es : List Entry). next_attrs (record { seq = greatest_seq es; deps = instances es })) (sym (nobody (entries m)))
+    where
+      against : (v : Option Vote) → votes_against c v ≡ false
+      against None = refl
+      against (Some v) = no_meet (interfere c v.decree.command) (λ e. Interferes-noop v.decree.command ((Decides-interfere Noop v.decree.command).0 (ap (λ d. interfere d v.decree.command) (sym is) ∙ e)))
+        where
+          no_meet : (b : Bool) → (b ≡ true → ⊥) → b ≡ false
+          no_meet true h = absurd (h refl)
+          no_meet false h = refl
+
+      nobody : (es : List Entry) → those (touches c except) es ≡ []
       nobody [] = refl
-      nobody (e ∷ es) = nobody es
+      nobody (e ∷ es) = go (not (eqb e.0 except)) (votes_against c e.1.vote) (against e.1.vote) (nobody es)
+        where
+          go : (a b : Bool) → b ≡ false → those (touches c except) es ≡ [] → cond (a && b) (e ∷ those (touches c except) es) (those (touches c except) es) ≡ []
+          go a true h rest = absurd (true≢false h)
+          go true false h rest = rest
+          go false false h rest = rest
+
+-- What has a key of c, where nothing is a seal.
+
+plain_index : (d : Command) → is_seal d ≡ false → index_keys d ≡ keys_of d
+plain_index Noop e = refl
+plain_index (Get k) e = refl
+plain_index (Put k v) e = refl
+plain_index (Del k) e = refl
+plain_index (Swap p) e = refl
+plain_index (Cas k x n) e = refl
+plain_index (Opaque p body) e = refl
+plain_index (Seal v) e = absurd (true≢false e)
+
+no_seal_shares : (a b : Command) → share_key (keys_of a) (keys_of b) ≡ true → is_seal a ≡ false
+no_seal_shares Noop b e = refl
+no_seal_shares (Get k) b e = refl
+no_seal_shares (Put k v) b e = refl
+no_seal_shares (Del k) b e = refl
+no_seal_shares (Swap p) b e = refl
+no_seal_shares (Cas k x n) b e = refl
+no_seal_shares (Opaque p body) b e = refl
+no_seal_shares (Seal v) b e = absurd (true≢false (sym e))
+
+pub plain_order : (a b : Command) → share_key (keys_of a) (keys_of b) ≡ true → is_seal b ≡ false → not (only_reads a && only_reads b) ≡ interfere a b
+plain_order a b shared plain = go (share_key (keys_of a) (keys_of b)) (not (only_reads a && only_reads b)) (is_seal a) (is_seal b) shared (no_seal_shares a b shared) plain
+  where
+    go : (s g p q : Bool) → s ≡ true → p ≡ false → q ≡ false → g ≡ ((s && g) || ((p || q) && not (is_noop a || is_noop b)))
+    go true true false false e f h = refl
+    go true false false false e f h = refl
+    go false g p q e f h = absurd (true≢false (sym e))
+    go true g true q e f h = absurd (true≢false f)
+    go true g false true e f h = absurd (true≢false h)
+
+pub plain_holders : (c : Command) (m : Map Record) (is : List ℕ) → holders [] m ≡ [] → is ≡ holders_of (keys_of c) m → ArePlain c m is
+plain_holders c m is none e = subst (ArePlain c m) (sym e) (all_from (λ i. IsPlain c (get m i)) (holders_of (keys_of c) m) plain)
+  where
+    vote : (i : ℕ) (v : Option Vote) → (has_key [] (voted_keys v) ≡ true → ⊥) → share_key (keys_of c) (voted_keys v) ≡ true → IsPlainVote c v
+    vote i None no_seal h = tt
+    vote i (Some v) no_seal h = go (is_seal v.decree.command) refl
+      where
+        go : (b : Bool) → is_seal v.decree.command ≡ b → (share_key (keys_of c) (keys_of v.decree.command) ≡ true) × (is_seal v.decree.command ≡ false)
+        go true s = absurd (no_seal (seal_index v.decree.command s))
+        go false s = (ap (share_key (keys_of c)) (sym (plain_index v.decree.command s)) ∙ h, s)
+
+    plain : (i : ℕ) → Has (holders_of (keys_of c) m) i → IsPlain c (get m i)
+    plain i has =
+        let f = those-found (names_one (keys_of c)) (map.entries m) i (sorted_true m) has in
+        let at : get m i ≡ Some f.0 = map.get-entries m i ∙ f.1 in
+        subst (IsPlain c) (sym at) (vote i f.0.vote (λ s. Has-empty i (subst (λ is. Has is i) none (key-holds [] m i (ap (λ o. has_key [] (recorded_keys o)) at ∙ s)))) f.2)
+
+-- All places.
+
+pub places_rise : (all : List ℕ) (es : List (ℕ × Option Record)) → IsRising all → IsRising (recorded_in all es)
+places_rise all [] h = h
+places_rise all (e ∷ es) h = places_rise (cond (is_some e.1) (union all (e.0 ∷ [])) all) es (go (is_some e.1))
+  where
+    go : (b : Bool) → IsRising (cond b (union all (e.0 ∷ [])) all)
+    go true = IsRising-union all (e.0 ∷ []) h (tt, tt)
+    go false = h
+
+-- a place is one of those before, or of an entry with a record
+pub places_from : (all : List ℕ) (es : List (ℕ × Option Record)) (i : ℕ) → Has (recorded_in all es) i → Has all i ⊎ ((r : Record) × In (i, Some r) es)
+places_from all [] i h = inl h
+places_from all (e ∷ es) i h = elim (places_from (cond (is_some e.1) (union all (e.0 ∷ [])) all) es i h) [
+  | inl a ↦ go e.1 refl a
+  | inr b ↦ inr (b.0, inr b.1)
+]
+  where
+    go : (o : Option Record) → e.1 ≡ o → Has (cond (is_some o) (union all (e.0 ∷ [])) all) i → Has all i ⊎ ((r : Record) × In (i, Some r) (e ∷ es))
+    go None at k = inl k
+    go (Some r) at k = elim (union-cases all (e.0 ∷ []) i k) [
+      | inl a ↦ inl a
+      | inr b ↦ elim (Has-cons_cases e.0 [] i b) [
+        | inl same ↦ inr (r, inl (λ t. (same t, at t)))
+        | inr none ↦ absurd (Has-empty i none)
+      ]
+    ]
+
+pub places_keep : (all : List ℕ) (es : List (ℕ × Option Record)) (i : ℕ) → Has all i → Has (recorded_in all es) i
+places_keep all [] i h = h
+places_keep all (e ∷ es) i h = places_keep (cond (is_some e.1) (union all (e.0 ∷ [])) all) es i (go (is_some e.1))
+  where
+    go : (b : Bool) → Has (cond b (union all (e.0 ∷ [])) all) i
+    go true = Has-union all (e.0 ∷ []) i (inl h)
+    go false = h
+
+pub places_have : (all : List ℕ) (es : List (ℕ × Option Record)) (i : ℕ) (r : Record) → In (i, Some r) es → Has (recorded_in all es) i
+places_have all [] i r h = absurd h
+places_have all (e ∷ es) i r (inl is) = places_keep (cond (is_some e.1) (union all (e.0 ∷ [])) all) es i
+    (subst (λ f. Has (cond (is_some f.1) (union all (f.0 ∷ [])) all) i) (sym is) (Has-union all (i ∷ []) i (inr (Has-head i [] i refl))))
+places_have all (e ∷ es) i r (inr h) = places_have (cond (is_some e.1) (union all (e.0 ∷ [])) all) es i r h
+
+-- of a table's entries they are what is recorded
+pub places_recorded : (m : Map Record) (es : List (ℕ × Option Record)) → AreRecords m es → recorded_in [] es ≡ recorded m
+places_recorded m es are =
+    same_members (recorded_in [] es) (recorded m) (places_rise [] es tt) (subst IsRising (all_of (entries m)) (rising_those (λ e. true) (entries m) (sorted_true m)))
+    (λ i h. elim (places_from [] es i h) [
+      | inl none ↦ absurd (Has-empty i none)
+      | inr b ↦ subst (λ is. Has is i) (all_of (entries m)) (found-those (λ e. true) (entries m) i b.0 (sym (map.get-entries m i) ∙ (are i b.0).1 b.1) refl)
+    ])
+    (λ i h. let f = those-found (λ e. true) (entries m) i (sorted_true m) (subst (λ is. Has is i) (sym (all_of (entries m))) h) in
+    places_have [] es i f.0 ((are i f.0).0 (map.get-entries m i ∙ f.1)))
+  where
+    all_of : (es : List Entry) → instances (those (λ e. true) es) ≡ instances es
+    all_of [] = refl
+    all_of (e ∷ es) = ap (λ (is : List ℕ). e.0 ∷ is) (all_of es)
 
 -- Rising while it is gathered.
 
@@ -139,3 +335,20 @@ drop_here es k x h =
     let cons = drop-cons es k x (slice_get_within es k x h) in
     let place : suc k ≡ k + 1 = omega arith in
     cons ∙ (λ t. get_or_from_slice_get es k x x h t ∷ drop (place t) es)
+
+-- One run and none.
+
+pub none_of : (ys : List ℕ) → true ≡ eqb (length ys) 0 → ys ≡ []
+none_of [] e = refl
+none_of (y ∷ ys) e = absurd (let is = eqb-true (suc (length ys)) 0 (sym e) in omega arith)
+
+pub union_none : (xs ys : List ℕ) → true ≡ eqb (length ys) 0 → union xs ys ≡ xs
+union_none xs ys e = ap (union xs) (none ys e) ∙ alone xs
+  where
+    none : (ys : List ℕ) → true ≡ eqb (length ys) 0 → ys ≡ []
+    none [] e = refl
+    none (y ∷ ys) e = absurd (let is = eqb-true (suc (length ys)) 0 (sym e) in omega arith)
+
+    alone : (xs : List ℕ) → union xs [] ≡ xs
+    alone [] = refl
+    alone (x ∷ xs) = ap (λ (zs : List ℕ). x ∷ zs) (alone xs)

@@ -1,5 +1,5 @@
 -- The instances whose recorded command has a key.
-use Rattle.std.proofs.Common.{◌≡◌, ℕ, ◌<◌, Bool, true, false, cond, List, [], ◌∷◌, ◌||◌, ◌⊎◌, Option, Some, None, refl, sym, ap, subst, ◌∙◌, arith, true≢false, inl, inr, T}
+use Rattle.std.proofs.Common.{◌≡◌, ℕ, ◌<◌, Bool, true, false, cond, List, [], ◌∷◌, ◌++◌, ◌||◌, ◌⊎◌, Option, Some, None, refl, sym, ap, subst, ◌∙◌, arith, true≢false, inl, inr, T}
 use Rattle.std.specs.Cmp.{unsigned_tied}
 use Rattle.std.specs.FinMap as map
 use Rattle.std.specs.FinMap.{find, is_sorted}
@@ -10,8 +10,7 @@ use Rattle.std.specs.declared.cmp.Ordering.TheVariants.{Less, Equal, Greater}
 use Rattle.std.proofs.lemmas.Bool.{and_parts, eq-eqb, eqb-true}
 use Rattle.std.proofs.lemmas.Cmp.{ranked}
 use Rattle.std.proofs.lemmas.Option.{none-some}
-use Rattle.ep_base.specs.Deps.{IsRising, IsBelowFirst, AreInstances, union}
-use Rattle.ep_base.specs.Instances.{IsInstance}
+use Rattle.ep_base.specs.Deps.{IsRising, IsBelowFirst, union}
 use Rattle.ep_base.specs.Interference.{has_key, share_key}
 use Rattle.ep_base.specs.Places.{Has}
 use Rattle.ep_base.proofs.Keys.{or_false}
@@ -21,8 +20,8 @@ use Rattle.ep_base.proofs.Places.{Has-empty, Has-cons_cases, Has-head, Has-tail}
 use Rattle.ep_rules.specs.InterferenceSet.{those, instances}
 use Rattle.ep_rules.specs.Maps.{Map, none, get}
 use Rattle.ep_rules.specs.declared.record.Record.{Record}
-use Rattle.ep_space.specs.Keys.{voted_keys, recorded_keys, keys_at, names_key, holders, names_one, holders_of, AllShare}
-use Rattle.ep_space.proofs.Rising.{some_is, all_from}
+use Rattle.ep_space.specs.Keys.{voted_keys, recorded_keys, keys_at, names_key, holders, names_one, holders_of}
+use Rattle.ep_space.proofs.Rising.{some_is}
 
 -- The instances of those entries of a map that pass a test.
 
@@ -141,9 +140,6 @@ holders-none k = same_members (holders k none) [] (rising-holders k none) tt (λ
     nobody : (i : ℕ) → has_key k (keys_at none i) ≡ true → ⊥
     nobody i h = true≢false (sym h ∙ ap (λ o. has_key k (recorded_keys o)) (map.get-empty nat_cmp i))
 
-pub instances-holders : (k : List ℕ) (m : Map Record) → ((i : ℕ) → has_key k (keys_at m i) ≡ true → IsInstance i) → AreInstances (holders k m)
-instances-holders k m known = all_from IsInstance (holders k m) (λ i has. known i (holds-key k m i has))
-
 -- maps with the same keys have the same holders
 pub holders-same : (k : List ℕ) (m n : Map Record) → ((i : ℕ) → keys_at m i ≡ keys_at n i) → holders k m ≡ holders k n
 holders-same k m n same =
@@ -193,11 +189,31 @@ holders-two k l m =
       | inr h ↦ inr (found-those (names_key l) (map.entries m) i f.0 f.1 h)
     ]))
 
--- each of them has one of the keys
-pub shared-holders : (ks : List (List ℕ)) (m : Map Record) (is : List ℕ) → is ≡ holders_of ks m → AllShare ks m is
-shared-holders ks m is e = subst (AllShare ks m) (sym e) (all_from (λ i. share_key ks (keys_at m i) ≡ true) (holders_of ks m) shares)
+-- the holders of one of some keys, and of one more
+pub holders-more : (ks : List (List ℕ)) (k : List ℕ) (m : Map Record) → ((ls : List (List ℕ)) → share_key (ks ++ k ∷ []) ls ≡ (share_key ks ls || has_key k ls)) → union (holders_of ks m) (holders k m) ≡ holders_of (ks ++ k ∷ []) m
+holders-more ks k m ends =
+    same_members (union (holders_of ks m) (holders k m)) (holders_of (ks ++ k ∷ []) m)
+    (IsRising-union (holders_of ks m) (holders k m) (rising-holders_of ks m) (rising-holders k m)) (rising-holders_of (ks ++ k ∷ []) m)
+    (λ i has. elim (union-cases (holders_of ks m) (holders k m) i has) [
+      | inl h ↦ (let f = those-found (names_one ks) (map.entries m) i (sorted_true m) h in
+          found-those (names_one (ks ++ k ∷ [])) (map.entries m) i f.0 f.1 (ends (voted_keys f.0.vote) ∙ of_first (share_key ks (voted_keys f.0.vote)) (has_key k (voted_keys f.0.vote)) f.2))
+      | inr h ↦ (let f = those-found (names_key k) (map.entries m) i (sorted_true m) h in
+          found-those (names_one (ks ++ k ∷ [])) (map.entries m) i f.0 f.1 (ends (voted_keys f.0.vote) ∙ of_second (share_key ks (voted_keys f.0.vote)) (has_key k (voted_keys f.0.vote)) f.2))
+    ])
+    (λ i has. let f = those-found (names_one (ks ++ k ∷ [])) (map.entries m) i (sorted_true m) has in
+    Has-union (holders_of ks m) (holders k m) i (elim (of_either (share_key ks (voted_keys f.0.vote)) (has_key k (voted_keys f.0.vote)) (sym (ends (voted_keys f.0.vote)) ∙ f.2)) [
+      | inl h ↦ inl (found-those (names_one ks) (map.entries m) i f.0 f.1 h)
+      | inr h ↦ inr (found-those (names_key k) (map.entries m) i f.0 f.1 h)
+    ]))
   where
-    shares : (i : ℕ) → Has (holders_of ks m) i → share_key ks (keys_at m i) ≡ true
-    shares i has =
-        let found = those-found (names_one ks) (map.entries m) i (sorted_true m) has in
-        ap (λ o. share_key ks (recorded_keys o)) (map.get-entries m i ∙ found.1) ∙ found.2
+    of_first : (a b : Bool) → a ≡ true → (a || b) ≡ true
+    of_first true b e = refl
+    of_first false b e = absurd (true≢false (sym e))
+
+    of_second : (a b : Bool) → b ≡ true → (a || b) ≡ true
+    of_second true b e = refl
+    of_second false b e = e
+
+    of_either : (a b : Bool) → (a || b) ≡ true → (a ≡ true) ⊎ (b ≡ true)
+    of_either true b e = inl refl
+    of_either false b e = inr e

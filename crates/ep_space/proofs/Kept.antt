@@ -1,5 +1,5 @@
 -- What a write keeps of the index.
-use Rattle.std.proofs.Common.{◌≡◌, ◌≢◌, ℕ, Bool, true, false, cond, not, ◌&&◌, ◌||◌, List, [], Option, Some, None, refl, sym, ap, subst, ◌∙◌, true≢false, ◌⊎◌, inl, inr, ◌==◌, Result, Ok, Err, OnOk, OnErr}
+use Rattle.std.proofs.Common.{◌≡◌, ◌≢◌, ℕ, Bool, true, false, cond, not, ◌&&◌, List, [], Option, Some, None, refl, sym, ap, subst, ◌∙◌, true≢false, ◌⊎◌, inl, inr, ◌==◌, Result, Ok, Err, OnOk, OnErr}
 use Rattle.std.specs.Cmp.{nat_cmp_total, unsigned_tied}
 use Rattle.std.specs.FinMap as map
 use Rattle.std.specs.FinSet as set
@@ -7,7 +7,6 @@ use Rattle.std.specs.Ordering.{nat_cmp, eq_by_cmp}
 use Rattle.std.specs.declared.alloc.AllocError.{AllocError}
 use Rattle.std.proofs.lemmas.Bool.{eq-eqb, eqb-true, ne_eqb}
 use Rattle.ep_base.specs.Deps.{IsRising}
-use Rattle.ep_base.specs.Instances.{IsInstance}
 use Rattle.ep_base.specs.Interference.{has_key}
 use Rattle.ep_base.specs.Places.{Has}
 use Rattle.ep_base.proofs.Members.{same_members}
@@ -15,7 +14,7 @@ use Rattle.ep_rules.specs.Cells.{record_or_fresh}
 use Rattle.ep_rules.specs.Maps.{Map, none, get}
 use Rattle.ep_rules.specs.States.{with_held}
 use Rattle.ep_rules.specs.declared.record.Record.{Record}
-use Rattle.ep_space.specs.Held.{Held, Places, HasPlace}
+use Rattle.ep_space.specs.Held.{Held, Places}
 use Rattle.ep_space.specs.Index.{Entry, run, with_instance, without, brings, IsKept}
 use Rattle.ep_space.specs.Keys.{voted_keys, recorded_keys, keys_at, holders}
 use Rattle.ep_space.proofs.Holders.{rising-holders, holds-key, key-holds, holders-same, holders-none}
@@ -71,8 +70,6 @@ module _ (m : Map Record) (i : ℕ) (o : Option Record) where
   pub kept-written : (places : Places) (es : List Entry) → recorded_keys o ≡ keys_at m i → IsKept (record { held = m; places = places }) es → IsKept (record { held = after; places = places }) es
   kept-written places es e r = record {
     runs = λ k. r.runs k ∙ sym (holders-same k after m (key_kept e));
-    within = λ k q h. r.within k q (ap (has_key k) (sym (key_kept e q)) ∙ h);
-    instances = r.instances;
   }
 
   -- with another key
@@ -164,15 +161,10 @@ module _ (m : Map Record) (i : ℕ) (o : Option Record) where
         go true = with-Has i (holders k m) i (inl refl)
         go false = key-holds k m i own
 
-    pub kept-changed : (fs gs : List Entry) → HasPlace places i → Entered fs → ((k : List ℕ) → run gs k ≡ cond (brings (recorded_keys o) (keys_at m i) k) (without i (run fs k)) (run fs k))
+    pub kept-changed : (fs gs : List Entry) → Entered fs → ((k : List ℕ) → run gs k ≡ cond (brings (recorded_keys o) (keys_at m i) k) (without i (run fs k)) (run fs k))
         → IsKept (record { held = after; places = places }) gs
-    kept-changed fs gs place e left = record {
+    kept-changed fs gs e left = record {
       runs = λ k. left k ∙ (λ d. cond (brings (recorded_keys o) (keys_at m i) k) (without i (entered fs e k d)) (entered fs e k d)) ∙ sym (changed k (has_key k (keys_at m i)) refl (has_key k (recorded_keys o)) refl);
-      within = λ k q h. elim (either_way q i) [
-        | inl same ↦ subst (HasPlace places) (sym same) place
-        | inr apart ↦ r.within k q (ap (has_key k) (sym (key-other q apart)) ∙ h)
-      ];
-      instances = r.instances;
     }
       where
         changed : (k : List ℕ) (a : Bool) → has_key k (keys_at m i) ≡ a → (b : Bool) → has_key k (recorded_keys o) ≡ b
@@ -204,30 +196,15 @@ rising-runs t es r k = subst IsRising (sym (r.runs k)) (rising-holders k t.held)
 pub kept-new : IsKept (record { held = none; places = set.empty }) []
 kept-new = record {
   runs = λ k. sym (holders-none k);
-  within = λ k i h. absurd (true≢false (sym h ∙ ap (λ o. has_key k (recorded_keys o)) (map.get-empty nat_cmp i)));
-  instances = λ i has. absurd (true≢false (sym has ∙ set.contains-empty nat_cmp i));
 }
-
-place_more : (s : Places) (i q : ℕ) → HasPlace s q → HasPlace (set.insert s i) q
-place_more s i q has = set.contains-insert nat_cmp_total s i q ∙ go (eq_by_cmp nat_cmp q i)
-  where
-    go : (b : Bool) → (b || set.contains s q) ≡ true
-    go true = refl
-    go false = has
 
 -- with a place more
-kept-reserved : (t : Held Record) (es : List Entry) (i : ℕ) → IsKept t es → IsInstance i → IsKept (record { held = t.held; places = set.insert t.places i }) es
-kept-reserved t es i k known = record {
+kept-reserved : (t : Held Record) (es : List Entry) (i : ℕ) → IsKept t es → IsKept (record { held = t.held; places = set.insert t.places i }) es
+kept-reserved t es i k = record {
   runs = k.runs;
-  within = λ l q h. place_more t.places i q (k.within l q h);
-  instances = λ q has. go q (eq_by_cmp nat_cmp q i) refl (sym (set.contains-insert nat_cmp_total t.places i q) ∙ has);
 }
-  where
-    go : (q : ℕ) (b : Bool) → eq_by_cmp nat_cmp q i ≡ b → (b || set.contains t.places q) ≡ true → IsInstance q
-    go q true e has = subst IsInstance (sym (eqb-true q i (sym (unsigned_tied q i) ∙ e))) known
-    go q false e has = k.instances q has
 
-pub kept-at : (r : Result (Unit {0}) AllocError) (old new : Held Record) (es : List Entry) (i : ℕ) → IsKept old es → IsInstance i
+pub kept-at : (r : Result (Unit {0}) AllocError) (old new : Held Record) (es : List Entry) (i : ℕ) → IsKept old es
     → OnOk r (new ≡ record { held = old.held; places = set.insert old.places i }) → OnErr r (new ≡ old) → IsKept new es
-kept-at (Ok x) old new es i k known ok err = subst (λ t. IsKept t es) (sym ok) (kept-reserved old es i k known)
-kept-at (Err e) old new es i k known ok err = subst (λ t. IsKept t es) (sym err) k
+kept-at (Ok x) old new es i k ok err = subst (λ t. IsKept t es) (sym ok) (kept-reserved old es i k)
+kept-at (Err e) old new es i k ok err = subst (λ t. IsKept t es) (sym err) k

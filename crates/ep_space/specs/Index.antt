@@ -1,13 +1,12 @@
 -- An index by key: for each key the instances whose recorded command has it, in rising order.
-use Rattle.std.specs.Prelude.{◌≡◌, ℕ, suc, true, cond, not, ◌&&◌, List, [], ◌∷◌, Option, Some, None, Bool, Vec, ◌==◌, nat_lt}
+use Rattle.std.specs.Prelude.{◌≡◌, ℕ, suc, cond, not, ◌&&◌, List, [], ◌∷◌, Option, Some, None, Bool, Vec, ◌==◌, nat_lt}
 use Rattle.std.specs.Global.{Global}
 use Rattle.std.specs.Map.{lookup}
 use Rattle.ep_base.specs.Attributes.{same_list}
-use Rattle.ep_base.specs.Instances.{IsInstance}
 use Rattle.ep_base.specs.Interference.{has_key}
 use Rattle.ep_rules.specs.declared.record.Record.{Record}
-use Rattle.ep_space.specs.Held.{Held, HasPlace}
-use Rattle.ep_space.specs.Keys.{keys_at, holders}
+use Rattle.ep_space.specs.Held.{Held}
+use Rattle.ep_space.specs.Keys.{holders}
 
 -- a key, with its run
 abbrev pub Entry : Type 0
@@ -46,5 +45,3 @@ brings own new k = has_key k new && not (has_key k own)
 -- the index of a table
 pub record IsKept (t : Held Record) (es : List Entry) : Type 0 where
   pub runs : (k : List ℕ) → run es k ≡ holders k t.held
-  pub within : (k : List ℕ) (i : ℕ) → has_key k (keys_at t.held i) ≡ true → HasPlace t.places i
-  pub instances : (i : ℕ) → HasPlace t.places i → IsInstance i

@@ -1,26 +1,27 @@
 //! An index of records by key.
 
-ghost use Rattle.std.specs.Prelude.{◌≡◌, ◌≤◌, ℕ, List, [], ◌∷◌, ◌&&◌, not, length, None, true, false, cond, IsOk, IfOk, OnOk, OnErr};
+ghost use Rattle.std.specs.Prelude.{◌≡◌, ◌≢◌, ◌≤◌, ℕ, List, [], ◌∷◌, ◌&&◌, not, length, None, true, false, cond, IsOk, IfOk, OnOk, OnErr};
 ghost use Rattle.std.specs.Map.{lookup};
 ghost use Rattle.ep_base.specs.Attributes.{same_list};
 ghost use Rattle.ep_base.specs.Deps.{IsRising};
-ghost use Rattle.ep_base.specs.Interference.{keys_of, has_key};
+ghost use Rattle.ep_base.specs.Interference.{has_key, keys_in, listed};
+ghost use Rattle.std.specs.Option.{option_copied};
 ghost use Rattle.ep_base.specs.Places.{Has};
 ghost use Rattle.ep_space.specs.Index.{is_at, run, count_below, with_instance, without, brings, IsKept};
-ghost use Rattle.ep_space.specs.Keys.{voted_keys, recorded_keys, keys_at, NeedsNoRoom};
+ghost use Rattle.ep_space.specs.Keys.{index_keys, voted_keys, recorded_keys, keys_at, NeedsNoRoom};
 
 use crate::table::Table;
-use ep_base::{Command, InstanceId, Key, KeyPair};
+use ep_base::{Command, Footprint, InstanceId, Key};
 use ep_rules::Record;
 use indexmap::IndexMap;
 use std::alloc::{AllocError, Global};
 
-/// From a key to its run: the places of the records whose command has it, in rising order of instances. A record of two keys stands in
-/// two runs. A key whose last place was taken out stays, with an empty run.
-pub(crate) type Index = IndexMap<Vec<u8>, Vec<u32>>;
+/// From a key to its run: the instances whose recorded command has it, in rising order of instances. A record of two keys stands in
+/// two runs. A key whose last instance was taken out stays, with an empty run.
+pub(crate) type Index = IndexMap<Vec<u8>, Vec<InstanceId>>;
 
 /// The run of the key.
-pub(crate) fn run_of<'a>(index: &'a Index, key: &[u8]) -> &'a [u32]
+pub(crate) fn run_of<'a>(index: &'a Index, key: &[u8]) -> &'a [InstanceId]
     ensures { result.now ≡ run index.now.entries key.now }
 {
     match index.get(key) {
@@ -42,19 +43,19 @@ pub(crate) fn duplicate(index: &Index, alloc: Global) -> Result<Index, AllocErro
 }
 
 /// Puts this in place of the key's run.
-fn set_run(index: &mut Index, key: &[u8], places: &[u32]) -> Result<(), AllocError>
-    ensures { OnOk result ((k : List ℕ) → run index.new.entries k ≡ cond (same_list k key.now) places.now (run index.old.entries k)) }
+fn set_run(index: &mut Index, key: &[u8], instances: &[InstanceId]) -> Result<(), AllocError>
+    ensures { OnOk result ((k : List ℕ) → run index.new.entries k ≡ cond (same_list k key.now) instances.now (run index.old.entries k)) }
 {
     let alloc = *index.allocator();
     let key = Vec::from_slice(alloc, key)?;
-    let run = Vec::from_slice(alloc, places)?;
+    let run = Vec::from_slice(alloc, instances)?;
     match index.insert(key, run) {
         Ok(_) => Ok(()),
         Err(_) => Err(AllocError),
     }
 }
 
-/// Puts the instance's place into the run of each key that this brings: that it has, and the instance's record hasn't. At want of memory
+/// Puts the instance into the run of each key that this brings: that it has, and the instance's record hasn't. At want of memory
 /// all runs stay as they were.
 pub(crate) fn enter(
     table: &Table<Record>,
@@ -97,16 +98,17 @@ fn enter_command(
     command: &Command,
 ) -> Result<(), AllocError>
     requires { IsKept table.now index.old.entries }
-    ensures ok { OnOk result ((k : List ℕ) → run index.new.entries k ≡ cond (brings (keys_at table.now.held id) (keys_of command.now) k) (with_instance id (run index.old.entries k)) (run index.old.entries k)) }
+    ensures ok { OnOk result ((k : List ℕ) → run index.new.entries k ≡ cond (brings (keys_at table.now.held id) (index_keys command.now) k) (with_instance id (run index.old.entries k)) (run index.old.entries k)) }
     ensures err { OnErr result ((k : List ℕ) → run index.new.entries k ≡ run index.old.entries k) }
-    ensures succeeds { NeedsNoRoom (keys_at table.now.held id) (keys_of command.now) → IsOk result }
+    ensures succeeds { NeedsNoRoom (keys_at table.now.held id) (index_keys command.now) → IsOk result }
 {
     match command {
         Command::Noop => Ok(()),
-        Command::Get(key) | Command::Put(key, _) | Command::Del(key) => {
-            enter_one(table, index, id, key)
-        }
-        Command::Swap(keys) => enter_two(table, index, id, keys),
+        Command::Get(key) | Command::Put(key, _) | Command::Del(key) | Command::Cas { key, .. } =>
+            enter_one(table, index, id, key),
+        Command::Swap(keys) => enter_two(table, index, id, keys.first(), keys.second()),
+        Command::Seal(_) => enter_seal(table, index, id),
+        Command::Opaque(own, _) => enter_touched(table, index, id, own),
     }
 }
 
@@ -122,34 +124,63 @@ fn enter_one(
     ensures succeeds { NeedsNoRoom (keys_at table.now.held id) (key.now ∷ []) → IsOk result }
 {
     let stays = is_named(table, id, key);
-    add_unless(index, stays, key, id.place())
+    add_unless(index, stays, key, id)
 }
 
-// Where memory is refused for the second key, the place is taken back out of the run of the first.
+fn enter_seal(table: &Table<Record>, index: &mut Index, id: InstanceId) -> Result<(), AllocError>
+    requires { IsKept table.now index.old.entries }
+    ensures ok { OnOk result ((k : List ℕ) → run index.new.entries k ≡ cond (brings (keys_at table.now.held id) ([] ∷ []) k) (with_instance id (run index.old.entries k)) (run index.old.entries k)) }
+    ensures err { OnErr result ((k : List ℕ) → run index.new.entries k ≡ run index.old.entries k) }
+    ensures succeeds { NeedsNoRoom (keys_at table.now.held id) ([] ∷ []) → IsOk result }
+{
+    let stays = is_sealed(table, id);
+    add_seal_unless(index, stays, id)
+}
+
+fn enter_touched(
+    table: &Table<Record>,
+    index: &mut Index,
+    id: InstanceId,
+    own: &Footprint,
+) -> Result<(), AllocError>
+    requires { IsKept table.now index.old.entries }
+    ensures ok { OnOk result ((k : List ℕ) → run index.new.entries k ≡ cond (brings (keys_at table.now.held id) (keys_in own.now) k) (with_instance id (run index.old.entries k)) (run index.old.entries k)) }
+    ensures err { OnErr result ((k : List ℕ) → run index.new.entries k ≡ run index.old.entries k) }
+    ensures succeeds { NeedsNoRoom (keys_at table.now.held id) (keys_in own.now) → IsOk result }
+{
+    match own.second() {
+        None => enter_one(table, index, id, own.first()),
+        Some(second) => enter_two(table, index, id, own.first(), second),
+    }
+}
+
+// Where memory is refused for the second key, the instance is taken back out of the run of the first.
 fn enter_two(
     table: &Table<Record>,
     index: &mut Index,
     id: InstanceId,
-    keys: &KeyPair,
+    first: &Key,
+    second: &Key,
 ) -> Result<(), AllocError>
-    requires { IsKept table.now index.old.entries }
-    ensures ok { OnOk result ((k : List ℕ) → run index.new.entries k ≡ cond (brings (keys_at table.now.held id) (keys.now.first ∷ keys.now.second ∷ []) k) (with_instance id (run index.old.entries k)) (run index.old.entries k)) }
+    requires kept { IsKept table.now index.old.entries }
+    requires apart { first.now ≢ second.now }
+    ensures ok { OnOk result ((k : List ℕ) → run index.new.entries k ≡ cond (brings (keys_at table.now.held id) (first.now ∷ second.now ∷ []) k) (with_instance id (run index.old.entries k)) (run index.old.entries k)) }
     ensures err { OnErr result ((k : List ℕ) → run index.new.entries k ≡ run index.old.entries k) }
-    ensures succeeds { NeedsNoRoom (keys_at table.now.held id) (keys.now.first ∷ keys.now.second ∷ []) → IsOk result }
+    ensures succeeds { NeedsNoRoom (keys_at table.now.held id) (first.now ∷ second.now ∷ []) → IsOk result }
 {
-    let first = is_named(table, id, keys.first());
-    let second = is_named(table, id, keys.second());
-    add_unless(index, first, keys.first(), id.place())?;
-    match add_unless(index, second, keys.second(), id.place()) {
+    let first_stays = is_named(table, id, first);
+    let second_stays = is_named(table, id, second);
+    add_unless(index, first_stays, first, id)?;
+    match add_unless(index, second_stays, second, id) {
         Ok(()) => Ok(()),
         Err(fault) => {
-            remove_unless(index, first, keys.first(), id.place());
+            remove_unless(index, first_stays, first, id);
             Err(fault)
         }
     }
 }
 
-/// Takes the instance's place out of the run of each key that this takes away: that the instance's record has, and this hasn't.
+/// Takes the instance out of the run of each key that this takes away: that the instance's record has, and this hasn't.
 pub(crate) fn leave(
     table: &Table<Record>,
     index: &mut Index,
@@ -179,15 +210,16 @@ fn leave_record(index: &mut Index, id: InstanceId, written: &Record, value: &Opt
 
 fn leave_command(index: &mut Index, id: InstanceId, command: &Command, value: &Option<Record>)
     requires rising { (k : List ℕ) → IsRising (run index.old.entries k) }
-    requires there { (k : List ℕ) → has_key k (keys_of command.now) ≡ true → Has (run index.old.entries k) id }
-    ensures { (k : List ℕ) → run index.new.entries k ≡ cond (brings (recorded_keys value.now) (keys_of command.now) k) (without id (run index.old.entries k)) (run index.old.entries k) }
+    requires there { (k : List ℕ) → has_key k (index_keys command.now) ≡ true → Has (run index.old.entries k) id }
+    ensures { (k : List ℕ) → run index.new.entries k ≡ cond (brings (recorded_keys value.now) (index_keys command.now) k) (without id (run index.old.entries k)) (run index.old.entries k) }
 {
     match command {
         Command::Noop => (),
-        Command::Get(key) | Command::Put(key, _) | Command::Del(key) => {
-            leave_one(index, id, key, value)
-        }
-        Command::Swap(keys) => leave_two(index, id, keys, value),
+        Command::Get(key) | Command::Put(key, _) | Command::Del(key) | Command::Cas { key, .. } =>
+            leave_one(index, id, key, value),
+        Command::Swap(keys) => leave_two(index, id, keys.first(), keys.second(), value),
+        Command::Seal(_) => leave_seal(index, id, value),
+        Command::Opaque(own, _) => leave_touched(index, id, own, value),
     }
 }
 
@@ -197,110 +229,155 @@ fn leave_one(index: &mut Index, id: InstanceId, key: &Key, value: &Option<Record
     ensures { (k : List ℕ) → run index.new.entries k ≡ cond (brings (recorded_keys value.now) (key.now ∷ []) k) (without id (run index.old.entries k)) (run index.old.entries k) }
 {
     let stays = names(value, key);
-    remove_unless(index, stays, key, id.place())
+    remove_unless(index, stays, key, id)
 }
 
-fn leave_two(index: &mut Index, id: InstanceId, keys: &KeyPair, value: &Option<Record>)
-    requires rising { (k : List ℕ) → IsRising (run index.old.entries k) }
-    requires there { (k : List ℕ) → has_key k (keys.now.first ∷ keys.now.second ∷ []) ≡ true → Has (run index.old.entries k) id }
-    ensures { (k : List ℕ) → run index.new.entries k ≡ cond (brings (recorded_keys value.now) (keys.now.first ∷ keys.now.second ∷ []) k) (without id (run index.old.entries k)) (run index.old.entries k) }
+fn leave_seal(index: &mut Index, id: InstanceId, value: &Option<Record>)
+    requires rising { IsRising (run index.old.entries []) }
+    requires there { Has (run index.old.entries []) id }
+    ensures { (k : List ℕ) → run index.new.entries k ≡ cond (brings (recorded_keys value.now) ([] ∷ []) k) (without id (run index.old.entries k)) (run index.old.entries k) }
 {
-    leave_one(index, id, keys.first(), value);
-    leave_one(index, id, keys.second(), value)
+    let stays = seals(value);
+    remove_seal_unless(index, stays, id)
 }
 
-// Puts the place into the key's run, unless it stays there.
-fn add_unless(index: &mut Index, stays: bool, key: &Key, place: u32) -> Result<(), AllocError>
+fn leave_touched(index: &mut Index, id: InstanceId, own: &Footprint, value: &Option<Record>)
+    requires rising { (k : List ℕ) → IsRising (run index.old.entries k) }
+    requires there { (k : List ℕ) → has_key k (keys_in own.now) ≡ true → Has (run index.old.entries k) id }
+    ensures { (k : List ℕ) → run index.new.entries k ≡ cond (brings (recorded_keys value.now) (keys_in own.now) k) (without id (run index.old.entries k)) (run index.old.entries k) }
+{
+    match own.second() {
+        None => leave_one(index, id, own.first(), value),
+        Some(second) => leave_two(index, id, own.first(), second, value),
+    }
+}
+
+fn leave_two(index: &mut Index, id: InstanceId, first: &Key, second: &Key, value: &Option<Record>)
+    requires apart { first.now ≢ second.now }
+    requires rising { (k : List ℕ) → IsRising (run index.old.entries k) }
+    requires there { (k : List ℕ) → has_key k (first.now ∷ second.now ∷ []) ≡ true → Has (run index.old.entries k) id }
+    ensures { (k : List ℕ) → run index.new.entries k ≡ cond (brings (recorded_keys value.now) (first.now ∷ second.now ∷ []) k) (without id (run index.old.entries k)) (run index.old.entries k) }
+{
+    leave_one(index, id, first, value);
+    leave_one(index, id, second, value)
+}
+
+// Puts the instance into the key's run, unless it stays there.
+fn add_unless(index: &mut Index, stays: bool, key: &Key, id: InstanceId) -> Result<(), AllocError>
     requires { IsRising (run index.old.entries key.now) }
-    ensures ok { OnOk result ((k : List ℕ) → run index.new.entries k ≡ cond (same_list k key.now && not stays) (with_instance place (run index.old.entries k)) (run index.old.entries k)) }
+    ensures ok { OnOk result ((k : List ℕ) → run index.new.entries k ≡ cond (same_list k key.now && not stays) (with_instance id (run index.old.entries k)) (run index.old.entries k)) }
     ensures err { OnErr result ((k : List ℕ) → run index.new.entries k ≡ run index.old.entries k) }
     ensures succeeds { stays ≡ true → IsOk result }
 {
     if stays {
         return Ok(());
     }
-    add(index, key.as_slice(), place)
+    add(index, key.as_slice(), id)
 }
 
-// Takes the place out of the key's run, unless it stays there.
-fn remove_unless(index: &mut Index, stays: bool, key: &Key, place: u32)
+// Takes the instance out of the key's run, unless it stays there.
+fn remove_unless(index: &mut Index, stays: bool, key: &Key, id: InstanceId)
     requires rising { IsRising (run index.old.entries key.now) }
-    requires there { stays ≡ false → Has (run index.old.entries key.now) place }
-    ensures { (k : List ℕ) → run index.new.entries k ≡ cond (same_list k key.now && not stays) (without place (run index.old.entries k)) (run index.old.entries k) }
+    requires there { stays ≡ false → Has (run index.old.entries key.now) id }
+    ensures { (k : List ℕ) → run index.new.entries k ≡ cond (same_list k key.now && not stays) (without id (run index.old.entries k)) (run index.old.entries k) }
 {
     if stays {
         return;
     }
-    remove(index, key.as_slice(), place)
+    remove(index, key.as_slice(), id)
 }
 
-fn add(index: &mut Index, key: &[u8], place: u32) -> Result<(), AllocError>
+// The same of the run of seals.
+fn add_seal_unless(index: &mut Index, stays: bool, id: InstanceId) -> Result<(), AllocError>
+    requires { IsRising (run index.old.entries []) }
+    ensures ok { OnOk result ((k : List ℕ) → run index.new.entries k ≡ cond (same_list k [] && not stays) (with_instance id (run index.old.entries k)) (run index.old.entries k)) }
+    ensures err { OnErr result ((k : List ℕ) → run index.new.entries k ≡ run index.old.entries k) }
+    ensures succeeds { stays ≡ true → IsOk result }
+{
+    if stays {
+        return Ok(());
+    }
+    add(index, &[], id)
+}
+
+fn remove_seal_unless(index: &mut Index, stays: bool, id: InstanceId)
+    requires rising { IsRising (run index.old.entries []) }
+    requires there { stays ≡ false → Has (run index.old.entries []) id }
+    ensures { (k : List ℕ) → run index.new.entries k ≡ cond (same_list k [] && not stays) (without id (run index.old.entries k)) (run index.old.entries k) }
+{
+    if stays {
+        return;
+    }
+    remove(index, &[], id)
+}
+
+fn add(index: &mut Index, key: &[u8], id: InstanceId) -> Result<(), AllocError>
     requires { IsRising (run index.old.entries key.now) }
-    ensures ok { OnOk result ((k : List ℕ) → run index.new.entries k ≡ cond (same_list k key.now) (with_instance place (run index.old.entries k)) (run index.old.entries k)) }
+    ensures ok { OnOk result ((k : List ℕ) → run index.new.entries k ≡ cond (same_list k key.now) (with_instance id (run index.old.entries k)) (run index.old.entries k)) }
     ensures err { OnErr result ((k : List ℕ) → run index.new.entries k ≡ run index.old.entries k) }
 {
     match index.get_mut(key) {
-        Some(run) => insert(run, place),
-        None => add_run(index, key, place),
+        Some(run) => insert(run, id),
+        None => add_run(index, key, id),
     }
 }
 
-fn add_run(index: &mut Index, key: &[u8], place: u32) -> Result<(), AllocError>
+fn add_run(index: &mut Index, key: &[u8], id: InstanceId) -> Result<(), AllocError>
     requires { lookup (is_at key.now) index.old.entries ≡ None }
-    ensures ok { OnOk result ((k : List ℕ) → run index.new.entries k ≡ cond (same_list k key.now) (place ∷ []) (run index.old.entries k)) }
+    ensures ok { OnOk result ((k : List ℕ) → run index.new.entries k ≡ cond (same_list k key.now) (id ∷ []) (run index.old.entries k)) }
     ensures err { OnErr result ((k : List ℕ) → run index.new.entries k ≡ run index.old.entries k) }
 {
     let alloc = *index.allocator();
     let key = Vec::from_slice(alloc, key)?;
     let mut run = Vec::new(alloc);
-    run.push(place)?;
+    run.push(id)?;
     match index.insert(key, run) {
         Ok(_) => Ok(()),
         Err(_) => Err(AllocError),
     }
 }
 
-fn remove(index: &mut Index, key: &[u8], place: u32)
+fn remove(index: &mut Index, key: &[u8], id: InstanceId)
     requires rising { IsRising (run index.old.entries key.now) }
-    requires there { Has (run index.old.entries key.now) place }
-    ensures { (k : List ℕ) → run index.new.entries k ≡ cond (same_list k key.now) (without place (run index.old.entries k)) (run index.old.entries k) }
+    requires there { Has (run index.old.entries key.now) id }
+    ensures { (k : List ℕ) → run index.new.entries k ≡ cond (same_list k key.now) (without id (run index.old.entries k)) (run index.old.entries k) }
 {
     match index.get_mut(key) {
-        Some(run) => take(run, place),
+        Some(run) => take(run, id),
         None => unreachable!(),
     }
 }
 
-fn insert(run: &mut Vec<u32>, place: u32) -> Result<(), AllocError>
+fn insert(run: &mut Vec<InstanceId>, id: InstanceId) -> Result<(), AllocError>
     requires { IsRising run.old.items }
-    ensures ok { OnOk result (run.new.items ≡ with_instance place run.old.items) }
+    ensures ok { OnOk result (run.new.items ≡ with_instance id run.old.items) }
     ensures err { OnErr result (run.new.items ≡ run.old.items) }
 {
-    let at = position(run.as_slice(), place);
-    run.insert(at, place)?;
+    let at = position(run.as_slice(), id);
+    run.insert(at, id)?;
     Ok(())
 }
 
-fn take(run: &mut Vec<u32>, place: u32)
+fn take(run: &mut Vec<InstanceId>, id: InstanceId)
     requires rising { IsRising run.old.items }
-    requires there { Has run.old.items place }
-    ensures { run.new.items ≡ without place run.old.items }
+    requires there { Has run.old.items id }
+    ensures { run.new.items ≡ without id run.old.items }
 {
-    let at = position(run.as_slice(), place);
+    let at = position(run.as_slice(), id);
     run.remove(at);
 }
 
-// How many places of a run are of lesser instances.
-fn position(run: &[u32], place: u32) -> usize
+// How many of a run are lesser instances.
+fn position(run: &[InstanceId], id: InstanceId) -> usize
     requires { IsRising run.now }
-    ensures value { result ≡ count_below place run.now }
+    ensures value { result ≡ count_below id run.now }
     ensures bound { result ≤ length run.now }
 {
     let mut low = 0;
     let mut high = run.len();
     while low < high {
         let middle = low + (high - low) / 2;
-        if run[middle] < place {
+        if run[middle] < id {
             low = middle + 1;
         } else {
             high = middle;
@@ -333,8 +410,67 @@ fn names(value: &Option<Record>, key: &Key) -> bool
 fn record_names(written: &Record, key: &Key) -> bool
     ensures { result ≡ has_key key.now (voted_keys written.now.vote) }
 {
+    stands_under(written, key.as_slice())
+}
+
+// Whether the instance's recorded command is a seal.
+fn is_sealed(table: &Table<Record>, id: InstanceId) -> bool
+    ensures { result ≡ has_key [] (keys_at table.now.held id) }
+{
+    match table.get(id) {
+        None => false,
+        Some(record) => stands_under(record, &[]),
+    }
+}
+
+// Whether the command of what is recorded is a seal.
+fn seals(value: &Option<Record>) -> bool
+    ensures { result ≡ has_key [] (recorded_keys value.now) }
+{
+    match value {
+        None => false,
+        Some(record) => stands_under(record, &[]),
+    }
+}
+
+// Whether the record's command stands under this key in the index.
+fn stands_under(written: &Record, key: &[u8]) -> bool
+    ensures { result ≡ has_key key.now (voted_keys written.now.vote) }
+{
     match &written.vote {
         None => false,
-        Some(vote) => vote.decree.command.names(key),
+        Some(vote) => is_under(&vote.decree.command, key),
+    }
+}
+
+#[tactic(auto, using(crate::proofs::Bringing::or_false))]
+fn is_under(command: &Command, key: &[u8]) -> bool
+    ensures { result ≡ has_key key.now (index_keys command.now) }
+{
+    match command {
+        Command::Noop => false,
+        Command::Get(own)
+        | Command::Put(own, _)
+        | Command::Del(own)
+        | Command::Cas { key: own, .. } => key == own.as_slice(),
+        Command::Swap(own) => key == own.first().as_slice() || key == own.second().as_slice(),
+        Command::Seal(_) => key == [].as_slice(),
+        Command::Opaque(own, _) => is_touched(own, key),
+    }
+}
+
+fn is_touched(own: &Footprint, key: &[u8]) -> bool
+    ensures { result ≡ has_key key.now (keys_in own.now) }
+{
+    key == own.first().as_slice() || is_listed(own.second(), key)
+}
+
+#[tactic(auto, using(crate::proofs::Bringing::or_false))]
+fn is_listed(own: Option<&Key>, key: &[u8]) -> bool
+    ensures { result ≡ has_key key.now (listed (option_copied own.entry)) }
+{
+    match own {
+        None => false,
+        Some(own) => key == own.as_slice(),
     }
 }

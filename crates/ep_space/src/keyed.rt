@@ -3,7 +3,6 @@
 ghost use Rattle.std.specs.Prelude.{◌≡◌, ◌≤◌, ◌<◌, ℕ, false, Some, None, IsOk, IfOk, OnOk, OnErr, if◌then◌else◌};
 ghost use Rattle.std.specs.FinSet as set;
 ghost use Rattle.std.specs.Option.{option_copied};
-ghost use Rattle.ep_base.specs.Deps.{AreInstances};
 ghost use Rattle.ep_rules.specs.Cells.{record_or_fresh};
 ghost use Rattle.ep_rules.specs.Maps.{none, get, insert};
 ghost use Rattle.ep_rules.specs.States.{with_held, is_free};
@@ -92,7 +91,6 @@ impl Keyed {
         ensures place { OnOk result (HasPlace self.new.places id) }
         ensures err { OnErr result (self.new ≡ self.old) }
     {
-        let _number = id.number();
         self.table.reserve(id)
     }
 
@@ -143,10 +141,9 @@ impl Keyed {
         note(&mut self.taken, &self.table, id);
     }
 
-    /// The places of the records whose command has the key, in rising order of instances.
-    pub fn key_run(&self, key: &[u8]) -> &[u32]
-        ensures value { result.now ≡ holders key.now self.now.held }
-        ensures instances { AreInstances result.now }
+    /// The instances whose recorded command has the key, in rising order.
+    pub fn key_run(&self, key: &[u8]) -> &[InstanceId]
+        ensures { result.now ≡ holders key.now self.now.held }
     {
         run_of(&self.index, key)
     }
@@ -157,17 +154,6 @@ impl Keyed {
         ensures full { (n : ℕ) → n < result → is_free self.now.held replica n ≡ false }
     {
         self.taken[usize::from(replica.index())]
-    }
-
-    /// The instance whose place has this number, if there is one.
-    pub fn instance_at(&self, place: u32) -> Option<InstanceId>
-        ensures { result ≡ (if set.contains self.now.places place then Some place else None) }
-    {
-        let table = &self.table;
-        match InstanceId::at(place) {
-            Ok(id) if table.has_place(id) => Some(id),
-            _ => None,
-        }
     }
 }
 

@@ -3,7 +3,6 @@
 ghost use Rattle.std.specs.Prelude.{ℕ, ◌≡◌, ◌≤◌, ◌<◌, ◌-◌, true, Ok, Err, Some, None, IsOk, IfOk, IsErr, OnOk, OnErr, if◌then◌else◌};
 ghost use Rattle.std.specs.Option.{option_copied};
 ghost use Rattle.std.specs.FinSet as set;
-ghost use Rattle.ep_base.specs.Interference.{keys_of};
 ghost use Rattle.ep_base.specs.Instances.{highest_number};
 ghost use Rattle.ep_base.specs.Versions.{highest_in};
 ghost use Rattle.ep_base.specs.declared.version.Version.TheVariants.{V2};
@@ -14,7 +13,7 @@ ghost use Rattle.ep_rules.specs.Phases.{with_commit};
 ghost use Rattle.ep_rules.specs.States.{is_free, free_number, committed_in, with_entry};
 ghost use Rattle.ep_space.specs.Gathering.{next_attrs};
 ghost use Rattle.ep_space.specs.Held.{HasPlace};
-ghost use Rattle.ep_space.specs.Keys.{recorded_keys, keys_at, holders, NeedsNoRoom};
+ghost use Rattle.ep_space.specs.Keys.{index_keys, recorded_keys, keys_at, holders, NeedsNoRoom};
 ghost use Rattle.ep_space.specs.Open.{AreRecords};
 ghost use Rattle.ep_space.specs.Records.{record_at, with_record, with_earlier};
 ghost use Rattle.ep_space.specs.Settled.{settled};
@@ -244,7 +243,7 @@ impl Space {
         requires { HasPlace self.old.places id }
         ensures ok { OnOk result (self.new ≡ with_record self.old id (voted ballot Status.PreAccepted decree)) }
         ensures err { OnErr result (self.new ≡ self.old) }
-        ensures succeeds { NeedsNoRoom (keys_at self.old.records id) (keys_of decree.command) → IsOk result }
+        ensures succeeds { NeedsNoRoom (keys_at self.old.records id) (index_keys decree.command) → IsOk result }
     {
         self.write_vote(id, ballot, Status::PreAccepted, decree)
     }
@@ -259,7 +258,7 @@ impl Space {
         requires { HasPlace self.old.places id }
         ensures ok { OnOk result (self.new ≡ with_record self.old id (voted ballot Status.Accepted decree)) }
         ensures err { OnErr result (self.new ≡ self.old) }
-        ensures succeeds { NeedsNoRoom (keys_at self.old.records id) (keys_of decree.command) → IsOk result }
+        ensures succeeds { NeedsNoRoom (keys_at self.old.records id) (index_keys decree.command) → IsOk result }
     {
         self.write_vote(id, ballot, Status::Accepted, decree)
     }
@@ -269,7 +268,7 @@ impl Space {
         requires { HasPlace self.old.places id }
         ensures ok { OnOk result (self.new ≡ with_record self.old id (with_commit id (record_at self.old id) decree)) }
         ensures err { OnErr result (self.new ≡ self.old) }
-        ensures succeeds { NeedsNoRoom (keys_at self.old.records id) (keys_of decree.command) → IsOk result }
+        ensures succeeds { NeedsNoRoom (keys_at self.old.records id) (index_keys decree.command) → IsOk result }
     {
         let promised = self.promised(id);
         let ballot = self.voted_ballot(id);
@@ -305,7 +304,7 @@ impl Space {
         requires { HasPlace self.old.places id }
         ensures ok { OnOk result (self.new ≡ with_record self.old id (voted ballot status decree)) }
         ensures err { OnErr result (self.new ≡ self.old) }
-        ensures succeeds { NeedsNoRoom (keys_at self.old.records id) (keys_of decree.command) → IsOk result }
+        ensures succeeds { NeedsNoRoom (keys_at self.old.records id) (index_keys decree.command) → IsOk result }
     {
         let promised = ballot;
         let vote = Vote {
@@ -348,19 +347,11 @@ impl Space {
         self.get(id).is_none()
     }
 
-    /// The places of the records whose command has the key, in rising order of instances.
-    pub fn key_run(&self, key: &[u8]) -> &[u32]
+    /// The instances whose recorded command has the key, in rising order. They are lent, and not copied.
+    pub fn key_run(&self, key: &[u8]) -> &[InstanceId]
         ensures { result.now ≡ holders key.now self.now.records }
     {
         self.table.key_run(key)
-    }
-
-    /// The instance that has this place, if there is one. The number of an instance's place is 65,536 for each replica
-    /// before its own, and its number.
-    pub fn instance_at(&self, place: u32) -> Option<InstanceId>
-        ensures { result ≡ (if set.contains self.now.places place then Some place else None) }
-    {
-        self.table.instance_at(place)
     }
 
     /// The command's interference set in the instance (EPaxos, figure 2): the other instances whose recorded commands interfere with it,
@@ -384,7 +375,7 @@ impl Space {
         let seq = Seq::new(1 + gathered.seq).unwrap();
         Ok(Attrs {
             seq,
-            deps: gathered.deps,
+            deps: gathered.deps.into_deps(),
         })
     }
 

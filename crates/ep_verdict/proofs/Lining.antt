@@ -17,7 +17,7 @@ use Rattle.ep_rules.specs.Graph.{Graph}
 use Rattle.ep_rules.specs.History.{is_new, nothing}
 use Rattle.ep_rules.specs.Journals.{Entry, Journals, Scheduled, of, IsSchedule, AreLocalRuns, acts_of}
 use Rattle.ep_rules.specs.Merging.{Merges}
-use Rattle.ep_rules.specs.OneMap.{Contents, empty, replies, after}
+use Rattle.ep_rules.specs.OneMap.{Store, empty, replies, after, opened}
 use Rattle.ep_rules.specs.States.{command_of, attrs_of}
 use Rattle.ep_rules.specs.Steps.{order_of}
 use Rattle.ep_rules.specs.Verdicts.{agreed, command_at, merged_of, history_of, IsReply}
@@ -119,7 +119,7 @@ in_of a (b ∷ s) (inr h) = go (eqb b.replica a.replica) (in_of a s h)
     go true k = inr k
     go false k = k
 
-pub stands_at : (c : Collected) (s : List Scheduled) (k : ℕ) (a : Scheduled) → AreLocalRuns c.faults (journals_of c) → IsSchedule (journals_of c) s → slice_get s k ≡ Some a → StandsAt c a
+pub stands_at : (c : Collected) (s : List Scheduled) (k : ℕ) (a : Scheduled) → AreLocalRuns (opened empty) c.faults (journals_of c) → IsSchedule (journals_of c) s → slice_get s k ≡ Some a → StandsAt c a
 stands_at c s k a runs h at =
     let there : In a.entry (journals_of c a.replica) = subst (In a.entry) (h.0 a.replica) (in_of a s (at_in s k a at)) in
     let p = in_at (journals_of c a.replica) a.entry there in
@@ -151,7 +151,7 @@ none_written [] k e h at = cc
 none_written (w ∷ ws) k e h at = cc
 
 -- a replica of no journal has no entry
-pub none_there : (c : Collected) (r k : ℕ) (e : Written) → AreLocalRuns c.faults (journals_of c) → size c.faults ≤ r → slice_get (entries_at c r) k ≡ Some e → ⊥
+pub none_there : (c : Collected) (r k : ℕ) (e : Written) → AreLocalRuns (opened empty) c.faults (journals_of c) → size c.faults ≤ r → slice_get (entries_at c r) k ≡ Some e → ⊥
 none_there c r k e runs le at = none_written (entries_at c r) k e (runs.others r le) at
 
 -- one more is seen
@@ -217,7 +217,7 @@ slice_here [] k p lt e = absurd (omega arith)
 slice_here (x ∷ xs) zero p lt e = ap Some (sym e)
 slice_here (x ∷ xs) (suc k) p lt e = slice_here xs k p (omega arith) e
 
-pub looked : (c : Collected) (s : List Scheduled) (k : ℕ) (p : ℕ × ℕ) (xs : List (ℕ × ℕ)) (o : Option (Bor Written)) → AreLocalRuns c.faults (journals_of c) → IsSchedule (journals_of c) s → xs ≡ places_of s → k < length xs → p ≡ get_or xs k p →
+pub looked : (c : Collected) (s : List Scheduled) (k : ℕ) (p : ℕ × ℕ) (xs : List (ℕ × ℕ)) (o : Option (Bor Written)) → AreLocalRuns (opened empty) c.faults (journals_of c) → IsSchedule (journals_of c) s → xs ≡ places_of s → k < length xs → p ≡ get_or xs k p →
     ((n : ℕ) (e : Written) → p.1 ≡ n + 1 → slice_get (entries_at c p.0) n ≡ Some e → option_copied o ≡ Some e) → Looked c s k o
 looked c s k p xs o runs h is lt e lookup =
     let a = place_at s k p (subst (λ z. slice_get z k ≡ Some p) is (slice_here xs k p lt e)) in
@@ -333,16 +333,16 @@ module _ (g : ℕ → Option Decree) where
 
   module _ (h : List ℕ) where
     abbrev here : ℕ → Reply
-    here i = get_or (replies empty (map said h)) (place h i) Absent
+    here i = get_or (replies (opened empty) (map said h)) (place h i) Absent
 
     abbrev SaysReplies : List Happening → Type 0
     SaysReplies lines = replies_in lines ≡ map here (instances_in lines)
 
-    line_replies : (i : ℕ) (x : Answer) (o : Option Decree) → g i ≡ o → IsReply said h i x → SaysReplies (line_at i x o)
+    line_replies : (i : ℕ) (x : Answer) (o : Option Decree) → g i ≡ o → IsReply (opened empty) said h i x → SaysReplies (line_at i x o)
     line_replies i x None e k = refl
     line_replies i x (Some d) e k = go (is_noop d.command) refl k
       where
-        go : (b : Bool) → is_noop d.command ≡ b → IsReply said h i x → SaysReplies (cond b [] (record { instance = i; command = d.command; reply = told_by x } ∷ []))
+        go : (b : Bool) → is_noop d.command ≡ b → IsReply (opened empty) said h i x → SaysReplies (cond b [] (record { instance = i; command = d.command; reply = told_by x } ∷ []))
         go true q t = refl
         go false q (inl lost) = absurd (false≢true (sym q ∙ ap (λ o. is_noop (command_of o)) (sym e) ∙ lost.0))
         go false q (inr told) = ap (λ a. told_by a ∷ []) told.1
@@ -351,19 +351,19 @@ module _ (g : ℕ → Option Decree) where
     replies_append xs ys a b =
         replies_both xs ys ∙ ap (λ z. z ++ replies_in ys) a ∙ ap (λ z. map here (instances_in xs) ++ z) b ∙ sym (map_both here (instances_in xs) (instances_in ys)) ∙ ap (map here) (sym (instances_both xs ys))
 
-    line_of_replies : (seen : List ℕ) (i : ℕ) (x : Answer) → IsReply said h i x → SaysReplies (line_of g seen i x)
+    line_of_replies : (seen : List ℕ) (i : ℕ) (x : Answer) → IsReply (opened empty) said h i x → SaysReplies (line_of g seen i x)
     line_of_replies seen i x k = go (is_new seen i)
       where
         go : (b : Bool) → SaysReplies (cond b (line_at i x (g i)) [])
         go true = line_replies i x (g i) refl k
         go false = refl
 
-    lines_replies : (seen : List ℕ) (done : List (ℕ × Answer)) → ((i : ℕ) (x : Answer) → In (i, x) done → IsReply said h i x) → SaysReplies (lines_of g seen done)
+    lines_replies : (seen : List ℕ) (done : List (ℕ × Answer)) → ((i : ℕ) (x : Answer) → In (i, x) done → IsReply (opened empty) said h i x) → SaysReplies (lines_of g seen done)
     lines_replies seen [] all = refl
     lines_replies seen (d ∷ done) all =
         replies_append (line_of g seen d.0 d.1) (lines_of g seen done) (line_of_replies seen d.0 d.1 (all d.0 d.1 (inl refl))) (lines_replies seen done (λ i x k. all i x (inr k)))
 
-    in_replies : (seen : List ℕ) (s : List Scheduled) → ((a : Scheduled) (i : ℕ) (x : Answer) → In a s → In (i, x) a.entry.done → IsReply said h i x) → SaysReplies (lines_in g seen s)
+    in_replies : (seen : List ℕ) (s : List Scheduled) → ((a : Scheduled) (i : ℕ) (x : Answer) → In a s → In (i, x) a.entry.done → IsReply (opened empty) said h i x) → SaysReplies (lines_in g seen s)
     in_replies seen [] all = refl
     in_replies seen (a ∷ s) all =
         let new : List ℕ = seen ++ filter (is_new seen) (order_of a.entry.done) in
@@ -387,7 +387,7 @@ spread (x ∷ h) (r ∷ rs) once e =
     later : (i : ℕ) → Has h i → place (x ∷ h) i ≡ suc (place h i)
     later i k = elim (place_cons x i h) [ inl p ↦ absurd (once.0 (subst (Has h) (sym p.0) k)) | inr q ↦ q ]
 
-length_replies : (m : Contents) (cs : List Command) → length (replies m cs) ≡ length cs
+length_replies : (m : Store) (cs : List Command) → length (replies m cs) ≡ length cs
 length_replies m [] = refl
 length_replies m (c ∷ cs) = let t = length_replies (after m c) cs in omega arith
 
@@ -397,32 +397,32 @@ length_map f (x ∷ xs) = let t = length_map f xs in omega arith
 
 -- The history.
 
-once_merged : (f : ℕ) (journal : Journals) (schedule : List Scheduled) → Merges f journal schedule → Once (merged_of [] schedule)
+once_merged : (f : ℕ) (journal : Journals) (schedule : List Scheduled) → Merges (opened empty) f journal schedule → Once (merged_of [] schedule)
 once_merged f journal schedule given =
-    let es = executions f opening (acts_of schedule) in
-    let graph : Graph = λ i. attrs_of (agreed f journal i) in
-    let w = all_well graph nothing [] es (start graph) (interleaved graph (command_at f journal) nothing es (locals f journal schedule given)).0 in
-    subst Once (merged_same f schedule opening [] (is_run f journal schedule given)) w.whole.once
+    let es = executions f (opening (opened empty)) (acts_of schedule) in
+    let graph : Graph = λ i. attrs_of (agreed (opened empty) f journal i) in
+    let w = all_well graph nothing [] es (start graph) (interleaved (opened empty) graph (command_at (opened empty) f journal) nothing es (locals (opened empty) f journal schedule given)).0 in
+    subst Once (merged_same f schedule (opening (opened empty)) [] (is_run (opened empty) f journal schedule given)) w.whole.once
 
-pub history_is : (f : ℕ) (journal : Journals) (schedule : List Scheduled) → IsHistory f journal schedule (lines_in (agreed f journal) [] schedule)
+pub history_is : (f : ℕ) (journal : Journals) (schedule : List Scheduled) → IsHistory f journal schedule (lines_in (agreed (opened empty) f journal) [] schedule)
 history_is f journal schedule =
-    let g = agreed f journal in
-    let h : List ℕ = history_of (command_at f journal) schedule in
+    let g = agreed (opened empty) f journal in
+    let h : List ℕ = history_of (command_at (opened empty) f journal) schedule in
     let lines : List Happening = lines_in g [] schedule in
     let instances : instances_in lines ≡ h = in_instances g [] schedule in
-    let commands : commands_in lines ≡ map (command_at f journal) (instances_in lines) = in_commands g [] schedule in
+    let commands : commands_in lines ≡ map (command_at (opened empty) f journal) (instances_in lines) = in_commands g [] schedule in
     record {
       instances = instances;
       commands = commands;
       told = each_told g schedule;
       replies = λ given.
-          let told : replies_in lines ≡ map (here g h) (instances_in lines) = in_replies g h [] schedule (λ a i x k m. each_reply_lem f journal schedule given a i x k m) in
+          let told : replies_in lines ≡ map (here g h) (instances_in lines) = in_replies g h [] schedule (λ a i x k m. each_reply_lem (opened empty) f journal schedule given a i x k m) in
           let once : Once h = once_filter (real g) (merged_of [] schedule) (once_merged f journal schedule given) in
-          let all : map (here g h) h ≡ replies empty (map (said g) h) = spread h (replies empty (map (said g) h)) once (length_replies empty (map (said g) h) ∙ length_map (said g) h) in
-          told ∙ ap (map (here g h)) instances ∙ all ∙ ap (λ z. replies empty (map (said g) z)) (sym instances) ∙ ap (replies empty) (sym commands);
+          let all : map (here g h) h ≡ replies (opened empty) (map (said g) h) = spread h (replies (opened empty) (map (said g) h)) once (length_replies (opened empty) (map (said g) h) ∙ length_map (said g) h) in
+          told ∙ ap (map (here g h)) instances ∙ all ∙ ap (λ z. replies (opened empty) (map (said g) z)) (sym instances) ∙ ap (replies (opened empty)) (sym commands);
     }
 
-pub history_by : (f : ℕ) (journal : Journals) (g : ℕ → Option Decree) (schedule : List Scheduled) (lines : List Happening) → ((i : ℕ) → g i ≡ agreed f journal i) → lines ≡ lines_in g [] schedule → IsHistory f journal schedule lines
+pub history_by : (f : ℕ) (journal : Journals) (g : ℕ → Option Decree) (schedule : List Scheduled) (lines : List Happening) → ((i : ℕ) → g i ≡ agreed (opened empty) f journal i) → lines ≡ lines_in g [] schedule → IsHistory f journal schedule lines
 history_by f journal g schedule lines same is =
-    let whole : g ≡ agreed f journal = (λ t i. same i t) in
+    let whole : g ≡ agreed (opened empty) f journal = (λ t i. same i t) in
     subst (IsHistory f journal schedule) (sym (is ∙ ap (λ k. lines_in k [] schedule) whole)) (history_is f journal schedule)

@@ -13,6 +13,7 @@ use Rattle.ep_journal.specs.declared.entry.Entry.{Entry as Written}
 use Rattle.ep_verdict.specs.Turns.{first_turn, earlier, least_turn, least_of, rests, AreFirst}
 use Rattle.ep_verdict.specs.Verdicts.{places_of}
 use Rattle.ep_verdict.specs.declared.turn.Turn.{Turn}
+use Rattle.ep_rules.specs.OneMap.{opened, empty}
 
 -- t is the first entry of its replica, and no first entry of a replica below n is earlier
 pub record IsLeastTurn (n : ℕ) (journal : Journals) (t : Turn) : Type 0 where
@@ -243,10 +244,10 @@ pub is_next : (n : ℕ) (journal : Journals) (o : Option Turn) → o ≡ least_t
 is_next n journal o e = subst (Tells n journal) (sym e) (least_is n journal)
 
 -- none beyond the cluster
-none_beyond : (f : ℕ) (journal : Journals) (done : List ℕ) → AreLocalRuns f journal → (q : ℕ) → size f ≤ q → rests journal done q ≡ []
+none_beyond : (f : ℕ) (journal : Journals) (done : List ℕ) → AreLocalRuns (opened empty) f journal → (q : ℕ) → size f ≤ q → rests journal done q ≡ []
 none_beyond f journal done runs q le = ap (drop (get_or done q 0)) (runs.others q le) ∙ drop-nil (get_or done q 0)
 
-module _ (f : ℕ) (journal : Journals) (runs : AreLocalRuns f journal) (done : List ℕ) (long : length done ≡ size f) (t : Turn) (e : Some t ≡ least_turn (size f) (rests journal done)) where
+module _ (f : ℕ) (journal : Journals) (runs : AreLocalRuns (opened empty) f journal) (done : List ℕ) (long : length done ≡ size f) (t : Turn) (e : Some t ≡ least_turn (size f) (rests journal done)) where
   pub turn_is : IsLeastTurn (size f) (rests journal done) t
   turn_is = is_next (size f) (rests journal done) (Some t) e
 
@@ -275,7 +276,7 @@ remains_first f journal done schedule zeros h = record {
   whole = refl;
 }
 
-pub remains_all : (f : ℕ) (journal : Journals) (done : List ℕ) (made : List (ℕ × ℕ)) (schedule : List Scheduled) → AreLocalRuns f journal → None ≡ least_turn (size f) (rests journal done) → Remains journal done made schedule → made ≡ places_of schedule
+pub remains_all : (f : ℕ) (journal : Journals) (done : List ℕ) (made : List (ℕ × ℕ)) (schedule : List Scheduled) → AreLocalRuns (opened empty) f journal → None ≡ least_turn (size f) (rests journal done) → Remains journal done made schedule → made ≡ places_of schedule
 remains_all f journal done made schedule runs e m =
     let none = is_next (size f) (rests journal done) None e in
     let all : (q : ℕ) → rests journal done q ≡ [] = λ q. elim (cases_lt q (size f)) [ inl lt ↦ none q lt | inr ge ↦ none_beyond f journal done runs q ge ] in

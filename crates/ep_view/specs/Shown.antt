@@ -1,5 +1,5 @@
 -- What is shown of journals.
-use Rattle.std.specs.Prelude.{◌≡◌, ℕ, Bool, cond, List, [], ◌∷◌, ◌++◌, Option, Some, None, codes}
+use Rattle.std.specs.Prelude.{◌≡◌, ℕ, Bool, cond, eqb, length, List, [], ◌∷◌, ◌++◌, Option, Some, None, codes, decimal}
 use Rattle.ep_journal.specs.Entries.{Collected, entries_at, journals_of}
 use Rattle.ep_journal.specs.declared.entry.Entry.{Entry}
 use Rattle.ep_rules.specs.Journals.{Scheduled, IsSchedule}
@@ -21,15 +21,24 @@ module _ (handled : List ℕ → Bool) (part : Part) where
   lines_at c [] = []
   lines_at c (p ∷ ps) = line_of p.0 (entry_at (entries_at c p.0) p.1) ++ lines_at c ps
 
+-- that of so many entries none is kept, if there are any
+abbrev pub none_kept : ℕ → List ℕ
+none_kept n = cond (eqb n 0) [] (codes "0 of " ++ decimal n ++ codes " entries\n")
+
+-- a text, or where it is empty that none of so many entries is kept
+abbrev pub or_none : ℕ → List ℕ → List ℕ
+or_none n [] = none_kept n
+or_none n (b ∷ bs) = b ∷ bs
+
 -- these are all entries of the journals, each as its replica and number, in the order of their schedule: by stamp, and then by replica
 pub record IsInOrder (c : Collected) (all : List (ℕ × ℕ)) : Type 0 where
   pub order : List Scheduled
   pub scheduled : IsSchedule (journals_of c) order
   pub places : all ≡ places_of order
 
--- the text has a line for each entry that is asked for, in the order of the journals' schedule. In it a frame is told as never handled exactly
--- where no entry of any journal handles it
+-- the text has a line for each entry that is asked for, in the order of the journals' schedule, or says that there is none. In it a frame is told as
+-- never handled exactly where no entry of any journal handles it
 pub record IsShown (c : Collected) (part : Part) (text : List ℕ) : Type 0 where
   pub all : List (ℕ × ℕ)
   pub ordered : IsInOrder c all
-  pub lines : text ≡ lines_at (is_handled c) part c all
+  pub lines : text ≡ or_none (length all) (lines_at (is_handled c) part c all)

@@ -1,16 +1,17 @@
 //! The entries of journals, a line each.
 
-ghost use Rattle.std.specs.Prelude.{◌≡◌, ◌++◌, Some, IfOk, OnOk};
+ghost use Rattle.std.specs.Prelude.{◌≡◌, ◌++◌, [], cond, eqb, codes, decimal, Some, IfOk, OnOk};
 ghost use Rattle.ep_journal.specs.Entries.{AreJournals, entries_at};
 ghost use Rattle.ep_view.specs.Handled.{is_in};
 ghost use Rattle.ep_view.specs.Lookups.{entry_at};
-ghost use Rattle.ep_view.specs.Shown.{line_of, lines_at, IsInOrder, IsShown};
+ghost use Rattle.ep_view.specs.Shown.{line_of, lines_at, none_kept, or_none, IsInOrder, IsShown};
 
 use crate::handled::Handled;
 use crate::lines::push_entry;
 use crate::lookups::entry_at;
 use ep_base::ReplicaId;
 use ep_journal::{Entry, Journals};
+use ep_report::push_number;
 use ep_verdict::Verdict;
 use ep_words::Part;
 use std::alloc::{AllocError, Global};
@@ -81,9 +82,31 @@ fn push_lines(
     Ok(())
 }
 
+/// Appends that of so many entries none is kept, if there are any.
+pub(crate) fn push_none_kept(text: &mut Vec<u8>, count: usize) -> Result<(), AllocError>
+    ensures { OnOk result (text.new.items ≡ text.old.items ++ none_kept count) }
+{
+    if count == 0 {
+        return Ok(());
+    }
+    text.extend_from_slice(b"0 of ")?;
+    push_number(text, count as u64)?;
+    text.extend_from_slice(b" entries\n")
+}
+
+// Says in a text that is empty that none of so many entries is kept.
+fn or_none(text: &mut Vec<u8>, count: usize) -> Result<(), AllocError>
+    ensures { OnOk result (text.new.items ≡ or_none count text.old.items) }
+{
+    if !text.is_empty() {
+        return Ok(());
+    }
+    push_none_kept(text, count)
+}
+
 /// The entries of the journals that the part keeps, a line each, by stamp and then by replica: the event, what it sends to
 /// whom, with `NEVER HANDLED` at each receiver whose frame no entry of any journal handles, and what it executes, with the
-/// answers.
+/// answers. Where it keeps none of them, a line that says how many there are.
 #[tactic(auto, using(crate::proofs::AsShown::is_shown))]
 pub fn show(alloc: Global, journals: &Journals, part: &Part) -> Result<Vec<u8>, AllocError>
     ensures { IfOk result (λ text. IsShown journals.now part.now text.items) }
@@ -93,5 +116,6 @@ pub fn show(alloc: Global, journals: &Journals, part: &Part) -> Result<Vec<u8>, 
     let places = schedule(alloc, journals)?;
     let mut text = Vec::new(alloc);
     push_lines(&mut text, journals, &handled, part, &places)?;
+    or_none(&mut text, places.len())?;
     Ok(text)
 }

@@ -3,7 +3,7 @@
 use crate::handled::Handled;
 use crate::lines::push_happened;
 use crate::lookups::entry_at;
-use crate::showing::schedule;
+use crate::showing::{push_none_kept, schedule};
 use ep_base::ReplicaId;
 use ep_journal::{Entry, Journals};
 use ep_report::push_number;
@@ -120,12 +120,16 @@ fn push_names(text: &mut Vec<u8>, count: u8) -> Result<(), AllocError> {
 }
 
 /// The entries of the journals that the part keeps, as `show` tells them, by stamp and then by replica, each in the column of
-/// its replica. A column is 32 wide, with two spaces between two: 100 for three replicas.
+/// its replica, or that it keeps none. A column is 32 wide, with two spaces between two: 100 for three replicas.
 pub fn columns(alloc: Global, journals: &Journals, part: &Part) -> Result<Vec<u8>, AllocError> {
     let handled = Handled::of(alloc, journals)?;
     let places = schedule(alloc, journals)?;
     let mut text = Vec::new(alloc);
     push_names(&mut text, journals.size().count())?;
+    let names = text.len();
     push_cells(&mut text, journals, &handled, part, &places)?;
+    if text.len() == names {
+        push_none_kept(&mut text, places.len())?;
+    }
     Ok(text)
 }

@@ -18,6 +18,8 @@ use Rattle.ep_rules.specs.declared.receipt.Receipt.{Receipt}
 use Rattle.ep_viewer.specs.Outputs.{Output, output, Wrote, WroteNothing}
 use Rattle.ep_viewer.specs.Views.{Does, IsCrowded, IsMany, IsNever, IsView, Views, Explains}
 use Rattle.ep_view.specs.Shown.{IsShown}
+use Rattle.ep_view.specs.Wanted.{part_of}
+use Rattle.ep_view.specs.declared.wanted.Wanted.{Wanted}
 use Rattle.ep_words.specs.declared.part.Part.{Part}
 use Rattle.ep_viewer.specs.declared.asked.Asked.{Asked}
 use Rattle.ep_viewer.specs.declared.asked.Asked.TheVariants.{Show, Draw, Page, Events}
@@ -31,11 +33,11 @@ use Rattle.ep_graph.specs.declared.graph_fault.GraphFault.{GraphFault}
 use Rattle.ep_graph.specs.declared.graph_fault.GraphFault.TheVariants as graph
 use Rattle.ep_viewer.specs.declared.status.Status.{Status}
 use Rattle.ep_viewer.specs.declared.fault.Fault.{Fault}
-use Rattle.ep_viewer.specs.declared.fault.Fault.TheVariants.{Script, BadBundle, NotARun, TooMany, Memory, Read, Write}
+use Rattle.ep_viewer.specs.declared.fault.Fault.TheVariants.{Script, BadBundle, NotARun, TooMany, TooManyEvents, Memory, Read, Write}
 
 -- a bundle that isn't read isn't viewed
 pub not_read :
-    (Tells : Collected → List ℕ → Type 0) (Crowds : ℕ → Collected → Type 0) (b : BundleFault) (r : Result Status Fault) (zs : List ℕ) (place : ℕ) (left : Option (List ℕ)) (out : Output) → IsErrAnd r (λ e. e ≡ of_bundle b) →
+    (Tells : Collected → List ℕ → Type 0) (Crowds : ℕ → List ℕ → Collected → Type 0) (b : BundleFault) (r : Result Status Fault) (zs : List ℕ) (place : ℕ) (left : Option (List ℕ)) (out : Output) → IsErrAnd r (λ e. e ≡ of_bundle b) →
     Finds (ReadsBundle (record { at = 0; bytes = zs })) (Err b) place left → WroteNothing out → Views Tells Crowds r zs out
 not_read Tells Crowds b (Ok done) zs place left out is found silent = absurd is
 not_read Tells Crowds bundle.Memory (Err e) zs place left out is found silent = subst (λ (x : Fault). Views Tells Crowds (Err x) zs out) (sym is) silent
@@ -44,7 +46,7 @@ not_read Tells Crowds (bundle.BadBundle offset) (Err e) zs place left out is fou
 not_read Tells Crowds (bundle.NotARun replica entry) (Err e) zs place left out is found silent = subst (λ (x : Fault). Views Tells Crowds (Err x) zs out) (sym is) (found, silent)
 
 -- want of memory leaves the output as it was
-pub stopped : (Tells : Collected → List ℕ → Type 0) (Crowds : ℕ → Collected → Type 0) (r : Result Status Fault) (zs : List ℕ) (out : Output) → IsErrAnd r (λ e. e ≡ Memory) → WroteNothing out → Views Tells Crowds r zs out
+pub stopped : (Tells : Collected → List ℕ → Type 0) (Crowds : ℕ → List ℕ → Collected → Type 0) (r : Result Status Fault) (zs : List ℕ) (out : Output) → IsErrAnd r (λ e. e ≡ Memory) → WroteNothing out → Views Tells Crowds r zs out
 stopped Tells Crowds (Ok done) zs out is silent = absurd is
 stopped Tells Crowds (Err e) zs out is silent = subst (λ (x : Fault). Views Tells Crowds (Err x) zs out) (sym is) silent
 
@@ -94,22 +96,24 @@ pub script_not_written : {A : Type 0} (s : ScriptFault) (r : Result A Fault) (ha
 script_not_written s r had is = as_told is_write (of_script s) false had had r is (write_of_script s) refl
 
 pub shown_as_asked :
-    (asked : Asked) (part : Part) (r : Result Status Fault) (zs : List ℕ) (out : Output) → asked ≡ Show part → Views (λ journals text. IsShown journals part text) IsNever r zs out → Does asked r zs out
-shown_as_asked asked part r zs out is views = subst (λ (a : Asked). Does a r zs out) (sym is) views
+    (asked : Asked) (wanted : Wanted) (r : Result Status Fault) (zs : List ℕ) (out : Output) → asked ≡ Show wanted →
+    Views (λ journals text. IsShown journals (part_of journals wanted) text) IsNever r zs out → Does asked r zs out
+shown_as_asked asked wanted r zs out is views = subst (λ (a : Asked). Does a r zs out) (sym is) views
 
 pub drawn_as_asked :
-    (asked : Asked) (part : Part) (r : Result Status Fault) (zs : List ℕ) (out : Output) → asked ≡ Draw part →
-    Views (λ journals text. IsDrawn journals part text) (λ count journals. IsTooMany journals part count) r zs out → Does asked r zs out
-drawn_as_asked asked part r zs out is views = subst (λ (a : Asked). Does a r zs out) (sym is) views
+    (asked : Asked) (wanted : Wanted) (r : Result Status Fault) (zs : List ℕ) (out : Output) → asked ≡ Draw wanted →
+    Views (λ journals text. IsDrawn journals (part_of journals wanted) text) (λ count lines journals. IsTooMany journals (part_of journals wanted) count lines) r zs out → Does asked r zs out
+drawn_as_asked asked wanted r zs out is views = subst (λ (a : Asked). Does a r zs out) (sym is) views
 
 pub paged_as_asked :
-    (asked : Asked) (part : Part) (r : Result Status Fault) (zs : List ℕ) (out : Output) → asked ≡ Page part → Views (λ journals text. IsPage journals part text) IsNever r zs out → Does asked r zs out
-paged_as_asked asked part r zs out is views = subst (λ (a : Asked). Does a r zs out) (sym is) views
+    (asked : Asked) (wanted : Wanted) (r : Result Status Fault) (zs : List ℕ) (out : Output) → asked ≡ Page wanted →
+    Views (λ journals text. IsPage journals (part_of journals wanted) text) IsNever r zs out → Does asked r zs out
+paged_as_asked asked wanted r zs out is views = subst (λ (a : Asked). Does a r zs out) (sym is) views
 
 pub events_as_asked :
-    (asked : Asked) (part : Part) (r : Result Status Fault) (zs : List ℕ) (out : Output) → asked ≡ Events part →
-    Views (λ journals text. IsTraceFile journals part text) IsNever r zs out → Does asked r zs out
-events_as_asked asked part r zs out is views = subst (λ (a : Asked). Does a r zs out) (sym is) views
+    (asked : Asked) (wanted : Wanted) (r : Result Status Fault) (zs : List ℕ) (out : Output) → asked ≡ Events wanted →
+    Views (λ journals text. IsTraceFile journals (part_of journals wanted) text) IsNever r zs out → Does asked r zs out
+events_as_asked asked wanted r zs out is views = subst (λ (a : Asked). Does a r zs out) (sym is) views
 
 -- an output on which nothing was put
 pub nothing_put : (held : Option (List ℕ)) (had has : Bool) → WroteNothing (output held held had has)
@@ -118,22 +122,23 @@ nothing_put (Some bytes) had has = sym (append-nil bytes)
 
 -- what isn't drawn
 pub crowded :
-    (Tells : Collected → List ℕ → Type 0) (part : Part) (d : DrawFault) (r : Result Status Fault) (journals : Collected) (receipts : List Receipt) (end : Left) (zs : List ℕ) (out : Output) →
-    IsErrAnd r (λ e. e ≡ of_diagram d) → ReadsBundle (record { at = 0; bytes = zs }) (Ok ((journals, receipts), end)) → IsRefused journals part d → WroteNothing out →
-    Views Tells (λ count js. IsTooMany js part count) r zs out
-crowded Tells part d (Ok status) journals receipts end zs out is read why silent = absurd is
-crowded Tells part draw.Memory (Err e) journals receipts end zs out is read why silent = subst (λ (x : Fault). Views Tells (λ count js. IsTooMany js part count) (Err x) zs out) (sym is) silent
-crowded Tells part (draw.TooMany n) (Err e) journals receipts end zs out is read why silent =
-    subst (λ (x : Fault). Views Tells (λ count js. IsTooMany js part count) (Err x) zs out) (sym is)
-    (record { journals = journals; receipts = receipts; end = end; read = read; crowds = why; silent = silent })
+    (Tells : Collected → List ℕ → Type 0) (wanted : Wanted) (part : Part) (d : DrawFault) (r : Result Status Fault) (journals : Collected) (receipts : List Receipt) (end : Left) (zs : List ℕ) (out : Output) →
+    IsErrAnd r (λ e. e ≡ of_diagram d) → ReadsBundle (record { at = 0; bytes = zs }) (Ok ((journals, receipts), end)) → part ≡ part_of journals wanted → IsRefused journals part d → WroteNothing out →
+    Views Tells (λ count lines js. IsTooMany js (part_of js wanted) count lines) r zs out
+crowded Tells wanted part d (Ok status) journals receipts end zs out is read same why silent = absurd is
+crowded Tells wanted part draw.Memory (Err e) journals receipts end zs out is read same why silent =
+    subst (λ (x : Fault). Views Tells (λ count lines js. IsTooMany js (part_of js wanted) count lines) (Err x) zs out) (sym is) silent
+crowded Tells wanted part (draw.TooMany n told) (Err e) journals receipts end zs out is read same why silent =
+    subst (λ (x : Fault). Views Tells (λ count lines js. IsTooMany js (part_of js wanted) count lines) (Err x) zs out) (sym is)
+    (record { journals = journals; receipts = receipts; end = end; read = read; crowds = subst (λ (p : Part). IsTooMany journals p n told.items) same why; silent = silent })
 
 read_of_diagram : (d : DrawFault) → is_read (of_diagram d) ≡ false
 read_of_diagram draw.Memory = refl
-read_of_diagram (draw.TooMany n) = refl
+read_of_diagram (draw.TooMany n told) = refl
 
 write_of_diagram : (d : DrawFault) → is_write (of_diagram d) ≡ false
 write_of_diagram draw.Memory = refl
-write_of_diagram (draw.TooMany n) = refl
+write_of_diagram (draw.TooMany n told) = refl
 
 pub diagram_not_read : {A : Type 0} (d : DrawFault) (r : Result A Fault) (had has : Bool) → IsErrAnd r (λ x. x ≡ of_diagram d) → has ≡ had → FailsAsTold is_read r had has
 diagram_not_read d r had has is flag = as_told is_read (of_diagram d) false had has r is (read_of_diagram d) flag
@@ -149,7 +154,7 @@ graph_crowded Tells d (Ok status) journals receipts end zs out is read why silen
 graph_crowded Tells graph.Memory (Err e) journals receipts end zs out is read why silent = subst (λ (x : Fault). Views Tells IsMany (Err x) zs out) (sym is) silent
 graph_crowded Tells (graph.TooMany n) (Err e) journals receipts end zs out is read why silent =
     subst (λ (x : Fault). Views Tells IsMany (Err x) zs out) (sym is)
-    (record { journals = journals; receipts = receipts; end = end; read = read; crowds = why; silent = silent })
+    (record { journals = journals; receipts = receipts; end = end; read = read; crowds = (why, refl); silent = silent })
 
 read_of_graph : (d : GraphFault) → is_read (of_graph d) ≡ false
 read_of_graph graph.Memory = refl

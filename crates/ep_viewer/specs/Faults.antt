@@ -13,7 +13,7 @@ use Rattle.ep_explain.specs.declared.finding.Finding.TheVariants as finding
 use Rattle.ep_script.specs.declared.script_fault.ScriptFault.{ScriptFault}
 use Rattle.ep_script.specs.declared.script_fault.ScriptFault.TheVariants as script
 use Rattle.ep_viewer.specs.declared.fault.Fault.{Fault}
-use Rattle.ep_viewer.specs.declared.fault.Fault.TheVariants.{Script, BadBundle, NotARun, TooMany, Memory, Read, Write}
+use Rattle.ep_viewer.specs.declared.fault.Fault.TheVariants.{Script, BadBundle, NotARun, TooMany, TooManyEvents, Memory, Read, Write}
 use Rattle.ep_viewer.specs.declared.status.Status.{Status}
 use Rattle.ep_viewer.specs.declared.status.Status.TheVariants.{Done, AuditRefused, Refused, OutOfMemory, Failed}
 
@@ -43,7 +43,7 @@ not_a_run replica entry = codes "bundle refused E11 at replica " ++ decimal repl
 
 -- so many entries are asked for, or so many instances are there, more than a picture shows
 abbrev pub too_many : ℕ → List ℕ
-too_many count = codes "too many to draw: " ++ decimal count ++ codes ", and 2000 at most; --from, --to, --instance and --replica keep a part of a diagram, and --page shows all\n"
+too_many count = codes "too many to draw: " ++ decimal count ++ codes ", and 2000 at most; --from, --to, --replica, --instance, --key and --client keep a part of a diagram, and --page shows all\n"
 
 abbrev pub out_of_memory : List ℕ
 out_of_memory = codes "out of memory\n"
@@ -59,6 +59,7 @@ line_of (Script line) = script_refused line
 line_of (BadBundle offset) = bad_bundle offset
 line_of (NotARun replica entry) = not_a_run replica entry
 line_of (TooMany count) = too_many count
+line_of (TooManyEvents count lines) = too_many count ++ lines.items
 line_of Memory = out_of_memory
 line_of Read = reading_failed
 line_of Write = writing_failed
@@ -68,6 +69,7 @@ status_of (Script line) = Refused
 status_of (BadBundle offset) = Refused
 status_of (NotARun replica entry) = Refused
 status_of (TooMany count) = Refused
+status_of (TooManyEvents count lines) = Refused
 status_of Memory = OutOfMemory
 status_of Read = Failed
 status_of Write = Failed
@@ -78,6 +80,7 @@ is_read (Script line) = false
 is_read (BadBundle offset) = false
 is_read (NotARun replica entry) = false
 is_read (TooMany count) = false
+is_read (TooManyEvents count lines) = false
 is_read Memory = false
 is_read Read = true
 is_read Write = false
@@ -88,6 +91,7 @@ is_write (Script line) = false
 is_write (BadBundle offset) = false
 is_write (NotARun replica entry) = false
 is_write (TooMany count) = false
+is_write (TooManyEvents count lines) = false
 is_write Memory = false
 is_write Read = false
 is_write Write = true
@@ -113,7 +117,7 @@ of_explained explain.ReadFailed = Read
 -- a diagram's fault as the program's
 abbrev pub of_diagram : DrawFault → Fault
 of_diagram draw.Memory = Memory
-of_diagram (draw.TooMany count) = TooMany count
+of_diagram (draw.TooMany count lines) = TooManyEvents count lines
 
 -- a graph's fault as the program's
 abbrev pub of_graph : GraphFault → Fault

@@ -1,5 +1,5 @@
 -- What the program does, of the bytes zs that it reads, its output and its fault output.
-use Rattle.std.specs.Prelude.{◌≡◌, ◌<◌, ℕ, List, Result, Ok, Err, ◌++◌, codes, string_bytes}
+use Rattle.std.specs.Prelude.{◌≡◌, ◌<◌, ℕ, List, [], Result, Ok, Err, ◌++◌, codes, string_bytes}
 use Rattle.ep_bundle.specs.Journals.{ReadsBundle}
 use Rattle.ep_bundle.specs.Reading.{Left}
 use Rattle.ep_bundle.specs.declared.bundle_fault.BundleFault.TheVariants as bundle
@@ -14,7 +14,7 @@ use Rattle.ep_rules.specs.declared.receipt.Receipt.{Receipt}
 use Rattle.ep_script.specs.Plan.{Plan, script_of}
 use Rattle.ep_trace.specs.Traced.{IsTraced}
 use Rattle.ep_view.specs.Shown.{IsShown}
-use Rattle.ep_words.specs.declared.part.Part.{Part}
+use Rattle.ep_view.specs.Wanted.{part_of}
 use Rattle.ep_base.specs.Devices.{FailsAsTold}
 use Rattle.ep_viewer.specs.Faults.{command_line_refused, out_of_memory, line_of, status_of, status_found, is_read, is_write}
 use Rattle.ep_viewer.specs.Outputs.{Input, Output, Wrote, WroteNothing, Told}
@@ -23,7 +23,7 @@ use Rattle.ep_viewer.specs.declared.asked.Asked.TheVariants.{Show, Columns, Trac
 use Rattle.ep_viewer.specs.declared.declined.Declined.{Declined}
 use Rattle.ep_viewer.specs.declared.declined.Declined.TheVariants as declined
 use Rattle.ep_viewer.specs.declared.fault.Fault.{Fault}
-use Rattle.ep_viewer.specs.declared.fault.Fault.TheVariants.{Script, BadBundle, NotARun, TooMany, Memory, Read, Write}
+use Rattle.ep_viewer.specs.declared.fault.Fault.TheVariants.{Script, BadBundle, NotARun, TooMany, TooManyEvents, Memory, Read, Write}
 use Rattle.ep_viewer.specs.declared.status.Status.{Status}
 use Rattle.ep_viewer.specs.declared.status.Status.TheVariants.{Done, Refused, OutOfMemory}
 
@@ -47,12 +47,13 @@ pub record IsCrowded (Crowds : Collected → Type 0) (zs : List ℕ) (out : Outp
   pub silent : WroteNothing out
 
 -- a bundle is viewed, or is refused, and then nothing is written
-abbrev pub Views : (Collected → List ℕ → Type 0) → (ℕ → Collected → Type 0) → Result Status Fault → List ℕ → Output → Type 0
+abbrev pub Views : (Collected → List ℕ → Type 0) → (ℕ → List ℕ → Collected → Type 0) → Result Status Fault → List ℕ → Output → Type 0
 Views Tells Crowds (Ok status) zs out = (status ≡ Done) × IsView Tells zs out
 Views Tells Crowds (Err (Script line)) zs out = ⊥
 Views Tells Crowds (Err (BadBundle offset)) zs out = ReadsBundle (record { at = 0; bytes = zs }) (Err (bundle.BadBundle offset)) × WroteNothing out
 Views Tells Crowds (Err (NotARun replica entry)) zs out = ReadsBundle (record { at = 0; bytes = zs }) (Err (bundle.NotARun replica entry)) × WroteNothing out
-Views Tells Crowds (Err (TooMany count)) zs out = IsCrowded (Crowds count) zs out
+Views Tells Crowds (Err (TooMany count)) zs out = IsCrowded (Crowds count []) zs out
+Views Tells Crowds (Err (TooManyEvents count lines)) zs out = IsCrowded (Crowds count lines.items) zs out
 Views Tells Crowds (Err Memory) zs out = WroteNothing out
 Views Tells Crowds (Err Read) zs out = WroteNothing out
 Views Tells Crowds (Err Write) zs out = Unit {0}
@@ -72,6 +73,7 @@ Traces (Err (Script line)) zs out = (script_of zs ≡ Err line) × WroteNothing 
 Traces (Err (BadBundle offset)) zs out = ⊥
 Traces (Err (NotARun replica entry)) zs out = ⊥
 Traces (Err (TooMany count)) zs out = ⊥
+Traces (Err (TooManyEvents count lines)) zs out = ⊥
 Traces (Err Memory) zs out = WroteNothing out
 Traces (Err Read) zs out = WroteNothing out
 Traces (Err Write) zs out = Unit {0}
@@ -82,6 +84,7 @@ Prints (Err (Script line)) text out = ⊥
 Prints (Err (BadBundle offset)) text out = ⊥
 Prints (Err (NotARun replica entry)) text out = ⊥
 Prints (Err (TooMany count)) text out = ⊥
+Prints (Err (TooManyEvents count lines)) text out = ⊥
 Prints (Err Memory) text out = ⊥
 Prints (Err Read) text out = ⊥
 Prints (Err Write) text out = Unit {0}
@@ -102,27 +105,29 @@ Explains (Err (Script line)) zs out = ⊥
 Explains (Err (BadBundle offset)) zs out = ⊥
 Explains (Err (NotARun replica entry)) zs out = ⊥
 Explains (Err (TooMany count)) zs out = ⊥
+Explains (Err (TooManyEvents count lines)) zs out = ⊥
 Explains (Err Memory) zs out = WroteNothing out
 Explains (Err Read) zs out = WroteNothing out
 Explains (Err Write) zs out = Unit {0}
 
-abbrev pub IsNever : ℕ → Collected → Type 0
-IsNever count journals = ⊥
+abbrev pub IsNever : ℕ → List ℕ → Collected → Type 0
+IsNever count lines journals = ⊥
 
-abbrev pub IsMany : ℕ → Collected → Type 0
-IsMany count journals = 2000 < count
+abbrev pub IsMany : ℕ → List ℕ → Collected → Type 0
+IsMany count lines journals = (2000 < count) × (lines ≡ [])
 
 abbrev pub IsAnyText : Collected → List ℕ → Type 0
 IsAnyText journals text = Unit {0}
 
 abbrev pub Does : Asked → Result Status Fault → List ℕ → Output → Type 0
-Does (Show part) outcome zs out = Views (λ journals text. IsShown journals part text) IsNever outcome zs out
-Does (Columns part) outcome zs out = Views IsAnyText IsNever outcome zs out
+Does (Show wanted) outcome zs out = Views (λ journals text. IsShown journals (part_of journals wanted) text) IsNever outcome zs out
+Does (Columns wanted) outcome zs out = Views IsAnyText IsNever outcome zs out
 Does Explain outcome zs out = Explains outcome zs out
-Does (Draw part) outcome zs out = Views (λ journals text. IsDrawn journals part text) (λ count journals. IsTooMany journals part count) outcome zs out
+Does (Draw wanted) outcome zs out =
+    Views (λ journals text. IsDrawn journals (part_of journals wanted) text) (λ count lines journals. IsTooMany journals (part_of journals wanted) count lines) outcome zs out
 Does Graph outcome zs out = Views (λ journals text. IsGraphFile text) IsMany outcome zs out
-Does (Page part) outcome zs out = Views (λ journals text. IsPage journals part text) IsNever outcome zs out
-Does (Events part) outcome zs out = Views (λ journals text. IsTraceFile journals part text) IsNever outcome zs out
+Does (Page wanted) outcome zs out = Views (λ journals text. IsPage journals (part_of journals wanted) text) IsNever outcome zs out
+Does (Events wanted) outcome zs out = Views (λ journals text. IsTraceFile journals (part_of journals wanted) text) IsNever outcome zs out
 Does Trace outcome zs out = Traces outcome zs out
 Does Version outcome zs out = Prints outcome (codes "epaxos 0.1.0\n") out
 Does (Help text) outcome zs out = Prints outcome (string_bytes text) out

@@ -4,9 +4,9 @@ use crate::asked::Asked;
 use crate::declined::Declined;
 use clap::error::ErrorKind;
 use clap::{Arg, ArgAction, ArgMatches, Command, Error};
-use ep_base::{InstanceId, ReplicaId};
-use ep_script::number_in;
-use ep_words::Part;
+use ep_base::{CommandFault, InstanceId, Key, ReplicaId};
+use ep_script::{number_in, read_word};
+use ep_view::Wanted;
 use std::alloc::{AllocError, Global};
 use std::convert::AsStr;
 
@@ -14,10 +14,12 @@ use std::convert::AsStr;
 const AFTER_SHOW: &str = "\
 Standard input, to its end, is a bundle, as `replay --emit bundle` writes it. Each entry of its journals is a line, by stamp and
 then by replica: the event, what it sends to whom, and what it executes. NEVER HANDLED stands at the receiver of a frame that no
-entry handles. Nothing is audited, and nothing is printed before the end is read.
+entry handles. Options keep a part of them; where none is kept, a line says so. Nothing is audited, and nothing is printed before
+the end is read.
 
 Example:
   epaxos replay --emit bundle < examples/one_put.script | epaxos show
+  epaxos replay --emit bundle < examples/swap.script | epaxos show --key y
 
 Exit status:
   0  the entries are printed
@@ -48,8 +50,9 @@ const AFTER_DRAW: &str = "\
 Standard input, to its end, is a bundle, as `replay --emit bundle` writes it. Printed is one SVG file: a line a replica, a dot an
 event, an arrow from where a frame was sent to where it was handled, a cross where it never was, and in red what the audit finds
 at fault. With --graph: the dependency graph of what is committed, components boxed, without what is implied. More than 2,000
-events or instances are refused: keep a part of the events, or take --page, which shows 10,000 and more: one HTML file that needs no
-network, with the diagram to zoom and move in, its instances and a box for words. Nothing is printed before the end is read.
+events or instances are refused, and standard error says what there is: keep a part of the events, or take --page, which shows
+10,000 and more: one HTML file that needs no network, with the diagram to zoom and move in, its instances and a box for words.
+Nothing is printed before the end is read.
 
 Example:
   epaxos replay --emit bundle < examples/one_put.script | epaxos draw > one_put.svg
@@ -125,7 +128,7 @@ fn asked_by(alloc: Global, matches: &ArgMatches<'_>) -> Result<Asked, Declined> 
         return drawn_by(alloc, options);
     }
     if let Some(options) = matches.subcommand_matches("trace-events") {
-        return Ok(Asked::Events(part_of(alloc, options)?));
+        return Ok(Asked::Events(wanted_by(alloc, options)?));
     }
     if let Some(options) = matches.subcommand_matches("replay") {
         return traced_by(alloc, options);
@@ -138,11 +141,11 @@ fn drawn_by(alloc: Global, options: &ArgMatches<'_>) -> Result<Asked, Declined> 
     if options.get_flag("graph") {
         return graph_by(alloc, options);
     }
-    let part = part_of(alloc, options)?;
+    let wanted = wanted_by(alloc, options)?;
     if options.get_flag("page") {
-        Ok(Asked::Page(part))
+        Ok(Asked::Page(wanted))
     } else {
-        Ok(Asked::Draw(part))
+        Ok(Asked::Draw(wanted))
     }
 }
 
@@ -153,7 +156,7 @@ fn graph_by(alloc: Global, options: &ArgMatches<'_>) -> Result<Asked, Declined> 
             "error: '--graph' and '--page' don't go together\n\nFor more information, try '--help'.\n",
         )?));
     }
-    if ["instance", "replica", "from", "to"]
+    if ["instance", "key", "client", "replica", "from", "to"]
         .iter()
         .any(|name| options.get_str(name).is_some())
     {
@@ -180,22 +183,26 @@ fn traced_by(alloc: Global, options: &ArgMatches<'_>) -> Result<Asked, Declined>
 }
 
 fn shown_by(alloc: Global, options: &ArgMatches<'_>) -> Result<Asked, Declined> {
-    let part = part_of(alloc, options)?;
+    let wanted = wanted_by(alloc, options)?;
     if options.get_flag("columns") {
-        Ok(Asked::Columns(part))
+        Ok(Asked::Columns(wanted))
     } else {
-        Ok(Asked::Show(part))
+        Ok(Asked::Show(wanted))
     }
 }
 
 /// Which entries are asked for.
-fn part_of(alloc: Global, options: &ArgMatches<'_>) -> Result<Part, Declined> {
+fn wanted_by(alloc: Global, options: &ArgMatches<'_>) -> Result<Wanted, Declined> {
     let instance = instance_of(alloc, options)?;
+    let key = key_of(alloc, options)?;
+    let client = client_of(alloc, options)?;
     let replica = replica_of(alloc, options)?;
     let from = stamp_of(alloc, options, "from", 0)?;
     let to = stamp_of(alloc, options, "to", u64::MAX)?;
-    Ok(Part {
+    Ok(Wanted {
         instance,
+        key,
+        client,
         replica,
         from,
         to,
@@ -226,6 +233,44 @@ fn instance_named(word: &[u8]) -> Option<InstanceId> {
 fn replica_named(word: &[u8]) -> Option<ReplicaId> {
     let index = number_in(word, 0, 6)?;
     ReplicaId::new(index as u8).ok()
+}
+
+/// The key after its option, if it is there.
+fn key_of(alloc: Global, options: &ArgMatches<'_>) -> Result<Option<Key>, Declined> {
+    let Some(word) = options.get_str("key") else {
+        return Ok(None);
+    };
+    match key_named(alloc, word.as_bytes())? {
+        Some(key) => Ok(Some(key)),
+        None => Err(Declined::Words(format!(in alloc;
+            "error: invalid value {word:?} for '--key <KEY>': it takes a key of 1 to 255 bytes, as scripts have it\n\nFor more information, try '--help'.\n"
+        )?)),
+    }
+}
+
+/// The key that a word of bytes spells.
+fn key_named(alloc: Global, word: &[u8]) -> Result<Option<Key>, Declined> {
+    let Some(bytes) = read_word(alloc, word)? else {
+        return Ok(None);
+    };
+    match Key::new(alloc, &bytes) {
+        Ok(key) => Ok(Some(key)),
+        Err(CommandFault::OutOfRange) => Ok(None),
+        Err(CommandFault::Memory) => Err(Declined::Memory),
+    }
+}
+
+/// The client after its option, if it is there.
+fn client_of(alloc: Global, options: &ArgMatches<'_>) -> Result<Option<u32>, Declined> {
+    let Some(word) = options.get_str("client") else {
+        return Ok(None);
+    };
+    match number_in(word.as_bytes(), 1, u64::from(u32::MAX)) {
+        Some(client) => Ok(Some(client as u32)),
+        None => Err(Declined::Words(format!(in alloc;
+            "error: invalid value {word:?} for '--client <C>': it takes a number from 1 to 4294967295\n\nFor more information, try '--help'.\n"
+        )?)),
+    }
 }
 
 /// The replica after its option, if it is there.
@@ -352,6 +397,18 @@ fn parted<'a>(alloc: Global, command: Command<'a>) -> Result<Command<'a>, AllocE
         "instance",
         "R.N",
         "Keeps the entries that name, send or execute this instance",
+    ))?;
+    let command = command.arg(option(
+        alloc,
+        "key",
+        "KEY",
+        "Keeps those about the instances that commands on this key took",
+    ))?;
+    let command = command.arg(option(
+        alloc,
+        "client",
+        "C",
+        "Keeps those about the instances that commands of this client took; with --key, on that key",
     ))?;
     let command = command.arg(option(alloc, "replica", "R", "Keeps those of this replica"))?;
     let command = command.arg(option(

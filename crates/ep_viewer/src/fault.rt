@@ -14,7 +14,7 @@ use ep_script::ScriptFault;
 use std::alloc::AllocError;
 
 /// Why the program ends before its work is done.
-#[derive(Clone, Copy, Debug, PartialEq, Eq)]
+#[derive(Debug, Drop)]
 pub enum Fault {
     /// The script is refused; this is its first line at fault, counted from 1.
     Script(u32),
@@ -22,8 +22,10 @@ pub enum Fault {
     BadBundle(u64),
     /// The bundle is refused; this entry of this replica, counted from 1, is the first that isn't its replica's next step.
     NotARun(ReplicaId, u32),
-    /// So many entries are asked for, or so many instances are there, more than a picture shows.
+    /// So many instances are there, more than a graph shows.
     TooMany(usize),
+    /// So many entries are asked for, more than a diagram shows. These lines say what there is, and what can be drawn.
+    TooManyEvents(usize, Vec<u8>),
     /// Memory was refused.
     Memory,
     /// Reading failed.
@@ -38,8 +40,8 @@ impl Fault {
         ensures { result ≡ status_of self.now }
     {
         match self {
-            Fault::Script(_) | Fault::BadBundle(_) | Fault::NotARun(_, _) | Fault::TooMany(_) =>
-                Status::Refused,
+            Fault::Script(_) | Fault::BadBundle(_) | Fault::NotARun(_, _) => Status::Refused,
+            Fault::TooMany(_) | Fault::TooManyEvents(_, _) => Status::Refused,
             Fault::Memory => Status::OutOfMemory,
             Fault::Read | Fault::Write => Status::Failed,
         }
@@ -88,7 +90,7 @@ impl From<DrawFault> for Fault {
     fn from(fault: DrawFault) -> Fault {
         match fault {
             DrawFault::Memory => Fault::Memory,
-            DrawFault::TooMany(count) => Fault::TooMany(count),
+            DrawFault::TooMany(count, lines) => Fault::TooManyEvents(count, lines),
         }
     }
 }

@@ -51,13 +51,13 @@ fn attempt<S: Source, W: Sink>(
     ensures written { FailsAsTold is_write result (W.has_failed writer.old) (W.has_failed writer.new) }
 {
     match asked {
-        Asked::Show(part) => print_shown(alloc, part, reader, writer),
-        Asked::Columns(part) => print_columns(alloc, part, reader, writer),
+        Asked::Show(wanted) => print_shown(alloc, wanted, reader, writer),
+        Asked::Columns(wanted) => print_columns(alloc, wanted, reader, writer),
         Asked::Explain => print_explained(alloc, reader, writer),
-        Asked::Draw(part) => print_drawn(alloc, part, reader, writer),
+        Asked::Draw(wanted) => print_drawn(alloc, wanted, reader, writer),
         Asked::Graph => print_graph(alloc, reader, writer),
-        Asked::Page(part) => print_page(alloc, part, reader, writer),
-        Asked::Events(part) => print_events(alloc, part, reader, writer),
+        Asked::Page(wanted) => print_page(alloc, wanted, reader, writer),
+        Asked::Events(wanted) => print_events(alloc, wanted, reader, writer),
         Asked::Trace => print_trace(alloc, reader, writer),
         Asked::Version => {
             writer.put(b"epaxos 0.1.0\n")?;
@@ -78,7 +78,7 @@ fn concluded<F: Sink>(outcome: Result<Status, Fault>, fault_writer: &mut F) -> S
         Ok(status) => status,
         Err(fault) => {
             let status = fault.status();
-            let _ = tell(fault, fault_writer);
+            let _ = tell(&fault, fault_writer);
             status
         }
     }

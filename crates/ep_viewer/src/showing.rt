@@ -2,6 +2,7 @@
 
 ghost use Rattle.std.specs.Prelude.{◌≡◌, ℕ, List, Some};
 ghost use Rattle.ep_view.specs.Shown.{IsShown};
+ghost use Rattle.ep_view.specs.Wanted.{part_of};
 ghost use Rattle.ep_base.specs.Devices.{FailsAsTold};
 ghost use Rattle.ep_viewer.specs.Faults.{is_read, is_write};
 ghost use Rattle.ep_viewer.specs.Outputs.{output};
@@ -11,35 +12,35 @@ use crate::fault::Fault;
 use crate::status::Status;
 use ep_base::{Sink, Source};
 use ep_bundle::read_bundle;
-use ep_view::{columns, show};
-use ep_words::Part;
+use ep_view::{Wanted, columns, show};
 use std::alloc::Global;
 use std::mem::forget;
 
-/// Reads a bundle to its end, and prints this part of its journals, a line an entry.
+/// Reads a bundle to its end, and prints the entries of its journals that are wanted, a line each.
 pub(crate) fn print_shown<S: Source, W: Sink>(
     alloc: Global,
-    part: &Part,
+    wanted: &Wanted,
     reader: &mut S,
     writer: &mut W,
 ) -> Result<Status, Fault>
-    ensures done { (zs : List ℕ) → S.left reader.old ≡ Some zs → Views (λ journals text. IsShown journals part.now text) IsNever result zs
+    ensures done { (zs : List ℕ) → S.left reader.old ≡ Some zs → Views (λ journals text. IsShown journals (part_of journals wanted.now) text) IsNever result zs
         (output (W.held writer.old) (W.held writer.new) (W.has_failed writer.old) (W.has_failed writer.new)) }
     ensures read { FailsAsTold is_read result (S.has_failed reader.old) (S.has_failed reader.new) }
     ensures written { FailsAsTold is_write result (W.has_failed writer.old) (W.has_failed writer.new) }
 {
     let bundle = read_bundle(alloc, reader)?;
-    let text = show(alloc, &bundle.journals, part)?;
+    let part = wanted.part(alloc, &bundle.journals)?;
+    let text = show(alloc, &bundle.journals, &part)?;
     writer.put(text.as_slice())?;
     // The system takes memory back at the process's end, all at once.
     forget(bundle);
     Ok(Status::Done)
 }
 
-/// Reads a bundle to its end, and prints this part of its journals, in a column a replica.
+/// Reads a bundle to its end, and prints the entries of its journals that are wanted, in a column a replica.
 pub(crate) fn print_columns<S: Source, W: Sink>(
     alloc: Global,
-    part: &Part,
+    wanted: &Wanted,
     reader: &mut S,
     writer: &mut W,
 ) -> Result<Status, Fault>
@@ -49,7 +50,8 @@ pub(crate) fn print_columns<S: Source, W: Sink>(
     ensures written { FailsAsTold is_write result (W.has_failed writer.old) (W.has_failed writer.new) }
 {
     let bundle = read_bundle(alloc, reader)?;
-    let text = columns(alloc, &bundle.journals, part)?;
+    let part = wanted.part(alloc, &bundle.journals)?;
+    let text = columns(alloc, &bundle.journals, &part)?;
     writer.put(text.as_slice())?;
     forget(bundle);
     Ok(Status::Done)

@@ -9,14 +9,15 @@ use ep_base::{ReplicaId, Sink, WriteFailed};
 use itoa::Buffer;
 
 /// Writes the line of a fault. It takes no memory.
-pub(crate) fn tell<F: Sink>(fault: Fault, sink: &mut F) -> Result<(), WriteFailed>
-    ensures { Puts (F.held sink.old) (F.held sink.new) (F.has_failed sink.old) (F.has_failed sink.new) result (line_of fault) }
+pub(crate) fn tell<F: Sink>(fault: &Fault, sink: &mut F) -> Result<(), WriteFailed>
+    ensures { Puts (F.held sink.old) (F.held sink.new) (F.has_failed sink.old) (F.has_failed sink.new) result (line_of fault.now) }
 {
     match fault {
-        Fault::Script(line) => tell_script(line, sink),
-        Fault::BadBundle(offset) => tell_bad_bundle(offset, sink),
-        Fault::NotARun(replica, entry) => tell_not_a_run(replica, entry, sink),
-        Fault::TooMany(count) => tell_too_many(count, sink),
+        Fault::Script(line) => tell_script(*line, sink),
+        Fault::BadBundle(offset) => tell_bad_bundle(*offset, sink),
+        Fault::NotARun(replica, entry) => tell_not_a_run(*replica, *entry, sink),
+        Fault::TooMany(count) => tell_too_many(*count, sink),
+        Fault::TooManyEvents(count, lines) => tell_too_many_events(*count, lines, sink),
         Fault::Memory => sink.put(b"out of memory\n"),
         Fault::Read => sink.put(b"reading failed\n"),
         Fault::Write => sink.put(b"writing failed\n"),
@@ -68,8 +69,19 @@ fn tell_too_many<F: Sink>(count: usize, sink: &mut F) -> Result<(), WriteFailed>
     sink.put(b"too many to draw: ")?;
     sink.put(digits.format(count).as_bytes())?;
     sink.put(
-        b", and 2000 at most; --from, --to, --instance and --replica keep a part of a diagram, and --page shows all\n",
+        b", and 2000 at most; --from, --to, --replica, --instance, --key and --client keep a part of a diagram, and --page shows all\n",
     )
+}
+
+fn tell_too_many_events<F: Sink>(
+    count: usize,
+    lines: &[u8],
+    sink: &mut F,
+) -> Result<(), WriteFailed>
+    ensures { Puts (F.held sink.old) (F.held sink.new) (F.has_failed sink.old) (F.has_failed sink.new) result (too_many count ++ lines.now) }
+{
+    tell_too_many(count, sink)?;
+    sink.put(lines)
 }
 
 /// Writes a name and the number after it.

@@ -23,6 +23,7 @@ use Rattle.ep_world.specs.Played.{Played, collected, journals_in, entries_in, re
 use Rattle.ep_world.specs.Playing.{with_entry, grown}
 use Rattle.ep_world.specs.Replicas.{places_up_to}
 use Rattle.ep_world.specs.declared.place.Place.{Place}
+use Rattle.ep_rules.specs.OneMap.{opened, empty}
 
 with_length : (ls : List (List Entry)) (r : ℕ) (e : Entry) → length (with_entry ls r e) ≡ length ls
 with_length [] r e = refl
@@ -77,9 +78,9 @@ shows_more w these r taken e k lt there h a among = record {
   journals = of_more w these r e there h.journals;
   steps = ap (λ (xs : List (ℕ × ℕ)). xs ++ (r, e.number) ∷ []) h.steps ∙ sym (steps_grow these (act r e));
   messages = ap (λ (ps : List Place). ps ++ places_of (frames_at e.frames)) h.messages ∙ sym (places_both (frames_of these) (frames_at e.frames)) ∙ sym (ap places_of (frames_grow these (act r e)));
-  played = played_grows_lem w.faults these (act r e) h.played (record {
+  played = played_grows_lem (opened empty) w.faults these (act r e) h.played (record {
     replica = lt;
-    entry = subst (λ (s : State). IsEntry w.faults r s (entry_of e)) (sym (own_entries_leave_lem w.faults these r ∙ ap (λ (es : List rules.Entry). left w.faults r fresh_state es) (h.journals r))) a.step;
+    entry = subst (λ (s : State). IsEntry w.faults r s (entry_of e)) (sym (own_entries_leave_lem (opened empty) w.faults these r ∙ ap (λ (es : List rules.Entry). left w.faults r (fresh_state (opened empty)) es) (h.journals r))) a.step;
     among = subst (λ (t : Happening). IsAmong (frames_of these) (event_of t)) (sym a.event) among;
   });
 }

@@ -13,6 +13,7 @@ use Rattle.ep_journal.specs.declared.entry.Entry.{Entry}
 use Rattle.ep_replica.specs.Kept.{Kept}
 use Rattle.ep_world.specs.contracts.place.Place as place_facts
 use Rattle.ep_world.specs.declared.place.Place.{Place}
+use Rattle.ep_rules.specs.OneMap.{opened, empty}
 
 pub record Played : Type 0 where
   -- how many replicas may fail
@@ -78,14 +79,14 @@ pub record Shows (w : Played) (schedule : List Scheduled) : Type 0 where
   pub journals : (r : ℕ) → of r schedule ≡ journals_in w r
   pub steps : w.steps ≡ steps_of schedule
   pub messages : w.messages ≡ places_of (frames_of schedule)
-  pub played : ArePlayed w.faults opening [] schedule
+  pub played : ArePlayed w.faults (opening (opened empty)) [] schedule
 
 -- the world is a run of the protocol: that of the entries that its steps name, in order; its messages are all that the run sent, in order of sending
 pub record IsPlayed (w : Played) : Type 0 where
   pub schedule : List Scheduled
   pub shows : Shows w schedule
-  pub run : IsRun w.faults opening (acts_of schedule)
-  pub sent : messages_of (frames_of schedule) ≡ (ends w.faults opening (acts_of schedule)).sent
+  pub run : IsRun w.faults (opening (opened empty)) (acts_of schedule)
+  pub sent : messages_of (frames_of schedule) ≡ (ends w.faults (opening (opened empty)) (acts_of schedule)).sent
 
 -- all that a world keeps to
 pub record IsWorld (w : Played) : Type 0 where

@@ -33,6 +33,7 @@ fn last_entry(replica: &Replica) -> &Entry
 }
 
 /// The replica takes the event, and its entry is noted; or all is left as it was.
+#[inline(always)]
 pub(crate) fn advance(
     cluster: Size,
     replicas: &mut Vec<Replica>,

@@ -1,6 +1,7 @@
 //! A world of replicas.
 
 ghost use Rattle.std.specs.Prelude.{◌≡◌};
+ghost use Rattle.ep_rules.specs.OneMap.{opened, empty};
 
 use crate::advance::advance;
 use crate::cause::Cause;
@@ -128,6 +129,7 @@ impl World {
     }
 
     /// The replica takes what some event of the world asks of it.
+    #[inline(always)]
     fn take(&mut self, replica: ReplicaId, taken: Event) -> Result<(), Cause>
         requires { (event : Asked) × (asked self.old event ≡ Some (replica, taken)) }
         ensures ok { OnOk result ((event : Asked) → asked self.old event ≡ Some (replica, taken) → Happens self.old event self.new) }
@@ -249,7 +251,7 @@ impl World {
 
     /// The journals of a world, with any receipts of which each is some replica's own, are accepted by the audit: a law, which costs nothing to call.
     pub fn journals_are_accepted(&self)
-        ensures { (receipts : List Receipt) → AreOwn self.now.faults (journals_in self.now) receipts → IsAccepted self.now.faults (journals_in self.now) receipts }
+        ensures { (receipts : List Receipt) → AreOwn (opened empty) self.now.faults (journals_in self.now) receipts → IsAccepted (opened empty) self.now.faults (journals_in self.now) receipts }
     {
         let _size = self.size;
     }

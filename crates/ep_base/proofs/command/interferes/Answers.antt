@@ -4,4 +4,4 @@ use Rattle.ep_base.proofs.Interfering.{Decides-interfere}
 use Rattle.ep_base.proofs.command.interferes.Goals as goal
 
 pub returns-clause-relation : goal.returns-clause-relation
-returns-clause-relation c = Decides-at c.meet.result (interfere c.args.a.now c.args.b.now) c.meet.ensures (Decides-interfere c.args.a.now c.args.b.now)
+returns-clause-relation c = Decides-at c.touch.result (interfere c.args.a.now c.args.b.now) c.touch.ensures (Decides-interfere c.args.a.now c.args.b.now)

@@ -1,4 +1,4 @@
-use Rattle.std.proofs.Common.{◌<◌, ◌≤◌, List, Bool, true, sym, subst, length, slice_set, arith}
+use Rattle.std.proofs.Common.{◌<◌, true, sym, subst, length, slice_set, arith}
 use Rattle.ep_space.specs.Entries.{slot}
 use Rattle.ep_exec.specs.Marks.{AreMarks}
 use Rattle.ep_exec.proofs.Marking.{marks_more}

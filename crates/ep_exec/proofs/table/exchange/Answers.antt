@@ -1,4 +1,4 @@
-use Rattle.std.proofs.Common.{◌≡◌, ◌∙◌, sym, ap, List, ℕ}
+use Rattle.std.proofs.Common.{◌≡◌, ◌∙◌, ap, List, ℕ}
 use Rattle.ep_rules.specs.OneMap.{Contents, value_at, with_key}
 use Rattle.ep_exec.specs.Table.{contents_of, restored}
 use Rattle.ep_exec.proofs.Entries.{exchange_back, have_places, with_key_own}

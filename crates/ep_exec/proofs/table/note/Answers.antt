@@ -1,5 +1,5 @@
 use Rattle.std.proofs.Common.{◌≡◌, ◌∙◌, sym, ap, subst, List, ℕ, true}
-use Rattle.ep_rules.specs.OneMap.{Contents, value_at, with_key}
+use Rattle.ep_rules.specs.OneMap.{value_at, with_key}
 use Rattle.ep_exec.specs.Table.{HavePlaces, contents_of, has_place, restored}
 use Rattle.ep_exec.proofs.Entries.{have_places, have_places-push, restored-push}
 use Rattle.ep_exec.proofs.table.note.Goals as goal

@@ -6,6 +6,7 @@ use Rattle.ep_rules.specs.States.{fresh_state}
 use Rattle.ep_host.specs.HostFrames.{AreHostFrames}
 use Rattle.ep_host.proofs.Versioned.{entries_each}
 use Rattle.ep_host.proofs.acting.last_frames.Goals as goal
+use Rattle.ep_rules.specs.OneMap.{opened, empty}
 
 pub returns-clause-version : goal.returns-clause-version
 returns-clause-version c =
@@ -14,4 +15,4 @@ returns-clause-version c =
     let last : ℕ = length k.entries - 1 in
     let e : Entry = get_or k.entries last c.index-entries-entries.result in
     let is : c.as_slice.result.now ≡ e.frames = search rules in
-    subst AreHostFrames (sym is) (entries_each k.faults k.me fresh_state k.entries run.versioned last c.index-entries-entries.result (let some = c.requires in omega (arith, some)))
+    subst AreHostFrames (sym is) (entries_each k.faults k.me (fresh_state (opened empty)) k.entries run.versioned last c.index-entries-entries.result (let some = c.requires in omega (arith, some)))

@@ -6,6 +6,7 @@ use Rattle.ep_rules.specs.States.{fresh_state}
 use Rattle.ep_host.specs.HostFrames.{AreHostFrames}
 use Rattle.ep_host.proofs.Versioned.{entries_each}
 use Rattle.ep_host.proofs.sending.sent_last.Goals as goal
+use Rattle.ep_rules.specs.OneMap.{opened, empty}
 
 pub copied-requires : goal.copied-requires
 copied-requires c =
@@ -15,4 +16,4 @@ copied-requires c =
     let e : Entry = get_or k.entries last c.in-Some.entry.now in
     let is : c.as_slice.result.now ≡ e.frames = search rules in
     let low : last < length k.entries = search rules in
-    subst AreHostFrames (sym is) (entries_each k.faults k.me fresh_state k.entries run.versioned last c.in-Some.entry.now low)
+    subst AreHostFrames (sym is) (entries_each k.faults k.me (fresh_state (opened empty)) k.entries run.versioned last c.in-Some.entry.now low)

@@ -1,14 +1,13 @@
-use Rattle.std.proofs.Common.{◌≡◌, ◌++◌, drop, []}
+use Rattle.std.proofs.Common.{◌≡◌, ◌++◌, drop, [], true}
 use Rattle.ep_base.specs.Deps.{IsRising}
-use Rattle.ep_base.specs.Interference.{keys_of}
 use Rattle.ep_rules.specs.InterferenceSet.{touches}
 use Rattle.ep_space.specs.Gathering.{gather_all}
-use Rattle.ep_space.specs.Keys.{AllShare}
+use Rattle.ep_space.specs.Keys.{ArePlain}
 use Rattle.ep_space.proofs.gathered.gathered_run.Given as goal
 
-abbrev pub invariant-loop-place : goal.invariant-loop-place
-invariant-loop-place l = record {
-  rest : gather_all (touches l.command l.except) l.records.held l.gathered (drop l.place-index l.run) ≡ gather_all (touches l.command l.except) l.records.held (record { seq = 0; deps = [] }) l.run;
-  shared : AllShare (keys_of l.command) l.records.held (drop l.place-index l.run);
-  rising : IsRising (l.gathered.deps ++ drop l.place-index l.run);
+abbrev pub invariant-loop-id : goal.invariant-loop-id
+invariant-loop-id l = record {
+  rest : gather_all (touches l.command l.except) l.records.held l.gathered (drop l.id-index l.run) ≡ gather_all (touches l.command l.except) l.records.held (record { seq = 0; deps = [] }) l.run;
+  plain : l.is_plain ≡ true → ArePlain l.command l.records.held (drop l.id-index l.run);
+  rising : IsRising (l.gathered.deps ++ drop l.id-index l.run);
 }

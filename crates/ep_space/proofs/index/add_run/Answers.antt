@@ -8,6 +8,6 @@ pub returns-in-Ok-clause-ok : goal.returns-in-Ok-clause-ok
 returns-in-Ok-clause-ok c k =
     let es = c.args.index.now.entries in
     let key : c.in_ok-key.key.items ≡ c.args.key.now = c.in_ok-key.ensures.items in
-    let items : c.push.new.self.items ≡ c.args.place ∷ [] = c.in_ok-push.ensures.items ∙ ap (λ xs. xs ++ c.args.place ∷ []) c.new-run.ensures.items in
+    let items : c.push.new.self.items ≡ c.args.id ∷ [] = c.in_ok-push.ensures.items ∙ ap (λ xs. xs ++ c.args.id ∷ []) c.new-run.ensures.items in
     run-updated es c.insert.new.self.entries c.in_ok-key.key.items c.push.new.self c.in-Ok.ensures.updates.1 c.in-Ok.ensures.updates.3 k
     ∙ (λ d. cond (same_list k (key d)) (items d) (run es k))

@@ -5,10 +5,10 @@ use Rattle.std.proofs.Common.{◌∙◌, ap, cond}
 use Rattle.ep_space.proofs.index.add_unless.Goals as goal
 
 pub returns-then-stays-clause-ok : goal.returns-then-stays-clause-ok
-returns-then-stays-clause-ok c = λ k. unless_stays (same_list k c.args.key.now) c.args.stays (with_instance c.args.place) (run c.args.index.now.entries k) c.if-stays.true
+returns-then-stays-clause-ok c = λ k. unless_stays (same_list k c.args.key.now) c.args.stays (with_instance c.args.id) (run c.args.index.now.entries k) c.if-stays.true
 
 pub returns-clause-ok : goal.returns-clause-ok
 returns-clause-ok c =
     on_ok c.add.result
-    (λ h k. h k ∙ ap (λ z. cond (same_list k z) (with_instance c.args.place (run c.args.index.now.entries k)) (run c.args.index.now.entries k)) c.as_slice.ensures.value ∙ unless_goes (same_list k c.args.key.now) c.args.stays (with_instance c.args.place) (run c.args.index.now.entries k) c.if-stays.false)
+    (λ h k. h k ∙ ap (λ z. cond (same_list k z) (with_instance c.args.id (run c.args.index.now.entries k)) (run c.args.index.now.entries k)) c.as_slice.ensures.value ∙ unless_goes (same_list k c.args.key.now) c.args.stays (with_instance c.args.id) (run c.args.index.now.entries k) c.if-stays.false)
     c.add.ensures.ok

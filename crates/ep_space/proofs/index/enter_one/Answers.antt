@@ -1,3 +1,4 @@
+use Rattle.std.proofs.Common.{refl}
 use Rattle.ep_space.specs.Index.{run, with_instance}
 use Rattle.ep_space.specs.Keys.{keys_at}
 use Rattle.ep_space.proofs.Bringing.{on_ok, one_step}
@@ -10,5 +11,5 @@ add_unless-requires c = rising-runs c.args.table.now c.args.index.now.entries c.
 pub returns-clause-ok : goal.returns-clause-ok
 returns-clause-ok c =
     on_ok c.add_unless.result
-    (λ h k. one_step with_instance (keys_at c.args.table.now.held c.args.id) c.args.key.now k _ _ c.args.id (run c.args.index.now.entries k) _ c.is_named-stays.ensures c.place.ensures.value (h k))
+    (λ h k. one_step with_instance (keys_at c.args.table.now.held c.args.id) c.args.key.now k _ _ c.args.id (run c.args.index.now.entries k) _ c.is_named-stays.ensures refl (h k))
     c.add_unless.ensures.ok

@@ -6,5 +6,5 @@ use Rattle.ep_space.proofs.index.insert.Goals as goal
 pub returns-clause-ok : goal.returns-clause-ok
 returns-clause-ok c =
     let is = c.args.run.now.items in
-    let at : c.position-at.result ≡ count_below c.args.place is = c.position-at.ensures.value ∙ ap (count_below c.args.place) c.as_slice.ensures.value in
-    c.in_ok-insert.ensures.items ∙ ap (λ n. insert is n c.args.place) at ∙ insert-at_count c.args.place is
+    let at : c.position-at.result ≡ count_below c.args.id is = c.position-at.ensures.value ∙ ap (count_below c.args.id) c.as_slice.ensures.value in
+    c.in_ok-insert.ensures.items ∙ ap (λ n. insert is n c.args.id) at ∙ insert-at_count c.args.id is

@@ -4,8 +4,8 @@ use Rattle.ep_space.proofs.index.position.Given as goal
 
 abbrev pub invariant-loop-low : goal.invariant-loop-low
 invariant-loop-low l = record {
-  above : l.low ≤ count_below l.place l.run;
-  below : count_below l.place l.run ≤ l.high;
+  above : l.low ≤ count_below l.id l.run;
+  below : count_below l.id l.run ≤ l.high;
   within : l.high ≤ length l.run;
 }
 

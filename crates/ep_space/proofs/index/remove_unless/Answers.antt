@@ -5,7 +5,7 @@ use Rattle.std.proofs.Common.{◌∙◌, ap, cond}
 use Rattle.ep_space.proofs.index.remove_unless.Goals as goal
 
 pub returns-then-stays : goal.returns-then-stays
-returns-then-stays c = λ k. unless_stays (same_list k c.args.key.now) c.args.stays (without c.args.place) (run c.args.index.now.entries k) c.if-stays.true
+returns-then-stays c = λ k. unless_stays (same_list k c.args.key.now) c.args.stays (without c.args.id) (run c.args.index.now.entries k) c.if-stays.true
 
 pub returns : goal.returns
-returns c = λ k. c.remove.ensures k ∙ ap (λ z. cond (same_list k z) (without c.args.place (run c.args.index.now.entries k)) (run c.args.index.now.entries k)) c.as_slice.ensures.value ∙ unless_goes (same_list k c.args.key.now) c.args.stays (without c.args.place) (run c.args.index.now.entries k) c.if-stays.false
+returns c = λ k. c.remove.ensures k ∙ ap (λ z. cond (same_list k z) (without c.args.id (run c.args.index.now.entries k)) (run c.args.index.now.entries k)) c.as_slice.ensures.value ∙ unless_goes (same_list k c.args.key.now) c.args.stays (without c.args.id) (run c.args.index.now.entries k) c.if-stays.false

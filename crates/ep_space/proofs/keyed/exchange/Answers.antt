@@ -13,4 +13,4 @@ pub returns-clause-kept : goal.returns-clause-kept
 returns-clause-kept c =
     let t = c.args.table.now in
     rw c.put_back.ensures.new
-    (kept-changed t.held c.args.id c.args.value t.places c.args.index.now.entries c.requires.kept c.enter.new.index.entries c.leave.new.index.entries c.requires.place c.in_ok-enter.ensures.ok c.leave.ensures)
+    (kept-changed t.held c.args.id c.args.value t.places c.args.index.now.entries c.requires.kept c.enter.new.index.entries c.leave.new.index.entries c.in_ok-enter.ensures.ok c.leave.ensures)

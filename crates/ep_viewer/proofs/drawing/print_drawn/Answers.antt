@@ -1,13 +1,15 @@
-use Rattle.std.proofs.Common.{refl, rules}
+use Rattle.std.proofs.Common.{refl, rules, subst}
 use Rattle.ep_draw.specs.Drawn.{IsDrawn, IsTooMany}
+use Rattle.ep_view.specs.Wanted.{part_of}
+use Rattle.ep_words.specs.declared.part.Part.{Part}
 use Rattle.ep_viewer.specs.Outputs.{output}
-use Rattle.ep_viewer.proofs.Ending.{not_read, viewed, bundle_read, bundle_not_written, crowded, diagram_not_read, diagram_not_written, nothing_put}
+use Rattle.ep_viewer.proofs.Ending.{not_read, stopped, viewed, bundle_read, bundle_not_written, crowded, diagram_not_read, diagram_not_written, nothing_put}
 use Rattle.ep_viewer.proofs.drawing.print_drawn.Goals as goal
 
 pub returns-in_err-bundle-clause-done : goal.returns-in_err-bundle-clause-done
 returns-in_err-bundle-clause-done g c zs known =
     let found = c.in_err-bundle.ensures.bytes zs known in
-    not_read (λ journals text. IsDrawn journals c.args.part.now text) (λ count journals. IsTooMany journals c.args.part.now count) _ _ zs found.0 _ _ c.from_residual.ensures.1 found.1 (search rules)
+    not_read (λ journals text. IsDrawn journals (part_of journals c.args.wanted.now) text) (λ count lines journals. IsTooMany journals (part_of journals c.args.wanted.now) count lines) _ _ zs found.0 _ _ c.from_residual.ensures.1 found.1 (search rules)
 
 pub returns-in_err-bundle-clause-read : goal.returns-in_err-bundle-clause-read
 returns-in_err-bundle-clause-read g c = bundle_read c.in_err-bundle.field-0.0 _ _ _ c.from_residual.ensures.1 c.in_err-bundle.ensures.told
@@ -15,10 +17,14 @@ returns-in_err-bundle-clause-read g c = bundle_read c.in_err-bundle.field-0.0 _ 
 pub returns-in_err-bundle-clause-written : goal.returns-in_err-bundle-clause-written
 returns-in_err-bundle-clause-written g c = bundle_not_written c.in_err-bundle.field-0.0 _ _ c.from_residual.ensures.1
 
+pub returns-in_err-part-clause-done : goal.returns-in_err-part-clause-done
+returns-in_err-part-clause-done g c zs known =
+    stopped (λ journals text. IsDrawn journals (part_of journals c.args.wanted.now) text) (λ count lines journals. IsTooMany journals (part_of journals c.args.wanted.now) count lines) _ zs _ c.from_residual-in_err-part.ensures.1 (search rules)
+
 pub returns-in_err-text-clause-done : goal.returns-in_err-text-clause-done
 returns-in_err-text-clause-done g c zs known =
     let found = c.in_ok-bundle.ensures.bytes zs known in
-    crowded (λ journals text. IsDrawn journals c.args.part.now text) c.args.part.now c.in_err-text.field-0.0 _ c.in_ok-bundle.bundle.journals c.in_ok-bundle.bundle.receipts.items (record { at = found.0; bytes = found.1.0 }) zs (output (g.W.Sink.held c.args.writer.now) (g.W.Sink.held c.args.writer.now) (g.W.Sink.has_failed c.args.writer.now) (g.W.Sink.has_failed c.args.writer.now)) c.from_residual-in_err-text.ensures.1 found.1.2 c.in_err-text.ensures.refused (nothing_put (g.W.Sink.held c.args.writer.now) (g.W.Sink.has_failed c.args.writer.now) (g.W.Sink.has_failed c.args.writer.now))
+    crowded (λ journals text. IsDrawn journals (part_of journals c.args.wanted.now) text) c.args.wanted.now c.in_ok-part.part c.in_err-text.field-0.0 _ c.in_ok-bundle.bundle.journals c.in_ok-bundle.bundle.receipts.items (record { at = found.0; bytes = found.1.0 }) zs (output (g.W.Sink.held c.args.writer.now) (g.W.Sink.held c.args.writer.now) (g.W.Sink.has_failed c.args.writer.now) (g.W.Sink.has_failed c.args.writer.now)) c.from_residual-in_err-text.ensures.1 found.1.2 c.in_ok-part.ensures c.in_err-text.ensures.refused (nothing_put (g.W.Sink.held c.args.writer.now) (g.W.Sink.has_failed c.args.writer.now) (g.W.Sink.has_failed c.args.writer.now))
 
 pub returns-in_err-text-clause-read : goal.returns-in_err-text-clause-read
 returns-in_err-text-clause-read g c = diagram_not_read c.in_err-text.field-0.0 _ (g.S.Source.has_failed c.args.reader.now) (g.S.Source.has_failed c.read_bundle.new.source) c.from_residual-in_err-text.ensures.1 c.in_ok-bundle.ensures.told
@@ -29,4 +35,4 @@ returns-in_err-text-clause-written g c = diagram_not_written c.in_err-text.field
 pub returns-clause-done : goal.returns-clause-done
 returns-clause-done g c zs known =
     let found = c.in_ok-bundle.ensures.bytes zs known in
-    (refl, viewed (λ journals text. IsDrawn journals c.args.part.now text) c.in_ok-bundle.bundle.journals c.in_ok-bundle.bundle.receipts.items (record { at = found.0; bytes = found.1.0 }) zs c.in_ok-text.text.items _ found.1.2 c.in_ok-text.ensures.drawn (search rules))
+    (refl, viewed (λ journals text. IsDrawn journals (part_of journals c.args.wanted.now) text) c.in_ok-bundle.bundle.journals c.in_ok-bundle.bundle.receipts.items (record { at = found.0; bytes = found.1.0 }) zs c.in_ok-text.text.items _ found.1.2 (subst (λ (p : Part). IsDrawn c.in_ok-bundle.bundle.journals p c.in_ok-text.text.items) c.in_ok-part.ensures c.in_ok-text.ensures.drawn) (search rules))

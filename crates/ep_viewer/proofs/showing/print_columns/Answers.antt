@@ -14,6 +14,9 @@ returns-in_err-bundle-clause-read g c = bundle_read c.in_err-bundle.field-0.0 _ 
 pub returns-in_err-bundle-clause-written : goal.returns-in_err-bundle-clause-written
 returns-in_err-bundle-clause-written g c = bundle_not_written c.in_err-bundle.field-0.0 _ _ c.from_residual.ensures.1
 
+pub returns-in_err-part-clause-done : goal.returns-in_err-part-clause-done
+returns-in_err-part-clause-done g c zs known = stopped IsAnyText IsNever _ zs _ c.from_residual-in_err-part.ensures.1 (search rules)
+
 pub returns-in_err-text-clause-done : goal.returns-in_err-text-clause-done
 returns-in_err-text-clause-done g c zs known = stopped IsAnyText IsNever _ zs _ c.from_residual-in_err-text.ensures.1 (search rules)
 

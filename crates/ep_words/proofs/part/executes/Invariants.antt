@@ -3,4 +3,4 @@ use Rattle.ep_words.specs.Kept.{executes}
 use Rattle.ep_words.proofs.part.executes.Given as goal
 
 abbrev pub invariant-loop-other : goal.invariant-loop-other
-invariant-loop-other l = executes l.instance (drop l.other-index l.done) ≡ executes l.instance l.done
+invariant-loop-other l = executes l.instances (drop l.other-index l.done) ≡ executes l.instances l.done

@@ -3,4 +3,4 @@ use Rattle.ep_words.specs.Kept.{sends_of}
 use Rattle.ep_words.proofs.part.sends_of.Given as goal
 
 abbrev pub invariant-loop-frame : goal.invariant-loop-frame
-invariant-loop-frame l = sends_of l.instance (drop l.frame-index l.frames) ≡ sends_of l.instance l.frames
+invariant-loop-frame l = sends_of l.instances (drop l.frame-index l.frames) ≡ sends_of l.instances l.frames

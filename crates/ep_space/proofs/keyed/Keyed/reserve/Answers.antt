@@ -4,6 +4,6 @@ use Rattle.ep_space.proofs.keyed.Keyed.reserve.Goals as goal
 
 pub invariant_of-self : goal.invariant_of-self
 invariant_of-self c = (
-  kept-at c.reserve.result c.self.inside.table c.reserve.new.self c.self.inside.index.entries c.args.id c.self.invariant.0 c.number-number.ensures.in_range c.reserve.ensures.ok c.reserve.ensures.err,
+  kept-at c.reserve.result c.self.inside.table c.reserve.new.self c.self.inside.index.entries c.args.id c.self.invariant.0 c.reserve.ensures.ok c.reserve.ensures.err,
   taken-at c.reserve.result c.self.inside.table c.reserve.new.self c.args.id c.self.inside.taken c.self.invariant.1 c.reserve.ensures.ok c.reserve.ensures.err,
 )

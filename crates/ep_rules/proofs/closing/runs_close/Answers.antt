@@ -1,0 +1,5 @@
+use Rattle.ep_rules.proofs.Closings.{runs_close_lem}
+use Rattle.ep_rules.proofs.closing.runs_close.Goals as goal
+
+pub returns : goal.returns
+returns c = runs_close_lem
