@@ -1,3 +1,4 @@
+pub mod Limits
 pub mod Deps
 pub mod Packing
 pub mod BigEndian

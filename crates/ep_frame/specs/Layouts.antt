@@ -9,11 +9,11 @@ use Rattle.ep_frame.specs.Spelling.{Parts}
 
 -- what goes into a frame
 abbrev pub parts_in : Layout → Parts
-parts_in l = record { header = l.header; key = l.key.now; value = l.value.now; deps = l.deps.now }
+parts_in l = record { header = l.header; key = l.key.now; second = l.second.now; body = l.body.now; deps = l.deps.now }
 
 -- what a frame's bytes have
 abbrev pub parts_read : Sections → Parts
-parts_read s = record { header = s.header; key = s.key.now; value = s.value.now; deps = deps_in s.deps.now }
+parts_read s = record { header = s.header; key = s.key.now; second = s.second.now; body = s.body.now; deps = deps_in s.deps.now }
 
 -- the message that is told
 abbrev pub told_by : Telling → Message

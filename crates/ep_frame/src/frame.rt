@@ -130,7 +130,7 @@ impl Frame {
                 let bytes = in_version_2(alloc, self.as_slice())?;
                 Ok(Frame::written(bytes))
             }
-            Version::V2 => self.clone(),
+            Version::V2 | Version::V3(_) => self.clone(),
         }
     }
 }

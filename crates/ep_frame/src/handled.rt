@@ -15,7 +15,7 @@ ghost use Rattle.ep_frame.specs.Spelling.{parts_at};
 use crate::kind::{Kind, made_kind};
 use crate::numbers::{u8_at, u16_at, u32_at};
 use crate::sections::{made_ballot, made_command, made_deps, made_seq, made_status};
-use crate::view::{FrameView, key_in, text_in};
+use crate::view::{FrameView, body_in, dep_bytes_in, key_in, second_key_in};
 use ep_base::{Attrs, Ballot, Command, Decree, InstanceId, Seq, Vote};
 use std::alloc::{AllocError, Global};
 
@@ -53,17 +53,6 @@ fn seq_in(bytes: &[u8]) -> Seq
     made_seq(u32_at(bytes, 30))
 }
 
-// What stands after the value.
-#[tactic(auto, using(crate::proofs::Deps::rest_of))]
-fn dep_bytes_in(bytes: &[u8]) -> &[u8]
-    requires long { 40 ≤ length bytes.now }
-    requires whole { length bytes.now ≡ frame_len (header_at bytes.now) }
-    ensures { result.now ≡ drop (deps_place (header_at bytes.now)) bytes.now }
-{
-    let place = 40 + u8_at(bytes, 35) as usize + u16_at(bytes, 36) as usize;
-    &bytes[place..]
-}
-
 fn command_in(alloc: Global, bytes: &[u8]) -> Result<Command, AllocError>
     requires long { 40 ≤ length bytes.now }
     requires whole { length bytes.now ≡ frame_len (header_at bytes.now) }
@@ -71,7 +60,13 @@ fn command_in(alloc: Global, bytes: &[u8]) -> Result<Command, AllocError>
     requires command { has_command (header_at bytes.now) ≡ true }
     ensures { IfOk result (λ c. c ≡ command_at bytes.now) }
 {
-    made_command(alloc, u8_at(bytes, 34), key_in(bytes), text_in(bytes))
+    made_command(
+        alloc,
+        u8_at(bytes, 34),
+        key_in(bytes),
+        second_key_in(bytes),
+        body_in(bytes),
+    )
 }
 
 fn attrs_in(alloc: Global, bytes: &[u8]) -> Result<Attrs, AllocError>
@@ -154,14 +149,15 @@ fn has_command_in(bytes: &[u8], command: &Command) -> bool
 {
     let op = u8_at(bytes, 34);
     let key = key_in(bytes);
-    let text = text_in(bytes);
+    let second = second_key_in(bytes);
+    let body = body_in(bytes);
     match command {
         Command::Noop => op == 1,
         Command::Get(own) => op == 2 && key == own.as_slice(),
-        Command::Put(own, value) => { op == 3 && key == own.as_slice() && text == value.as_slice() }
+        Command::Put(own, value) => { op == 3 && key == own.as_slice() && body == value.as_slice() }
         Command::Del(own) => op == 4 && key == own.as_slice(),
         Command::Swap(keys) => {
-            op == 5 && key == keys.first().as_slice() && text == keys.second().as_slice()
+            op == 5 && key == keys.first().as_slice() && second == keys.second().as_slice()
         }
         Command::Cas { .. } | Command::Seal(_) | Command::Opaque(_, _) => false,
     }

@@ -10,6 +10,7 @@
 //! the format, and `one_spelling` has to hold of it too.
 #![tactic(auto)]
 
+mod comparison;
 mod deps_view;
 mod fault;
 mod frame;

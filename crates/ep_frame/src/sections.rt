@@ -6,7 +6,9 @@ ghost use Rattle.ep_base.specs.Ballots.{ballot_of, highest_counter};
 ghost use Rattle.ep_frame.specs.Fields.{deps_in};
 ghost use Rattle.ep_frame.specs.Faults.{are_deps, has_attributes, has_command};
 ghost use Rattle.ep_frame.specs.Layouts.{parts_read};
-ghost use Rattle.ep_frame.specs.Meaning.{instance_in, ballot_in, other_in, command_of, attrs_of, decree_of, status_of, vote_of, message_of};
+ghost use Rattle.ep_frame.specs.Meaning.{instance_in, ballot_in, other_in, attrs_of, decree_of, status_of, vote_of, message_of};
+ghost use Rattle.ep_frame.specs.Commands.{command_of};
+ghost use Rattle.ep_frame.specs.Spelling.{IsCommand};
 ghost use Rattle.ep_frame.specs.Ranges.{Readable};
 
 use crate::header::Header;
@@ -21,7 +23,8 @@ use std::alloc::{AllocError, Global};
 pub struct Sections<'a> {
     pub header: Header,
     pub key: &'a [u8],
-    pub value: &'a [u8],
+    pub second: &'a [u8],
+    pub body: &'a [u8],
     pub deps: &'a [u8],
 }
 
@@ -61,22 +64,19 @@ pub(crate) fn made_command(
     alloc: Global,
     op: u8,
     key: &[u8],
-    text: &[u8],
+    second: &[u8],
+    body: &[u8],
 ) -> Result<Command, AllocError>
-    requires low { 1 ≤ op }
-    requires high { op ≤ 5 }
-    requires key_low { 2 ≤ op → 1 ≤ length key.now }
-    requires key_high { length key.now ≤ 255 }
-    requires text { length text.now ≤ 1024 }
-    requires swap { op ≡ 5 → (1 ≤ length text.now) × (length text.now ≤ 255) × (key.now ≢ text.now) }
-    ensures { IfOk result (λ c. c ≡ command_of op key.now text.now) }
+    requires { IsCommand (command_of op key.now second.now body.now) }
+    ensures { IfOk result (λ c. c ≡ command_of op key.now second.now body.now) }
 {
     let made = match op {
         1 => Ok(Command::noop()),
         2 => Command::get(alloc, key),
-        3 => Command::put(alloc, key, text),
+        3 => Command::put(alloc, key, body),
         4 => Command::del(alloc, key),
-        _ => Command::swap(alloc, key, text),
+        5 => Command::swap(alloc, key, second),
+        _ => unreachable!(),
     };
     match made {
         Ok(command) => Ok(command),
@@ -142,7 +142,13 @@ impl<'a> Sections<'a> {
         requires command { has_command self.now.header ≡ true }
         ensures { IfOk result (λ x. x ≡ decree_of (parts_read self.now)) }
     {
-        let command = made_command(alloc, self.header.op, self.key, self.value)?;
+        let command = made_command(
+            alloc,
+            self.header.op,
+            self.key,
+            self.second,
+            self.body,
+        )?;
         let attrs = self.attrs(alloc)?;
         Ok(Decree { command, attrs })
     }

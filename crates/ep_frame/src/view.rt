@@ -1,19 +1,21 @@
 //! Reading a frame.
 
-ghost use Rattle.std.specs.Prelude.{◌≡◌, ◌≤◌, ◌+◌, ◌*◌, ◌↔◌, Ok, Err, IfOk, IsOk, IfSome, IsSome, IsTrue, MatchResult, length, drop};
+ghost use Rattle.std.specs.Prelude.{◌≡◌, ◌≤◌, ◌<◌, ◌^◌, ◌+◌, ◌*◌, ◌↔◌, Ok, Err, IfOk, IsOk, IfSome, IsSome, IsTrue, MatchResult, length, drop};
 ghost use Rattle.ep_base.specs.Instances.{instance_of, highest_number};
 ghost use Rattle.ep_base.specs.Messages.{instance_of_message};
-ghost use Rattle.ep_frame.specs.Faults.{HasNoFault, are_deps, are_early, are_in, deps_allowed, has_same_keys, fault_of, is_instance, rest_fault, deps_place, frame_len};
+ghost use Rattle.ep_frame.specs.Commands.{is_comparison};
+ghost use Rattle.ep_frame.specs.Faults.{HasNoFault, are_deps, are_early, are_in, deps_allowed, has_same_keys, has_other_body, is_short, fault_of, is_instance, rest_fault, second_place, body_place, deps_place, frame_len};
 ghost use Rattle.ep_frame.specs.DepBytes.{deps_at};
-ghost use Rattle.ep_frame.specs.Fields.{deps_in, header_at, number_at};
-ghost use Rattle.ep_frame.specs.Spelling.{IsFrame, Spells, key_at, text_at, value_at, second_key_at, parts_at};
+ghost use Rattle.ep_frame.specs.Fields.{deps_in, header_at, header_len, number_at};
+ghost use Rattle.ep_frame.specs.Spelling.{IsFrame, Spells, key_at, second_key_at, body_at, parts_at};
 ghost use Rattle.ep_frame.specs.Layouts.{parts_read};
 ghost use Rattle.ep_frame.specs.Ranges.{InRange};
 ghost use Rattle.ep_frame.specs.Meaning.{version_at, sender_at, origin_at, instance_at, message_at};
 
 use crate::deps_view::DepsView;
 use crate::fault::FrameFault;
-use crate::header::Header;
+use crate::comparison::is_comparison;
+use crate::header::{Header, body_len_at, header_len, second_len_at};
 use crate::numbers::{u8_at, u16_at, u32_at, u64_at};
 use crate::origin::Origin;
 use crate::sections::Sections;
@@ -90,7 +92,7 @@ fn are_in(version: Version, bytes: &[u8]) -> bool
 {
     match version {
         Version::V1 => are_early(bytes),
-        Version::V2 => true,
+        Version::V2 | Version::V3(_) => true,
     }
 }
 
@@ -101,33 +103,56 @@ fn deps_allowed(version: Version, bytes: &[u8]) -> bool
     deps_rise(bytes) && are_in(version, bytes)
 }
 
-// Whether the command is a swap, and both its keys are the same.
+// Whether there are two keys, and they are the same.
 #[tactic(auto, using(crate::proofs::Deps::part_of))]
 fn has_same_keys(header: &Header, bytes: &[u8]) -> bool
     requires { length bytes.now ≡ frame_len header.now }
     ensures { result ≡ has_same_keys header.now bytes.now }
 {
-    let place = 40 + header.key_len as usize;
-    let key = &bytes[40..place];
-    let text = &bytes[place..header.deps_place()];
-    header.op == 5 && key == text
+    let key = &bytes[header_len(header.version)..header.second_place()];
+    let second = &bytes[header.second_place()..header.body_place()];
+    header.second_len >= 1 && key == second
 }
 
-/// Whether the length is that of the fields, the dependencies are in order, and two keys differ.
-#[tactic(auto, using(crate::proofs::Deps::rest_of), unfolding(crate::specs::Faults::rest_fault))]
+// Whether the command is a comparison, and its body is none.
+#[tactic(auto, using(crate::proofs::Deps::part_of))]
+fn has_other_body(header: &Header, bytes: &[u8]) -> bool
+    requires { length bytes.now ≡ frame_len header.now }
+    ensures { result ≡ has_other_body header.now bytes.now }
+{
+    let body = &bytes[header.body_place()..header.deps_place()];
+    header.op == 6 && !is_comparison(body)
+}
+
+/// Whether the length is that of the fields, the dependencies are in order, two keys differ, and a comparison's body is one.
+#[tactic(auto, using(crate::proofs::Deps::rest_of, crate::proofs::Limits::same_deps), unfolding(crate::specs::Faults::rest_fault))]
 fn check_rest(header: &Header, bytes: &[u8]) -> Result<(), FrameFault>
     ensures { result ≡ rest_fault header.now bytes.now }
 {
     if bytes.len() != header.len() {
         return Err(FrameFault::Length);
     }
-    if !deps_allowed(header.version(), &bytes[header.deps_place()..]) {
+    if !deps_allowed(header.limits(), &bytes[header.deps_place()..]) {
         return Err(FrameFault::Order);
     }
     if has_same_keys(header, bytes) {
         return Err(FrameFault::SameKey);
     }
+    if has_other_body(header, bytes) {
+        return Err(FrameFault::Body);
+    }
     Ok(())
+}
+
+// Whether they are fewer bytes than a header of its version has.
+#[tactic(auto, using(crate::proofs::Limits::is_short_below))]
+fn is_short(bytes: &[u8]) -> bool
+    ensures { result ≡ is_short bytes.now }
+{
+    if bytes.len() < 40 {
+        return true;
+    }
+    bytes.len() < header_len(u8_at(bytes, 2))
 }
 
 /// The first fault of the bytes.
@@ -135,7 +160,7 @@ fn check_rest(header: &Header, bytes: &[u8]) -> Result<(), FrameFault>
 pub(crate) fn check_frame(bytes: &[u8]) -> Result<(), FrameFault>
     ensures { result ≡ fault_of bytes.now }
 {
-    if bytes.len() < 40 {
+    if is_short(bytes) {
         return Err(FrameFault::Short);
     }
     let header = Header::parse(bytes);
@@ -143,48 +168,57 @@ pub(crate) fn check_frame(bytes: &[u8]) -> Result<(), FrameFault>
     check_rest(&header, bytes)
 }
 
-pub(crate) fn key_in(bytes: &[u8]) -> &[u8]
-    requires long { 40 ≤ length bytes.now }
-    requires whole { length bytes.now ≡ frame_len (header_at bytes.now) }
-    ensures { result.now ≡ key_at bytes.now }
+// Where the second key begins, the body, and the dependencies.
+
+fn second_place_in(bytes: &[u8]) -> usize
+    requires { length bytes.now ≡ frame_len (header_at bytes.now) }
+    ensures value { result ≡ second_place (header_at bytes.now) }
+    ensures small { result < 2 ^ 9 }
 {
-    let end = 40 + u8_at(bytes, 35) as usize;
-    &bytes[40..end]
+    header_len(u8_at(bytes, 2)) + u8_at(bytes, 35) as usize
 }
 
-// What stands after the key: a put's value, or a swap's second key.
-pub(crate) fn text_in(bytes: &[u8]) -> &[u8]
-    requires long { 40 ≤ length bytes.now }
-    requires whole { length bytes.now ≡ frame_len (header_at bytes.now) }
-    ensures { result.now ≡ text_at bytes.now }
+fn body_place_in(bytes: &[u8]) -> usize
+    requires { length bytes.now ≡ frame_len (header_at bytes.now) }
+    ensures value { result ≡ body_place (header_at bytes.now) }
+    ensures small { result < 2 ^ 17 }
 {
-    let start = 40 + u8_at(bytes, 35) as usize;
-    let end = start + u16_at(bytes, 36) as usize;
+    second_place_in(bytes) + second_len_at(bytes) as usize
+}
+
+fn deps_place_in(bytes: &[u8]) -> usize
+    requires { length bytes.now ≡ frame_len (header_at bytes.now) }
+    ensures value { result ≡ deps_place (header_at bytes.now) }
+    ensures small { result < 2 ^ 33 }
+{
+    body_place_in(bytes) + body_len_at(bytes) as usize
+}
+
+pub(crate) fn key_in(bytes: &[u8]) -> &[u8]
+    requires { length bytes.now ≡ frame_len (header_at bytes.now) }
+    ensures { result.now ≡ key_at bytes.now }
+{
+    let start = header_len(u8_at(bytes, 2));
+    let end = second_place_in(bytes);
     &bytes[start..end]
 }
 
-fn value_in(bytes: &[u8]) -> &[u8]
-    requires long { 40 ≤ length bytes.now }
-    requires whole { length bytes.now ≡ frame_len (header_at bytes.now) }
-    ensures { result.now ≡ value_at bytes.now }
-{
-    if u8_at(bytes, 34) == 5 {
-        &[]
-    } else {
-        text_in(bytes)
-    }
-}
-
-fn second_key_in(bytes: &[u8]) -> &[u8]
-    requires long { 40 ≤ length bytes.now }
-    requires whole { length bytes.now ≡ frame_len (header_at bytes.now) }
+pub(crate) fn second_key_in(bytes: &[u8]) -> &[u8]
+    requires { length bytes.now ≡ frame_len (header_at bytes.now) }
     ensures { result.now ≡ second_key_at bytes.now }
 {
-    if u8_at(bytes, 34) == 5 {
-        text_in(bytes)
-    } else {
-        &[]
-    }
+    let start = second_place_in(bytes);
+    let end = body_place_in(bytes);
+    &bytes[start..end]
+}
+
+pub(crate) fn body_in(bytes: &[u8]) -> &[u8]
+    requires { length bytes.now ≡ frame_len (header_at bytes.now) }
+    ensures { result.now ≡ body_at bytes.now }
+{
+    let start = body_place_in(bytes);
+    let end = deps_place_in(bytes);
+    &bytes[start..end]
 }
 
 /// The replica of this number.
@@ -258,28 +292,27 @@ fn origin_in(bytes: &[u8]) -> Origin
 }
 
 // The fields, and the bytes after them.
+#[tactic(auto, using(crate::proofs::Deps::rest_of, crate::proofs::Deps::part_of))]
 fn sections_in(bytes: &[u8]) -> Sections<'_>
-    requires long { 40 ≤ length bytes.now }
-    requires whole { length bytes.now ≡ frame_len (header_at bytes.now) }
+    requires { length bytes.now ≡ frame_len (header_at bytes.now) }
     ensures { parts_read result ≡ parts_at bytes.now }
 {
-    let header = Header::parse(bytes);
     Sections {
-        header,
+        header: Header::parse(bytes),
         key: key_in(bytes),
-        value: text_in(bytes),
-        deps: &bytes[header.deps_place()..],
+        second: second_key_in(bytes),
+        body: body_in(bytes),
+        deps: dep_bytes_in(bytes),
     }
 }
 
-// What stands after the value.
+// What stands after the body.
 #[tactic(auto, using(crate::proofs::Deps::rest_of))]
-fn rest_in(bytes: &[u8]) -> &[u8]
-    requires long { 40 ≤ length bytes.now }
-    requires whole { length bytes.now ≡ frame_len (header_at bytes.now) }
+pub(crate) fn dep_bytes_in(bytes: &[u8]) -> &[u8]
+    requires { length bytes.now ≡ frame_len (header_at bytes.now) }
     ensures { result.now ≡ drop (deps_place (header_at bytes.now)) bytes.now }
 {
-    let place = Header::parse(bytes).deps_place();
+    let place = deps_place_in(bytes);
     &bytes[place..]
 }
 
@@ -318,13 +351,14 @@ impl<'a> FrameView<'a> {
     }
 
     /// The version that the frame is of.
+    #[tactic(auto, using(crate::proofs::Frames::frame_generation))]
     pub fn version(&self) -> Version
         ensures { result ≡ version_at self.now }
     {
         self.header().version()
     }
 
-    /// The fields of the first 40 bytes.
+    /// The fields of the header.
     pub fn header(&self) -> Header
         ensures { result ≡ header_at self.now }
     {
@@ -356,34 +390,33 @@ impl<'a> FrameView<'a> {
         instance_in(self.bytes)
     }
 
-    /// The bytes of the key, of a swap the first one: those from place 40 on that the header counts. None where the frame has
-    /// no key.
+    /// The bytes of the key, of two the first one: those behind the header that it counts. None where the frame has no key.
     pub fn key(&self) -> &'a [u8]
         ensures { result.now ≡ key_at self.now }
     {
         key_in(self.bytes)
     }
 
-    /// The bytes of the value: those after the key that the header counts. None in a swap.
-    pub fn value(&self) -> &'a [u8]
-        ensures { result.now ≡ value_at self.now }
-    {
-        value_in(self.bytes)
-    }
-
-    /// The bytes of a swap's second key, which stand in the value's place. None where the frame has no swap.
+    /// The bytes of the second key, which stand behind the first one. None where the frame has no second key.
     pub fn second_key(&self) -> &'a [u8]
         ensures { result.now ≡ second_key_at self.now }
     {
         second_key_in(self.bytes)
     }
 
-    #[tactic(auto, using(crate::proofs::Frames::frame_long, crate::proofs::Frames::frame_whole, crate::proofs::Frames::frame_deps))]
-    /// The dependencies: what stands after the value.
+    /// The bytes of the command's body: those behind the keys that the header counts.
+    pub fn body(&self) -> &'a [u8]
+        ensures { result.now ≡ body_at self.now }
+    {
+        body_in(self.bytes)
+    }
+
+    #[tactic(auto, using(crate::proofs::Frames::frame_whole, crate::proofs::Frames::frame_deps))]
+    /// The dependencies: what stands after the body.
     pub fn deps(&self) -> DepsView<'a>
         ensures { result ≡ deps_at self.now }
     {
-        DepsView::of(rest_in(self.bytes))
+        DepsView::of(dep_bytes_in(self.bytes))
     }
 
     /// The message that the bytes spell.
