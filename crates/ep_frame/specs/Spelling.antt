@@ -4,6 +4,7 @@ use Rattle.std.specs.List.{flat_map}
 use Rattle.ep_base.specs.Instances.{leader_of, number_of, IsInstance}
 use Rattle.ep_base.specs.Ballots.{counter_of, owner_of, highest_counter}
 use Rattle.ep_base.specs.Deps.{IsRising, AreInstances, most_deps}
+use Rattle.ep_base.specs.Generations.{HasItsGeneration}
 use Rattle.ep_base.specs.Values.{most_value}
 use Rattle.ep_base.specs.declared.command.Command.TheVariants.{Noop, Get, Put, Del, Swap, Cas, Seal, Opaque}
 use Rattle.ep_base.specs.Versions.{version_number, generation_of, CanSay}
@@ -13,7 +14,6 @@ use Rattle.ep_base.specs.declared.decree.Decree.{Decree}
 use Rattle.ep_base.specs.declared.message.Message.{Message}
 use Rattle.ep_base.specs.declared.message.Message.TheVariants.{PreAccept, PreAcceptOk, Accept, AcceptOk, Commit, Prepare, PrepareOk, Nack}
 use Rattle.ep_base.specs.declared.version.Version.{Version}
-use Rattle.ep_base.specs.declared.version.Version.TheVariants.{V1, V2, V3}
 use Rattle.ep_base.specs.declared.vote.Vote.{Vote}
 use Rattle.ep_base.specs.declared.vote.Status.{Status}
 use Rattle.ep_base.specs.declared.vote.Status.TheVariants.{PreAccepted, Accepted, Committed}
@@ -201,12 +201,6 @@ IsMessage (Prepare i b) = IsInstance i × IsBallot i 1 b
 IsMessage (PrepareOk i b v) = IsInstance i × IsBallot i 1 b × IsVote i v
 IsMessage (Nack i refused promised) = IsInstance i × IsBallot i 0 refused × (1 ≤ counter_of promised) × (counter_of promised ≤ highest_counter) × (owner_of promised ≤ 6)
 
--- a generation is 1 or more, and has four bytes
-abbrev pub IsVersion : Version → Type 0
-IsVersion V1 = Unit {0}
-IsVersion V2 = Unit {0}
-IsVersion (V3 g) = (1 ≤ g) × (g < 2 ^ 32)
-
 pub record IsOrigin (from : ℕ) (o : Origin) : Type 0 where
   pub sender : from ≤ 6
   pub receiver : o.to ≤ 6
@@ -219,7 +213,7 @@ pub record IsOrigin (from : ℕ) (o : Origin) : Type 0 where
 
 -- the bytes are the frame of version v that the sender `from` sends with this origin for the message m
 pub record Spells (v : Version) (bytes : List ℕ) (from : ℕ) (o : Origin) (m : Message) : Type 0 where
-  pub version : IsVersion v
+  pub version : HasItsGeneration v
   pub origin : IsOrigin from o
   pub message : IsMessage m
   pub sayable : CanSay v m

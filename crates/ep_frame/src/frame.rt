@@ -2,7 +2,7 @@
 
 ghost use Rattle.std.specs.Prelude.{◌≡◌, ◌≤◌, ◌∷◌, ◌++◌, Ok, Err, IfOk, IsOk, MatchResult, length, take, drop};
 ghost use Rattle.ep_base.specs.Messages.{instance_of_message};
-ghost use Rattle.ep_base.specs.declared.version.Version.TheVariants.{V2};
+ghost use Rattle.ep_base.specs.declared.version_kind.VersionKind.TheVariants.{V2};
 ghost use Rattle.ep_frame.specs.Faults.{HasNoFault, fault_of};
 ghost use Rattle.ep_frame.specs.Meaning.{version_at, sender_at, origin_at, instance_at, message_at};
 ghost use Rattle.ep_frame.specs.Spelling.{IsFrame, Spells};
@@ -12,7 +12,7 @@ use crate::fault::FrameFault;
 use crate::origin::Origin;
 use crate::view::FrameView;
 use bytes::Bytes;
-use ep_base::{InstanceId, ReplicaId, Version};
+use ep_base::{InstanceId, ReplicaId, Version, VersionKind};
 use std::alloc::{AllocError, Global};
 use std::marker::Model;
 
@@ -125,12 +125,12 @@ impl Frame {
         ensures same { version_at self.now ≡ V2 → IfOk result (λ f. f ≡ self.now) }
     {
         let view = self.view();
-        match view.version() {
-            Version::V1 => {
+        match view.version().kind() {
+            VersionKind::V1 => {
                 let bytes = in_version_2(alloc, self.as_slice())?;
                 Ok(Frame::written(bytes))
             }
-            Version::V2 | Version::V3(_) => self.clone(),
+            VersionKind::V2 | VersionKind::V3(_) => self.clone(),
         }
     }
 }

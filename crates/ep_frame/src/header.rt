@@ -7,7 +7,7 @@ ghost use Rattle.ep_frame.specs.Faults.{checked, names_rows, ballot_rows, vote_r
 
 use crate::fault::FrameFault;
 use crate::numbers::{u8_at, u16_at, u32_at, u64_at};
-use ep_base::{Generation, Version};
+use ep_base::{Version, VersionKind};
 
 /// The fields of a frame's first 40 bytes, in version 3 of its first 48, in their order. All numbers stand with their highest byte first.
 #[derive(Clone, Copy, Debug, PartialEq, Eq)]
@@ -70,10 +70,10 @@ fn check(allowed: bool, fault: FrameFault) -> Result<(), FrameFault>
 fn highest_op(version: Version) -> u8
     ensures { result ≡ highest_op version }
 {
-    match version {
-        Version::V1 => 4,
-        Version::V2 => 5,
-        Version::V3(_) => 9,
+    match version.kind() {
+        VersionKind::V1 => 4,
+        VersionKind::V2 => 5,
+        VersionKind::V3(_) => 9,
     }
 }
 
@@ -81,9 +81,9 @@ fn highest_op(version: Version) -> u8
 fn longest_put(version: Version) -> u32
     ensures { result ≡ longest_put version }
 {
-    match version {
-        Version::V1 | Version::V2 => 1024,
-        Version::V3(_) => 65_535,
+    match version.kind() {
+        VersionKind::V1 | VersionKind::V2 => 1024,
+        VersionKind::V3(_) => 65_535,
     }
 }
 
@@ -94,17 +94,6 @@ pub(crate) fn header_len(version: u8) -> usize
     ensures long { 40 ≤ result }
 {
     if version == 3 { 48 } else { 40 }
-}
-
-/// The generation of this number.
-fn made_generation(number: u32) -> Generation
-    requires { 1 ≤ number }
-    ensures { result ≡ number }
-{
-    match Generation::new(number) {
-        Ok(generation) => generation,
-        Err(_) => unreachable!(),
-    }
 }
 
 /// The length of the second key.
@@ -180,22 +169,14 @@ impl Header {
         requires { self.now.version ≡ 3 → 1 ≤ self.now.generation }
         ensures { result ≡ version_in self.now }
     {
-        match self.version {
-            1 => Version::V1,
-            3 => Version::V3(made_generation(self.generation)),
-            _ => Version::V2,
-        }
+        Version::known(self.version, self.generation)
     }
 
     // A version with the limits of the frame's: those of version 3 are the same in all generations.
     pub(crate) fn limits(&self) -> Version
         ensures { result ≡ version_of self.now.version 1 }
     {
-        match self.version {
-            1 => Version::V1,
-            3 => Version::V3(Generation::first()),
-            _ => Version::V2,
-        }
+        Version::known(self.version, 1)
     }
 
     /// Whether the message carries attributes: a pre-accept, its answer, an accept, a commit, or an answer to a Prepare with a vote.
@@ -341,18 +322,18 @@ impl Header {
     fn text_len_allowed(&self, version: Version) -> bool
         ensures { result ≡ text_len_allowed version self.now }
     {
-        match version {
-            Version::V1 | Version::V2 => self.second_len_allowed() && self.body_len <= longest_put(version),
-            Version::V3(_) => self.second_len_allowed(),
+        match version.kind() {
+            VersionKind::V1 | VersionKind::V2 => self.second_len_allowed() && self.body_len <= longest_put(version),
+            VersionKind::V3(_) => self.second_len_allowed(),
         }
     }
 
     fn generation_allowed(&self, version: Version) -> bool
         ensures { result ≡ generation_allowed version self.now }
     {
-        match version {
-            Version::V1 | Version::V2 => self.generation == 0,
-            Version::V3(_) => self.generation >= 1,
+        match version.kind() {
+            VersionKind::V1 | VersionKind::V2 => self.generation == 0,
+            VersionKind::V3(_) => self.generation >= 1,
         }
     }
 

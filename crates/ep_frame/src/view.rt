@@ -19,7 +19,7 @@ use crate::header::{Header, body_len_at, header_len, second_len_at};
 use crate::numbers::{u8_at, u16_at, u32_at, u64_at};
 use crate::origin::Origin;
 use crate::sections::Sections;
-use ep_base::{InstanceId, Message, ReplicaId, Stamp, Version};
+use ep_base::{InstanceId, Message, ReplicaId, Stamp, Version, VersionKind};
 use std::alloc::{AllocError, Global};
 use std::marker::Model;
 
@@ -90,9 +90,9 @@ fn are_early(bytes: &[u8]) -> bool
 fn are_in(version: Version, bytes: &[u8]) -> bool
     ensures { result ≡ are_in version (deps_in bytes.now) }
 {
-    match version {
-        Version::V1 => are_early(bytes),
-        Version::V2 | Version::V3(_) => true,
+    match version.kind() {
+        VersionKind::V1 => are_early(bytes),
+        VersionKind::V2 | VersionKind::V3(_) => true,
     }
 }
 

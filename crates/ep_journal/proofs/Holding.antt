@@ -19,7 +19,7 @@ use Rattle.ep_base.specs.declared.message.Message.{Message}
 use Rattle.ep_base.specs.declared.message.Message.TheVariants.{PreAccept, PreAcceptOk, Accept, AcceptOk, Commit, Prepare, PrepareOk, Nack}
 use Rattle.ep_base.specs.declared.reply.Answer.{Answer}
 use Rattle.ep_base.specs.declared.version.Version.{Version}
-use Rattle.ep_base.specs.declared.version.Version.TheVariants.{V1, V2}
+use Rattle.ep_base.specs.declared.version_kind.VersionKind.TheVariants.{V1, V2}
 use Rattle.ep_base.specs.declared.vote.Status.TheVariants.{PreAccepted, Accepted}
 use Rattle.ep_base.specs.declared.vote.Vote.{Vote}
 use Rattle.ep_frame.proofs.Saying.{number_low}
