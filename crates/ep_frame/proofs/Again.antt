@@ -13,14 +13,14 @@ use Rattle.ep_frame.specs.Faults.{second_place, body_place, deps_place, frame_le
 use Rattle.ep_frame.specs.Spelling.{Parts, parts_at, parts_bytes}
 use Rattle.ep_frame.proofs.BigEndian.{from_drop, fields_from, total}
 
-number_again : (i n x : ℕ) (pre rest : List ℕ) → length pre ≡ i → x < 256 ^ n → number_at i n (pre ++ (number_bytes n x ++ rest)) ≡ x
+pub number_again : (i n x : ℕ) (pre rest : List ℕ) → length pre ≡ i → x < 256 ^ n → number_at i n (pre ++ (number_bytes n x ++ rest)) ≡ x
 unfolding number_at number_bytes
 number_again i n x pre rest len lt =
     let b = pre ++ (big_bytes n x ++ rest) in
     let place : i ≡ i + 0 = omega arith in
     ap (λ (k : ℕ). big_from k n b) place ∙ from_drop i 0 n b ∙ ap (λ (ys : List ℕ). big_from 0 n ys) (drop_at pre (big_bytes n x ++ rest) i len) ∙ big_number-reads_back n x rest lt
 
-length-number_bytes : (n x : ℕ) → length (number_bytes n x) ≡ n
+pub length-number_bytes : (n x : ℕ) → length (number_bytes n x) ≡ n
 unfolding number_bytes
 length-number_bytes n x = length-bytes_high_first n x
 

@@ -21,7 +21,7 @@ option_at [] = None
 option_at (tag ∷ b) =
     let n = number_at 0 4 b in
     if tag == 0 then Some (None, b)
-    else if tag == 1 && nat_le n most_value && nat_le (4 + n) (length b) then Some (Some (take n (drop 4 b)), drop (4 + n) b)
+    else if tag == 1 && (nat_le n most_value && nat_le (4 + n) (length b)) then Some (Some (take n (drop 4 b)), drop (4 + n) b)
     else None
 
 abbrev pub if_all : Option (Option (List ℕ) × List ℕ) → Option (List ℕ) → Option (Option (List ℕ) × Option (List ℕ))

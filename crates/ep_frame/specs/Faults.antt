@@ -64,29 +64,34 @@ op_allowed v h = if has_command h then within 1 (highest_op v) h.op else h.op ==
 abbrev pub key_len_allowed : Header → Bool
 key_len_allowed h = if within 2 8 h.op then within 1 255 h.key_len else h.key_len == 0
 
-abbrev pub second_len_allowed : Header → Bool
-second_len_allowed h = if h.op == 5 then within 1 255 h.second_len else if within 7 8 h.op then nat_le h.second_len 255 else h.second_len == 0
+-- the length of a second key, and of a body, with this op
 
--- the longest body of a put
-abbrev pub longest_put : Version → ℕ
-longest_put V1 = 1024
-longest_put V2 = 1024
-longest_put (V3 g) = 65535
+abbrev pub second_fits : (op n : ℕ) → Bool
+second_fits op n = if op == 5 then within 1 255 n else if within 7 8 op then nat_le n 255 else n == 0
 
--- the field at 36: in versions 1 and 2 a put's body has its length there
-abbrev pub text_len_allowed : Version → Header → Bool
-text_len_allowed V1 h = second_len_allowed h && nat_le h.body_len (longest_put V1)
-text_len_allowed V2 h = second_len_allowed h && nat_le h.body_len (longest_put V2)
-text_len_allowed (V3 g) h = second_len_allowed h
+abbrev pub body_fits : (op n : ℕ) → Bool
+body_fits op n = if op == 3 || within 7 9 op then nat_le n 65535 else if op == 6 then within 2 131080 n else n == 0
+
+-- what the field at 36 tells: in versions 1 and 2 it is the length of a put's body too, which has at most 1,024 bytes
+abbrev pub text_fits : Version → (op second body : ℕ) → Bool
+text_fits V1 op second body = second_fits op second && nat_le body 1024
+text_fits V2 op second body = second_fits op second && nat_le body 1024
+text_fits (V3 g) op second body = second_fits op second
 
 -- versions 1 and 2 have none, and it is read as 0
+abbrev pub generation_fits : Version → ℕ → Bool
+generation_fits V1 n = n == 0
+generation_fits V2 n = n == 0
+generation_fits (V3 g) n = nat_le 1 n
+
+abbrev pub text_len_allowed : Version → Header → Bool
+text_len_allowed v h = text_fits v h.op h.second_len h.body_len
+
 abbrev pub generation_allowed : Version → Header → Bool
-generation_allowed V1 h = h.generation == 0
-generation_allowed V2 h = h.generation == 0
-generation_allowed (V3 g) h = nat_le 1 h.generation
+generation_allowed v h = generation_fits v h.generation
 
 abbrev pub body_len_allowed : Header → Bool
-body_len_allowed h = if h.op == 3 || within 7 9 h.op then nat_le h.body_len 65535 else if h.op == 6 then within 2 131080 h.body_len else h.body_len == 0
+body_len_allowed h = body_fits h.op h.body_len
 
 abbrev pub count_allowed : Version → Header → Bool
 count_allowed v h = if has_attributes h then nat_le h.count (most_deps_in v) else h.count == 0

@@ -3,7 +3,7 @@
 ghost use Rattle.std.specs.Prelude.{◌≡◌, ◌≤◌, ◌<◌, ◌^◌, [], ◌∷◌, length};
 ghost use Rattle.ep_base.specs.Versions.{version_of};
 ghost use Rattle.ep_frame.specs.Fields.{header_at, header_len, number_at, second_len_from, generation_from, body_len_from};
-ghost use Rattle.ep_frame.specs.Faults.{checked, names_rows, ballot_rows, vote_rows, body_rows, late_rows, has_attributes, has_command, counter_allowed, replica_allowed, status_allowed, other_counter_allowed, other_replica_allowed, seq_allowed, highest_op, op_allowed, key_len_allowed, second_len_allowed, longest_put, text_len_allowed, generation_allowed, body_len_allowed, count_allowed, version_in, header_fault_in, header_fault, second_place, body_place, deps_place, frame_len};
+ghost use Rattle.ep_frame.specs.Faults.{checked, names_rows, ballot_rows, vote_rows, body_rows, late_rows, has_attributes, has_command, counter_allowed, replica_allowed, status_allowed, other_counter_allowed, other_replica_allowed, seq_allowed, highest_op, op_allowed, key_len_allowed, second_fits, text_len_allowed, generation_allowed, body_len_allowed, count_allowed, version_in, header_fault_in, header_fault, second_place, body_place, deps_place, frame_len};
 
 use crate::fault::FrameFault;
 use crate::numbers::{u8_at, u16_at, u32_at, u64_at};
@@ -74,16 +74,6 @@ fn highest_op(version: Version) -> u8
         VersionKind::V1 => 4,
         VersionKind::V2 => 5,
         VersionKind::V3(_) => 9,
-    }
-}
-
-// The longest body of a put.
-fn longest_put(version: Version) -> u32
-    ensures { result ≡ longest_put version }
-{
-    match version.kind() {
-        VersionKind::V1 | VersionKind::V2 => 1024,
-        VersionKind::V3(_) => 65_535,
     }
 }
 
@@ -310,7 +300,7 @@ impl Header {
     }
 
     fn second_len_allowed(&self) -> bool
-        ensures { result ≡ second_len_allowed self.now }
+        ensures { result ≡ second_fits self.now.op self.now.second_len }
     {
         match self.op {
             5 => self.second_len >= 1 && self.second_len <= 255,
@@ -323,7 +313,7 @@ impl Header {
         ensures { result ≡ text_len_allowed version self.now }
     {
         match version.kind() {
-            VersionKind::V1 | VersionKind::V2 => self.second_len_allowed() && self.body_len <= longest_put(version),
+            VersionKind::V1 | VersionKind::V2 => self.second_len_allowed() && self.body_len <= 1024,
             VersionKind::V3(_) => self.second_len_allowed(),
         }
     }

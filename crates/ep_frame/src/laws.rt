@@ -18,3 +18,6 @@ pub fn one_spelling()
     ensures bytes { (v : Version) (b c : List ℕ) (f : ℕ) (o : Origin) (m : Message) → Spells v b f o m → Spells v c f o m → b ≡ c }
     ensures spelled { (v : Version) (f : ℕ) (o : Origin) (m : Message) → HasItsGeneration v → IsOrigin f o → IsMessage m → CanSay v m → (b : List ℕ) × Spells v b f o m }
 {}
+
+#[tactic(auto, using(crate::proofs::Codec::comparison_found, crate::proofs::Again::parts_again, crate::proofs::Saying::op_known, crate::proofs::Limits::same_deps))]
+fn look() {}
