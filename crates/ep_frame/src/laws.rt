@@ -19,5 +19,5 @@ pub fn one_spelling()
     ensures spelled { (v : Version) (f : ℕ) (o : Origin) (m : Message) → HasItsGeneration v → IsOrigin f o → IsMessage m → CanSay v m → (b : List ℕ) × Spells v b f o m }
 {}
 
-#[tactic(auto, using(crate::proofs::Codec::comparison_found, crate::proofs::Again::parts_again, crate::proofs::Saying::op_known, crate::proofs::Limits::same_deps))]
+#[tactic(auto, using(crate::proofs::Codec::comparison_found, crate::proofs::Again::parts_again, crate::proofs::Saying::op_known, crate::proofs::Limits::same_deps, crate::proofs::Sound::frame_again))]
 fn look() {}
