@@ -1,9 +1,9 @@
 -- The message that the parts of a message's frame stand for is that message, so no bytes spell two.
-use Rattle.std.proofs.Common.{◌≡◌, ℕ, List, Bool, true, false, cond, eqb, refl, sym, ap, ◌∙◌}
+use Rattle.std.proofs.Common.{◌≡◌, ℕ, ◌≤◌, List, [], ◌∷◌, length, arith, Bool, true, false, cond, eqb, refl, sym, ap, ◌∙◌}
 use Rattle.std.specs.Prelude.{Some, None, Option}
 use Rattle.ep_base.specs.Ballots.{counter_of, owner_of, ballot_of}
 use Rattle.ep_base.specs.Messages.{instance_of_message}
-use Rattle.ep_base.specs.Versions.{version_number, version_of}
+use Rattle.ep_base.specs.Versions.{version_number, generation_of, version_of}
 use Rattle.ep_base.proofs.Versions.{version_again}
 use Rattle.ep_base.specs.declared.decree.Decree.{Decree}
 use Rattle.ep_base.specs.declared.command.Command.{Command}
@@ -15,35 +15,47 @@ use Rattle.ep_base.specs.declared.vote.Status.TheVariants.{PreAccepted, Accepted
 use Rattle.ep_base.specs.declared.message.Message.{Message}
 use Rattle.ep_base.specs.declared.message.Message.TheVariants.{PreAccept, PreAcceptOk, Accept, AcceptOk, Commit, Prepare, PrepareOk, Nack}
 use Rattle.ep_frame.specs.declared.origin.Origin.{Origin}
-use Rattle.ep_frame.specs.Meaning.{origin_in, instance_in, instance_at, command_of, status_of, message_of, version_at, sender_at, origin_at, message_at}
-use Rattle.ep_frame.specs.Spelling.{Parts, parts_at, parts_of, Spells, IsCommand, IsDecree, IsMessage, op_code, key_in, value_in, status_code}
+use Rattle.ep_frame.specs.Meaning.{origin_in, instance_in, instance_at, status_of, message_of, version_at, sender_at, origin_at, message_at}
+use Rattle.ep_frame.specs.Spelling.{Parts, parts_at, parts_of, Spells, IsCommand, IsDecree, IsMessage, IsOther, status_code}
+use Rattle.ep_frame.specs.Commands.{op_code, key_in, second_in, body_in, command_of, comparison_of, unless_empty, or_empty}
+use Rattle.ep_frame.proofs.Codec.{comparison_again}
+use Rattle.ep_base.specs.Touched.{Touched}
 use Rattle.ep_frame.proofs.Packing.{instance_again, ballot_again}
 use Rattle.ep_frame.proofs.Again.{parts_again}
 use Rattle.ep_frame.proofs.Sound.{sound, has_status}
 
-command_again : (c : Command) → IsCommand c → command_of (op_code c) (key_in c) (value_in c) ≡ c
+other_again : (o : Option (List ℕ)) (key : List ℕ) → IsOther key o → unless_empty (or_empty o) ≡ o
+other_again None key h = refl
+other_again (Some []) key h = let few = h.0.0 in absurd (omega arith)
+other_again (Some (x ∷ xs)) key h = refl
+
+outside_again : (p : Touched) (b : List ℕ) (r : Bool) → IsOther p.first p.second → command_of (cond r 7 8) p.first (or_empty p.second) b ≡ Opaque (record { first = p.first; second = p.second; reads = r }) b
+outside_again p b true h = λ t. Opaque (record { first = p.first; second = other_again p.second p.first h t; reads = true }) b
+outside_again p b false h = λ t. Opaque (record { first = p.first; second = other_again p.second p.first h t; reads = false }) b
+
+command_again : (c : Command) → IsCommand c → command_of (op_code c) (key_in c) (second_in c) (body_in c) ≡ c
 command_again Noop h = refl
 command_again (Get k) h = refl
 command_again (Put k v) h = refl
 command_again (Del k) h = refl
 command_again (Swap p) h = refl
-command_again (Cas k x y) h = absurd h
-command_again (Seal x) h = absurd h
-command_again (Opaque p b) h = absurd h
+command_again (Cas k e n) h = ap (comparison_of k) (comparison_again e n h.1 h.2)
+command_again (Seal x) h = refl
+command_again (Opaque p b) h = outside_again p b p.reads h.1
 
 status_again : (s : Status) → status_of (status_code s) ≡ s
 status_again PreAccepted = refl
 status_again Accepted = refl
 status_again Committed = refl
 
-decree_again : (x : Decree) → IsDecree x → record { command = command_of (op_code x.command) (key_in x.command) (value_in x.command); attrs = x.attrs } ≡ x
+decree_again : (x : Decree) → IsDecree x → record { command = command_of (op_code x.command) (key_in x.command) (second_in x.command) (body_in x.command); attrs = x.attrs } ≡ x
 decree_again x h = λ t. record { command = command_again x.command h.command t; attrs = x.attrs }
 
 abbrev vote_made : Status → ℕ → Decree → Option Vote
 vote_made s b x = Some (record { status = s; ballot = b; decree = x })
 
 vote_again : (v : Vote) → IsDecree v.decree → cond (eqb (status_code v.status) 0) None
-    (vote_made (status_of (status_code v.status)) (ballot_of (counter_of v.ballot) (owner_of v.ballot)) (record { command = command_of (op_code v.decree.command) (key_in v.decree.command) (value_in v.decree.command); attrs = v.decree.attrs }))
+    (vote_made (status_of (status_code v.status)) (ballot_of (counter_of v.ballot) (owner_of v.ballot)) (record { command = command_of (op_code v.decree.command) (key_in v.decree.command) (second_in v.decree.command) (body_in v.decree.command); attrs = v.decree.attrs }))
     ≡ Some v
 vote_again v h =
     (λ t. cond (has_status v.status t) None (vote_made (status_again v.status t) (ballot_again v.ballot t) (decree_again v.decree h t)))
@@ -92,12 +104,24 @@ version_kept v from o (PrepareOk i b None) = refl
 version_kept v from o (PrepareOk i b (Some x)) = refl
 version_kept v from o (Nack i p q) = refl
 
+generation_kept : (v : Version) (from : ℕ) (o : Origin) (m : Message) → (parts_of v from o m).header.generation ≡ generation_of v
+generation_kept v from o (PreAccept i b x) = refl
+generation_kept v from o (PreAcceptOk i b a) = refl
+generation_kept v from o (Accept i b x) = refl
+generation_kept v from o (AcceptOk i b) = refl
+generation_kept v from o (Commit i x) = refl
+generation_kept v from o (Prepare i b) = refl
+generation_kept v from o (PrepareOk i b None) = refl
+generation_kept v from o (PrepareOk i b (Some x)) = refl
+generation_kept v from o (Nack i p q) = refl
+
 parts_spelled : (v : Version) (b : List ℕ) (from : ℕ) (o : Origin) (m : Message) → Spells v b from o m → parts_at b ≡ parts_of v from o m
-parts_spelled v b from o m s = ap parts_at s.is ∙ parts_again (parts_of v from o m) (sound v from o m s.origin s.message s.sayable).fits
+parts_spelled v b from o m s = ap parts_at s.is ∙ parts_again (parts_of v from o m) (sound v from o m s.version s.origin s.message s.sayable).fits
 
 -- the bytes that spell a message stand for it
 pub version_spelled : (v : Version) (b : List ℕ) (from : ℕ) (o : Origin) (m : Message) → Spells v b from o m → version_at b ≡ v
-version_spelled v b from o m s = ap (λ (p : Parts). version_of p.header.version) (parts_spelled v b from o m s) ∙ ap version_of (version_kept v from o m) ∙ version_again v
+version_spelled v b from o m s =
+    ap (λ (p : Parts). version_of p.header.version p.header.generation) (parts_spelled v b from o m s) ∙ (λ t. version_of (version_kept v from o m t) (generation_kept v from o m t)) ∙ version_again v
 
 pub sender_spelled : (v : Version) (b : List ℕ) (from : ℕ) (o : Origin) (m : Message) → Spells v b from o m → sender_at b ≡ from
 sender_spelled v b from o m s = ap (λ (p : Parts). p.header.from) (parts_spelled v b from o m s) ∙ sender_again v from o m
