@@ -1,7 +1,9 @@
 -- A frame without a fault is the frame of the message that its parts stand for.
 use Rattle.std.proofs.Common.{◌≡◌, ℕ, zero, suc, ◌^◌, ◌≤◌, ◌<◌, Bool, true, false, cond, eqb, leb, List, [], ◌∷◌, length, Option, None, refl, sym, ap, subst, ◌∙◌, true≢false, arith}
 use Rattle.std.specs.Prelude.{◌&&◌, not, Some}
-use Rattle.ep_base.specs.Attributes.{same_list}
+use Rattle.ep_base.specs.Ops.{op_number, first_fits, second_fits, body_fits}
+use Rattle.ep_base.specs.Parts.{Parts as CommandParts, parts_of as command_parts, command_in, command_of, are_parts, is_twice, body_said}
+use Rattle.ep_base.proofs.Partitions.{fits_from, parts_law_lem}
 use Rattle.std.specs.List.{AllByRecursion}
 use Rattle.std.proofs.lemmas.Bool.{eqb-true, leb-true, le-leb, ltb-true, eq-eqb, and_parts}
 use Rattle.std.proofs.lemmas.List.{nil_from_length}
@@ -15,14 +17,12 @@ use Rattle.ep_base.specs.declared.vote.Status.{Status}
 use Rattle.ep_base.specs.declared.vote.Status.TheVariants.{PreAccepted, Accepted, Committed}
 use Rattle.ep_base.specs.declared.message.Message.{Message}
 use Rattle.ep_base.specs.declared.message.Message.TheVariants.{PrepareOk}
-use Rattle.ep_frame.specs.Commands.{op_code, key_in, second_in, body_in, command_of, comparison_of, comparison_at, is_some, is_comparison, unless_empty, or_empty}
-use Rattle.ep_frame.specs.Faults.{names_rows, ballot_rows, vote_rows, body_rows, late_rows, within, highest_op, second_fits, body_fits, text_fits, generation_fits, are_deps, are_in, deps_allowed, is_instance, precedes_first}
-use Rattle.ep_frame.specs.Spelling.{Parts, parts_of, status_code, IsBallot, IsKey, IsValue, IsOther, IsCommand, AreAttrs, AreBytes, IsDecree, IsMessage, IsOrigin}
-use Rattle.ep_frame.specs.Meaning.{origin_in, instance_in, ballot_in, other_in, attrs_of, decree_of, message_of}
-use Rattle.ep_frame.proofs.Codec.{comparison_found}
+use Rattle.ep_frame.specs.Faults.{names_rows, ballot_rows, vote_rows, body_rows, late_rows, within, highest_op, op_of, text_fits, generation_fits, are_deps, are_in, deps_allowed, is_instance, precedes_first}
+use Rattle.ep_frame.specs.Spelling.{Parts, parts_of, status_code, IsBallot, IsCommand, AreAttrs, AreBytes, IsDecree, IsMessage, IsOrigin}
+use Rattle.ep_frame.specs.Meaning.{origin_in, instance_in, ballot_in, other_in, attrs_of, command_parts_of, decree_of, message_of}
 use Rattle.ep_frame.proofs.Packing.{leader_again, number_again, counter_again, owner_again}
 use Rattle.ep_frame.proofs.Rows.{AllPass, within-is, apart-is, chosen, other_chosen}
-use Rattle.ep_frame.proofs.Saying.{number_low, op_low, count_low, version_is, IsShortIn, text_is, op_known, deps_found, differ}
+use Rattle.ep_frame.proofs.Saying.{number_low, op_low, count_low, version_is, IsShortIn, text_is, op_found, op_known, deps_found}
 
 -- the version that the header names
 abbrev pub version_in : Parts → Version
@@ -35,8 +35,8 @@ pub record GoodRuns (p : Parts) : Type 0 where
   pub body : length p.body ≡ p.header.body_len
   pub count : length p.deps ≡ p.header.count
   pub deps : deps_allowed (version_in p) p.deps ≡ true
-  pub keys_differ : (leb 1 p.header.second_len && same_list p.key p.second) ≡ false
-  pub body_is : (eqb p.header.op 6 && not (is_comparison p.body)) ≡ false
+  pub once : is_twice p.key p.second ≡ false
+  pub said : body_said (op_of p.header.op) p.body ≡ true
   pub key_bytes : AreBytes p.key
   pub second_bytes : AreBytes p.second
   pub body_bytes : AreBytes p.body
@@ -175,70 +175,38 @@ joined_ballot : (p : Parts) → Front p → within 1 60000 p.header.counter ≡ 
     → BallotIs (instance_in p.header) 1 p.header.counter p.header.replica
 joined_ballot p f c r = let n = within-is 1 60000 p.header.counter c in ballot_found (instance_in p.header) p.header.leader 1 p.header.counter p.header.replica f.leader f.leader_small n.0 n.1 r
 
-pub record CommandIs (op : ℕ) (key second body : List ℕ) : Type 0 where
-  pub is : IsCommand (command_of op key second body)
-  op_is : op_code (command_of op key second body) ≡ op
-  key_is : key_in (command_of op key second body) ≡ key
-  second_is : second_in (command_of op key second body) ≡ second
-  body_is : body_in (command_of op key second body) ≡ body
-
-key_found : (key : List ℕ) (kl : ℕ) → within 1 255 kl ≡ true → length key ≡ kl → AreBytes key → IsKey key
-key_found key kl k lk bk = let n = within-is 1 255 kl k in (omega (arith, n.0, lk), omega (arith, n.1, lk), bk)
-
 nothing_found : (xs : List ℕ) (n : ℕ) → length xs ≡ n → eqb n 0 ≡ true → [] ≡ xs
 nothing_found xs n len e = sym (nil_from_length xs (len ∙ eqb-true n 0 e))
 
-value_found : (xs : List ℕ) (n : ℕ) → length xs ≡ n → leb n 65535 ≡ true → AreBytes xs → IsValue xs
-value_found xs n len e b = let m = leb-true n 65535 e in (omega (arith, m, len), b)
+-- the parts are those of a command
+pub parts_there : (p : Parts) → first_fits (op_of p.header.op) p.header.key_len ≡ true → second_fits (op_of p.header.op) p.header.second_len ≡ true → body_fits (op_of p.header.op) p.header.body_len ≡ true → GoodRuns p
+    → are_parts (command_parts_of p) ≡ true
+parts_there p k s y r =
+    let o = op_of p.header.op in
+    fits_from o p.key p.second p.body
+    (record { first = ap (first_fits o) r.key ∙ k; second = ap (second_fits o) r.second ∙ s; body = ap (body_fits o) r.body ∙ y; once = ap not r.once; said = r.said })
 
--- of an ask or an act, the second key and that it is another one
-record OtherIs (key second : List ℕ) : Type 0 where
-  is : IsOther key (unless_empty second)
-  again : or_empty (unless_empty second) ≡ second
+record CommandIs (p : Parts) : Type 0 where
+  is : IsCommand (command_in (command_parts_of p))
+  parts_are : command_parts (command_in (command_parts_of p)) ≡ command_parts_of p
+  op_is : op_number (command_parts (command_in (command_parts_of p))).op ≡ p.header.op
 
-other_found : (key second : List ℕ) (sl : ℕ) → length second ≡ sl → leb sl 255 ≡ true → (leb 1 sl && same_list key second) ≡ false → AreBytes second → OtherIs key second
-other_found key [] sl ls s a bs = record { is = tt; again = refl }
-other_found key (x ∷ xs) sl ls s a bs =
-    let high = leb-true sl 255 s in
-    let one : leb 1 sl ≡ true = le-leb 1 sl (omega (arith, ls)) in
-    record { is = ((omega (arith, ls), omega (arith, high, ls), bs), differ key (x ∷ xs) (ap (λ (b : Bool). b && same_list key (x ∷ xs)) (sym one) ∙ a)); again = refl }
-
--- a comparison
-compared_found : (key second body : List ℕ) (c : Option (Option (List ℕ) × Option (List ℕ))) → IsKey key → [] ≡ second → AreBytes body → comparison_at body ≡ c → (true && not (is_some c)) ≡ false
-    → IsCommand (comparison_of key c) × (op_code (comparison_of key c) ≡ 6) × (key_in (comparison_of key c) ≡ key) × (second_in (comparison_of key c) ≡ second) × (body_in (comparison_of key c) ≡ body)
-compared_found key second body None k s bb is e = absurd (true≢false e)
-compared_found key second body (Some c) k s bb is e =
-    let f = comparison_found body c bb is in
-    ((k, f.expected, f.new), refl, refl, s, f.is)
-
-pub command_found : (op kl sl bl : ℕ) (key second body : List ℕ) → 1 ≤ op → op ≤ 9 → cond (within 2 8 op) (within 1 255 kl) (eqb kl 0) ≡ true
-    → second_fits op sl ≡ true → body_fits op bl ≡ true → (leb 1 sl && same_list key second) ≡ false → (eqb op 6 && not (is_comparison body)) ≡ false
-    → length key ≡ kl → length second ≡ sl → length body ≡ bl → AreBytes key → AreBytes second → AreBytes body → CommandIs op key second body
-command_found zero kl sl bl key second body lo hi k s y a c lk ls ly bk bs bb = absurd (omega arith)
-command_found (suc zero) kl sl bl key second body lo hi k s y a c lk ls ly bk bs bb =
-    record { is = tt; op_is = refl; key_is = nothing_found key kl lk k; second_is = nothing_found second sl ls s; body_is = nothing_found body bl ly y }
-command_found (suc (suc zero)) kl sl bl key second body lo hi k s y a c lk ls ly bk bs bb =
-    record { is = key_found key kl k lk bk; op_is = refl; key_is = refl; second_is = nothing_found second sl ls s; body_is = nothing_found body bl ly y }
-command_found (suc (suc (suc zero))) kl sl bl key second body lo hi k s y a c lk ls ly bk bs bb =
-    record { is = (key_found key kl k lk bk, value_found body bl ly y bb); op_is = refl; key_is = refl; second_is = nothing_found second sl ls s; body_is = refl }
-command_found (suc (suc (suc (suc zero)))) kl sl bl key second body lo hi k s y a c lk ls ly bk bs bb =
-    record { is = key_found key kl k lk bk; op_is = refl; key_is = refl; second_is = nothing_found second sl ls s; body_is = nothing_found body bl ly y }
-command_found (suc (suc (suc (suc (suc zero))))) kl sl bl key second body lo hi k s y a c lk ls ly bk bs bb =
-    let n = within-is 1 255 sl s in
-    let apart = differ key second (ap (λ (b : Bool). b && same_list key second) (sym (le-leb 1 sl n.0)) ∙ a) in
-    record { is = (key_found key kl k lk bk, key_found second sl s ls bs, apart); op_is = refl; key_is = refl; second_is = refl; body_is = nothing_found body bl ly y }
-command_found (suc (suc (suc (suc (suc (suc zero)))))) kl sl bl key second body lo hi k s y a c lk ls ly bk bs bb =
-    let f = compared_found key second body (comparison_at body) (key_found key kl k lk bk) (nothing_found second sl ls s) bb refl c in
-    record { is = f.0; op_is = f.1; key_is = f.2; second_is = f.3; body_is = f.4 }
-command_found (suc (suc (suc (suc (suc (suc (suc zero))))))) kl sl bl key second body lo hi k s y a c lk ls ly bk bs bb =
-    let o = other_found key second sl ls s a bs in
-    record { is = (key_found key kl k lk bk, o.is, value_found body bl ly y bb); op_is = refl; key_is = refl; second_is = o.again; body_is = refl }
-command_found (suc (suc (suc (suc (suc (suc (suc (suc zero)))))))) kl sl bl key second body lo hi k s y a c lk ls ly bk bs bb =
-    let o = other_found key second sl ls s a bs in
-    record { is = (key_found key kl k lk bk, o.is, value_found body bl ly y bb); op_is = refl; key_is = refl; second_is = o.again; body_is = refl }
-command_found (suc (suc (suc (suc (suc (suc (suc (suc (suc zero))))))))) kl sl bl key second body lo hi k s y a c lk ls ly bk bs bb =
-    record { is = value_found body bl ly y bb; op_is = refl; key_is = nothing_found key kl lk k; second_is = nothing_found second sl ls s; body_is = refl }
-command_found (suc (suc (suc (suc (suc (suc (suc (suc (suc (suc op)))))))))) kl sl bl key second body lo hi k s y a c lk ls ly bk bs bb = absurd (omega arith)
+command_found : (p : Parts) → 1 ≤ p.header.op → p.header.op ≤ 9 → are_parts (command_parts_of p) ≡ true → GoodRuns p → CommandIs p
+command_found p lo hi e r =
+    let q = command_parts_of p in
+    let c = command_in q in
+    let some : command_of q ≡ Some c = ap (λ (b : Bool). cond b (Some c) None) e in
+    let are : command_parts c ≡ q = parts_law_lem.back q c some in
+    record {
+      is = record {
+        in_range = parts_law_lem.ranges q c some;
+        first = subst (λ (x : CommandParts). AreBytes x.first) (sym are) r.key_bytes;
+        second = subst (λ (x : CommandParts). AreBytes x.second) (sym are) r.second_bytes;
+        body = subst (λ (x : CommandParts). AreBytes x.body) (sym are) r.body_bytes;
+      };
+      parts_are = are;
+      op_is = ap (λ (x : CommandParts). op_number x.op) are ∙ op_found p.header.op lo hi;
+    }
 
 record NoCommand (op kl sl bl : ℕ) (key second body : List ℕ) : Type 0 where
   op_is : 0 ≡ op
@@ -249,8 +217,8 @@ record NoCommand (op kl sl bl : ℕ) (key second body : List ℕ) : Type 0 where
   second_is : [] ≡ second
   body_is : [] ≡ body
 
-no_command : (op kl sl bl : ℕ) (key second body : List ℕ) → eqb op 0 ≡ true → cond (within 2 8 op) (within 1 255 kl) (eqb kl 0) ≡ true
-    → second_fits op sl ≡ true → body_fits op bl ≡ true → length key ≡ kl → length second ≡ sl → length body ≡ bl → NoCommand op kl sl bl key second body
+no_command : (op kl sl bl : ℕ) (key second body : List ℕ) → eqb op 0 ≡ true → first_fits (op_of op) kl ≡ true
+    → second_fits (op_of op) sl ≡ true → body_fits (op_of op) bl ≡ true → length key ≡ kl → length second ≡ sl → length body ≡ bl → NoCommand op kl sl bl key second body
 no_command zero kl sl bl key second body o k s y lk ls ly =
     record {
       op_is = refl;
@@ -300,42 +268,45 @@ no_attrs seq count deps s c len = let ec = eqb-true count 0 c in record { seq_is
 record DecreeIs (p : Parts) : Type 0 where
   is : IsDecree (decree_of p)
   known : IsDecreeIn (version_in p) (decree_of p)
-  op_is : op_code (decree_of p).command ≡ p.header.op
-  kl_is : length (key_in (decree_of p).command) ≡ p.header.key_len
-  sl_is : length (second_in (decree_of p).command) ≡ p.header.second_len
-  bl_is : length (body_in (decree_of p).command) ≡ p.header.body_len
-  key_is : key_in (decree_of p).command ≡ p.key
-  second_is : second_in (decree_of p).command ≡ p.second
-  body_is : body_in (decree_of p).command ≡ p.body
+  op_is : op_number (command_parts (decree_of p).command).op ≡ p.header.op
+  kl_is : length (command_parts (decree_of p).command).first ≡ p.header.key_len
+  sl_is : length (command_parts (decree_of p).command).second ≡ p.header.second_len
+  bl_is : length (command_parts (decree_of p).command).body ≡ p.header.body_len
+  key_is : (command_parts (decree_of p).command).first ≡ p.key
+  second_is : (command_parts (decree_of p).command).second ≡ p.second
+  body_is : (command_parts (decree_of p).command).body ≡ p.body
 
-decree_found : (p : Parts) → within 1 1000000 p.header.seq ≡ true → within 1 (highest_op (version_in p)) p.header.op ≡ true → cond (within 2 8 p.header.op) (within 1 255 p.header.key_len) (eqb p.header.key_len 0) ≡ true
-    → text_fits (version_in p) p.header.op p.header.second_len p.header.body_len ≡ true → leb p.header.count (most_deps_in (version_in p)) ≡ true → body_fits p.header.op p.header.body_len ≡ true
+decree_found : (p : Parts) → within 1 1000000 p.header.seq ≡ true → within 1 (highest_op (version_in p)) p.header.op ≡ true → first_fits (op_of p.header.op) p.header.key_len ≡ true
+    → text_fits (version_in p) (op_of p.header.op) p.header.second_len p.header.body_len ≡ true → leb p.header.count (most_deps_in (version_in p)) ≡ true → body_fits (op_of p.header.op) p.header.body_len ≡ true
     → GoodRuns p → DecreeIs p
 decree_found p s o k v n y r =
     let op = within-is 1 (highest_op (version_in p)) p.header.op o in
     let most = op_low (version_in p) in
-    let text = text_is (version_in p) p.header.op p.header.second_len p.header.body_len v in
-    let c = command_found p.header.op p.header.key_len p.header.second_len p.header.body_len p.key p.second p.body op.0 (omega (arith, op.1, most)) k text.0 y r.keys_differ r.body_is r.key r.second r.body r.key_bytes r.second_bytes r.body_bytes in
-    let same : op_code (decree_of p).command ≡ p.header.op = c.op_is in
-    let len : length (body_in (decree_of p).command) ≡ p.header.body_len = ap length c.body_is ∙ r.body in
+    let text = text_is (version_in p) (op_of p.header.op) p.header.second_len p.header.body_len v in
+    let c = command_found p op.0 (omega (arith, op.1, most)) (parts_there p k text.0 y r) r in
+    let same = c.op_is in
+    let first = ap (λ (x : CommandParts). x.first) c.parts_are in
+    let second = ap (λ (x : CommandParts). x.second) c.parts_are in
+    let body = ap (λ (x : CommandParts). x.body) c.parts_are in
+    let len : length (command_parts (decree_of p).command).body ≡ p.header.body_len = ap length body ∙ r.body in
     record {
       is = record { command = c.is; attrs = attrs_found p s n r.count r.deps };
-      known = (op_known (version_in p) (decree_of p).command (omega (arith, same, op.1)) (subst (IsShortIn (version_in p)) (sym len) text.1), attrs_known p r.deps);
-      op_is = c.op_is;
-      kl_is = ap length c.key_is ∙ r.key;
-      sl_is = ap length c.second_is ∙ r.second;
+      known = (op_known (version_in p) (decree_of p).command (subst (λ (n : ℕ). n ≤ highest_op (version_in p)) (sym same) op.1) (subst (IsShortIn (version_in p)) (sym len) text.1), attrs_known p r.deps);
+      op_is = same;
+      kl_is = ap length first ∙ r.key;
+      sl_is = ap length second ∙ r.second;
       bl_is = len;
-      key_is = c.key_is;
-      second_is = c.second_is;
-      body_is = c.body_is;
+      key_is = first;
+      second_is = second;
+      body_is = body;
     }
 
 -- that there is no command
-nothing_is : (p : Parts) → eqb p.header.op 0 ≡ true → cond (within 2 8 p.header.op) (within 1 255 p.header.key_len) (eqb p.header.key_len 0) ≡ true
-    → text_fits (version_in p) p.header.op p.header.second_len p.header.body_len ≡ true → body_fits p.header.op p.header.body_len ≡ true → GoodRuns p
+nothing_is : (p : Parts) → eqb p.header.op 0 ≡ true → first_fits (op_of p.header.op) p.header.key_len ≡ true
+    → text_fits (version_in p) (op_of p.header.op) p.header.second_len p.header.body_len ≡ true → body_fits (op_of p.header.op) p.header.body_len ≡ true → GoodRuns p
     → NoCommand p.header.op p.header.key_len p.header.second_len p.header.body_len p.key p.second p.body
 nothing_is p o k v y r =
-    let text = text_is (version_in p) p.header.op p.header.second_len p.header.body_len v in
+    let text = text_is (version_in p) (op_of p.header.op) p.header.second_len p.header.body_len v in
     no_command p.header.op p.header.key_len p.header.second_len p.header.body_len p.key p.second p.body o k text.0 y r.key r.second r.body
 
 -- ---- kinds
@@ -343,10 +314,10 @@ nothing_is p o k v y r =
 -- the kind and the status have no part in them
 
 of_kind : (k : ℕ) (p : Parts) → GoodRuns (with_kind k p) → GoodRuns p
-of_kind k p r = record { key = r.key; second = r.second; body = r.body; count = r.count; deps = r.deps; keys_differ = r.keys_differ; body_is = r.body_is; key_bytes = r.key_bytes; second_bytes = r.second_bytes; body_bytes = r.body_bytes }
+of_kind k p r = record { key = r.key; second = r.second; body = r.body; count = r.count; deps = r.deps; once = r.once; said = r.said; key_bytes = r.key_bytes; second_bytes = r.second_bytes; body_bytes = r.body_bytes }
 
 of_status : (s : ℕ) (p : Parts) → GoodRuns (with_status s p) → GoodRuns p
-of_status s p r = record { key = r.key; second = r.second; body = r.body; count = r.count; deps = r.deps; keys_differ = r.keys_differ; body_is = r.body_is; key_bytes = r.key_bytes; second_bytes = r.second_bytes; body_bytes = r.body_bytes }
+of_status s p r = record { key = r.key; second = r.second; body = r.body; count = r.count; deps = r.deps; once = r.once; said = r.said; key_bytes = r.key_bytes; second_bytes = r.second_bytes; body_bytes = r.body_bytes }
 
 kind1 : (p : Parts) → Good (with_kind 1 p) → Found (with_kind 1 p)
 kind1 p g =

@@ -1,6 +1,7 @@
 -- Bytes without a fault spell a message.
-use Rattle.std.proofs.Common.{◌≡◌, ℕ, ◌+◌, ◌*◌, ◌^◌, ◌≤◌, ◌<◌, Bool, true, false, cond, eqb, ltb, leb, List, length, take, drop, Result, Ok, Err, refl, sym, ap, ◌∙◌, arith}
+use Rattle.std.proofs.Common.{◌≡◌, ℕ, ◌+◌, ◌*◌, ◌^◌, ◌≤◌, ◌<◌, Bool, true, false, cond, eqb, ltb, leb, List, length, take, drop, Result, Ok, Err, refl, sym, ap, ◌∙◌, true≢false, arith}
 use Rattle.std.specs.Prelude.{not}
+use Rattle.ep_base.specs.Parts.{body_said}
 use Rattle.ep_base.specs.Versions.{version_of, highest_in}
 use Rattle.std.proofs.lemmas.Bool.{eqb-true, ltb-false, leb-true, and_parts}
 use Rattle.std.proofs.lemmas.List.{length-take, length-drop}
@@ -8,7 +9,7 @@ use Rattle.ep_frame.specs.declared.fault.FrameFault.{FrameFault}
 use Rattle.ep_frame.specs.declared.fault.FrameFault.TheVariants.{Short, Length, Order, SameKey, Body}
 use Rattle.ep_frame.specs.declared.header.Header.{Header}
 use Rattle.ep_frame.specs.Fields.{header_at, header_len, deps_in, number_at}
-use Rattle.ep_frame.specs.Faults.{◌>>◌, checked, names_rows, ballot_rows, vote_rows, body_rows, late_rows, generation_fits, second_place, body_place, deps_place, frame_len, are_deps, are_in, deps_allowed, has_same_keys, has_other_body, is_short, version_in, header_fault_in, header_fault, rest_fault, fault_of}
+use Rattle.ep_frame.specs.Faults.{◌>>◌, checked, names_rows, ballot_rows, vote_rows, body_rows, late_rows, generation_fits, op_of, second_place, body_place, deps_place, frame_len, are_deps, are_in, deps_allowed, has_same_keys, has_other_body, is_short, version_in, header_fault_in, header_fault, rest_fault, fault_of}
 use Rattle.ep_frame.specs.Spelling.{parts_at, parts_bytes, Spells}
 use Rattle.ep_frame.specs.DepBytes.{AreDepBytes}
 use Rattle.ep_frame.specs.Ranges.{InRange, Readable}
@@ -97,6 +98,10 @@ unfolding number_at
 generation_small b fits true = omega (arith, fits 40, fits 41, fits 42, fits 43)
 generation_small b fits false = omega arith
 
+was_not : (c : Bool) → not c ≡ false → c ≡ true
+was_not true e = refl
+was_not false e = absurd (true≢false e)
+
 run_bytes : (i n : ℕ) (b : List ℕ) → IsBytes b → IsBytes (take n (drop i b))
 run_bytes i n b fits = IsBytes-take n (drop i b) (IsBytes-drop i b fits)
 
@@ -111,8 +116,8 @@ good_runs b fits p =
       body = omega (arith, len, length-take h.body_len (drop (body_place h) b), length-drop (body_place h) b);
       count = length-deps_in (drop (deps_place h) b) h.count (omega (arith, len, length-drop (deps_place h) b));
       deps = p.deps;
-      keys_differ = p.keys_differ;
-      body_is = p.body_is;
+      once = p.keys_differ;
+      said = was_not (body_said (op_of h.op) (take h.body_len (drop (body_place h) b))) p.body_is;
       key_bytes = run_bytes n h.key_len b fits;
       second_bytes = run_bytes (second_place h) h.second_len b fits;
       body_bytes = run_bytes (body_place h) h.body_len b fits;

@@ -4,7 +4,6 @@ pub mod Packing
 pub mod BigEndian
 pub mod Headers
 pub mod Again
-pub mod Codec
 pub mod Rows
 pub mod Saying
 pub mod Sound

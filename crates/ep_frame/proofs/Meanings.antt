@@ -6,8 +6,7 @@ use Rattle.ep_base.specs.Messages.{instance_of_message}
 use Rattle.ep_base.specs.Versions.{version_number, generation_of, version_of}
 use Rattle.ep_base.proofs.Versions.{version_again}
 use Rattle.ep_base.specs.declared.decree.Decree.{Decree}
-use Rattle.ep_base.specs.declared.command.Command.{Command}
-use Rattle.ep_base.specs.declared.command.Command.TheVariants.{Noop, Get, Put, Del, Swap, Cas, Seal, Opaque}
+use Rattle.ep_base.specs.Commands.{Command}
 use Rattle.ep_base.specs.declared.version.Version.{Version}
 use Rattle.ep_base.specs.declared.vote.Vote.{Vote}
 use Rattle.ep_base.specs.declared.vote.Status.{Status}
@@ -16,46 +15,43 @@ use Rattle.ep_base.specs.declared.message.Message.{Message}
 use Rattle.ep_base.specs.declared.message.Message.TheVariants.{PreAccept, PreAcceptOk, Accept, AcceptOk, Commit, Prepare, PrepareOk, Nack}
 use Rattle.ep_frame.specs.declared.origin.Origin.{Origin}
 use Rattle.ep_frame.specs.Meaning.{origin_in, instance_in, instance_at, status_of, message_of, version_at, sender_at, origin_at, message_at}
-use Rattle.ep_frame.specs.Spelling.{Parts, parts_at, parts_of, Spells, IsCommand, IsDecree, IsMessage, IsOther, status_code}
-use Rattle.ep_frame.specs.Commands.{op_code, key_in, second_in, body_in, command_of, comparison_of, unless_empty, or_empty}
-use Rattle.ep_frame.proofs.Codec.{comparison_again}
-use Rattle.ep_base.specs.Touched.{Touched}
+use Rattle.ep_frame.specs.Spelling.{Parts, parts_at, parts_of, Spells, IsCommand, IsDecree, IsMessage, status_code}
+use Rattle.ep_base.specs.Ops.{op_number}
+use Rattle.ep_base.specs.Parts.{parts_of as command_parts, command_with, command_in, are_parts}
+use Rattle.ep_base.specs.declared.op.Op.{Op}
+use Rattle.ep_base.proofs.Partitions.{parts_law_lem}
+use Rattle.ep_frame.specs.Faults.{op_of}
+use Rattle.ep_frame.proofs.Saying.{op_again}
 use Rattle.ep_frame.proofs.Packing.{instance_again, ballot_again}
 use Rattle.ep_frame.proofs.Again.{parts_again}
 use Rattle.ep_frame.proofs.Sound.{sound, has_status}
 
-other_again : (o : Option (List ℕ)) (key : List ℕ) → IsOther key o → unless_empty (or_empty o) ≡ o
-other_again None key h = refl
-other_again (Some []) key h = let few = h.0.0 in absurd (omega arith)
-other_again (Some (x ∷ xs)) key h = refl
+-- the command that the parts of a command in range, with the op's number, make
+abbrev numbered : Command → Command
+numbered c = command_with (op_of (op_number (command_parts c).op)) (command_parts c).first (command_parts c).second (command_parts c).body
 
-outside_again : (p : Touched) (b : List ℕ) (r : Bool) → IsOther p.first p.second → command_of (cond r 7 8) p.first (or_empty p.second) b ≡ Opaque (record { first = p.first; second = p.second; reads = r }) b
-outside_again p b true h = λ t. Opaque (record { first = p.first; second = other_again p.second p.first h t; reads = true }) b
-outside_again p b false h = λ t. Opaque (record { first = p.first; second = other_again p.second p.first h t; reads = false }) b
+some_if : {X : Type 0} (b : Bool) (x y : X) → cond b (Some x) None ≡ Some y → x ≡ y
+some_if true x y e = cc
+some_if false x y e = absurd (cc)
 
-command_again : (c : Command) → IsCommand c → command_of (op_code c) (key_in c) (second_in c) (body_in c) ≡ c
-command_again Noop h = refl
-command_again (Get k) h = refl
-command_again (Put k v) h = refl
-command_again (Del k) h = refl
-command_again (Swap p) h = refl
-command_again (Cas k e n) h = ap (comparison_of k) (comparison_again e n h.1 h.2)
-command_again (Seal x) h = refl
-command_again (Opaque p b) h = outside_again p b p.reads h.1
+command_again : (c : Command) → IsCommand c → numbered c ≡ c
+command_again c h =
+    let p = command_parts c in
+    ap (λ (o : Op). command_with o p.first p.second p.body) (op_again p.op) ∙ some_if (are_parts p) (command_in p) c (parts_law_lem.forth c h.in_range)
 
 status_again : (s : Status) → status_of (status_code s) ≡ s
 status_again PreAccepted = refl
 status_again Accepted = refl
 status_again Committed = refl
 
-decree_again : (x : Decree) → IsDecree x → record { command = command_of (op_code x.command) (key_in x.command) (second_in x.command) (body_in x.command); attrs = x.attrs } ≡ x
+decree_again : (x : Decree) → IsDecree x → record { command = numbered x.command; attrs = x.attrs } ≡ x
 decree_again x h = λ t. record { command = command_again x.command h.command t; attrs = x.attrs }
 
 abbrev vote_made : Status → ℕ → Decree → Option Vote
 vote_made s b x = Some (record { status = s; ballot = b; decree = x })
 
 vote_again : (v : Vote) → IsDecree v.decree → cond (eqb (status_code v.status) 0) None
-    (vote_made (status_of (status_code v.status)) (ballot_of (counter_of v.ballot) (owner_of v.ballot)) (record { command = command_of (op_code v.decree.command) (key_in v.decree.command) (second_in v.decree.command) (body_in v.decree.command); attrs = v.decree.attrs }))
+    (vote_made (status_of (status_code v.status)) (ballot_of (counter_of v.ballot) (owner_of v.ballot)) (record { command = numbered v.decree.command; attrs = v.decree.attrs }))
     ≡ Some v
 vote_again v h =
     (λ t. cond (has_status v.status t) None (vote_made (status_again v.status t) (ballot_again v.ballot t) (decree_again v.decree h t)))

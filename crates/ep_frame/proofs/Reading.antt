@@ -5,13 +5,14 @@ use Rattle.ep_base.specs.Attributes.{same_list}
 use Rattle.ep_base.specs.Versions.{highest_in}
 use Rattle.std.proofs.lemmas.Bool.{eqb-true, eq-eqb, leb-true, and_parts}
 use Rattle.ep_frame.specs.declared.header.Header.{Header}
-use Rattle.ep_frame.specs.Faults.{within, highest_op, are_deps, are_in, has_command, counter_allowed, replica_allowed, other_counter_allowed, other_replica_allowed}
+use Rattle.ep_frame.specs.Faults.{within, op_of, are_deps, are_in, has_command, counter_allowed, replica_allowed, other_counter_allowed, other_replica_allowed}
 use Rattle.ep_frame.specs.Ranges.{Readable}
-use Rattle.ep_frame.specs.Spelling.{Parts, IsCommand}
-use Rattle.ep_frame.specs.Commands.{command_of}
+use Rattle.ep_frame.specs.Spelling.{Parts}
+use Rattle.ep_base.specs.Parts.{are_parts}
+use Rattle.ep_frame.specs.Meaning.{command_parts_of}
 use Rattle.ep_frame.proofs.Rows.{within-is, within-from, chosen, other_chosen, either}
-use Rattle.ep_frame.proofs.Found.{Good, version_in, command_found}
-use Rattle.ep_frame.proofs.Saying.{number_low, op_low, text_is}
+use Rattle.ep_frame.proofs.Found.{Good, version_in, parts_there}
+use Rattle.ep_frame.proofs.Saying.{number_low, text_is}
 
 at_zero : (n high : ℕ) → eqb n 0 ≡ true → n ≤ high
 at_zero n high e = let z = eqb-true n 0 e in omega (arith, z)
@@ -40,15 +41,11 @@ small_other_replica h le e =
     (λ t. either (eqb h.other_counter 0) _ _ t (as_leader h.leader h.other_replica le) (leb-true h.other_replica 6))
     (λ t. either (eqb h.kind 8) _ _ t (leb-true h.other_replica 6) (at_zero h.other_replica 6))
 
-command_there : (p : Parts) → Good p → has_command p.header ≡ true → IsCommand (command_of p.header.op p.key p.second p.body)
-command_there p g t =
+command_there : (p : Parts) → Good p → are_parts (command_parts_of p) ≡ true
+command_there p g =
     let h = p.header in
-    let v = version_in p in
-    let n = within-is 1 (highest_op v) h.op (chosen _ _ _ t g.body.1.0) in
-    let last = op_low v in
-    let text = text_is v h.op h.second_len h.body_len g.body.1.1.1.0 in
-    let r = g.runs in
-    (command_found h.op h.key_len h.second_len h.body_len p.key p.second p.body n.0 (omega (arith, n.1, last)) g.body.1.1.0 text.0 g.late.1.0 r.keys_differ r.body_is r.key r.second r.body r.key_bytes r.second_bytes r.body_bytes).is
+    let text = text_is (version_in p) (op_of h.op) h.second_len h.body_len g.body.1.1.1.0 in
+    parts_there p g.body.1.1.0 text.0 g.late.1.0 g.runs
 
 pub readable : (p : Parts) → Good p → Readable p
 readable p g =
@@ -57,9 +54,6 @@ readable p g =
     let v = version_in p in
     let number = within-is 1 (highest_in v) h.number g.ballot.1.0 in
     let most = number_low v in
-    let last = op_low v in
-    let in_version : h.op ≤ highest_op v = either (has_command h) _ _ g.body.1.0 (up_to 1 (highest_op v) h.op) (at_zero h.op (highest_op v)) in
-    let op : h.op ≤ 9 = omega (arith, in_version, last) in
     record {
       leader = leader;
       number_low = number.0;
@@ -70,8 +64,6 @@ readable p g =
       other_replica = small_other_replica h leader g.vote.1.1.0;
       seq_low = λ t. let n = within-is 1 1000000 h.seq (chosen _ _ _ t g.body.0) in n.0;
       seq_high = λ t. let n = within-is 1 1000000 h.seq (chosen _ _ _ t g.body.0) in n.1;
-      op_low = λ t. let n = within-is 1 (highest_op v) h.op (chosen _ _ _ t g.body.1.0) in n.0;
-      op_high = op;
-      command = λ t. command_there p g t;
+      command = command_there p g;
       deps = (and_parts (are_deps p.deps) (are_in v p.deps) g.runs.deps).0;
     }

@@ -2,19 +2,20 @@
 use Rattle.std.proofs.Common.{◌≡◌, ◌≢◌, ℕ, zero, suc, ◌^◌, ◌≤◌, ◌<◌, Bool, true, false, cond, eqb, ltb, leb, List, [], ◌∷◌, length, refl, sym, ap, ◌∙◌, true≢false, arith}
 use Rattle.std.specs.Prelude.{not, ◌&&◌, ◌||◌}
 use Rattle.std.proofs.lemmas.Bool.{eqb-true, leb-true, le-leb, le-ltb, ltb-false, and_parts, and_from}
-use Rattle.ep_base.specs.Attributes.{same_list}
 use Rattle.ep_base.specs.Deps.{AreInstances}
 use Rattle.ep_base.specs.Generations.{HasItsGeneration}
 use Rattle.ep_base.specs.Instances.{number_of}
 use Rattle.ep_base.specs.Versions.{version_number, generation_of, version_of, highest_in, most_deps_in, knows, AreDepsIn}
-use Rattle.ep_base.specs.declared.command.Command.{Command}
-use Rattle.ep_base.specs.declared.command.Command.TheVariants.{Noop, Get, Put, Del, Swap, Cas, Seal, Opaque}
+use Rattle.ep_base.specs.Commands.{Command}
+use Rattle.ep_base.specs.Commands.{Noop, Get, Put, Del, Swap, Cas, Seal, Opaque}
 use Rattle.ep_base.specs.declared.version.Version.{Version}
 use Rattle.ep_base.specs.declared.version_kind.VersionKind.TheVariants.{V1, V2, V3}
-use Rattle.ep_base.proofs.Same.{Decides-same_list}
 use Rattle.ep_base.proofs.Versions.{deps_in_last, deps_later}
-use Rattle.ep_frame.specs.Commands.{op_code, body_in}
-use Rattle.ep_frame.specs.Faults.{highest_op, are_early, are_in, second_fits, body_fits, text_fits, generation_fits}
+use Rattle.ep_base.specs.Ops.{op_number, second_fits, body_fits, first_fits, is_key_len, is_comparison_len}
+use Rattle.ep_base.specs.Parts.{parts_of}
+use Rattle.ep_base.specs.declared.op.Op.{Op}
+use Rattle.ep_base.specs.declared.op.Op.TheVariants as op
+use Rattle.ep_frame.specs.Faults.{highest_op, op_of, are_early, are_in, text_fits, generation_fits}
 use Rattle.ep_frame.specs.Fields.{is_early_put, second_len_from, body_len_from}
 
 -- each version's limits are within those of the last one
@@ -79,20 +80,20 @@ IsShortIn V1 n = n ≤ 1024
 IsShortIn V2 n = n ≤ 1024
 IsShortIn (V3 g) n = Unit {0}
 
-pub text_is : (v : Version) (op s b : ℕ) → text_fits v op s b ≡ true → (second_fits op s ≡ true) × IsShortIn v b
-text_is V1 op s b e = let p = and_parts (second_fits op s) (leb b 1024) e in (p.0, leb-true b 1024 p.1)
-text_is V2 op s b e = let p = and_parts (second_fits op s) (leb b 1024) e in (p.0, leb-true b 1024 p.1)
-text_is (V3 g) op s b e = (e, tt)
+pub text_is : (v : Version) (o : Op) (s b : ℕ) → text_fits v o s b ≡ true → (second_fits o s ≡ true) × IsShortIn v b
+text_is V1 o s b e = let p = and_parts (second_fits o s) (leb b 1024) e in (p.0, leb-true b 1024 p.1)
+text_is V2 o s b e = let p = and_parts (second_fits o s) (leb b 1024) e in (p.0, leb-true b 1024 p.1)
+text_is (V3 g) o s b e = (e, tt)
 
-pub text_from : (v : Version) (op s b : ℕ) → second_fits op s ≡ true → IsShortIn v b → text_fits v op s b ≡ true
-text_from V1 op s b e h = and_from (second_fits op s) (leb b 1024) e (le-leb b 1024 h)
-text_from V2 op s b e h = and_from (second_fits op s) (leb b 1024) e (le-leb b 1024 h)
-text_from (V3 g) op s b e h = e
+pub text_from : (v : Version) (o : Op) (s b : ℕ) → second_fits o s ≡ true → IsShortIn v b → text_fits v o s b ≡ true
+text_from V1 o s b e h = and_from (second_fits o s) (leb b 1024) e (le-leb b 1024 h)
+text_from V2 o s b e h = and_from (second_fits o s) (leb b 1024) e (le-leb b 1024 h)
+text_from (V3 g) o s b e h = e
 
-no_second : (op s : ℕ) → eqb op 3 ≡ true → second_fits op s ≡ true → 0 ≡ s
-no_second op s three e = sym (eqb-true s 0 (ap (λ (n : ℕ). second_fits n s) (sym (eqb-true op 3 three)) ∙ e))
+no_second : (op s : ℕ) → eqb op 3 ≡ true → second_fits (op_of op) s ≡ true → 0 ≡ s
+no_second op s three e = sym (eqb-true s 0 (ap (λ (n : ℕ). second_fits (op_of n) s) (sym (eqb-true op 3 three)) ∙ e))
 
-no_body : (op b : ℕ) → op ≤ 5 → eqb op 3 ≡ false → body_fits op b ≡ true → 0 ≡ b
+no_body : (op b : ℕ) → op ≤ 5 → eqb op 3 ≡ false → body_fits (op_of op) b ≡ true → 0 ≡ b
 no_body zero b le n e = sym (eqb-true b 0 e)
 no_body (suc zero) b le n e = sym (eqb-true b 0 e)
 no_body (suc (suc zero)) b le n e = sym (eqb-true b 0 e)
@@ -107,7 +108,7 @@ pub record TextIs (n op s b : ℕ) : Type 0 where
   pub body : body_len_from n op (cond (is_early_put n op) b s) b ≡ b
   pub small : cond (is_early_put n op) b s < 256 ^ 2
 
-early : (op s b : ℕ) (c : Bool) → eqb op 3 ≡ c → op ≤ 5 → second_fits op s ≡ true → body_fits op b ≡ true → (cond c 0 (cond c b s) ≡ s) × (cond c (cond c b s) 0 ≡ b)
+early : (op s b : ℕ) (c : Bool) → eqb op 3 ≡ c → op ≤ 5 → second_fits (op_of op) s ≡ true → body_fits (op_of op) b ≡ true → (cond c 0 (cond c b s) ≡ s) × (cond c (cond c b s) 0 ≡ b)
 early op s b true three le e f = (no_second op s three e, refl)
 early op s b false three le e f = (refl, no_body op b le three f)
 
@@ -115,18 +116,99 @@ early_small : (c : Bool) (s b : ℕ) → s ≤ 255 → b ≤ 1024 → cond c b s
 early_small true s b h k = omega (arith, k)
 early_small false s b h k = omega (arith, h)
 
-pub text_again : (v : Version) (op s b : ℕ) → op ≤ highest_op v → s ≤ 255 → second_fits op s ≡ true → body_fits op b ≡ true → IsShortIn v b → TextIs (version_number v) op s b
+pub text_again : (v : Version) (op s b : ℕ) → op ≤ highest_op v → s ≤ 255 → second_fits (op_of op) s ≡ true → body_fits (op_of op) b ≡ true → IsShortIn v b → TextIs (version_number v) op s b
 text_again V1 op s b le small e f h = let r = early op s b (eqb op 3) refl (omega (arith, le)) e f in record { second = r.0; body = r.1; small = early_small (eqb op 3) s b small h }
 text_again V2 op s b le small e f h = let r = early op s b (eqb op 3) refl (omega (arith, le)) e f in record { second = r.0; body = r.1; small = early_small (eqb op 3) s b small h }
 text_again (V3 g) op s b le small e f h = record { second = refl; body = refl; small = omega (arith, small) }
 
+-- the number of an op
+
+pub op_again : (o : Op) → op_of (op_number o) ≡ o
+op_again op.Noop = refl
+op_again op.Get = refl
+op_again op.Put = refl
+op_again op.Del = refl
+op_again op.Swap = refl
+op_again op.Cas = refl
+op_again op.Ask = refl
+op_again op.Act = refl
+op_again op.Seal = refl
+
+pub op_found : (n : ℕ) → 1 ≤ n → n ≤ 9 → op_number (op_of n) ≡ n
+op_found zero lo hi = absurd (omega arith)
+op_found (suc zero) lo hi = refl
+op_found (suc (suc zero)) lo hi = refl
+op_found (suc (suc (suc zero))) lo hi = refl
+op_found (suc (suc (suc (suc zero)))) lo hi = refl
+op_found (suc (suc (suc (suc (suc zero))))) lo hi = refl
+op_found (suc (suc (suc (suc (suc (suc zero)))))) lo hi = refl
+op_found (suc (suc (suc (suc (suc (suc (suc zero))))))) lo hi = refl
+op_found (suc (suc (suc (suc (suc (suc (suc (suc zero)))))))) lo hi = refl
+op_found (suc (suc (suc (suc (suc (suc (suc (suc (suc zero))))))))) lo hi = refl
+op_found (suc (suc (suc (suc (suc (suc (suc (suc (suc (suc n)))))))))) lo hi = absurd (omega arith)
+
+pub op_one : (o : Op) → 1 ≤ op_number o
+op_one op.Noop = omega arith
+op_one op.Get = omega arith
+op_one op.Put = omega arith
+op_one op.Del = omega arith
+op_one op.Swap = omega arith
+op_one op.Cas = omega arith
+op_one op.Ask = omega arith
+op_one op.Act = omega arith
+op_one op.Seal = omega arith
+
+-- how long what fits an op may be
+
+at_zero : (n high : ℕ) → eqb n 0 ≡ true → n ≤ high
+at_zero n high e = let z = eqb-true n 0 e in omega (arith, z)
+
+key_high : (n : ℕ) → is_key_len n ≡ true → n ≤ 255
+key_high n e = leb-true n 255 (and_parts (leb 1 n) (leb n 255) e).1
+
+pub first_high : (o : Op) (n : ℕ) → first_fits o n ≡ true → n ≤ 255
+first_high op.Noop n e = at_zero n 255 e
+first_high op.Get n e = key_high n e
+first_high op.Put n e = key_high n e
+first_high op.Del n e = key_high n e
+first_high op.Swap n e = key_high n e
+first_high op.Cas n e = key_high n e
+first_high op.Ask n e = key_high n e
+first_high op.Act n e = key_high n e
+first_high op.Seal n e = at_zero n 255 e
+
+pub second_high : (o : Op) (n : ℕ) → second_fits o n ≡ true → n ≤ 255
+second_high op.Noop n e = at_zero n 255 e
+second_high op.Get n e = at_zero n 255 e
+second_high op.Put n e = at_zero n 255 e
+second_high op.Del n e = at_zero n 255 e
+second_high op.Swap n e = key_high n e
+second_high op.Cas n e = at_zero n 255 e
+second_high op.Ask n e = leb-true n 255 e
+second_high op.Act n e = leb-true n 255 e
+second_high op.Seal n e = at_zero n 255 e
+
+value_high : (n : ℕ) → leb n 65535 ≡ true → n ≤ 131080
+value_high n e = let h = leb-true n 65535 e in omega (arith, h)
+
+pub body_high : (o : Op) (n : ℕ) → body_fits o n ≡ true → n ≤ 131080
+body_high op.Noop n e = at_zero n 131080 e
+body_high op.Get n e = at_zero n 131080 e
+body_high op.Put n e = value_high n e
+body_high op.Del n e = at_zero n 131080 e
+body_high op.Swap n e = at_zero n 131080 e
+body_high op.Cas n e = leb-true n 131080 (and_parts (leb 2 n) (leb n 131080) e).1
+body_high op.Ask n e = value_high n e
+body_high op.Act n e = value_high n e
+body_high op.Seal n e = value_high n e
+
 -- what a version has keeps to its limits
 
-op_high : (r : Bool) → cond r 7 8 ≤ 9
+op_high : (r : Bool) → op_number (cond r op.Ask op.Act) ≤ 9
 op_high true = omega arith
 op_high false = omega arith
 
-pub op_within : (v : Version) (c : Command) → knows v c ≡ true → op_code c ≤ highest_op v
+pub op_within : (v : Version) (c : Command) → knows v c ≡ true → op_number (parts_of c).op ≤ highest_op v
 op_within V1 Noop e = omega arith
 op_within V1 (Get k) e = omega arith
 op_within V1 (Put k x) e = omega arith
@@ -159,7 +241,7 @@ not_long n e = ltb-false 1024 n (go (ltb 1024 n) e)
     go true e = absurd (true≢false (sym e))
     go false e = refl
 
-pub short_within : (v : Version) (c : Command) → knows v c ≡ true → IsShortIn v (length (body_in c))
+pub short_within : (v : Version) (c : Command) → knows v c ≡ true → IsShortIn v (length (parts_of c).body)
 short_within V1 Noop e = omega arith
 short_within V1 (Get k) e = omega arith
 short_within V1 (Put k x) e = not_long (length x) e
@@ -189,14 +271,14 @@ deps_within (V3 g) is h = refl
 
 -- and the version has what keeps to them
 
-not_either : (r : Bool) (n : ℕ) → n ≤ 5 → cond r 7 8 ≤ n → ⊥
+not_either : (r : Bool) (n : ℕ) → n ≤ 5 → op_number (cond r op.Ask op.Act) ≤ n → ⊥
 not_either true n le h = omega (arith, h, le)
 not_either false n le h = omega (arith, h, le)
 
 short : (n : ℕ) → n ≤ 1024 → not (ltb 1024 n) ≡ true
 short n h = ap not (le-ltb 1024 n h)
 
-pub op_known : (v : Version) (c : Command) → op_code c ≤ highest_op v → IsShortIn v (length (body_in c)) → knows v c ≡ true
+pub op_known : (v : Version) (c : Command) → op_number (parts_of c).op ≤ highest_op v → IsShortIn v (length (parts_of c).body) → knows v c ≡ true
 op_known V1 Noop h s = refl
 op_known V1 (Get k) h s = refl
 op_known V1 (Put k x) h s = short (length x) s
@@ -223,15 +305,3 @@ pub deps_found : (v : Version) (is : List ℕ) → AreInstances is → are_in v 
 deps_found V1 is h e = early_found is e
 deps_found V2 is h e = deps_in_last is h
 deps_found (V3 g) is h e = deps_later V2 (V3 g) is (omega arith) (deps_in_last is h)
-
--- keys that differ
-
-pub differ : (k l : List ℕ) → same_list k l ≡ false → k ≢ l
-differ k l n e = true≢false (sym ((Decides-same_list k l).1 e) ∙ n)
-
-pub differ_again : (k l : List ℕ) → k ≢ l → same_list k l ≡ false
-differ_again k l n = go (same_list k l) refl
-  where
-    go : (b : Bool) → same_list k l ≡ b → b ≡ false
-    go true e = absurd (n ((Decides-same_list k l).0 e))
-    go false e = refl

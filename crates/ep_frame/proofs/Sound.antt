@@ -1,22 +1,23 @@
 -- The frame of a message has no fault.
-use Rattle.std.proofs.Common.{◌≡◌, ◌≢◌, ℕ, ◌^◌, ◌≤◌, ◌<◌, Bool, true, false, cond, eqb, leb, List, [], ◌∷◌, length, drop, Option, Ok, Err, refl, sym, ap, subst, ◌∙◌, arith}
+use Rattle.std.proofs.Common.{◌≡◌, ◌≢◌, ℕ, ◌^◌, ◌≤◌, ◌<◌, Bool, true, false, cond, eqb, leb, List, [], ◌∷◌, length, drop, Option, Ok, Err, refl, sym, ap, subst, ◌∙◌, true≢false, arith}
 use Rattle.std.specs.Prelude.{◌&&◌, ◌||◌, not, Some, None}
 use Rattle.std.specs.List.{AllByRecursion}
 use Rattle.std.proofs.lemmas.Bool.{eqb-true, eq-eqb, le-leb, lt-ltb, and_from, le-ltb}
 use Rattle.ep_base.specs.Instances.{leader_of, number_of, IsInstance}
 use Rattle.ep_base.specs.Ballots.{counter_of, owner_of}
-use Rattle.ep_base.specs.Attributes.{same_list}
 use Rattle.ep_base.specs.Deps.{IsRising, IsBelowFirst}
 use Rattle.ep_base.specs.Generations.{HasItsGeneration}
-use Rattle.ep_base.specs.Touched.{Touched}
+use Rattle.ep_base.specs.Ops.{op_number, first_fits, second_fits, body_fits}
+use Rattle.ep_base.specs.Parts.{parts_of as command_parts, command_in, are_parts, is_twice, body_said, IsInRange}
+use Rattle.ep_base.specs.declared.op.Op.{Op}
+use Rattle.ep_base.proofs.Partitions.{Fits, fits, parts_law_lem}
 use Rattle.ep_base.specs.Versions.{version_number, generation_of, highest_in, most_deps_in, IsInstanceIn, AreDepsIn, IsDecreeIn, CanSay}
 use Rattle.ep_base.specs.declared.version.Version.{Version}
 use Rattle.ep_base.specs.declared.version_kind.VersionKind.TheVariants.{V1, V2, V3}
 use Rattle.ep_base.proofs.Versions.{version_again, length_in}
 use Rattle.ep_base.specs.declared.attrs.Attrs.{Attrs}
 use Rattle.ep_base.specs.declared.decree.Decree.{Decree}
-use Rattle.ep_base.specs.declared.command.Command.{Command}
-use Rattle.ep_base.specs.declared.command.Command.TheVariants.{Noop, Get, Put, Del, Swap, Cas, Seal, Opaque}
+use Rattle.ep_base.specs.Commands.{Command}
 use Rattle.ep_base.specs.declared.vote.Status.{Status}
 use Rattle.ep_base.specs.declared.vote.Status.TheVariants.{PreAccepted, Accepted, Committed}
 use Rattle.ep_base.specs.declared.message.Message.{Message}
@@ -25,14 +26,12 @@ use Rattle.ep_frame.specs.declared.fault.FrameFault.{FrameFault}
 use Rattle.ep_frame.specs.declared.fault.FrameFault.TheVariants.{Short, Field, Length, Order, SameKey, Body}
 use Rattle.ep_frame.specs.declared.header.Header.{Header}
 use Rattle.ep_frame.specs.declared.origin.Origin.{Origin}
-use Rattle.ep_frame.specs.Commands.{op_code, key_in, second_in, body_in, or_empty, comparison_bytes, is_comparison}
 use Rattle.ep_frame.specs.Fields.{header_at, header_len, generation_from, deps_in}
-use Rattle.ep_frame.specs.Faults.{◌>>◌, names_rows, ballot_rows, vote_rows, body_rows, late_rows, within, checked, highest_op, second_fits, body_fits, text_fits, are_deps, are_in, deps_allowed, has_same_keys, has_other_body, is_instance, precedes_first, version_in, header_fault_in, header_fault, rest_fault, fault_of, frame_len, deps_place}
-use Rattle.ep_frame.specs.Spelling.{Parts, parts_at, parts_of, status_code, IsBallot, IsKey, IsValue, IsOther, IsCommand, AreAttrs, IsDecree, IsMessage, IsOrigin, Spells}
+use Rattle.ep_frame.specs.Faults.{◌>>◌, names_rows, ballot_rows, vote_rows, body_rows, late_rows, within, checked, highest_op, op_of, text_fits, are_deps, are_in, deps_allowed, has_same_keys, has_other_body, is_instance, precedes_first, version_in, header_fault_in, header_fault, rest_fault, fault_of, frame_len, deps_place}
+use Rattle.ep_frame.specs.Spelling.{Parts, parts_at, parts_of, status_code, IsBallot, IsCommand, AreAttrs, IsDecree, IsMessage, IsOrigin, Spells}
 use Rattle.ep_frame.proofs.Rows.{AllPass, fine, all_pass, within-from, apart-from, choose, choose_other}
 use Rattle.ep_frame.proofs.Again.{PartsFit, parts_again, length-parts_bytes}
-use Rattle.ep_frame.proofs.Codec.{length-comparison, is_comparison_again}
-use Rattle.ep_frame.proofs.Saying.{version_low, op_low, is_version, generation_again, IsShortIn, text_from, text_again, op_within, short_within, deps_within, differ_again}
+use Rattle.ep_frame.proofs.Saying.{version_low, op_low, is_version, generation_again, IsShortIn, text_from, text_again, op_again, op_one, first_high, second_high, body_high, op_within, short_within, deps_within}
 
 -- parts with these fields
 abbrev frame : (v : Version) (k from : ℕ) (o : Origin) (i counter replica status other_counter other_replica seq op : ℕ) (key second body deps : List ℕ) → Parts
@@ -72,8 +71,8 @@ pub record Sound (p : Parts) : Type 0 where
   pub fits : PartsFit p
   pub count : length p.deps ≡ p.header.count
   pub deps : deps_allowed (version_in p.header) p.deps ≡ true
-  pub keys_differ : (leb 1 p.header.second_len && same_list p.key p.second) ≡ false
-  pub body_is : (eqb p.header.op 6 && not (is_comparison p.body)) ≡ false
+  pub once : is_twice p.key p.second ≡ false
+  pub said : body_said (op_of p.header.op) p.body ≡ true
 
 -- three groups of fields, each with its rows
 
@@ -92,17 +91,15 @@ record BodyPart (v : Version) (rows : List (FrameFault × Bool)) (seq op : ℕ) 
   pass : AllPass rows
   seq_small : seq ≤ 1000000
   op_high : op ≤ highest_op v
-  key_small : length key ≤ 255
-  second_row : second_fits op (length second) ≡ true
-  second_small : length second ≤ 255
-  body_row : body_fits op (length body) ≡ true
-  body_short : IsShortIn v (length body)
-  body_small : length body ≤ 131080
+  fits : Fits (op_of op) key second body
+  short : IsShortIn v (length body)
   deps_small : length deps ≤ 14000
   rising : deps_allowed v deps ≡ true
-  keys_differ : (leb 1 (length second) && same_list key second) ≡ false
-  body_is : (eqb op 6 && not (is_comparison body)) ≡ false
   instances : AllByRecursion IsInstance deps
+
+is_not : (b : Bool) → not b ≡ true → b ≡ false
+is_not true e = absurd (true≢false (sym e))
+is_not false e = refl
 
 generation_kept : (v : Version) → HasItsGeneration v → generation_from (version_number v) (generation_of v) ≡ generation_of v
 generation_kept V1 h = refl
@@ -121,7 +118,7 @@ sound_frame v k from o i counter replica status other_counter other_replica seq 
     let stamp : within 1 281474976710655 o.stamp ≡ true = within-from 1 281474976710655 o.stamp g.stamp_low (omega (arith, g.stamp_high)) in
     let names : AllPass (names_rows h) = (refl, (is_version v, (within-from 1 8 k low high, (le-leb _ _ g.sender, (to, (le-leb _ _ g.entry_low, (stamp, tt))))))) in
     let generation = generation_again v own in
-    let late : AllPass (late_rows v h) = (generation.0, (y.body_row, tt)) in
+    let late : AllPass (late_rows v h) = (generation.0, (y.fits.body, tt)) in
     let e0 = all_pass (names_rows h) names in
     let e1 = ap (λ (u : Version). checked (ballot_rows u h)) (version_again v) ∙ all_pass (ballot_rows v h) a.pass in
     let e2 = all_pass (vote_rows h) w.pass in
@@ -129,7 +126,9 @@ sound_frame v k from o i counter replica status other_counter other_replica seq 
     let e4 = ap (λ (u : Version). checked (late_rows u h)) (version_again v) ∙ all_pass (late_rows v h) late in
     let lowest = version_low v in
     let most = op_low v in
-    let text = text_again v op (length second) (length body) y.op_high y.second_small y.second_row y.body_row y.body_short in
+    let text = text_again v op (length second) (length body) y.op_high (second_high (op_of op) (length second) y.fits.second) y.fits.second y.fits.body y.short in
+    let key_small = first_high (op_of op) (length key) y.fits.first in
+    let body_small = body_high (op_of op) (length body) y.fits.body in
     record {
       header = λ t. e0 t >> (e1 t >> (e2 t >> (e3 t >> e4 t)));
       fits = record {
@@ -138,9 +137,9 @@ sound_frame v k from o i counter replica status other_counter other_replica seq 
           origin = (omega (arith, g.receiver), (omega (arith, g.out), (omega (arith, g.entry_high), (omega (arith, g.stamp_high), tt))));
           ballot = (omega (arith, n.0), (omega (arith, n.2), (omega (arith, a.counter_small), (omega (arith, a.replica_small), tt))));
           vote = (omega (arith, w.status_small), (omega (arith, w.counter_small), (omega (arith, w.replica_small), tt)));
-          body = (omega (arith, y.seq_small), (omega (arith, y.op_high, most), (omega (arith, y.key_small), (text.small, (omega (arith, y.deps_small), tt)))));
+          body = (omega (arith, y.seq_small), (omega (arith, y.op_high, most), (omega (arith, key_small), (text.small, (omega (arith, y.deps_small), tt)))));
           generation_small = generation.1;
-          body_small = omega (arith, y.body_small);
+          body_small = omega (arith, body_small);
           second_is = text.second;
           generation_is = generation_kept v own;
           body_is = text.body;
@@ -152,8 +151,8 @@ sound_frame v k from o i counter replica status other_counter other_replica seq 
       };
       count = refl;
       deps = ap (λ (u : Version). deps_allowed u deps) (version_again v) ∙ y.rising;
-      keys_differ = y.keys_differ;
-      body_is = y.body_is;
+      once = is_not (is_twice key second) y.fits.once;
+      said = y.fits.said;
     }
 
 -- ---- ballots
@@ -236,153 +235,51 @@ rising_again (i ∷ is) r h =
 allowed_again : (v : Version) (ds : List ℕ) → IsRising ds → AllByRecursion IsInstance ds → AreDepsIn v ds → deps_allowed v ds ≡ true
 allowed_again v ds r h e = and_from (are_deps ds) (are_in v ds) (rising_again ds r h) (deps_within v ds e)
 
-record CommandPart (v : Version) (op : ℕ) (key second body : List ℕ) : Type 0 where
-  low : 1 ≤ op
-  key_row : cond (within 2 8 op) (within 1 255 (length key)) (eqb (length key) 0) ≡ true
-  second_row : second_fits op (length second) ≡ true
-  body_row : body_fits op (length body) ≡ true
-  key_small : length key ≤ 255
-  second_small : length second ≤ 255
-  body_small : length body ≤ 131080
-  keys_differ : (leb 1 (length second) && same_list key second) ≡ false
-  body_is : (eqb op 6 && not (is_comparison body)) ≡ false
+is_some_if : {X : Type 0} (c : Bool) (x y : X) → cond c (Some x) None ≡ Some y → (c ≡ true) × (x ≡ y)
+is_some_if true x y e = (refl, cc)
+is_some_if false x y e = absurd (cc)
 
--- a command without a second key or a body
-one_key : (v : Version) (op : ℕ) (key : List ℕ) → 1 ≤ op → cond (within 2 8 op) (within 1 255 (length key)) (eqb (length key) 0) ≡ true → length key ≤ 255
-    → second_fits op 0 ≡ true → body_fits op 0 ≡ true → eqb op 6 ≡ false → CommandPart v op key [] []
-one_key v op key low row small second body six = record {
-  low = low;
-  key_row = row;
-  second_row = second;
-  body_row = body;
-  key_small = small;
-  second_small = omega arith;
-  body_small = omega arith;
-  keys_differ = refl;
-  body_is = ap (λ (b : Bool). b && not (is_comparison [])) six;
-}
+-- a command in range is its parts
+pub command_fits : (c : Command) → IsInRange c → Fits (command_parts c).op (command_parts c).first (command_parts c).second (command_parts c).body
+command_fits c h =
+    let p = command_parts c in
+    fits p.op p.first p.second p.body (is_some_if (are_parts p) (command_in p) c (parts_law_lem.forth c h)).0
 
-key_row_is : (k : List ℕ) → IsKey k → within 1 255 (length k) ≡ true
-key_row_is k h = within-from 1 255 (length k) h.0 h.1
-
--- a second key, and that it is another one
-record SecondIs (key : List ℕ) (o : Option (List ℕ)) : Type 0 where
-  row : leb (length (or_empty o)) 255 ≡ true
-  small : length (or_empty o) ≤ 255
-  differ : (leb 1 (length (or_empty o)) && same_list key (or_empty o)) ≡ false
-
-keys_apart : (k l : List ℕ) → k ≢ l → (leb 1 (length l) && same_list k l) ≡ false
-keys_apart k l n = go (leb 1 (length l)) (same_list k l) (differ_again k l n)
-  where
-    go : (a b : Bool) → b ≡ false → (a && b) ≡ false
-    go true b e = e
-    go false b e = refl
-
-second_is : (key : List ℕ) (o : Option (List ℕ)) → IsOther key o → SecondIs key o
-second_is key None h = record { row = refl; small = omega arith; differ = refl }
-second_is key (Some l) h = record { row = le-leb _ _ h.0.1; small = h.0.1; differ = keys_apart key l h.1 }
-
--- an ask or an act
-outside : (v : Version) (p : Touched) (b : List ℕ) (r : Bool) → IsKey p.first → IsOther p.first p.second → IsValue b → CommandPart v (cond r 7 8) p.first (or_empty p.second) b
-outside v p b true k o h =
-    let s = second_is p.first p.second o in
-    record { low = omega arith; key_row = key_row_is p.first k; second_row = s.row; body_row = le-leb _ _ h.0; key_small = k.1; second_small = s.small; body_small = omega (arith, h.0); keys_differ = s.differ; body_is = refl }
-outside v p b false k o h =
-    let s = second_is p.first p.second o in
-    record { low = omega arith; key_row = key_row_is p.first k; second_row = s.row; body_row = le-leb _ _ h.0; key_small = k.1; second_small = s.small; body_small = omega (arith, h.0); keys_differ = s.differ; body_is = refl }
-
-command_part : (v : Version) (c : Command) → IsCommand c → CommandPart v (op_code c) (key_in c) (second_in c) (body_in c)
-command_part v Noop h = one_key v 1 [] (omega arith) refl (omega arith) refl refl refl
-command_part v (Get k) h = one_key v 2 k (omega arith) (key_row_is k h) h.1 refl refl refl
-command_part v (Put k x) h = record {
-  low = omega arith;
-  key_row = key_row_is k h.0;
-  second_row = refl;
-  body_row = le-leb _ _ h.1.0;
-  key_small = h.0.1;
-  second_small = omega arith;
-  body_small = omega (arith, h.1.0);
-  keys_differ = refl;
-  body_is = refl;
-}
-command_part v (Del k) h = one_key v 4 k (omega arith) (key_row_is k h) h.1 refl refl refl
-command_part v (Swap p) h = record {
-  low = omega arith;
-  key_row = key_row_is p.first h.0;
-  second_row = key_row_is p.second h.1;
-  body_row = refl;
-  key_small = h.0.1;
-  second_small = h.1.1;
-  body_small = omega arith;
-  keys_differ = keys_apart p.first p.second h.2;
-  body_is = refl;
-}
-command_part v (Cas k e n) h =
-    let l = length-comparison e n h.1 h.2 in
-    record {
-      low = omega arith;
-      key_row = key_row_is k h.0;
-      second_row = refl;
-      body_row = within-from 2 131080 (length (comparison_bytes e n)) l.0 l.1;
-      key_small = h.0.1;
-      second_small = omega arith;
-      body_small = l.1;
-      keys_differ = refl;
-      body_is = ap not (is_comparison_again e n h.1 h.2);
-    }
-command_part v (Seal x) h = record {
-  low = omega arith;
-  key_row = refl;
-  second_row = refl;
-  body_row = le-leb _ _ h.0;
-  key_small = omega arith;
-  second_small = omega arith;
-  body_small = omega (arith, h.0);
-  keys_differ = refl;
-  body_is = refl;
-}
-command_part v (Opaque p b) h = outside v p b p.reads h.0 h.1 h.2
+command_numbered : (c : Command) → IsInRange c → Fits (op_of (op_number (command_parts c).op)) (command_parts c).first (command_parts c).second (command_parts c).body
+command_numbered c h =
+    let p = command_parts c in
+    subst (λ (o : Op). Fits o p.first p.second p.body) (sym (op_again p.op)) (command_fits c h)
 
 -- the rows of a frame that has attributes or not, and a command or not
 abbrev body_rows_of : (v : Version) (attributes command : Bool) (seq op kl sl bl count : ℕ) → List (FrameFault × Bool)
 body_rows_of v attributes command seq op kl sl bl count =
     (Field 30, cond attributes (within 1 1000000 seq) (eqb seq 0)) ∷ (Field 34, cond command (within 1 (highest_op v) op) (eqb op 0))
-    ∷ (Field 35, cond (within 2 8 op) (within 1 255 kl) (eqb kl 0)) ∷ (Field 36, text_fits v op sl bl)
+    ∷ (Field 35, first_fits (op_of op) kl) ∷ (Field 36, text_fits v (op_of op) sl bl)
     ∷ (Field 38, cond attributes (leb count (most_deps_in v)) (eqb count 0)) ∷ []
 
 decree_body : (v : Version) (attributes command : Bool) → attributes ≡ true → command ≡ true → (x : Decree) → IsDecree x → IsDecreeIn v x
-    → BodyPart v (body_rows_of v attributes command x.attrs.seq (op_code x.command) (length (key_in x.command)) (length (second_in x.command)) (length (body_in x.command)) (length x.attrs.deps))
-    x.attrs.seq (op_code x.command) (key_in x.command) (second_in x.command) (body_in x.command) x.attrs.deps
+    → BodyPart v (body_rows_of v attributes command x.attrs.seq (op_number (command_parts x.command).op) (length (command_parts x.command).first) (length (command_parts x.command).second) (length (command_parts x.command).body) (length x.attrs.deps))
+    x.attrs.seq (op_number (command_parts x.command).op) (command_parts x.command).first (command_parts x.command).second (command_parts x.command).body x.attrs.deps
 decree_body v attributes command ta tc x h e =
-    let high : op_code x.command ≤ highest_op v = op_within v x.command e.0 in
+    let p = command_parts x.command in
+    let n = op_number p.op in
+    let high : n ≤ highest_op v = op_within v x.command e.0 in
     let short = short_within v x.command e.0 in
-    let c = command_part v x.command h.command in let a = h.attrs in
+    let c = command_numbered x.command h.command.in_range in let a = h.attrs in
     record {
       pass = (
         choose _ _ _ ta (within-from 1 1000000 x.attrs.seq a.low a.high),
         (
-          choose _ _ _ tc (within-from 1 (highest_op v) (op_code x.command) c.low high),
-          (
-            c.key_row,
-            (
-              text_from v (op_code x.command) (length (second_in x.command)) (length (body_in x.command)) c.second_row short,
-              (choose _ _ _ ta (le-leb _ _ (length_in v x.attrs.deps a.rising a.instances a.few e.1)), tt),
-            ),
-          ),
+          choose _ _ _ tc (within-from 1 (highest_op v) n (op_one p.op) high),
+          (c.first, (text_from v (op_of n) (length p.second) (length p.body) c.second short, (choose _ _ _ ta (le-leb _ _ (length_in v x.attrs.deps a.rising a.instances a.few e.1)), tt))),
         ),
       );
       seq_small = a.high;
       op_high = high;
-      key_small = c.key_small;
-      second_row = c.second_row;
-      second_small = c.second_small;
-      body_row = c.body_row;
-      body_short = short;
-      body_small = c.body_small;
+      fits = c;
+      short = short;
       deps_small = a.few;
       rising = allowed_again v x.attrs.deps a.rising a.instances e.1;
-      keys_differ = c.keys_differ;
-      body_is = c.body_is;
       instances = a.instances;
     }
 
@@ -391,8 +288,11 @@ nothing_short V1 = omega arith
 nothing_short V2 = omega arith
 nothing_short (V3 g) = tt
 
-nothing_row : (v : Version) → text_fits v 0 0 0 ≡ true
-nothing_row v = text_from v 0 0 0 refl (nothing_short v)
+nothing_row : (v : Version) → text_fits v (op_of 0) 0 0 ≡ true
+nothing_row v = text_from v (op_of 0) 0 0 refl (nothing_short v)
+
+nothing_fits : Fits (op_of 0) [] [] []
+nothing_fits = record { first = refl; second = refl; body = refl; once = refl; said = refl }
 
 attrs_body : (v : Version) (x : Attrs) → AreAttrs x → AreDepsIn v x.deps → BodyPart v (body_rows_of v true false x.seq 0 0 0 0 (length x.deps)) x.seq 0 [] [] [] x.deps
 attrs_body v x a e =
@@ -400,16 +300,10 @@ attrs_body v x a e =
       pass = (within-from 1 1000000 x.seq a.low a.high, (refl, (refl, (nothing_row v, (le-leb _ _ (length_in v x.deps a.rising a.instances a.few e), tt)))));
       seq_small = a.high;
       op_high = omega arith;
-      key_small = omega arith;
-      second_row = refl;
-      second_small = omega arith;
-      body_row = refl;
-      body_short = nothing_short v;
-      body_small = omega arith;
+      fits = nothing_fits;
+      short = nothing_short v;
       deps_small = a.few;
       rising = allowed_again v x.deps a.rising a.instances e;
-      keys_differ = refl;
-      body_is = refl;
       instances = a.instances;
     }
 
@@ -419,16 +313,10 @@ no_body v =
       pass = (refl, (refl, (refl, (nothing_row v, (refl, tt)))));
       seq_small = omega arith;
       op_high = omega arith;
-      key_small = omega arith;
-      second_row = refl;
-      second_small = omega arith;
-      body_row = refl;
-      body_short = nothing_short v;
-      body_small = omega arith;
+      fits = nothing_fits;
+      short = nothing_short v;
       deps_small = omega arith;
       rising = allowed_again v [] tt tt tt;
-      keys_differ = refl;
-      body_is = refl;
       instances = tt;
     }
 
@@ -469,13 +357,13 @@ rest_fine : (len deps keys body : Bool) → len ≡ true → deps ≡ true → k
 rest_fine len deps keys body l d k b = λ t. cond (not (l t)) (Err Length) (cond (not (d t)) (Err Order) (cond (k t) (Err SameKey) (cond (b t) (Err Body) fine)))
 
 no_fault : (b : List ℕ) (p : Parts) → parts_at b ≡ p → header_len p.header.version ≤ length b → length b ≡ frame_len p.header → header_fault p.header ≡ fine → deps_allowed (version_in p.header) p.deps ≡ true
-    → (leb 1 p.header.second_len && same_list p.key p.second) ≡ false → (eqb p.header.op 6 && not (is_comparison p.body)) ≡ false → fault_of b ≡ fine
+    → is_twice p.key p.second ≡ false → body_said (op_of p.header.op) p.body ≡ true → fault_of b ≡ fine
 unfolding fault_of rest_fault
 no_fault b p is long len header deps apart body =
     let h : header_at b ≡ p.header = ap (λ q. q.header) is in
     let d : deps_allowed (version_in (header_at b)) (deps_in (drop (deps_place (header_at b)) b)) ≡ true = ap (λ q. deps_allowed (version_in q.header) q.deps) is ∙ deps in
-    let k : has_same_keys (header_at b) b ≡ false = ap (λ q. leb 1 q.header.second_len && same_list q.key q.second) is ∙ apart in
-    let y : has_other_body (header_at b) b ≡ false = ap (λ q. eqb q.header.op 6 && not (is_comparison q.body)) is ∙ body in
+    let k : has_same_keys (header_at b) b ≡ false = ap (λ q. is_twice q.key q.second) is ∙ apart in
+    let y : has_other_body (header_at b) b ≡ false = ap (λ q. not (body_said (op_of q.header.op) q.body)) is ∙ ap not body in
     let l : eqb (length b) (frame_len (header_at b)) ≡ true = eq-eqb _ _ (len ∙ ap frame_len (sym h)) in
     let head : header_len (header_at b).version ≤ length b = subst (λ (q : Header). header_len q.version ≤ length b) (sym h) long in
     let rest : rest_fault (header_at b) b ≡ fine = rest_fine (eqb (length b) (frame_len (header_at b))) (deps_allowed (version_in (header_at b)) (deps_in (drop (deps_place (header_at b)) b))) (has_same_keys (header_at b) b) (has_other_body (header_at b) b) l d k y in
@@ -489,4 +377,4 @@ frame_again v b from o m s =
     let q = sound v from o m s.version s.origin s.message s.sayable in
     let at : parts_at b ≡ p = ap parts_at s.is ∙ parts_again p q.fits in
     let len = ap length s.is ∙ length-parts_bytes p q.fits q.count in
-    no_fault b p at (omega (arith, len)) len q.header q.deps q.keys_differ q.body_is
+    no_fault b p at (omega (arith, len)) len q.header q.deps q.once q.said

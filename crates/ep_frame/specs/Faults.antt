@@ -1,6 +1,9 @@
 -- What is wrong with the bytes of a frame: the first fault, from left to right.
 use Rattle.std.specs.Prelude.{ℕ, ◌+◌, ◌*◌, List, [], ◌∷◌, Bool, true, ◌&&◌, ◌||◌, not, ◌==◌, nat_le, nat_lt, if◌then◌else◌, length, take, drop, Result, Ok, Err, ◌≡◌}
-use Rattle.ep_base.specs.Attributes.{same_list}
+use Rattle.ep_base.specs.Ops.{first_fits, second_fits, body_fits}
+use Rattle.ep_base.specs.Parts.{is_twice, body_said}
+use Rattle.ep_base.specs.declared.op.Op.{Op}
+use Rattle.ep_base.specs.declared.op.Op.TheVariants as op
 use Rattle.ep_base.specs.Instances.{leader_of, number_of, highest_number}
 use Rattle.ep_base.specs.Versions.{version_of, highest_in, most_deps_in}
 use Rattle.ep_base.specs.declared.version.Version.{Version}
@@ -9,7 +12,6 @@ use Rattle.ep_frame.specs.declared.header.Header.{Header}
 use Rattle.ep_frame.specs.declared.fault.FrameFault.{FrameFault}
 use Rattle.ep_frame.specs.declared.fault.FrameFault.TheVariants.{Short, Magic, Version as OtherVersion, Kind, Field, Length, Order, SameKey, Body}
 use Rattle.ep_frame.specs.Fields.{header_at, header_len, number_at, deps_in}
-use Rattle.ep_frame.specs.Commands.{is_comparison}
 
 abbrev pub within : ℕ → ℕ → ℕ → Bool
 within low high n = nat_le low n && nat_le n high
@@ -61,22 +63,27 @@ highest_op (V3 g) = 9
 abbrev pub op_allowed : Version → Header → Bool
 op_allowed v h = if has_command h then within 1 (highest_op v) h.op else h.op == 0
 
+-- the op of this number; where there is no command, as of a no-op: no keys, and no body
+abbrev pub op_of : ℕ → Op
+op_of n =
+    if n == 2 then op.Get
+    else if n == 3 then op.Put
+    else if n == 4 then op.Del
+    else if n == 5 then op.Swap
+    else if n == 6 then op.Cas
+    else if n == 7 then op.Ask
+    else if n == 8 then op.Act
+    else if n == 9 then op.Seal
+    else op.Noop
+
 abbrev pub key_len_allowed : Header → Bool
-key_len_allowed h = if within 2 8 h.op then within 1 255 h.key_len else h.key_len == 0
-
--- the length of a second key, and of a body, with this op
-
-abbrev pub second_fits : (op n : ℕ) → Bool
-second_fits op n = if op == 5 then within 1 255 n else if within 7 8 op then nat_le n 255 else n == 0
-
-abbrev pub body_fits : (op n : ℕ) → Bool
-body_fits op n = if op == 3 || within 7 9 op then nat_le n 65535 else if op == 6 then within 2 131080 n else n == 0
+key_len_allowed h = first_fits (op_of h.op) h.key_len
 
 -- what the field at 36 tells: in versions 1 and 2 it is the length of a put's body too, which has at most 1,024 bytes
-abbrev pub text_fits : Version → (op second body : ℕ) → Bool
-text_fits V1 op second body = second_fits op second && nat_le body 1024
-text_fits V2 op second body = second_fits op second && nat_le body 1024
-text_fits (V3 g) op second body = second_fits op second
+abbrev pub text_fits : Version → Op → (second body : ℕ) → Bool
+text_fits V1 o second body = second_fits o second && nat_le body 1024
+text_fits V2 o second body = second_fits o second && nat_le body 1024
+text_fits (V3 g) o second body = second_fits o second
 
 -- versions 1 and 2 have none, and it is read as 0
 abbrev pub generation_fits : Version → ℕ → Bool
@@ -85,13 +92,13 @@ generation_fits V2 n = n == 0
 generation_fits (V3 g) n = nat_le 1 n
 
 abbrev pub text_len_allowed : Version → Header → Bool
-text_len_allowed v h = text_fits v h.op h.second_len h.body_len
+text_len_allowed v h = text_fits v (op_of h.op) h.second_len h.body_len
 
 abbrev pub generation_allowed : Version → Header → Bool
 generation_allowed v h = generation_fits v h.generation
 
 abbrev pub body_len_allowed : Header → Bool
-body_len_allowed h = body_fits h.op h.body_len
+body_len_allowed h = body_fits (op_of h.op) h.body_len
 
 abbrev pub count_allowed : Version → Header → Bool
 count_allowed v h = if has_attributes h then nat_le h.count (most_deps_in v) else h.count == 0
@@ -186,11 +193,11 @@ are_in (V3 g) is = true
 
 -- there are two keys, and they are the same
 abbrev pub has_same_keys : Header → List ℕ → Bool
-has_same_keys h b = nat_le 1 h.second_len && same_list (take h.key_len (drop (header_len h.version) b)) (take h.second_len (drop (second_place h) b))
+has_same_keys h b = is_twice (take h.key_len (drop (header_len h.version) b)) (take h.second_len (drop (second_place h) b))
 
--- the command is a comparison, and its body is none
+-- the body is none of the op's: the command is a comparison, and its body isn't what it expects and what is new, with nothing left over
 abbrev pub has_other_body : Header → List ℕ → Bool
-has_other_body h b = h.op == 6 && not (is_comparison (take h.body_len (drop (body_place h) b)))
+has_other_body h b = not (body_said (op_of h.op) (take h.body_len (drop (body_place h) b)))
 
 -- the deps are in order, and of the version
 abbrev pub deps_allowed : Version → List ℕ → Bool

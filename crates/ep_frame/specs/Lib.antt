@@ -1,4 +1,3 @@
-pub mod Commands
 pub mod Fields
 pub mod Faults
 pub mod Spelling

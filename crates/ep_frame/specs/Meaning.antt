@@ -4,7 +4,7 @@ use Rattle.ep_base.specs.Instances.{instance_of}
 use Rattle.ep_base.specs.Ballots.{ballot_of}
 use Rattle.ep_base.specs.declared.attrs.Attrs.{Attrs}
 use Rattle.ep_base.specs.declared.decree.Decree.{Decree}
-use Rattle.ep_base.specs.declared.command.Command.{Command}
+use Rattle.ep_base.specs.Commands.{Command}
 use Rattle.ep_base.specs.declared.version.Version.{Version}
 use Rattle.ep_base.specs.declared.vote.Vote.{Vote}
 use Rattle.ep_base.specs.declared.vote.Status.{Status}
@@ -16,8 +16,8 @@ use Rattle.ep_frame.specs.declared.header.Header.{Header}
 use Rattle.ep_frame.specs.declared.kind.Kind.{Kind}
 use Rattle.ep_frame.specs.declared.kind.Kind.TheVariants as kind
 use Rattle.ep_frame.specs.declared.origin.Origin.{Origin}
-use Rattle.ep_frame.specs.Commands.{command_of}
-use Rattle.ep_frame.specs.Faults.{version_in}
+use Rattle.ep_base.specs.Parts.{command_in, Parts as CommandParts}
+use Rattle.ep_frame.specs.Faults.{version_in, op_of}
 use Rattle.ep_frame.specs.Spelling.{Parts, parts_at}
 
 abbrev pub origin_in : Header → Origin
@@ -37,8 +37,12 @@ other_in h = ballot_of h.other_counter h.other_replica
 abbrev pub attrs_of : Parts → Attrs
 attrs_of p = record { seq = p.header.seq; deps = p.deps }
 
+-- the parts of the command
+abbrev pub command_parts_of : Parts → CommandParts
+command_parts_of p = record { op = op_of p.header.op; first = p.key; second = p.second; body = p.body }
+
 abbrev pub decree_of : Parts → Decree
-decree_of p = record { command = command_of p.header.op p.key p.second p.body; attrs = attrs_of p }
+decree_of p = record { command = command_in (command_parts_of p); attrs = attrs_of p }
 
 abbrev pub status_of : ℕ → Status
 status_of n = if n == 1 then PreAccepted else if n == 2 then Accepted else Committed
@@ -98,7 +102,7 @@ abbrev pub other_at : List ℕ → ℕ
 other_at b = other_in (parts_at b).header
 
 abbrev pub command_at : List ℕ → Command
-command_at b = command_of (parts_at b).header.op (parts_at b).key (parts_at b).second (parts_at b).body
+command_at b = command_in (command_parts_of (parts_at b))
 
 abbrev pub attrs_at : List ℕ → Attrs
 attrs_at b = attrs_of (parts_at b)

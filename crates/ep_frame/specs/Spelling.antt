@@ -5,10 +5,10 @@ use Rattle.ep_base.specs.Instances.{leader_of, number_of, IsInstance}
 use Rattle.ep_base.specs.Ballots.{counter_of, owner_of, highest_counter}
 use Rattle.ep_base.specs.Deps.{IsRising, AreInstances, most_deps}
 use Rattle.ep_base.specs.Generations.{HasItsGeneration}
-use Rattle.ep_base.specs.Values.{most_value}
-use Rattle.ep_base.specs.declared.command.Command.TheVariants.{Noop, Get, Put, Del, Swap, Cas, Seal, Opaque}
+use Rattle.ep_base.specs.Ops.{op_number}
+use Rattle.ep_base.specs.Parts.{parts_of as command_parts, IsInRange}
 use Rattle.ep_base.specs.Versions.{version_number, generation_of, CanSay}
-use Rattle.ep_base.specs.declared.command.Command.{Command}
+use Rattle.ep_base.specs.Commands.{Command}
 use Rattle.ep_base.specs.declared.attrs.Attrs.{Attrs}
 use Rattle.ep_base.specs.declared.decree.Decree.{Decree}
 use Rattle.ep_base.specs.declared.message.Message.{Message}
@@ -19,7 +19,6 @@ use Rattle.ep_base.specs.declared.vote.Status.{Status}
 use Rattle.ep_base.specs.declared.vote.Status.TheVariants.{PreAccepted, Accepted, Committed}
 use Rattle.ep_frame.specs.declared.header.Header.{Header}
 use Rattle.ep_frame.specs.declared.origin.Origin.{Origin}
-use Rattle.ep_frame.specs.Commands.{op_code, key_in, second_in, body_in}
 use Rattle.ep_frame.specs.Faults.{second_place, body_place, deps_place}
 use Rattle.ep_frame.specs.Fields.{header_bytes, header_at, header_len, dep_bytes, deps_in}
 
@@ -108,7 +107,7 @@ with_parts op key second body p = record p {
 }
 
 abbrev pub with_command : Command → Parts → Parts
-with_command c p = with_parts (op_code c) (key_in c) (second_in c) (body_in c) p
+with_command c p = with_parts (op_number (command_parts c).op) (command_parts c).first (command_parts c).second (command_parts c).body p
 
 abbrev pub with_decree : Decree → Parts → Parts
 with_decree x p = with_attrs x.attrs (with_command x.command p)
@@ -150,31 +149,12 @@ pub record IsBallot (i : ℕ) (least : ℕ) (b : ℕ) : Type 0 where
 abbrev pub AreBytes : List ℕ → Type 0
 AreBytes bs = (k : ℕ) → slice_index bs k < 256
 
-abbrev pub IsKey : List ℕ → Type 0
-IsKey k = (1 ≤ length k) × (length k ≤ 255) × AreBytes k
-
-abbrev pub IsValue : List ℕ → Type 0
-IsValue v = (length v ≤ most_value) × AreBytes v
-
-abbrev pub IsOption : Option (List ℕ) → Type 0
-IsOption None = Unit {0}
-IsOption (Some v) = IsValue v
-
--- a second key, where there is one, is another one
-abbrev pub IsOther : List ℕ → Option (List ℕ) → Type 0
-IsOther k None = Unit {0}
-IsOther k (Some l) = IsKey l × (k ≢ l)
-
--- a command that some version has
-abbrev pub IsCommand : Command → Type 0
-IsCommand Noop = Unit {0}
-IsCommand (Get key) = IsKey key
-IsCommand (Put key value) = IsKey key × IsValue value
-IsCommand (Del key) = IsKey key
-IsCommand (Swap keys) = IsKey keys.first × IsKey keys.second × (keys.first ≢ keys.second)
-IsCommand (Cas key expected new) = IsKey key × IsOption expected × IsOption new
-IsCommand (Seal value) = IsValue value
-IsCommand (Opaque p body) = IsKey p.first × IsOther p.first p.second × IsValue body
+-- a command in range, of bytes
+pub record IsCommand (c : Command) : Type 0 where
+  pub in_range : IsInRange c
+  pub first : AreBytes (command_parts c).first
+  pub second : AreBytes (command_parts c).second
+  pub body : AreBytes (command_parts c).body
 
 pub record AreAttrs (a : Attrs) : Type 0 where
   pub low : 1 ≤ a.seq

@@ -54,7 +54,7 @@ impl Frame {
         ensures only { IsFrame bytes → IsOk result }
         ensures frame { IfOk result (λ f. f ≡ bytes) }
     {
-        FrameView::read(bytes.as_slice())?;
+        FrameView::read(&bytes)?;
         Ok(Frame { bytes })
     }
 
@@ -72,7 +72,7 @@ impl Frame {
         ensures spelled { Spells (version_at self.now) self.now (sender_at self.now) (origin_at self.now) (message_at self.now) }
         ensures frame { IsFrame self.now }
     {
-        FrameView::known(self.bytes.as_slice())
+        FrameView::known(&self.bytes)
     }
 
     /// The bytes.

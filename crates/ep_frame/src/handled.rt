@@ -5,18 +5,20 @@ ghost use Rattle.ep_base.specs.Attributes.{join, same_attrs, same_list};
 ghost use Rattle.ep_base.specs.Sameness.{same_command, same_decree};
 ghost use Rattle.ep_rules.specs.Steps.{are_within};
 ghost use Rattle.ep_frame.specs.DepBytes.{AreDepBytes};
-ghost use Rattle.ep_frame.specs.Faults.{HasNoFault, deps_place, frame_len, has_attributes, has_command};
+ghost use Rattle.ep_frame.specs.Faults.{HasNoFault, deps_place, frame_len, has_attributes};
 ghost use Rattle.ep_frame.specs.Fields.{deps_in, header_at};
-ghost use Rattle.ep_frame.specs.Meaning.{kind_at, ballot_at, other_at, command_at, attrs_at, decree_at, vote_at, message_at, message_by, tells_attrs, tells_decree, is_within, parts_within};
+ghost use Rattle.ep_frame.specs.Meaning.{version_at, sender_at, origin_at, kind_at, ballot_at, other_at, command_at, attrs_at, decree_at, vote_at, message_at, message_by, tells_attrs, tells_decree, is_within, parts_within};
 ghost use Rattle.ep_frame.specs.declared.kind.Kind.TheVariants.{PrepareOk};
-ghost use Rattle.ep_frame.specs.Ranges.{Readable};
-ghost use Rattle.ep_frame.specs.Spelling.{parts_at};
+ghost use Rattle.ep_frame.specs.Ranges.{InRange, Readable};
+ghost use Rattle.ep_frame.specs.Spelling.{Spells, parts_at};
 
+use crate::header::{made_op, second_len_at};
 use crate::kind::{Kind, made_kind};
+use crate::made::{made_ballot, made_deps, made_seq, made_status};
 use crate::numbers::{u8_at, u16_at, u32_at};
-use crate::sections::{made_ballot, made_command, made_deps, made_seq, made_status};
-use crate::view::{FrameView, body_in, dep_bytes_in, key_in, second_key_in};
-use ep_base::{Attrs, Ballot, Command, Decree, InstanceId, Seq, Vote};
+use crate::view::{FrameView, dep_bytes_in, instance_in, is_spelled, run_place};
+use bytes::Bytes;
+use ep_base::{Attrs, Ballot, Command, Decree, InstanceId, Message, Op, Seq, Vote};
 use std::alloc::{AllocError, Global};
 
 /// What is known of a frame's bytes: a law, which costs nothing to call.
@@ -53,20 +55,20 @@ fn seq_in(bytes: &[u8]) -> Seq
     made_seq(u32_at(bytes, 30))
 }
 
-fn command_in(alloc: Global, bytes: &[u8]) -> Result<Command, AllocError>
-    requires long { 40 ≤ length bytes.now }
+// The command, which shares the frame's bytes.
+#[tactic(auto, using(crate::proofs::Runs::cut_is, crate::proofs::Runs::there))]
+fn command_in(bytes: &Bytes) -> Result<Command, AllocError>
     requires whole { length bytes.now ≡ frame_len (header_at bytes.now) }
     requires readable { Readable (parts_at bytes.now) }
-    requires command { has_command (header_at bytes.now) ≡ true }
     ensures { IfOk result (λ c. c ≡ command_at bytes.now) }
 {
-    made_command(
-        alloc,
-        u8_at(bytes, 34),
-        key_in(bytes),
-        second_key_in(bytes),
-        body_in(bytes),
-    )
+    let all = bytes.as_slice();
+    let (start, end) = run_place(all);
+    let run = bytes.slice(start..end)?;
+    match command_of(u8_at(all, 34), run, u8_at(all, 35), second_len_at(all)) {
+        Some(command) => Ok(command),
+        None => unreachable!(),
+    }
 }
 
 fn attrs_in(alloc: Global, bytes: &[u8]) -> Result<Attrs, AllocError>
@@ -83,34 +85,33 @@ fn attrs_in(alloc: Global, bytes: &[u8]) -> Result<Attrs, AllocError>
     })
 }
 
-fn decree_in(alloc: Global, bytes: &[u8]) -> Result<Decree, AllocError>
+fn decree_in(alloc: Global, bytes: &Bytes) -> Result<Decree, AllocError>
     requires long { 40 ≤ length bytes.now }
     requires whole { length bytes.now ≡ frame_len (header_at bytes.now) }
     requires readable { Readable (parts_at bytes.now) }
     requires attributes { has_attributes (header_at bytes.now) ≡ true }
-    requires command { has_command (header_at bytes.now) ≡ true }
     ensures { IfOk result (λ x. x ≡ decree_at bytes.now) }
 {
-    let command = command_in(alloc, bytes)?;
-    let attrs = attrs_in(alloc, bytes)?;
+    let command = command_in(bytes)?;
+    let attrs = attrs_in(alloc, bytes.as_slice())?;
     Ok(Decree { command, attrs })
 }
 
-fn vote_in(alloc: Global, bytes: &[u8]) -> Result<Option<Vote>, AllocError>
+fn vote_in(alloc: Global, bytes: &Bytes) -> Result<Option<Vote>, AllocError>
     requires long { 40 ≤ length bytes.now }
     requires whole { length bytes.now ≡ frame_len (header_at bytes.now) }
     requires readable { Readable (parts_at bytes.now) }
     requires kind { (header_at bytes.now).kind ≡ 7 }
     ensures { IfOk result (λ v. v ≡ vote_at bytes.now) }
 {
-    let status = u8_at(bytes, 26);
+    let status = u8_at(bytes.as_slice(), 26);
     if status == 0 {
         return Ok(None);
     }
     let decree = decree_in(alloc, bytes)?;
     Ok(Some(Vote {
         status: made_status(status),
-        ballot: other_in(bytes),
+        ballot: other_in(bytes.as_slice()),
         decree,
     }))
 }
@@ -140,27 +141,17 @@ fn has_attrs_in(bytes: &[u8], attrs: &Attrs) -> bool
     u32_at(bytes, 30) == attrs.seq.number() && are_these(dep_bytes_in(bytes), attrs.deps.as_slice())
 }
 
+#[tactic(auto, using(crate::proofs::Runs::same_run))]
 fn has_command_in(bytes: &[u8], command: &Command) -> bool
-    requires long { 40 ≤ length bytes.now }
     requires whole { length bytes.now ≡ frame_len (header_at bytes.now) }
     requires readable { Readable (parts_at bytes.now) }
-    requires command { has_command (header_at bytes.now) ≡ true }
     ensures { result ≡ same_command (command_at bytes.now) command.now }
 {
-    let op = u8_at(bytes, 34);
-    let key = key_in(bytes);
-    let second = second_key_in(bytes);
-    let body = body_in(bytes);
-    match command {
-        Command::Noop => op == 1,
-        Command::Get(own) => op == 2 && key == own.as_slice(),
-        Command::Put(own, value) => { op == 3 && key == own.as_slice() && body == value.as_slice() }
-        Command::Del(own) => op == 4 && key == own.as_slice(),
-        Command::Swap(keys) => {
-            op == 5 && key == keys.first().as_slice() && second == keys.second().as_slice()
-        }
-        Command::Cas { .. } | Command::Seal(_) | Command::Opaque(_, _) => false,
-    }
+    let (start, end) = run_place(bytes);
+    made_op(u8_at(bytes, 34)) == command.op()
+        && u8_at(bytes, 35) as usize == command.first().len()
+        && second_len_at(bytes) as usize == command.second().len()
+        && &bytes[start..end] == command.as_slice()
 }
 
 // Whether the dependencies are led by replicas below `count`. They rise, so that the last one's leader is the greatest.
@@ -196,6 +187,53 @@ fn is_within(bytes: &[u8], count: u8) -> bool
     names_within(bytes, count)
 }
 
+// The message that the bytes spell.
+#[tactic(auto, using(crate::proofs::Told::by_kind))]
+fn message_in(alloc: Global, bytes: &Bytes) -> Result<Message, AllocError>
+    requires long { 40 ≤ length bytes.now }
+    requires whole { length bytes.now ≡ frame_len (header_at bytes.now) }
+    requires ranges { InRange bytes.now }
+    requires readable { Readable (parts_at bytes.now) }
+    ensures { IfOk result (λ m. m ≡ message_at bytes.now) }
+{
+    let all = bytes.as_slice();
+    let instance = instance_in(all);
+    let ballot = ballot_in(all);
+    match made_kind(u8_at(all, 3)) {
+        Kind::PreAccept => Ok(Message::PreAccept {
+            instance,
+            ballot,
+            decree: decree_in(alloc, bytes)?,
+        }),
+        Kind::PreAcceptOk => Ok(Message::PreAcceptOk {
+            instance,
+            ballot,
+            attrs: attrs_in(alloc, all)?,
+        }),
+        Kind::Accept => Ok(Message::Accept {
+            instance,
+            ballot,
+            decree: decree_in(alloc, bytes)?,
+        }),
+        Kind::AcceptOk => Ok(Message::AcceptOk { instance, ballot }),
+        Kind::Commit => Ok(Message::Commit {
+            instance,
+            decree: decree_in(alloc, bytes)?,
+        }),
+        Kind::Prepare => Ok(Message::Prepare { instance, ballot }),
+        Kind::PrepareOk => Ok(Message::PrepareOk {
+            instance,
+            ballot,
+            vote: vote_in(alloc, bytes)?,
+        }),
+        Kind::Nack => Ok(Message::Nack {
+            instance,
+            refused: ballot,
+            promised: other_in(all),
+        }),
+    }
+}
+
 impl<'a> FrameView<'a> {
     /// Which message it spells.
     #[tactic(auto, using(crate::proofs::Told::by_kind, crate::proofs::Frames::frame_long))]
@@ -203,33 +241,33 @@ impl<'a> FrameView<'a> {
         ensures value { result ≡ kind_at self.now }
         ensures message { message_at self.now ≡ message_by result self.now }
     {
-        made_kind(u8_at(self.bytes, 3))
+        made_kind(u8_at(self.bytes.as_slice(), 3))
     }
 
     /// The ballot that is led, answered or refused; in a commit the least one.
     pub fn ballot(&self) -> Ballot
         ensures { result ≡ ballot_at self.now }
     {
-        are_known(self.bytes);
-        ballot_in(self.bytes)
+        are_known(self.bytes.as_slice());
+        ballot_in(self.bytes.as_slice())
     }
 
     /// The ballot that was voted at, or is promised.
     pub fn other(&self) -> Ballot
         ensures { result ≡ other_at self.now }
     {
-        are_known(self.bytes);
-        other_in(self.bytes)
+        are_known(self.bytes.as_slice());
+        other_in(self.bytes.as_slice())
     }
 
-    /// Its command, copied.
+    /// Its command, which shares the frame's bytes.
     #[tactic(auto, using(crate::proofs::Told::decree_there))]
-    pub fn to_command(&self, alloc: Global) -> Result<Command, AllocError>
+    pub fn to_command(&self) -> Result<Command, AllocError>
         requires { tells_decree (kind_at self.now) ≡ true }
         ensures { IfOk result (λ c. c ≡ command_at self.now) }
     {
-        are_known(self.bytes);
-        command_in(alloc, self.bytes)
+        are_known(self.bytes.as_slice());
+        command_in(self.bytes)
     }
 
     /// Its attributes, copied.
@@ -238,27 +276,27 @@ impl<'a> FrameView<'a> {
         requires { tells_attrs (kind_at self.now) ≡ true }
         ensures { IfOk result (λ a. a ≡ attrs_at self.now) }
     {
-        are_known(self.bytes);
-        attrs_in(alloc, self.bytes)
+        are_known(self.bytes.as_slice());
+        attrs_in(alloc, self.bytes.as_slice())
     }
 
-    /// Its command and attributes, copied.
+    /// Its command, which shares the frame's bytes, and its attributes, copied.
     #[tactic(auto, using(crate::proofs::Told::decree_there, crate::proofs::Told::decree_attrs_there))]
     pub fn to_decree(&self, alloc: Global) -> Result<Decree, AllocError>
         requires { tells_decree (kind_at self.now) ≡ true }
         ensures { IfOk result (λ x. x ≡ decree_at self.now) }
     {
-        are_known(self.bytes);
+        are_known(self.bytes.as_slice());
         decree_in(alloc, self.bytes)
     }
 
-    /// The vote that it answers, copied.
+    /// The vote that it answers: its command shares the frame's bytes, the rest is copied.
     #[tactic(auto, using(crate::proofs::Told::vote_there))]
     pub fn to_vote(&self, alloc: Global) -> Result<Option<Vote>, AllocError>
         requires { kind_at self.now ≡ PrepareOk }
         ensures { IfOk result (λ v. v ≡ vote_at self.now) }
     {
-        are_known(self.bytes);
+        are_known(self.bytes.as_slice());
         vote_in(alloc, self.bytes)
     }
 
@@ -266,8 +304,8 @@ impl<'a> FrameView<'a> {
     pub fn has_attrs(&self, attrs: &Attrs) -> bool
         ensures { result ≡ same_attrs (attrs_at self.now) attrs.now }
     {
-        are_known(self.bytes);
-        has_attrs_in(self.bytes, attrs)
+        are_known(self.bytes.as_slice());
+        has_attrs_in(self.bytes.as_slice(), attrs)
     }
 
     /// Whether this is its decree.
@@ -276,8 +314,8 @@ impl<'a> FrameView<'a> {
         requires { tells_decree (kind_at self.now) ≡ true }
         ensures { result ≡ same_decree (decree_at self.now) decree.now }
     {
-        are_known(self.bytes);
-        has_command_in(self.bytes, &decree.command) && has_attrs_in(self.bytes, &decree.attrs)
+        are_known(self.bytes.as_slice());
+        has_command_in(self.bytes.as_slice(), &decree.command) && has_attrs_in(self.bytes.as_slice(), &decree.attrs)
     }
 
     /// Joins its attributes to these. It takes no memory where they are the same.
@@ -287,11 +325,11 @@ impl<'a> FrameView<'a> {
         ensures ok { OnOk result (attrs.new ≡ join (attrs_at self.now) attrs.old) }
         ensures err { OnErr result (attrs.new ≡ attrs.old) }
     {
-        are_known(self.bytes);
-        if has_attrs_in(self.bytes, attrs) {
+        are_known(self.bytes.as_slice());
+        if has_attrs_in(self.bytes.as_slice(), attrs) {
             return Ok(());
         }
-        let mut joined = attrs_in(alloc, self.bytes)?;
+        let mut joined = attrs_in(alloc, self.bytes.as_slice())?;
         joined.merge(alloc, attrs)?;
         *attrs = joined;
         Ok(())
@@ -301,6 +339,17 @@ impl<'a> FrameView<'a> {
     pub fn is_within(&self, count: u8) -> bool
         ensures { result ≡ is_within count self.now }
     {
-        is_within(self.bytes, count)
+        is_within(self.bytes.as_slice(), count)
+    }
+
+    /// The message that the bytes spell.
+    #[tactic(auto, using(crate::proofs::Frames::frame_ranges))]
+    pub fn to_message(&self, alloc: Global) -> Result<Message, AllocError>
+        ensures value { IfOk result (λ m. m ≡ message_at self.now) }
+        ensures spelled { IfOk result (λ m. Spells (version_at self.now) self.now (sender_at self.now) (origin_at self.now) m) }
+    {
+        are_known(self.bytes.as_slice());
+        is_spelled(self.bytes.as_slice());
+        message_in(alloc, self.bytes)
     }
 }

@@ -1,13 +1,14 @@
 //! The header of a frame.
 
 ghost use Rattle.std.specs.Prelude.{◌≡◌, ◌≤◌, ◌<◌, ◌^◌, [], ◌∷◌, length};
+ghost use Rattle.ep_base.specs.Ops.{second_fits};
 ghost use Rattle.ep_base.specs.Versions.{version_of};
 ghost use Rattle.ep_frame.specs.Fields.{header_at, header_len, number_at, second_len_from, generation_from, body_len_from};
-ghost use Rattle.ep_frame.specs.Faults.{checked, names_rows, ballot_rows, vote_rows, body_rows, late_rows, has_attributes, has_command, counter_allowed, replica_allowed, status_allowed, other_counter_allowed, other_replica_allowed, seq_allowed, highest_op, op_allowed, key_len_allowed, second_fits, text_len_allowed, generation_allowed, body_len_allowed, count_allowed, version_in, header_fault_in, header_fault, second_place, body_place, deps_place, frame_len};
+ghost use Rattle.ep_frame.specs.Faults.{checked, names_rows, ballot_rows, vote_rows, body_rows, late_rows, has_attributes, has_command, counter_allowed, replica_allowed, status_allowed, other_counter_allowed, other_replica_allowed, seq_allowed, highest_op, op_allowed, op_of, key_len_allowed, text_len_allowed, generation_allowed, body_len_allowed, count_allowed, version_in, header_fault_in, header_fault, second_place, body_place, deps_place, frame_len};
 
 use crate::fault::FrameFault;
 use crate::numbers::{u8_at, u16_at, u32_at, u64_at};
-use ep_base::{Version, VersionKind};
+use ep_base::{Op, Version, VersionKind};
 
 /// The fields of a frame's first 40 bytes, in version 3 of its first 48, in their order. All numbers stand with their highest byte first.
 #[derive(Clone, Copy, Debug, PartialEq, Eq)]
@@ -64,6 +65,23 @@ fn check(allowed: bool, fault: FrameFault) -> Result<(), FrameFault>
     ensures { result ≡ checked ((fault, allowed) ∷ []) }
 {
     if allowed { Ok(()) } else { Err(fault) }
+}
+
+/// The op of this number: 1 to 9 in the order of the ops. Where there is no command, and the number is 0, it is the no-op.
+pub(crate) fn made_op(number: u8) -> Op
+    ensures { result ≡ op_of number }
+{
+    match number {
+        2 => Op::Get,
+        3 => Op::Put,
+        4 => Op::Del,
+        5 => Op::Swap,
+        6 => Op::Cas,
+        7 => Op::Ask,
+        8 => Op::Act,
+        9 => Op::Seal,
+        _ => Op::Noop,
+    }
 }
 
 // The last command of the version.
@@ -292,21 +310,13 @@ impl Header {
     fn key_len_allowed(&self) -> bool
         ensures { result ≡ key_len_allowed self.now }
     {
-        if self.op >= 2 && self.op <= 8 {
-            self.key_len >= 1
-        } else {
-            self.key_len == 0
-        }
+        made_op(self.op).first_fits(self.key_len as usize)
     }
 
     fn second_len_allowed(&self) -> bool
-        ensures { result ≡ second_fits self.now.op self.now.second_len }
+        ensures { result ≡ second_fits (op_of self.now.op) self.now.second_len }
     {
-        match self.op {
-            5 => self.second_len >= 1 && self.second_len <= 255,
-            7 | 8 => self.second_len <= 255,
-            _ => self.second_len == 0,
-        }
+        made_op(self.op).second_fits(self.second_len as usize)
     }
 
     fn text_len_allowed(&self, version: Version) -> bool
@@ -330,11 +340,7 @@ impl Header {
     fn body_len_allowed(&self) -> bool
         ensures { result ≡ body_len_allowed self.now }
     {
-        match self.op {
-            3 | 7 | 8 | 9 => self.body_len <= 65_535,
-            6 => self.body_len >= 2 && self.body_len <= 131_080,
-            _ => self.body_len == 0,
-        }
+        made_op(self.op).body_fits(self.body_len as usize)
     }
 
     fn count_allowed(&self, version: Version) -> bool

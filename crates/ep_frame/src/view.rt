@@ -2,31 +2,29 @@
 
 ghost use Rattle.std.specs.Prelude.{◌≡◌, ◌≤◌, ◌<◌, ◌^◌, ◌+◌, ◌*◌, ◌↔◌, Ok, Err, IfOk, IsOk, IfSome, IsSome, IsTrue, MatchResult, length, drop};
 ghost use Rattle.ep_base.specs.Instances.{instance_of, highest_number};
+ghost use Rattle.ep_base.specs.Parts.{body_said};
 ghost use Rattle.ep_base.specs.Messages.{instance_of_message};
-ghost use Rattle.ep_frame.specs.Commands.{is_comparison};
 ghost use Rattle.ep_frame.specs.Faults.{HasNoFault, are_deps, are_early, are_in, deps_allowed, has_same_keys, has_other_body, is_short, fault_of, is_instance, rest_fault, second_place, body_place, deps_place, frame_len};
 ghost use Rattle.ep_frame.specs.DepBytes.{deps_at};
 ghost use Rattle.ep_frame.specs.Fields.{deps_in, header_at, header_len, number_at};
 ghost use Rattle.ep_frame.specs.Spelling.{IsFrame, Spells, key_at, second_key_at, body_at, parts_at};
-ghost use Rattle.ep_frame.specs.Layouts.{parts_read};
 ghost use Rattle.ep_frame.specs.Ranges.{InRange};
 ghost use Rattle.ep_frame.specs.Meaning.{version_at, sender_at, origin_at, instance_at, message_at};
 
 use crate::deps_view::DepsView;
 use crate::fault::FrameFault;
-use crate::comparison::is_comparison;
-use crate::header::{Header, body_len_at, header_len, second_len_at};
+
+use crate::header::{Header, body_len_at, header_len, made_op, second_len_at};
 use crate::numbers::{u8_at, u16_at, u32_at, u64_at};
 use crate::origin::Origin;
-use crate::sections::Sections;
-use ep_base::{InstanceId, Message, ReplicaId, Stamp, Version, VersionKind};
-use std::alloc::{AllocError, Global};
+use bytes::Bytes;
+use ep_base::{InstanceId, Op, ReplicaId, Stamp, Version, VersionKind, is_comparison};
 use std::marker::Model;
 
 /// The bytes of a frame, borrowed. A frame spells one message, in one version, from one sender and with one origin.
 #[derive(Drop)]
 pub struct FrameView<'a> {
-    pub(crate) bytes: &'a [u8],
+    pub(crate) bytes: &'a Bytes,
 }
 
 impl<'a> Model for FrameView<'a> {
@@ -111,7 +109,7 @@ fn has_same_keys(header: &Header, bytes: &[u8]) -> bool
 {
     let key = &bytes[header_len(header.version)..header.second_place()];
     let second = &bytes[header.second_place()..header.body_place()];
-    header.second_len >= 1 && key == second
+    !second.is_empty() && second == key
 }
 
 // Whether the command is a comparison, and its body is none.
@@ -121,7 +119,24 @@ fn has_other_body(header: &Header, bytes: &[u8]) -> bool
     ensures { result ≡ has_other_body header.now bytes.now }
 {
     let body = &bytes[header.body_place()..header.deps_place()];
-    header.op == 6 && !is_comparison(body)
+    !is_said(made_op(header.op), body)
+}
+
+// Whether a command of this op may have this body.
+fn is_said(op: Op, body: &[u8]) -> bool
+    ensures { result ≡ body_said op body.now }
+{
+    match op {
+        Op::Cas => is_comparison(body),
+        Op::Noop
+        | Op::Get
+        | Op::Put
+        | Op::Del
+        | Op::Swap
+        | Op::Ask
+        | Op::Act
+        | Op::Seal => true,
+    }
 }
 
 /// Whether the length is that of the fields, the dependencies are in order, two keys differ, and a comparison's body is one.
@@ -265,7 +280,7 @@ fn stamp_at(bytes: &[u8], place: usize) -> Stamp
     }
 }
 
-fn instance_in(bytes: &[u8]) -> InstanceId
+pub(crate) fn instance_in(bytes: &[u8]) -> InstanceId
     requires { InRange bytes.now }
     ensures { result ≡ instance_at bytes.now }
 {
@@ -291,21 +306,6 @@ fn origin_in(bytes: &[u8]) -> Origin
     }
 }
 
-// The fields, and the bytes after them.
-#[tactic(auto, using(crate::proofs::Deps::rest_of, crate::proofs::Deps::part_of))]
-fn sections_in(bytes: &[u8]) -> Sections<'_>
-    requires { length bytes.now ≡ frame_len (header_at bytes.now) }
-    ensures { parts_read result ≡ parts_at bytes.now }
-{
-    Sections {
-        header: Header::parse(bytes),
-        key: key_in(bytes),
-        second: second_key_in(bytes),
-        body: body_in(bytes),
-        deps: dep_bytes_in(bytes),
-    }
-}
-
 // What stands after the body.
 #[tactic(auto, using(crate::proofs::Deps::rest_of))]
 pub(crate) fn dep_bytes_in(bytes: &[u8]) -> &[u8]
@@ -316,19 +316,25 @@ pub(crate) fn dep_bytes_in(bytes: &[u8]) -> &[u8]
     &bytes[place..]
 }
 
-// The message that the bytes spell.
-fn message_in(alloc: Global, bytes: &[u8]) -> Result<Message, AllocError>
-    requires { HasNoFault bytes.now }
-    ensures value { IfOk result (λ m. m ≡ message_at bytes.now) }
-    ensures spelled { IfOk result (λ m. Spells (version_at bytes.now) bytes.now (sender_at bytes.now) (origin_at bytes.now) m) }
+// Both keys and the body, one after the other.
+pub(crate) fn run_place(bytes: &[u8]) -> (usize, usize)
+    requires { length bytes.now ≡ frame_len (header_at bytes.now) }
+    ensures start { result.0 ≡ header_len (header_at bytes.now).version }
+    ensures end { result.1 ≡ deps_place (header_at bytes.now) }
 {
-    let message = sections_in(bytes).message(alloc)?;
-    Ok(message)
+    (header_len(u8_at(bytes, 2)), deps_place_in(bytes))
 }
+
+/// What bytes without a fault spell: a law, which costs nothing to call.
+pub(crate) fn is_spelled(bytes: &[u8])
+    requires { HasNoFault bytes.now }
+    ensures spelled { Spells (version_at bytes.now) bytes.now (sender_at bytes.now) (origin_at bytes.now) (message_at bytes.now) }
+    ensures frame { IsFrame bytes.now }
+{}
 
 impl<'a> FrameView<'a> {
     /// The frame that the bytes are; otherwise the first fault from left to right.
-    pub fn read(bytes: &'a [u8]) -> Result<FrameView<'a>, FrameFault>
+    pub fn read(bytes: &'a Bytes) -> Result<FrameView<'a>, FrameFault>
         ensures exact { MatchResult result (λ v. fault_of bytes.now ≡ Ok tt) (λ f. fault_of bytes.now ≡ Err f) }
         // What is read spells the message that its fields tell.
         ensures found { IfOk result (λ _. Spells (version_at bytes.now) bytes.now (sender_at bytes.now) (origin_at bytes.now) (message_at bytes.now)) }
@@ -336,17 +342,19 @@ impl<'a> FrameView<'a> {
         ensures only { IsFrame bytes.now → IsOk result }
         ensures view { IfOk result (λ v. v ≡ bytes.now) }
     {
-        check_frame(bytes)?;
+        check_frame(bytes.as_slice())?;
+        is_spelled(bytes.as_slice());
         Ok(FrameView { bytes })
     }
 
     /// The frame that the bytes are known to be.
-    pub(crate) fn known(bytes: &'a [u8]) -> FrameView<'a>
+    pub(crate) fn known(bytes: &'a Bytes) -> FrameView<'a>
         requires { HasNoFault bytes.now }
         ensures value { result ≡ bytes.now }
         ensures spelled { Spells (version_at bytes.now) bytes.now (sender_at bytes.now) (origin_at bytes.now) (message_at bytes.now) }
         ensures frame { IsFrame bytes.now }
     {
+        is_spelled(bytes.as_slice());
         FrameView { bytes }
     }
 
@@ -362,7 +370,7 @@ impl<'a> FrameView<'a> {
     pub fn header(&self) -> Header
         ensures { result ≡ header_at self.now }
     {
-        Header::parse(self.bytes)
+        Header::parse(self.bytes.as_slice())
     }
 
     #[tactic(auto, using(crate::proofs::Frames::frame_ranges))]
@@ -370,7 +378,7 @@ impl<'a> FrameView<'a> {
     pub fn from(&self) -> ReplicaId
         ensures { result ≡ sender_at self.now }
     {
-        sender_in(self.bytes)
+        sender_in(self.bytes.as_slice())
     }
 
     #[tactic(auto, using(crate::proofs::Frames::frame_ranges))]
@@ -378,7 +386,7 @@ impl<'a> FrameView<'a> {
     pub fn origin(&self) -> Origin
         ensures { result ≡ origin_at self.now }
     {
-        origin_in(self.bytes)
+        origin_in(self.bytes.as_slice())
     }
 
     #[tactic(auto, using(crate::proofs::Frames::frame_ranges, crate::proofs::Meanings::instance_named))]
@@ -387,28 +395,28 @@ impl<'a> FrameView<'a> {
         ensures value { result ≡ instance_at self.now }
         ensures message { result ≡ instance_of_message (message_at self.now) }
     {
-        instance_in(self.bytes)
+        instance_in(self.bytes.as_slice())
     }
 
     /// The bytes of the key, of two the first one: those behind the header that it counts. None where the frame has no key.
     pub fn key(&self) -> &'a [u8]
         ensures { result.now ≡ key_at self.now }
     {
-        key_in(self.bytes)
+        key_in(self.bytes.as_slice())
     }
 
     /// The bytes of the second key, which stand behind the first one. None where the frame has no second key.
     pub fn second_key(&self) -> &'a [u8]
         ensures { result.now ≡ second_key_at self.now }
     {
-        second_key_in(self.bytes)
+        second_key_in(self.bytes.as_slice())
     }
 
     /// The bytes of the command's body: those behind the keys that the header counts.
     pub fn body(&self) -> &'a [u8]
         ensures { result.now ≡ body_at self.now }
     {
-        body_in(self.bytes)
+        body_in(self.bytes.as_slice())
     }
 
     #[tactic(auto, using(crate::proofs::Frames::frame_whole, crate::proofs::Frames::frame_deps))]
@@ -416,14 +424,6 @@ impl<'a> FrameView<'a> {
     pub fn deps(&self) -> DepsView<'a>
         ensures { result ≡ deps_at self.now }
     {
-        DepsView::of(dep_bytes_in(self.bytes))
-    }
-
-    /// The message that the bytes spell.
-    pub fn to_message(&self, alloc: Global) -> Result<Message, AllocError>
-        ensures value { IfOk result (λ m. m ≡ message_at self.now) }
-        ensures spelled { IfOk result (λ m. Spells (version_at self.now) self.now (sender_at self.now) (origin_at self.now) m) }
-    {
-        message_in(alloc, self.bytes)
+        DepsView::of(dep_bytes_in(self.bytes.as_slice()))
     }
 }

@@ -186,9 +186,7 @@ fn put_parts(out: &mut Vec<u8>, parts: &Layout<'_>) -> Result<(), AllocError>
     ensures { OnOk result (out.new.items ≡ out.old.items ++ parts_bytes (parts_in parts.now)) }
 {
     put_header(out, parts.header)?;
-    out.extend_from_slice(parts.key)?;
-    out.extend_from_slice(parts.second)?;
-    out.extend_from_slice(parts.body)?;
+    out.extend_from_slice(parts.run)?;
     put_deps(out, parts.deps)
 }
 
