@@ -6,6 +6,7 @@ pub mod Headers
 pub mod Again
 pub mod Rows
 pub mod Saying
+pub mod Runs
 pub mod Sound
 pub mod Found
 pub mod Reading

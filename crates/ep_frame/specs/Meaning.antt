@@ -1,5 +1,5 @@
 -- What the parts of a frame stand for.
-use Rattle.std.specs.Prelude.{Bool, true, false, ltb, ◌&&◌, ℕ, List, Option, Some, None, ◌==◌, if◌then◌else◌}
+use Rattle.std.specs.Prelude.{Bool, true, false, ltb, ◌&&◌, ℕ, List, Option, Some, None, ◌==◌, if◌then◌else◌, slice_range}
 use Rattle.ep_base.specs.Instances.{instance_of}
 use Rattle.ep_base.specs.Ballots.{ballot_of}
 use Rattle.ep_base.specs.declared.attrs.Attrs.{Attrs}
@@ -17,7 +17,8 @@ use Rattle.ep_frame.specs.declared.kind.Kind.{Kind}
 use Rattle.ep_frame.specs.declared.kind.Kind.TheVariants as kind
 use Rattle.ep_frame.specs.declared.origin.Origin.{Origin}
 use Rattle.ep_base.specs.Parts.{command_in, Parts as CommandParts}
-use Rattle.ep_frame.specs.Faults.{version_in, op_of}
+use Rattle.ep_frame.specs.Faults.{version_in, op_of, deps_place}
+use Rattle.ep_frame.specs.Fields.{header_at, header_len}
 use Rattle.ep_frame.specs.Spelling.{Parts, parts_at}
 
 abbrev pub origin_in : Header → Origin
@@ -101,8 +102,16 @@ ballot_at b = ballot_in (parts_at b).header
 abbrev pub other_at : List ℕ → ℕ
 other_at b = other_in (parts_at b).header
 
+-- the parts of the command, and the run of both its keys and its body
+
+abbrev pub command_parts_at : List ℕ → CommandParts
+command_parts_at b = command_parts_of (parts_at b)
+
+abbrev pub run_at : List ℕ → List ℕ
+run_at b = slice_range b (header_len (header_at b).version) (deps_place (header_at b))
+
 abbrev pub command_at : List ℕ → Command
-command_at b = command_in (command_parts_of (parts_at b))
+command_at b = command_in (command_parts_at b)
 
 abbrev pub attrs_at : List ℕ → Attrs
 attrs_at b = attrs_of (parts_at b)

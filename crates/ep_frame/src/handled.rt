@@ -1,13 +1,15 @@
 //! The parts of a frame's message, read off its bytes as they are asked for.
 
-ghost use Rattle.std.specs.Prelude.{◌≡◌, ◌≤◌, IfOk, OnOk, OnErr, length, drop, true};
+ghost use Rattle.std.specs.Prelude.{◌≡◌, ◌≤◌, ◌+◌, ◌++◌, ◌&&◌, eqb, Some, IfOk, OnOk, OnErr, length, drop, true};
 ghost use Rattle.ep_base.specs.Attributes.{join, same_attrs, same_list};
+ghost use Rattle.ep_base.specs.Ops.{op_number};
+ghost use Rattle.ep_base.specs.Parts.{parts_of, command_in, command_of, are_parts, cut};
 ghost use Rattle.ep_base.specs.Sameness.{same_command, same_decree};
 ghost use Rattle.ep_rules.specs.Steps.{are_within};
 ghost use Rattle.ep_frame.specs.DepBytes.{AreDepBytes};
 ghost use Rattle.ep_frame.specs.Faults.{HasNoFault, deps_place, frame_len, has_attributes};
 ghost use Rattle.ep_frame.specs.Fields.{deps_in, header_at};
-ghost use Rattle.ep_frame.specs.Meaning.{version_at, sender_at, origin_at, kind_at, ballot_at, other_at, command_at, attrs_at, decree_at, vote_at, message_at, message_by, tells_attrs, tells_decree, is_within, parts_within};
+ghost use Rattle.ep_frame.specs.Meaning.{version_at, sender_at, origin_at, kind_at, command_parts_at, run_at, ballot_at, other_at, command_at, attrs_at, decree_at, vote_at, message_at, message_by, tells_attrs, tells_decree, is_within, parts_within};
 ghost use Rattle.ep_frame.specs.declared.kind.Kind.TheVariants.{PrepareOk};
 ghost use Rattle.ep_frame.specs.Ranges.{InRange, Readable};
 ghost use Rattle.ep_frame.specs.Spelling.{Spells, parts_at};
@@ -55,8 +57,19 @@ fn seq_in(bytes: &[u8]) -> Seq
     made_seq(u32_at(bytes, 30))
 }
 
+// The command of these parts.
+fn made_command(op: Op, run: Bytes, first: u8, second: u8) -> Command
+    requires long { first + second ≤ length run }
+    requires parts { are_parts (cut op run first second) ≡ true }
+    ensures { result ≡ command_in (cut op run first second) }
+{
+    match Command::from_parts(op, run, first, second) {
+        Some(command) => command,
+        None => unreachable!(),
+    }
+}
+
 // The command, which shares the frame's bytes.
-#[tactic(auto, using(crate::proofs::Runs::cut_is, crate::proofs::Runs::there))]
 fn command_in(bytes: &Bytes) -> Result<Command, AllocError>
     requires whole { length bytes.now ≡ frame_len (header_at bytes.now) }
     requires readable { Readable (parts_at bytes.now) }
@@ -65,10 +78,13 @@ fn command_in(bytes: &Bytes) -> Result<Command, AllocError>
     let all = bytes.as_slice();
     let (start, end) = run_place(all);
     let run = bytes.slice(start..end)?;
-    match command_of(u8_at(all, 34), run, u8_at(all, 35), second_len_at(all)) {
-        Some(command) => Ok(command),
-        None => unreachable!(),
-    }
+    let op = made_op(u8_at(all, 34));
+    Ok(made_command(
+        op,
+        run,
+        u8_at(all, 35),
+        second_len_at(all) as u8,
+    ))
 }
 
 fn attrs_in(alloc: Global, bytes: &[u8]) -> Result<Attrs, AllocError>
@@ -141,17 +157,26 @@ fn has_attrs_in(bytes: &[u8], attrs: &Attrs) -> bool
     u32_at(bytes, 30) == attrs.seq.number() && are_these(dep_bytes_in(bytes), attrs.deps.as_slice())
 }
 
-#[tactic(auto, using(crate::proofs::Runs::same_run))]
+// Whether the op, the lengths of both keys, and the run of both keys and the body are the command's.
+fn has_parts_in(bytes: &[u8], command: &Command) -> bool
+    requires { length bytes.now ≡ frame_len (header_at bytes.now) }
+    ensures test { result ≡ (eqb (op_number (command_parts_at bytes.now).op) (op_number (parts_of command.now).op) && (eqb (header_at bytes.now).key_len (length (parts_of command.now).first) && (eqb (header_at bytes.now).second_len (length (parts_of command.now).second) && same_list (run_at bytes.now) ((parts_of command.now).first ++ (parts_of command.now).second ++ (parts_of command.now).body)))) }
+    ensures command { command_of (parts_of command.now) ≡ Some command.now }
+{
+    let (start, end) = run_place(bytes);
+    let op = command.op();
+    made_op(u8_at(bytes, 34)).number() == op.number()
+        && (u8_at(bytes, 35) as usize == command.first().len()
+            && (second_len_at(bytes) as usize == command.second().len()
+                && &bytes[start..end] == command.as_slice()))
+}
+
 fn has_command_in(bytes: &[u8], command: &Command) -> bool
     requires whole { length bytes.now ≡ frame_len (header_at bytes.now) }
     requires readable { Readable (parts_at bytes.now) }
     ensures { result ≡ same_command (command_at bytes.now) command.now }
 {
-    let (start, end) = run_place(bytes);
-    made_op(u8_at(bytes, 34)) == command.op()
-        && u8_at(bytes, 35) as usize == command.first().len()
-        && second_len_at(bytes) as usize == command.second().len()
-        && &bytes[start..end] == command.as_slice()
+    has_parts_in(bytes, command)
 }
 
 // Whether the dependencies are led by replicas below `count`. They rise, so that the last one's leader is the greatest.
