@@ -187,7 +187,8 @@ fn put_parts(out: &mut Vec<u8>, parts: &Layout<'_>) -> Result<(), AllocError>
 {
     put_header(out, parts.header)?;
     out.extend_from_slice(parts.run)?;
-    put_deps(out, parts.deps)
+    put_deps(out, parts.deps)?;
+    Ok(())
 }
 
 /// The frame of the message in this version, from this sender and with this origin.
