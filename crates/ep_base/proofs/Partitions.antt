@@ -94,7 +94,7 @@ new_again e n =
     ap (λ (x : Option (List ℕ)). part_at (drop (length (part_bytes x)) (part_bytes e ++ part_bytes n))) (part_again e (part_bytes n))
     ∙ ap part_at (drop-append_seam (part_bytes e) (part_bytes n)) ∙ ap part_at (sym (append-nil (part_bytes n))) ∙ part_again n []
 
-short_there : (o : Option (List ℕ)) → is_short o ≡ true → IsShort o
+pub short_there : (o : Option (List ℕ)) → is_short o ≡ true → IsShort o
 short_there None e = tt
 short_there (Some v) e = leb-true (length v) most_value e
 
@@ -200,7 +200,7 @@ second_from : (k : List ℕ) (s : Option (List ℕ)) → IsSecond k s → (nat_l
 second_from k None h = (refl, refl)
 second_from k (Some l) h = (le-leb (length l) 255 h.0.1, apart_from k l h.0 h.1)
 
-fits_with : (c : Command) → IsInRange c → are_parts (parts_of c) ≡ true
+pub fits_with : (c : Command) → IsInRange c → are_parts (parts_of c) ≡ true
 fits_with Noop h = refl
 fits_with (Get k) h = fits_from op.Get k [] [] (record { first = key_from k h; second = refl; body = refl; once = refl; said = refl })
 fits_with (Put k v) h = fits_from op.Put k [] v (record { first = key_from k h.0; second = refl; body = small v h.1; once = refl; said = refl })
