@@ -258,7 +258,6 @@ pub fn write_each(
 }
 
 /// The bytes of the frame of what is told.
-#[tactic(auto, using(ep_base::proofs::Versions::said_later))]
 fn written(
     alloc: Global,
     version: Version,
@@ -272,6 +271,7 @@ fn written(
     requires sayable { CanSay version (told_by telling.now) }
     ensures { IfOk result (λ b. Spells version b.items from origin (told_by telling.now)) }
 {
+    let _kind = version.kind();
     let parts = Layout::of(version, from, origin, telling);
     let mut out = Vec::with_capacity(alloc, parts.header.len())?;
     put_parts(&mut out, &parts)?;
