@@ -201,14 +201,14 @@ bytes_if_any (x ∷ xs) o e = sym (ap key_bytes e)
 
 pub opaque_in : (p : Touched) (l b : List ℕ) → key_if_any l ≡ p.second → command_of (opaque_parts p l b) ≡ None ↔ ¬ IsInRange (Opaque p b)
 opaque_in p l b is =
-    let same : opaque_parts p l b ≡ parts_of (Opaque p b) = λ i. opaque_parts p (sym (bytes_if_any l p.second is) i) b in
-    (
+    let same : opaque_parts p l b ≡ parts_of (Opaque p b) = λ i. opaque_parts p (sym (bytes_if_any l p.second is) i) b in (
       λ none h. none_some (Opaque p b) (sym none ∙ ap command_of same ∙ forth_lem (Opaque p b) h),
       λ n. go n (are_parts (opaque_parts p l b)) refl,
     )
   where
     none_some : (c : Command) → None ≡ Some c → ⊥
     none_some c e = cc
+
     go : ¬ IsInRange (Opaque p b) → (t : Bool) → are_parts (opaque_parts p l b) ≡ t → cond t (Some (command_in (opaque_parts p l b))) None ≡ None
     go n true e = absurd (n (subst IsInRange (opaque_again p l b is) (range_of (opaque_parts p l b) e)))
     go n false e = refl

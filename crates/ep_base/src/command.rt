@@ -260,7 +260,7 @@ impl Command {
     #[inline(always)]
     pub fn view(&self) -> CommandView<'_>
         ensures said { means result ≡ self.now }
-        ensures in_range { IsInRange self.now }
+        ensures in_range { IsInRange (means result) }
     {
         match self.op {
             Op::Noop => CommandView::Noop,
@@ -424,14 +424,7 @@ fn is_said(op: Op, body: &[u8]) -> bool
 {
     match op {
         Op::Cas => is_comparison(body),
-        Op::Noop
-        | Op::Get
-        | Op::Put
-        | Op::Del
-        | Op::Swap
-        | Op::Ask
-        | Op::Act
-        | Op::Seal => true,
+        Op::Noop | Op::Get | Op::Put | Op::Del | Op::Swap | Op::Ask | Op::Act | Op::Seal => true,
     }
 }
 
@@ -444,7 +437,12 @@ fn are_cut(op: Op, run: &[u8], first: usize, second: usize) -> bool
     if run.len() < first + second {
         return false;
     }
-    are_parts(op, &run[..first], &run[first..first + second], &run[first + second..])
+    are_parts(
+        op,
+        &run[..first],
+        &run[first..first + second],
+        &run[first + second..],
+    )
 }
 
 #[inline(always)]

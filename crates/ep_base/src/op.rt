@@ -80,8 +80,7 @@ impl Op {
     {
         match self {
             Op::Noop | Op::Seal => len == 0,
-            Op::Get | Op::Put | Op::Del | Op::Swap | Op::Cas | Op::Ask | Op::Act =>
-                is_key_len(len),
+            Op::Get | Op::Put | Op::Del | Op::Swap | Op::Cas | Op::Ask | Op::Act => is_key_len(len),
         }
     }
 

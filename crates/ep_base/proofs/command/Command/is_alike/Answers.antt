@@ -18,8 +18,7 @@ returns-then-self-other-clause-alike c =
     let a = c.args.self.now in
     let b = c.args.other.now in
     let mine = view_lens i.op i.run i.first i.second a c.self.invariant.0 c.self.invariant.1 c.self.view_is in
-    let theirs = view_lens j.op j.run j.first j.second b c.other.invariant.0 c.other.invariant.1 c.other.view_is in
-    (
+    let theirs = view_lens j.op j.run j.first j.second b c.other.invariant.0 c.other.invariant.1 c.other.view_is in (
       λ is. heads_then i.op j.op i.first i.second j.first j.second a b mine theirs (c.is_same_op.ensures.0 c.if-is_same_op.true) c.if-self-other.true (eqb-true i.second j.second is),
       λ h. let same = then_heads i.op j.op i.first i.second j.first j.second a b mine theirs h in eq-eqb i.second j.second same.2,
     )
