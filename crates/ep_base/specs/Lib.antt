@@ -3,6 +3,7 @@ pub mod Ballots
 pub mod Quorums
 pub mod TwoKeys
 pub mod Touched
+pub mod Values
 pub mod Interference
 pub mod Places
 pub mod Deps
@@ -10,6 +11,7 @@ pub mod Attributes
 pub mod Messages
 pub mod Sameness
 pub mod Devices
+pub mod Generations
 pub mod Versions
 pub mod Fitting
 pub mod Partition

@@ -3,8 +3,9 @@
 ghost use Rattle.std.specs.Prelude.{◌≡◌, ◌<◌, ◌↔◌, ◌⊎◌, IsTrue, IfOk, List, ℕ, length};
 ghost use Rattle.std.specs.Option.{option_copied};
 ghost use Rattle.std.specs.Prelude.{Option, Some, None};
-ghost use Rattle.ep_base.specs.Interference.{interfere, Interferes, InterferenceLaw, FootprintLaw, only_reads, is_swap, is_late, is_seal, keys_in, listed, keys_of, key_of, second_key_of, has_key, share_key, meet, part};
+ghost use Rattle.ep_base.specs.Interference.{interfere, Interferes, InterferenceLaw, FootprintLaw, only_reads, is_swap, is_late, is_long, is_seal, keys_in, listed, keys_of, key_of, second_key_of, has_key, share_key, meet, part};
 ghost use Rattle.ep_base.specs.Sameness.{same_command, is_noop};
+ghost use Rattle.ep_base.specs.Values.{most_value};
 
 use crate::command_fault::CommandFault;
 use crate::footprint::Footprint;
@@ -47,12 +48,12 @@ impl Command {
         Ok(Command::Get(Key::new(alloc, key)?))
     }
 
-    /// The put of this key and value; `OutOfRange` unless the key has 1 to 255 bytes and the value at most 1,024.
+    /// The put of this key and value; `OutOfRange` unless the key has 1 to 255 bytes and the value at most 65,535.
     pub fn put(alloc: Global, key: &[u8], value: &[u8]) -> Result<Command, CommandFault>
         ensures ok { IfOk result (λ c. c ≡ Command.Put key.now value.now) }
-        ensures out_of_range { result ≡ Err CommandFault.OutOfRange ↔ ((length key.now ≡ 0) ⊎ (255 < length key.now) ⊎ (1024 < length value.now)) }
+        ensures out_of_range { result ≡ Err CommandFault.OutOfRange ↔ ((length key.now ≡ 0) ⊎ (255 < length key.now) ⊎ (most_value < length value.now)) }
     {
-        if value.len() > 1024 {
+        if value.len() > 65535 {
             return Err(CommandFault::OutOfRange);
         }
         let key = Key::new(alloc, key)?;
@@ -90,10 +91,10 @@ impl Command {
         Ok(Command::Cas { key, expected, new })
     }
 
-    /// The seal with this value; `OutOfRange` unless it has at most 1,024 bytes.
+    /// The seal with this value; `OutOfRange` unless it has at most 65,535 bytes.
     pub fn seal(alloc: Global, value: &[u8]) -> Result<Command, CommandFault>
         ensures ok { IfOk result (λ c. c ≡ Command.Seal value.now) }
-        ensures out_of_range { result ≡ Err CommandFault.OutOfRange ↔ (1024 < length value.now) }
+        ensures out_of_range { result ≡ Err CommandFault.OutOfRange ↔ (most_value < length value.now) }
     {
         Ok(Command::Seal(Value::new(alloc, value)?))
     }
@@ -186,6 +187,16 @@ impl Command {
             self,
             Command::Cas { .. } | Command::Seal(_) | Command::Opaque(..)
         )
+    }
+
+    /// Whether the command is a put of more than 1,024 bytes, which neither version 1 nor version 2 has.
+    pub fn is_long(&self) -> bool
+        ensures { result ≡ is_long self.now }
+    {
+        match self {
+            Command::Put(_, value) => value.len() > 1024,
+            _ => false,
+        }
     }
 
     /// Whether the command is a seal.

@@ -8,7 +8,7 @@ use Rattle.ep_base.specs.Versions.{version_number, highest_in, most_deps_in, kno
 use Rattle.ep_base.specs.declared.command.Command.{Command}
 use Rattle.ep_base.specs.declared.command.Command.TheVariants.{Noop, Get, Put, Del, Swap, Cas, Seal, Opaque}
 use Rattle.ep_base.specs.declared.version.Version.{Version}
-use Rattle.ep_base.specs.declared.version.Version.TheVariants.{V1, V2}
+use Rattle.ep_base.specs.declared.version_kind.VersionKind.TheVariants.{V1, V2}
 use Rattle.ep_base.proofs.Same.{Decides-same_list}
 use Rattle.ep_base.proofs.Versions.{deps_in_last}
 use Rattle.ep_frame.specs.Faults.{highest_op, are_early, are_in}
