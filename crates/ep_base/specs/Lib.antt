@@ -3,6 +3,10 @@ pub mod Ballots
 pub mod Quorums
 pub mod TwoKeys
 pub mod Touched
+pub mod Commands
+pub mod Ops
+pub mod Views
+pub mod Parts
 pub mod Values
 pub mod Interference
 pub mod Places
