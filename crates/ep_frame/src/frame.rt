@@ -12,7 +12,7 @@ use crate::fault::FrameFault;
 use crate::origin::Origin;
 use crate::view::FrameView;
 use bytes::Bytes;
-use ep_base::{InstanceId, ReplicaId, Version};
+use ep_base::{InstanceId, ReplicaId, Version, VersionKind};
 use std::alloc::{AllocError, Global};
 use std::marker::Model;
 
@@ -54,7 +54,7 @@ impl Frame {
         ensures only { IsFrame bytes → IsOk result }
         ensures frame { IfOk result (λ f. f ≡ bytes) }
     {
-        FrameView::read(bytes.as_slice())?;
+        FrameView::read(&bytes)?;
         Ok(Frame { bytes })
     }
 
@@ -72,7 +72,7 @@ impl Frame {
         ensures spelled { Spells (version_at self.now) self.now (sender_at self.now) (origin_at self.now) (message_at self.now) }
         ensures frame { IsFrame self.now }
     {
-        FrameView::known(self.bytes.as_slice())
+        FrameView::known(&self.bytes)
     }
 
     /// The bytes.
@@ -125,12 +125,12 @@ impl Frame {
         ensures same { version_at self.now ≡ V2 → IfOk result (λ f. f ≡ self.now) }
     {
         let view = self.view();
-        match view.version() {
-            Version::V1 => {
+        match view.version().kind() {
+            VersionKind::V1 => {
                 let bytes = in_version_2(alloc, self.as_slice())?;
                 Ok(Frame::written(bytes))
             }
-            Version::V2 => self.clone(),
+            VersionKind::V2 | VersionKind::V3(_) => self.clone(),
         }
     }
 }

@@ -1,7 +1,7 @@
 use Rattle.std.proofs.Common.{◌≡◌, ◌≤◌, ◌+◌, ◌*◌, ◌++◌, length}
 use Rattle.std.specs.Vec.{vec_len, vec_capacity}
 use Rattle.ep_frame.specs.Fields.{deps_in}
-use Rattle.ep_frame.proofs.sections.made_deps.Given as goal
+use Rattle.ep_frame.proofs.made.made_deps.Given as goal
 
 abbrev pub invariant-loop-rest : goal.invariant-loop-rest
 invariant-loop-rest l = record {

@@ -2,7 +2,7 @@ use Rattle.std.proofs.Common.{ℕ, slice_index_or, sym, ap, ◌∙◌, true≢fa
 use Rattle.ep_base.specs.Instances.{instance_of}
 use Rattle.ep_frame.specs.Faults.{is_instance}
 use Rattle.ep_frame.proofs.Deps.{next_is_dep, are_all}
-use Rattle.ep_frame.proofs.sections.made_deps.Goals as goal
+use Rattle.ep_frame.proofs.made.made_deps.Goals as goal
 
 pub unreachable-requires : goal.unreachable-requires
 unreachable-requires c =
