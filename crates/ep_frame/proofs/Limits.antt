@@ -1,11 +1,12 @@
 -- The limits of version 3 are the same in all generations.
-use Rattle.std.proofs.Common.{◌≡◌, ℕ, Bool, true, false, cond, eqb, List, Result, refl, ap, ◌∙◌}
+use Rattle.std.proofs.Common.{◌≡◌, ℕ, ◌<◌, Bool, true, false, cond, eqb, ltb, List, length, refl, sym, arith}
+use Rattle.std.proofs.lemmas.Bool.{lt-ltb}
 use Rattle.ep_base.specs.Versions.{version_of}
 use Rattle.ep_base.specs.declared.version.Version.{Version}
 use Rattle.ep_base.specs.declared.version_kind.VersionKind.TheVariants.{V1, V2, V3}
-use Rattle.ep_frame.specs.declared.fault.FrameFault.{FrameFault}
 use Rattle.ep_frame.specs.declared.header.Header.{Header}
-use Rattle.ep_frame.specs.Faults.{header_fault_in, header_fault, deps_allowed, version_in}
+use Rattle.ep_frame.specs.Faults.{header_fault_in, header_fault, deps_allowed, version_in, is_short}
+use Rattle.ep_frame.specs.Fields.{number_at}
 
 pub same_faults : (h : Header) → header_fault_in (version_of h.version 1) h ≡ header_fault h
 unfolding header_fault_in
@@ -23,3 +24,11 @@ same_deps h is = go (eqb h.version 1) (eqb h.version 3)
     go true b = refl
     go false true = refl
     go false false = refl
+
+-- fewer than 40 bytes are short in each version
+pub is_short_below : (b : List ℕ) → length b < 40 → true ≡ is_short b
+is_short_below b less = go (eqb (number_at 2 1 b) 3)
+  where
+    go : (c : Bool) → true ≡ ltb (length b) (cond c 48 40)
+    go true = sym (lt-ltb (length b) 48 (omega (arith, less)))
+    go false = sym (lt-ltb (length b) 40 less)

@@ -12,7 +12,9 @@ use Rattle.ep_base.specs.Sameness.{same_command}
 use Rattle.ep_base.specs.declared.op.Op.{Op}
 use Rattle.ep_base.proofs.Partitions.{parts_law_lem}
 use Rattle.ep_base.proofs.Same.{Decides-same_list, Decides-same_command}
-use Rattle.ep_frame.specs.Faults.{op_of}
+use Rattle.ep_frame.specs.Faults.{op_of, second_place, deps_place, frame_len}
+use Rattle.ep_frame.specs.Fields.{header_at, header_len}
+use Rattle.ep_frame.specs.Meaning.{command_parts_at, run_at, command_at}
 use Rattle.ep_frame.proofs.BigEndian.{rest_is}
 use Rattle.ep_frame.proofs.Saying.{op_again}
 
@@ -107,3 +109,51 @@ same_parts p c e f =
     iff (test p (parts_of c)) (same_command (command_in p) c)
     (λ t. (Decides-same_command (command_in p) c).1 (ap command_in (test_true p (parts_of c) t) ∙ own))
     (λ t. let same : p ≡ parts_of c = sym back ∙ ap parts_of ((Decides-same_command (command_in p) c).0 t) in subst (λ (q : Parts). test p q ≡ true) same (test_self p))
+
+-- ---- the run of a frame
+
+pub cut_there : (b run : List ℕ) (o : Op) (k l : ℕ) → length b ≡ frame_len (header_at b) → o ≡ op_of (header_at b).op → run ≡ run_at b → k ≡ (header_at b).key_len → l ≡ (header_at b).second_len → cut o run k l ≡ command_parts_at b
+cut_there b run o k l whole oe re ke le =
+    let h = header_at b in
+    (λ t. cut (oe t) (re t) (ke t) (le t)) ∙ cut_is (op_of h.op) b (header_len h.version) h.key_len h.second_len h.body_len (omega (arith, whole))
+
+pub cut_long : (b run : List ℕ) (k l : ℕ) → length b ≡ frame_len (header_at b) → run ≡ run_at b → k ≡ (header_at b).key_len → l ≡ (header_at b).second_len → k + l ≤ length run
+cut_long b run k l whole re ke le =
+    let h = header_at b in
+    let n = header_len h.version in
+    let lr : length run ≡ length (run_at b) = ap length re in
+    omega (arith, whole, ke, le, lr, length-take (deps_place h - n) (drop n b), length-drop n b)
+
+run_there : (b : List ℕ) → length b ≡ frame_len (header_at b) → ((command_parts_at b).first ++ (command_parts_at b).second) ++ (command_parts_at b).body ≡ run_at b
+run_there b whole =
+    let h = header_at b in
+    let r = run_at b in
+    let is = cut_there b r (op_of h.op) h.key_len h.second_len whole refl refl refl refl in
+    (λ t. let p = sym is t in (p.first ++ p.second) ++ p.body) ∙ run_whole h.key_len h.second_len r
+
+-- the test of a frame's parts and a command's
+abbrev test_at : List ℕ → Parts → Bool
+test_at b q =
+    eqb (op_number (command_parts_at b).op) (op_number q.op)
+    && (eqb (header_at b).key_len (length q.first) && (eqb (header_at b).second_len (length q.second) && same_list (run_at b) ((q.first ++ q.second) ++ q.body)))
+
+pub same_there : (b : List ℕ) (c : Command) → length b ≡ frame_len (header_at b) → are_parts (command_parts_at b) ≡ true → command_of (parts_of c) ≡ Some c → test_at b (parts_of c) ≡ same_command (command_at b) c
+same_there b c whole are again =
+    let h = header_at b in
+    let n = header_len h.version in
+    let p = command_parts_at b in
+    let q = parts_of c in
+    let first : length p.first ≡ h.key_len = omega (arith, whole, length-take h.key_len (drop n b), length-drop n b) in
+    let second : length p.second ≡ h.second_len = omega (arith, whole, length-take h.second_len (drop (second_place h) b), length-drop (second_place h) b) in
+    let run = run_there b whole in
+    (λ t. eqb (op_number p.op) (op_number q.op) && (eqb (sym first t) (length q.first) && (eqb (sym second t) (length q.second) && same_list (sym run t) ((q.first ++ q.second) ++ q.body))))
+    ∙ same_parts p c are again
+
+-- ---- writing
+
+-- what is written one after the other, of which the run is both keys and the body
+pub laid_out : (o x r d o1 o2 o3 : List ℕ) (k l : ℕ) → o1 ≡ o ++ x → o2 ≡ o1 ++ r → o3 ≡ o2 ++ d → o3 ≡ o ++ ((((x ++ take k r) ++ take l (drop k r)) ++ drop (k + l) r) ++ d)
+laid_out o x r d o1 o2 o3 k l e1 e2 e3 =
+    let run : ((x ++ take k r) ++ take l (drop k r)) ++ drop (k + l) r ≡ x ++ r =
+    ap (λ (y : List ℕ). y ++ drop (k + l) r) (append_assoc x (take k r) (take l (drop k r))) ∙ append_assoc x (take k r ++ take l (drop k r)) (drop (k + l) r) ∙ ap (λ (y : List ℕ). x ++ y) (run_whole k l r) in
+    e3 ∙ ap (λ (y : List ℕ). y ++ d) (e2 ∙ ap (λ (y : List ℕ). y ++ r) e1 ∙ append_assoc o x r) ∙ append_assoc o (x ++ r) d ∙ ap (λ (y : List ℕ). o ++ (y ++ d)) (sym run)

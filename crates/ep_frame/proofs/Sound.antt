@@ -26,7 +26,7 @@ use Rattle.ep_frame.specs.declared.fault.FrameFault.{FrameFault}
 use Rattle.ep_frame.specs.declared.fault.FrameFault.TheVariants.{Short, Field, Length, Order, SameKey, Body}
 use Rattle.ep_frame.specs.declared.header.Header.{Header}
 use Rattle.ep_frame.specs.declared.origin.Origin.{Origin}
-use Rattle.ep_frame.specs.Fields.{header_at, header_len, generation_from, deps_in}
+use Rattle.ep_frame.specs.Fields.{header_at, header_len, generation_from, text_len, deps_in}
 use Rattle.ep_frame.specs.Faults.{◌>>◌, names_rows, ballot_rows, vote_rows, body_rows, late_rows, within, checked, highest_op, op_of, text_fits, are_deps, are_in, deps_allowed, has_same_keys, has_other_body, is_instance, precedes_first, version_in, header_fault_in, header_fault, rest_fault, fault_of, frame_len, deps_place}
 use Rattle.ep_frame.specs.Spelling.{Parts, parts_at, parts_of, status_code, IsBallot, IsCommand, AreAttrs, IsDecree, IsMessage, IsOrigin, Spells}
 use Rattle.ep_frame.proofs.Rows.{AllPass, fine, all_pass, within-from, apart-from, choose, choose_other}
@@ -378,3 +378,7 @@ frame_again v b from o m s =
     let at : parts_at b ≡ p = ap parts_at s.is ∙ parts_again p q.fits in
     let len = ap length s.is ∙ length-parts_bytes p q.fits q.count in
     no_fault b p at (omega (arith, len)) len q.header q.deps q.once q.said
+
+-- the field at 36 has two bytes
+pub text_small : (v : Version) (from : ℕ) (o : Origin) (m : Message) → HasItsGeneration v → IsOrigin from o → IsMessage m → CanSay v m → text_len (parts_of v from o m).header < 65536
+text_small v from o m own g n e = let s = sound v from o m own g n e in let lt = s.fits.header.body.1.1.1.0 in omega (arith, lt)

@@ -2,6 +2,7 @@
 
 ghost use Rattle.std.specs.Prelude.{◌≡◌, ◌≤◌, ◌∷◌, ◌++◌, Ok, Err, IfOk, IsOk, MatchResult, length, take, drop};
 ghost use Rattle.ep_base.specs.Messages.{instance_of_message};
+ghost use Rattle.ep_base.specs.Versions.{generation_of};
 ghost use Rattle.ep_base.specs.declared.version_kind.VersionKind.TheVariants.{V2};
 ghost use Rattle.ep_frame.specs.Faults.{HasNoFault, fault_of};
 ghost use Rattle.ep_frame.specs.Meaning.{version_at, sender_at, origin_at, instance_at, message_at};
@@ -119,10 +120,12 @@ impl Frame {
     }
 
     /// The frame in version 2, of the same sender, origin and message. One of version 2 shares its bytes; one of version 1 is
-    /// copied, and its version alone changes: nothing is read or checked again.
+    /// copied, and its version alone changes: nothing is read or checked again. One of version 3, which version 2 may not be
+    /// able to say, is given again.
     pub fn upgraded(&self, alloc: Global) -> Result<Frame, AllocError>
-        ensures upgraded { IfOk result (λ f. IsUpgradedFrame self.now f) }
+        ensures upgraded { generation_of (version_at self.now) ≡ 0 → IfOk result (λ f. IsUpgradedFrame self.now f) }
         ensures same { version_at self.now ≡ V2 → IfOk result (λ f. f ≡ self.now) }
+        ensures later { 1 ≤ generation_of (version_at self.now) → IfOk result (λ f. f ≡ self.now) }
     {
         let view = self.view();
         match view.version().kind() {
@@ -130,7 +133,8 @@ impl Frame {
                 let bytes = in_version_2(alloc, self.as_slice())?;
                 Ok(Frame::written(bytes))
             }
-            VersionKind::V2 | VersionKind::V3(_) => self.clone(),
+            VersionKind::V2 => self.clone(),
+            VersionKind::V3(_) => self.clone(),
         }
     }
 }

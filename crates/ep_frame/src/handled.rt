@@ -69,6 +69,17 @@ fn made_command(op: Op, run: Bytes, first: u8, second: u8) -> Command
     }
 }
 
+// The command whose parts stand in this run of the frame's bytes.
+fn command_of(bytes: &[u8], run: Bytes) -> Command
+    requires whole { length bytes.now ≡ frame_len (header_at bytes.now) }
+    requires readable { Readable (parts_at bytes.now) }
+    requires run { run ≡ run_at bytes.now }
+    ensures { result ≡ command_at bytes.now }
+{
+    let op = made_op(u8_at(bytes, 34));
+    made_command(op, run, u8_at(bytes, 35), second_len_at(bytes) as u8)
+}
+
 // The command, which shares the frame's bytes.
 fn command_in(bytes: &Bytes) -> Result<Command, AllocError>
     requires whole { length bytes.now ≡ frame_len (header_at bytes.now) }
@@ -78,13 +89,7 @@ fn command_in(bytes: &Bytes) -> Result<Command, AllocError>
     let all = bytes.as_slice();
     let (start, end) = run_place(all);
     let run = bytes.slice(start..end)?;
-    let op = made_op(u8_at(all, 34));
-    Ok(made_command(
-        op,
-        run,
-        u8_at(all, 35),
-        second_len_at(all) as u8,
-    ))
+    Ok(command_of(all, run))
 }
 
 fn attrs_in(alloc: Global, bytes: &[u8]) -> Result<Attrs, AllocError>

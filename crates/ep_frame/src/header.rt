@@ -116,7 +116,8 @@ pub(crate) fn second_len_at(bytes: &[u8]) -> u16
     }
 }
 
-fn generation_at(bytes: &[u8]) -> u32
+/// The generation; 0 in versions 1 and 2.
+pub(crate) fn generation_at(bytes: &[u8]) -> u32
     requires { header_len (number_at 2 1 bytes.now) ≤ length bytes.now }
     ensures { result ≡ generation_from (number_at 2 1 bytes.now) (number_at 40 4 bytes.now) }
 {

@@ -18,6 +18,3 @@ pub fn one_spelling()
     ensures bytes { (v : Version) (b c : List ℕ) (f : ℕ) (o : Origin) (m : Message) → Spells v b f o m → Spells v c f o m → b ≡ c }
     ensures spelled { (v : Version) (f : ℕ) (o : Origin) (m : Message) → HasItsGeneration v → IsOrigin f o → IsMessage m → CanSay v m → (b : List ℕ) × Spells v b f o m }
 {}
-
-#[tactic(auto, using(crate::proofs::Again::parts_again, crate::proofs::Saying::op_known, crate::proofs::Runs::same_parts, crate::proofs::Runs::cut_is, crate::proofs::Limits::same_deps, crate::proofs::Sound::frame_again, crate::proofs::Found::found, crate::proofs::Meanings::message_spelled, crate::proofs::Frames::frame_found, crate::proofs::Frames::frame_readable, crate::proofs::Upgrading::upgraded, crate::proofs::Reorigin::keeps_message, crate::proofs::Within::within_is, crate::proofs::Repeating::frames_to, crate::proofs::Told::vote_there))]
-fn look() {}

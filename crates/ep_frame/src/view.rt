@@ -14,7 +14,9 @@ ghost use Rattle.ep_frame.specs.Meaning.{version_at, sender_at, origin_at, insta
 use crate::deps_view::DepsView;
 use crate::fault::FrameFault;
 
-use crate::header::{Header, body_len_at, header_len, made_op, second_len_at};
+use crate::header::{
+    Header, body_len_at, generation_at, header_len, made_op, second_len_at,
+};
 use crate::numbers::{u8_at, u16_at, u32_at, u64_at};
 use crate::origin::Origin;
 use bytes::Bytes;
@@ -287,6 +289,14 @@ pub(crate) fn instance_in(bytes: &[u8]) -> InstanceId
     made_instance(u8_at(bytes, 20), u16_at(bytes, 21))
 }
 
+#[tactic(auto, using(crate::proofs::Frames::frame_long, crate::proofs::Frames::frame_header, crate::proofs::Frames::frame_generation))]
+fn version_in(bytes: &[u8]) -> Version
+    requires { HasNoFault bytes.now }
+    ensures { result ≡ version_at bytes.now }
+{
+    Version::known(u8_at(bytes, 2), generation_at(bytes))
+}
+
 fn sender_in(bytes: &[u8]) -> ReplicaId
     requires { InRange bytes.now }
     ensures { result ≡ sender_at bytes.now }
@@ -359,14 +369,14 @@ impl<'a> FrameView<'a> {
     }
 
     /// The version that the frame is of.
-    #[tactic(auto, using(crate::proofs::Frames::frame_generation))]
     pub fn version(&self) -> Version
         ensures { result ≡ version_at self.now }
     {
-        self.header().version()
+        version_in(self.bytes.as_slice())
     }
 
     /// The fields of the header.
+    #[tactic(auto, using(crate::proofs::Frames::frame_header))]
     pub fn header(&self) -> Header
         ensures { result ≡ header_at self.now }
     {
@@ -399,6 +409,7 @@ impl<'a> FrameView<'a> {
     }
 
     /// The bytes of the key, of two the first one: those behind the header that it counts. None where the frame has no key.
+    #[tactic(auto, using(crate::proofs::Frames::frame_whole))]
     pub fn key(&self) -> &'a [u8]
         ensures { result.now ≡ key_at self.now }
     {
@@ -406,6 +417,7 @@ impl<'a> FrameView<'a> {
     }
 
     /// The bytes of the second key, which stand behind the first one. None where the frame has no second key.
+    #[tactic(auto, using(crate::proofs::Frames::frame_whole))]
     pub fn second_key(&self) -> &'a [u8]
         ensures { result.now ≡ second_key_at self.now }
     {
@@ -413,6 +425,7 @@ impl<'a> FrameView<'a> {
     }
 
     /// The bytes of the command's body: those behind the keys that the header counts.
+    #[tactic(auto, using(crate::proofs::Frames::frame_whole))]
     pub fn body(&self) -> &'a [u8]
         ensures { result.now ≡ body_at self.now }
     {

@@ -187,7 +187,8 @@ fn put_parts(out: &mut Vec<u8>, parts: &Layout<'_>) -> Result<(), AllocError>
 {
     put_header(out, parts.header)?;
     out.extend_from_slice(parts.run)?;
-    put_deps(out, parts.deps)
+    put_deps(out, parts.deps)?;
+    Ok(())
 }
 
 /// The frame of the message in this version, from this sender and with this origin.
@@ -257,7 +258,6 @@ pub fn write_each(
 }
 
 /// The bytes of the frame of what is told.
-#[tactic(auto, using(ep_base::proofs::Versions::said_later))]
 fn written(
     alloc: Global,
     version: Version,
@@ -271,6 +271,7 @@ fn written(
     requires sayable { CanSay version (told_by telling.now) }
     ensures { IfOk result (λ b. Spells version b.items from origin (told_by telling.now)) }
 {
+    let _kind = version.kind();
     let parts = Layout::of(version, from, origin, telling);
     let mut out = Vec::with_capacity(alloc, parts.header.len())?;
     put_parts(&mut out, &parts)?;

@@ -1,7 +1,7 @@
 use Rattle.std.proofs.Common.{arith}
 use Rattle.ep_frame.specs.Meaning.{version_at, sender_at, origin_at, message_at}
 use Rattle.ep_frame.proofs.Frames.{frame_found}
-use Rattle.ep_frame.proofs.view.FrameView.known.Goals as goal
+use Rattle.ep_frame.proofs.view.is_spelled.Goals as goal
 
 pub returns-clause-spelled : goal.returns-clause-spelled
 returns-clause-spelled c = frame_found c.args.bytes.now (λ i. omega (arith, c.type_inv.bytes i)) c.requires
