@@ -8,3 +8,4 @@ pub mod Ready
 pub mod Refusal
 pub mod Cut
 pub mod Missing
+pub mod Taking

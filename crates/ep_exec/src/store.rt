@@ -6,6 +6,7 @@ ghost use Rattle.ep_base.specs.Sameness.{is_noop};
 ghost use Rattle.ep_rules.specs.OneMap.{empty, opened, value_at, after, reply};
 ghost use Rattle.ep_exec.specs.Table.{contents_of};
 
+use crate::contents::Contents;
 use crate::table::{self, Table, apply_open, sealed, value_of};
 use crate::trial::Trial;
 use ep_base::{Command, Key, Reply, Value};
@@ -42,6 +43,18 @@ impl Store {
             table: IndexMap::new(alloc),
             seal: None,
         }
+    }
+
+    /// The open map with these contents.
+    pub fn opened(alloc: Global, contents: &Contents) -> Result<Store, AllocError>
+        ensures { IfOk result (λ s. s ≡ opened contents.now) }
+    {
+        let table = table::filled(alloc, contents.entries())?;
+        Ok(Store {
+            alloc,
+            table,
+            seal: None,
+        })
     }
 
     /// What the key has.

@@ -1,13 +1,14 @@
 //! The table behind a map: keys, each with a value or with none.
 
 ghost use Rattle.std.specs.Prelude.{◌≡◌, ℕ, List, None, true, false, IfOk, OnOk, OnErr};
+ghost use Rattle.std.specs.FinMap.{from_entries};
 ghost use Rattle.std.specs.Option.{option_copied, option_flatten};
 ghost use Rattle.ep_base.specs.declared.command.Command.{Command};
 ghost use Rattle.ep_rules.specs.OneMap.{Contents, value_at, with_key, written, read, told, sealed_by};
 ghost use Rattle.ep_base.specs.Sameness.{same_option};
 ghost use Rattle.ep_exec.specs.Table.{HavePlaces, contents_of, has_place, restored};
 
-use ep_base::{Command, KeyPair, Reply, Value};
+use ep_base::{Command, Key, KeyPair, Reply, Value};
 use indexmap::IndexMap;
 use std::alloc::{AllocError, Global};
 
@@ -93,6 +94,20 @@ pub fn copy(alloc: Global, table: &Table) -> Result<Table, AllocError>
         done(set(&mut copy, name, value)?);
     }
     Ok(copy)
+}
+
+/// The table of these keys, each with its value.
+pub fn filled(alloc: Global, items: &[(Key, Value)]) -> Result<Table, AllocError>
+    ensures { IfOk result (λ t. contents_of t.entries ≡ from_entries items.now) }
+{
+    let mut table = IndexMap::new(alloc);
+    for index in (0..items.len()).rev() {
+        let (key, value) = &items[index];
+        let name = Vec::from_slice(alloc, key.as_slice())?;
+        let value = value.copy(alloc)?;
+        done(set(&mut table, name, Some(value))?);
+    }
+    Ok(table)
 }
 
 /// Makes a place for the key.

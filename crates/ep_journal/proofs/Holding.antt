@@ -40,7 +40,7 @@ use Rattle.ep_space.proofs.Holders.{sorted_true, those-found}
 use Rattle.ep_space.proofs.Rising.{all_from}
 use Rattle.ep_journal.proofs.Answering.{knows_noop, known_vote, stays_open}
 use Rattle.ep_journal.specs.Holding.{IsLedIn, Holds, HasEvent, HasRoom, AllSayable, AreSayable}
-use Rattle.ep_rules.specs.OneMap.{opened, empty}
+use Rattle.ep_rules.specs.OneMap.{Contents, opened}
 
 -- Maps.
 
@@ -451,8 +451,8 @@ module _ (version : Version) where
       }
 
   -- and what is known at first
-  pub fresh_held : Holds version (fresh_state (opened empty))
-  fresh_held = record {
+  pub fresh_held : (m : Contents) → Holds version (fresh_state (opened m))
+  fresh_held m = record {
     records = λ i r h. absurd (let n : get (none {X = Record}) i ≡ None = none_there i in cc);
     leads = λ i l h. absurd (let n : get (none {X = Led}) i ≡ None = none_there i in cc);
     unsealed = refl;
