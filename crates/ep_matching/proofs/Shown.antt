@@ -17,7 +17,7 @@ use Rattle.ep_rules.specs.States.{State, fresh_state}
 use Rattle.ep_rules.specs.Steps.{Frame, leaves}
 use Rattle.ep_rules.specs.Worlds.{In}
 use Rattle.ep_matching.specs.Lookups.{entry_at, frame_in}
-use Rattle.ep_rules.specs.OneMap.{opened, empty}
+use Rattle.ep_journal.specs.Openings.{opens}
 
 -- Entries.
 
@@ -115,7 +115,7 @@ at_in (x ∷ es) (suc k) e is = inr (at_in es k e is)
 
 pub versioned_in : (c : Collected) → AreJournals c → (r : ℕ) (e : Entry) → In e (entries_at c r) → IsEntryIn c.version e
 versioned_in c h r e there = elim (cases_lt r (size c.faults)) [
-  | inl lt ↦ versioned_from c.version c.faults r (fresh_state (opened empty)) (entries_at c r) e (h.journal r lt).versioned there
+  | inl lt ↦ versioned_from c.version c.faults r (fresh_state (opens c.opening)) (entries_at c r) e (h.journal r lt).versioned there
   | inr le ↦ (let nobody : In e [] = subst (λ es. In e es) (h.others r le) there in absurd nobody)
 ]
 
@@ -128,11 +128,11 @@ readable_of c h r = elim (cases_lt r (size c.faults)) [
   | inr le ↦ subst (λ es. AreReadable es) (sym (h.others r le)) tt
 ]
 
-pub runs_of : (c : Collected) → AreJournals c → AreLocalRuns (opened empty) c.faults (journals_of c)
+pub runs_of : (c : Collected) → AreJournals c → AreLocalRuns (opens c.opening) c.faults (journals_of c)
 runs_of c h = record {
   local = λ r. elim (cases_lt r (size c.faults)) [
     | inl lt ↦ (h.journal r lt).run
-    | inr le ↦ subst (λ (es : List Entry). rules.IsLocalRun (opened empty) c.faults r (entries_of es)) (sym (h.others r le)) (tt, tt)
+    | inr le ↦ subst (λ (es : List Entry). rules.IsLocalRun (opens c.opening) c.faults r (entries_of es)) (sym (h.others r le)) (tt, tt)
   ];
   others = λ r le. ap entries_of (h.others r le);
 }
