@@ -1,5 +1,5 @@
 -- The first fault of handled frames is the rule book's.
-use Rattle.std.proofs.Common.{◌≡◌, ℕ, zero, suc, ◌<◌, ◌⊎◌, inl, inr, Bool, true, false, cond, ltb, Option, Some, None, List, [], ◌∷◌, ◌++◌, refl, sym, ap, subst, ◌∙◌, arith}
+use Rattle.std.proofs.Common.{◌≡◌, ℕ, zero, suc, ◌<◌, ◌⊎◌, inl, inr, Bool, true, false, cond, ltb, Option, Some, None, is_none, List, [], ◌∷◌, ◌++◌, refl, sym, ap, subst, ◌∙◌, arith}
 use Rattle.std.proofs.lemmas.Bool.{cases_lt, ltb-true, lt-ltb, false≢true}
 use Rattle.ep_base.specs.Attributes.{same_list}
 use Rattle.ep_base.specs.Quorums.{size}
@@ -48,6 +48,15 @@ or_none (Some x) b is = let s : Some x ≡ None = is in absurd (cc)
 pub or_some : (a b : Option AuditFault) (x : AuditFault) → or_else a b ≡ Some x → (a ≡ Some x) ⊎ ((a ≡ None) × (b ≡ Some x))
 or_some None b x is = inr (refl, is)
 or_some (Some y) b x is = inl is
+
+-- one replica more, whose entries are looked at where no fault is found yet
+pub next_looked : (c : Collected) (n : ℕ) (old new : Option AuditFault) → old ≡ first_below c n → is_none old ≡ true → new ≡ first_in c n (entries_at c n) → new ≡ first_below c (suc n)
+next_looked c n None new is none made = made ∙ ap (λ o. or_else o (first_in c n (entries_at c n))) is
+next_looked c n (Some x) new is none made = absurd (cc)
+
+pub next_kept : (c : Collected) (n : ℕ) (old new : Option AuditFault) → old ≡ first_below c n → is_none old ≡ false → new ≡ old → new ≡ first_below c (suc n)
+next_kept c n None new is some made = absurd (cc)
+next_kept c n (Some x) new is some made = made ∙ ap (λ o. or_else o (first_in c n (entries_at c n))) is
 
 -- One entry.
 
