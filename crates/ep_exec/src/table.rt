@@ -3,7 +3,7 @@
 ghost use Rattle.std.specs.Prelude.{◌≡◌, ℕ, List, None, true, false, IfOk, OnOk, OnErr};
 ghost use Rattle.std.specs.FinMap.{from_entries};
 ghost use Rattle.std.specs.Option.{option_copied, option_flatten};
-ghost use Rattle.ep_base.specs.declared.command.Command.{Command};
+ghost use Rattle.ep_base.specs.Commands.{Command};
 ghost use Rattle.ep_rules.specs.OneMap.{Contents, value_at, with_key, written, read, told, sealed_by};
 ghost use Rattle.ep_base.specs.Sameness.{same_option};
 ghost use Rattle.ep_exec.specs.Table.{HavePlaces, contents_of, has_place, restored};

@@ -2,8 +2,8 @@
 use Rattle.std.proofs.Common.{◌≡◌, ℕ, ◌+◌, ◌<◌, List, Some, None, Err, refl, sym, ap, subst, ◌∙◌, arith}
 use Rattle.ep_base.specs.Instances.{instance_of}
 use Rattle.ep_base.specs.Messages.{instance_of_message}
-use Rattle.ep_base.specs.Versions.{highest_in}
-use Rattle.ep_base.specs.declared.command.Command.{Command}
+use Rattle.ep_journal.specs.Holding.{highest_for}
+use Rattle.ep_base.specs.Commands.{Command}
 use Rattle.ep_base.specs.declared.message.Message.{Message}
 use Rattle.ep_base.specs.declared.message.Message.TheVariants.{PreAccept, PreAcceptOk, Accept, AcceptOk, Commit, Prepare, PrepareOk, Nack}
 use Rattle.ep_frame.specs.Meaning.{sender_at, message_at}
@@ -61,7 +61,7 @@ pub recovery_asked : (p : Parts) (i : ℕ) → IsLet (standing_of p) (Recover i)
 recovery_asked p i h = record { through = h; room = tt; asked = refl; executes = refl }
 
 -- a request, where a number of the version is free
-pub request_asked : (p : Parts) (client request seen : ℕ) (c : Command) (i n : ℕ) → IsLet (standing_of p) (Propose client request c seen) → free_number p.space.records p.me ≡ Some n → n < highest_in p.space.version → i ≡ instance_of p.me (n + 1) →
+pub request_asked : (p : Parts) (client request seen : ℕ) (c : Command) (i n : ℕ) → IsLet (standing_of p) (Propose client request c seen) → free_number p.space.records p.me ≡ Some n → n < highest_for p.space.version c → i ≡ instance_of p.me (n + 1) →
     IsAsked (standing_of p) (Propose client request c seen) (at i (propose p.space.faults i c (interference p.space.records i c)))
 request_asked p client request seen c i n h free low next = record {
   through = h;

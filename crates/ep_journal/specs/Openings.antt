@@ -2,7 +2,7 @@
 use Rattle.std.specs.Prelude.{◌≡◌, ℕ, refl}
 use Rattle.std.specs.Coded.{Coded, code_by, coded×, coded_ℕ}
 use Rattle.ep_base.specs.declared.version.Version.{Version}
-use Rattle.ep_base.specs.declared.version.Version.TheVariants.{V1, V2}
+use Rattle.ep_base.specs.declared.version_kind.VersionKind.TheVariants.{V1, V2, V3}
 use Rattle.ep_exec.specs.Table.{contents_code}
 use Rattle.ep_rules.specs.OneMap.{Contents, Store, opened, empty}
 
@@ -26,3 +26,4 @@ opens o = opened o.contents
 abbrev pub OpensIn : Version → Opening → Type 0
 OpensIn V1 o = o ≡ no_opening
 OpensIn V2 o = o ≡ no_opening
+OpensIn (V3 g) o = Unit {0}
