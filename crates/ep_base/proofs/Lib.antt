@@ -8,5 +8,6 @@ pub mod Versions
 pub mod Keys
 pub mod Same
 pub mod Partitions
+pub mod Runs
 pub mod Interfering
 pub mod Footprints

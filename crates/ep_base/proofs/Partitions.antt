@@ -1,8 +1,8 @@
 -- A command is its parts.
-use Rattle.std.proofs.Common.{◌≡◌, ℕ, ◌+◌, ◌*◌, ◌/◌, ◌%◌, ◌≤◌, ◌<◌, List, [], ◌∷◌, ◌++◌, length, take, drop, slice_index, length-append, Option, Some, None, Bool, true, false, cond, refl, sym, ap, subst, ◌∙◌, true≢false, arith}
+use Rattle.std.proofs.Common.{◌≡◌, ℕ, ◌+◌, ◌*◌, ◌/◌, ◌%◌, ◌≤◌, List, [], ◌∷◌, ◌++◌, length, take, drop, length-append, Option, Some, None, Bool, true, false, cond, refl, sym, ap, subst, ◌∙◌, true≢false, arith}
 use Rattle.std.specs.Cmp.Derive.{both_true}
-use Rattle.std.specs.Prelude.{◌≢◌, ◌&&◌, not, eqb, nat_le, IsTrue}
-use Rattle.std.proofs.Math.Seq.{take-append_seam, drop-append_seam, take-length}
+use Rattle.std.specs.Prelude.{◌≢◌, ◌&&◌, not, eqb, nat_le}
+use Rattle.std.proofs.Math.Seq.{take-append_seam, drop-append_seam}
 use Rattle.std.proofs.lemmas.Bool.{eqb-true, leb-true, le-leb}
 use Rattle.std.proofs.lemmas.List.{append-nil, nil_from_length}
 use Rattle.ep_base.specs.Attributes.{same_list}
@@ -11,7 +11,6 @@ use Rattle.ep_base.specs.Interference.{keys_of, listed, only_reads, key_of, seco
 use Rattle.ep_base.specs.Ops.{reads, is_key_len, first_fits, second_fits, body_fits}
 use Rattle.ep_base.specs.Partition.{PartsLaw}
 use Rattle.ep_base.specs.Parts.{Parts, parts_of, command_with, command_in, command_of, are_parts, lengths_fit, is_twice, body_said, key_if_any, key_bytes, part_bytes, part_at, expected_in, new_in, is_short, is_comparison, IsKey, IsSecond, IsShort, IsInRange}
-use Rattle.ep_base.specs.Touched.{Touched}
 use Rattle.ep_base.specs.Values.{most_value}
 use Rattle.ep_base.specs.declared.op.Op.{Op}
 use Rattle.ep_base.specs.declared.op.Op.TheVariants as op
@@ -94,7 +93,7 @@ new_again e n =
     ap (λ (x : Option (List ℕ)). part_at (drop (length (part_bytes x)) (part_bytes e ++ part_bytes n))) (part_again e (part_bytes n))
     ∙ ap part_at (drop-append_seam (part_bytes e) (part_bytes n)) ∙ ap part_at (sym (append-nil (part_bytes n))) ∙ part_again n []
 
-short_there : (o : Option (List ℕ)) → is_short o ≡ true → IsShort o
+pub short_there : (o : Option (List ℕ)) → is_short o ≡ true → IsShort o
 short_there None e = tt
 short_there (Some v) e = leb-true (length v) most_value e
 
@@ -200,7 +199,7 @@ second_from : (k : List ℕ) (s : Option (List ℕ)) → IsSecond k s → (nat_l
 second_from k None h = (refl, refl)
 second_from k (Some l) h = (le-leb (length l) 255 h.0.1, apart_from k l h.0 h.1)
 
-fits_with : (c : Command) → IsInRange c → are_parts (parts_of c) ≡ true
+pub fits_with : (c : Command) → IsInRange c → are_parts (parts_of c) ≡ true
 fits_with Noop h = refl
 fits_with (Get k) h = fits_from op.Get k [] [] (record { first = key_from k h; second = refl; body = refl; once = refl; said = refl })
 fits_with (Put k v) h = fits_from op.Put k [] v (record { first = key_from k h.0; second = refl; body = small v h.1; once = refl; said = refl })

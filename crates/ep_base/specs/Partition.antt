@@ -1,5 +1,5 @@
 -- What a command's parts tell of it.
-use Rattle.std.specs.Prelude.{◌≡◌, List, ◌++◌, Option, Some}
+use Rattle.std.specs.Prelude.{◌≡◌, ◌++◌, Some}
 use Rattle.ep_base.specs.Commands.{Command}
 use Rattle.ep_base.specs.Interference.{keys_of, listed, only_reads}
 use Rattle.ep_base.specs.Ops.{reads}

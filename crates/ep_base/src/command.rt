@@ -1,12 +1,13 @@
 //! Commands, and which of them interfere.
 
-ghost use Rattle.std.specs.Prelude.{◌≡◌, ◌<◌, ◌≤◌, ◌+◌, ◌++◌, ◌↔◌, ◌⊎◌, IsTrue, IfOk, Bool, true, length};
+ghost use Rattle.std.specs.Prelude.{◌≡◌, ◌<◌, ◌≤◌, ◌+◌, ◌++◌, ◌↔◌, ◌⊎◌, IsTrue, IfOk, Bool, true, length, ◌&&◌, if◌then◌else◌};
+ghost use Rattle.ep_base.specs.Ops.{is_key_len};
 ghost use Rattle.std.specs.Option.{option_copied};
 ghost use Rattle.std.specs.Prelude.{Option, Some, None};
 ghost use Rattle.ep_base.specs.Commands.{Noop, Get, Put, Del, Swap, Cas, Seal, Opaque};
 ghost use Rattle.ep_base.specs.Interference.{only_reads, is_swap, is_late, is_long, is_seal, keys_of, key_of, second_key_of, has_key, listed};
 ghost use Rattle.ep_base.specs.Partition.{PartsLaw};
-ghost use Rattle.ep_base.specs.Parts.{parts_of, command_of, are_parts, lengths_fit, is_twice, body_said, cut, key_if_any, IsInRange};
+ghost use Rattle.ep_base.specs.Parts.{is_short, parts_of, command_of, are_parts, lengths_fit, is_twice, body_said, cut, key_if_any, IsInRange};
 ghost use Rattle.ep_base.specs.Sameness.{same_command, is_noop};
 ghost use Rattle.ep_base.specs.Values.{most_value};
 ghost use Rattle.ep_base.specs.Views.{means, touched};
@@ -14,7 +15,7 @@ ghost use Rattle.ep_base.specs.Views.{means, touched};
 use crate::command_fault::CommandFault;
 use crate::command_view::{CommandView, Touching};
 use crate::comparison::{comparison_run, expected_and_new, is_comparison, is_short};
-use crate::op::{Op, is_key_len};
+use crate::op::{Op, is_key_len, is_same_op};
 use bytes::Bytes;
 use std::alloc::{AllocError, Global};
 use std::marker::Model;
@@ -96,7 +97,7 @@ impl Command {
         ensures ok { IfOk result (λ c. c ≡ Cas key.now (option_copied expected.entry) (option_copied new.entry)) }
         ensures out_of_range { result ≡ Err CommandFault.OutOfRange ↔ ¬ IsInRange (Cas key.now (option_copied expected.entry) (option_copied new.entry)) }
     {
-        if !(is_key_len(key.len()) && (is_short(expected) && is_short(new))) {
+        if !is_cas(key, expected, new) {
             return Err(CommandFault::OutOfRange);
         }
         match comparison_run(alloc, key, expected, new) {
@@ -128,16 +129,30 @@ impl Command {
         ensures ok { IfOk result (λ c. c ≡ Opaque (touched touching.now) body.now) }
         ensures out_of_range { result ≡ Err CommandFault.OutOfRange ↔ ¬ IsInRange (Opaque (touched touching.now) body.now) }
     {
-        let op = if touching.reads { Op::Ask } else { Op::Act };
         match touching.second {
-            None => Command::of_parts(alloc, op, touching.first, [].as_slice(), body),
+            None => Command::opaque_of(alloc, touching, [].as_slice(), body),
             Some(second) => {
                 if second.is_empty() {
                     return Err(CommandFault::OutOfRange);
                 }
-                Command::of_parts(alloc, op, touching.first, second, body)
+                Command::opaque_of(alloc, touching, second, body)
             }
         }
+    }
+
+    // The same, where the second key, if there is one, has these bytes.
+    fn opaque_of(
+        alloc: Global,
+        touching: &Touching<'_>,
+        second: &[u8],
+        body: &[u8],
+    ) -> Result<Command, CommandFault>
+        requires { key_if_any second.now ≡ option_copied touching.now.second }
+        ensures ok { IfOk result (λ c. c ≡ Opaque (touched touching.now) body.now) }
+        ensures out_of_range { result ≡ Err CommandFault.OutOfRange ↔ ¬ IsInRange (Opaque (touched touching.now) body.now) }
+    {
+        let op = asked_or_done(touching.reads);
+        Command::of_parts(alloc, op, touching.first, second, body)
     }
 
     /// The command of these parts, which are copied into one run of bytes; `OutOfRange` where they are no command's.
@@ -210,7 +225,8 @@ impl Command {
     /// The first key; no bytes where there is none.
     #[inline(always)]
     pub fn first(&self) -> &[u8]
-        ensures { result.now ≡ (parts_of self.now).first }
+        ensures value { result.now ≡ (parts_of self.now).first }
+        ensures in_range { IsInRange self.now }
     {
         &self.run.as_slice()[..self.first as usize]
     }
@@ -244,7 +260,7 @@ impl Command {
     #[inline(always)]
     pub fn view(&self) -> CommandView<'_>
         ensures said { means result ≡ self.now }
-        ensures in_range { IsInRange self.now }
+        ensures in_range { IsInRange (means result) }
     {
         match self.op {
             Op::Noop => CommandView::Noop,
@@ -345,9 +361,37 @@ impl Command {
         ensures test { result ≡ same_command self.now other.now }
         ensures same { IsTrue result ↔ (self.now ≡ other.now) }
     {
-        (self.op == other.op && (self.first == other.first && self.second == other.second))
-            && self.run.as_slice() == other.run.as_slice()
+        self.is_alike(other) && self.has_bytes_of(other)
     }
+
+    // Whether both do one thing, with keys of the same lengths.
+    #[inline(always)]
+    fn is_alike(&self, other: &Command) -> bool
+        ensures in_range { IsInRange self.now × IsInRange other.now }
+        ensures alike { IsTrue result ↔ (((parts_of self.now).op ≡ (parts_of other.now).op) × (length (parts_of self.now).first ≡ length (parts_of other.now).first) × (length (parts_of self.now).second ≡ length (parts_of other.now).second)) }
+    {
+        is_same_op(self.op, other.op) && (self.first == other.first && self.second == other.second)
+    }
+
+    #[inline(always)]
+    fn has_bytes_of(&self, other: &Command) -> bool
+        ensures { IsTrue result ↔ ((parts_of self.now).first ++ (parts_of self.now).second ++ (parts_of self.now).body ≡ (parts_of other.now).first ++ (parts_of other.now).second ++ (parts_of other.now).body) }
+    {
+        self.as_slice() == other.as_slice()
+    }
+}
+
+// Whether they are a comparison's.
+fn is_cas(key: &[u8], expected: Option<&[u8]>, new: Option<&[u8]>) -> bool
+    ensures { result ≡ (is_key_len (length key.now) && (is_short (option_copied expected.entry) && is_short (option_copied new.entry))) }
+{
+    is_key_len(key.len()) && (is_short(expected) && is_short(new))
+}
+
+fn asked_or_done(reads: bool) -> Op
+    ensures { result ≡ (if reads then Op.Ask else Op.Act) }
+{
+    if reads { Op::Ask } else { Op::Act }
 }
 
 // Whether they are a command's.
@@ -380,14 +424,7 @@ fn is_said(op: Op, body: &[u8]) -> bool
 {
     match op {
         Op::Cas => is_comparison(body),
-        Op::Noop
-        | Op::Get
-        | Op::Put
-        | Op::Del
-        | Op::Swap
-        | Op::Ask
-        | Op::Act
-        | Op::Seal => true,
+        Op::Noop | Op::Get | Op::Put | Op::Del | Op::Swap | Op::Ask | Op::Act | Op::Seal => true,
     }
 }
 
@@ -400,7 +437,12 @@ fn are_cut(op: Op, run: &[u8], first: usize, second: usize) -> bool
     if run.len() < first + second {
         return false;
     }
-    are_parts(op, &run[..first], &run[first..first + second], &run[first + second..])
+    are_parts(
+        op,
+        &run[..first],
+        &run[first..first + second],
+        &run[first + second..],
+    )
 }
 
 #[inline(always)]

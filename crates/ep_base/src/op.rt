@@ -1,6 +1,6 @@
 //! Ops of commands.
 
-ghost use Rattle.std.specs.Prelude.{◌≡◌, ◌≤◌, ◌↔◌, IfSome, IsSome};
+ghost use Rattle.std.specs.Prelude.{◌≡◌, ◌≤◌, ◌↔◌, IsTrue, IfSome, IsSome};
 ghost use Rattle.ep_base.specs.Ops.{op_number, reads, first_fits, second_fits, body_fits, is_key_len, is_comparison_len};
 
 /// What a command does. Its number is 1 to 9, in the order that they stand in here.
@@ -80,8 +80,7 @@ impl Op {
     {
         match self {
             Op::Noop | Op::Seal => len == 0,
-            Op::Get | Op::Put | Op::Del | Op::Swap | Op::Cas | Op::Ask | Op::Act =>
-                is_key_len(len),
+            Op::Get | Op::Put | Op::Del | Op::Swap | Op::Cas | Op::Ask | Op::Act => is_key_len(len),
         }
     }
 
@@ -123,4 +122,12 @@ fn is_comparison_len(len: usize) -> bool
     ensures { result ≡ is_comparison_len len }
 {
     2 <= len && len <= 131080
+}
+
+/// Whether both are one op.
+#[inline(always)]
+pub(crate) fn is_same_op(a: Op, b: Op) -> bool
+    ensures { IsTrue result ↔ (a ≡ b) }
+{
+    a == b
 }

@@ -2,7 +2,6 @@
 
 ghost use Rattle.std.specs.Prelude.{◌≡◌, ◌≤◌, ◌<◌, ◌↔◌, IsTrue, IfOk, List, ℕ, length};
 ghost use Rattle.ep_base.specs.Attributes.{same_list};
-ghost use Rattle.ep_base.specs.Sameness.{same_option};
 ghost use Rattle.ep_base.specs.Values.{most_value};
 
 use crate::command_fault::CommandFault;
@@ -36,6 +35,15 @@ impl Value {
             return Err(CommandFault::OutOfRange);
         }
         let bytes = Vec::from_slice(alloc, bytes).map_err(|_| CommandFault::Memory)?;
+        Ok(Value { bytes })
+    }
+
+    /// The value of these bytes, of which there are at most 65,535.
+    pub fn known(alloc: Global, bytes: &[u8]) -> Result<Value, AllocError>
+        requires { length bytes.now ≤ most_value }
+        ensures { IfOk result (λ v. v ≡ bytes.now) }
+    {
+        let bytes = Vec::from_slice(alloc, bytes)?;
         Ok(Value { bytes })
     }
 
@@ -85,18 +93,6 @@ impl Value {
         match value {
             None => Ok(None),
             Some(value) => Ok(Some(value.copy(alloc)?)),
-        }
-    }
-
-    /// Whether both are one value, or none.
-    pub fn same_option(value: &Option<Value>, other: &Option<Value>) -> bool
-        ensures test { result ≡ same_option value.now other.now }
-        ensures same { IsTrue result ↔ (value.now ≡ other.now) }
-    {
-        match (value, other) {
-            (None, None) => true,
-            (Some(value), Some(other)) => value.is_same(other),
-            _ => false,
         }
     }
 }

@@ -1,47 +1,59 @@
 -- A frame without a fault is the frame of the message that its parts stand for.
-use Rattle.std.proofs.Common.{◌≡◌, ℕ, zero, suc, ◌^◌, ◌≤◌, ◌<◌, true, false, cond, eqb, leb, List, [], ◌∷◌, length, refl, sym, ap, ◌∙◌, arith}
+use Rattle.std.proofs.Common.{◌≡◌, ℕ, zero, suc, ◌^◌, ◌≤◌, ◌<◌, Bool, true, false, cond, eqb, leb, List, [], ◌∷◌, length, Option, None, refl, sym, ap, subst, ◌∙◌, true≢false, arith}
 use Rattle.std.specs.Prelude.{◌&&◌, not, Some}
-use Rattle.ep_base.specs.Attributes.{same_list}
+use Rattle.ep_base.specs.Ops.{op_number, first_fits, second_fits, body_fits}
+use Rattle.ep_base.specs.Parts.{Parts as CommandParts, parts_of as command_parts, command_in, command_of, are_parts, is_twice, body_said}
+use Rattle.ep_base.proofs.Partitions.{fits_from, parts_law_lem}
 use Rattle.std.specs.List.{AllByRecursion}
-use Rattle.std.proofs.lemmas.Bool.{eqb-true, leb-true, ltb-true, eq-eqb, and_parts}
+use Rattle.std.proofs.lemmas.Bool.{eqb-true, leb-true, le-leb, ltb-true, eq-eqb, and_parts}
 use Rattle.std.proofs.lemmas.List.{nil_from_length}
 use Rattle.ep_base.specs.Instances.{leader_of, number_of, IsInstance}
 use Rattle.ep_base.specs.Ballots.{counter_of, owner_of, ballot_of}
 use Rattle.ep_base.specs.Deps.{IsRising, IsBelowFirst}
-use Rattle.ep_base.specs.Versions.{version_number, version_of, highest_in, most_deps_in, IsInstanceIn, AreDepsIn, IsDecreeIn, CanSay}
+use Rattle.ep_base.specs.Generations.{HasItsGeneration}
+use Rattle.ep_base.specs.Versions.{version_number, generation_of, version_of, highest_in, most_deps_in, IsInstanceIn, AreDepsIn, IsDecreeIn, CanSay}
 use Rattle.ep_base.specs.declared.version.Version.{Version}
 use Rattle.ep_base.specs.declared.vote.Status.{Status}
 use Rattle.ep_base.specs.declared.vote.Status.TheVariants.{PreAccepted, Accepted, Committed}
 use Rattle.ep_base.specs.declared.message.Message.{Message}
 use Rattle.ep_base.specs.declared.message.Message.TheVariants.{PrepareOk}
-use Rattle.ep_base.proofs.Versions.{version_found}
-use Rattle.ep_frame.specs.Faults.{names_rows, ballot_rows, vote_rows, body_rows, within, highest_op, are_deps, are_in, deps_allowed, is_instance, precedes_first}
-use Rattle.ep_frame.specs.Spelling.{Parts, parts_of, op_code, key_in, value_in, status_code, IsBallot, IsCommand, AreAttrs, AreBytes, IsDecree, IsMessage, IsOrigin}
-use Rattle.ep_frame.specs.Meaning.{origin_in, instance_in, ballot_in, other_in, attrs_of, command_of, decree_of, message_of}
+use Rattle.ep_frame.specs.Faults.{names_rows, ballot_rows, vote_rows, body_rows, late_rows, within, highest_op, op_of, text_fits, generation_fits, are_deps, are_in, deps_allowed, is_instance, precedes_first}
+use Rattle.ep_frame.specs.Spelling.{Parts, parts_of, status_code, IsBallot, IsCommand, AreAttrs, AreBytes, IsDecree, IsMessage, IsOrigin}
+use Rattle.ep_frame.specs.Meaning.{origin_in, instance_in, ballot_in, other_in, attrs_of, command_parts_of, decree_of, message_of}
 use Rattle.ep_frame.proofs.Packing.{leader_again, number_again, counter_again, owner_again}
 use Rattle.ep_frame.proofs.Rows.{AllPass, within-is, apart-is, chosen, other_chosen}
-use Rattle.ep_frame.proofs.Saying.{number_low, op_low, count_low, op_known, deps_found, differ}
+use Rattle.ep_frame.proofs.Saying.{number_low, op_low, count_low, version_is, IsShortIn, text_is, op_found, op_known, deps_found}
 
 -- the version that the header names
 abbrev pub version_in : Parts → Version
-version_in p = version_of p.header.version
+version_in p = version_of p.header.version p.header.generation
+
+-- what stands behind the header
+pub record GoodRuns (p : Parts) : Type 0 where
+  pub key : length p.key ≡ p.header.key_len
+  pub second : length p.second ≡ p.header.second_len
+  pub body : length p.body ≡ p.header.body_len
+  pub count : length p.deps ≡ p.header.count
+  pub deps : deps_allowed (version_in p) p.deps ≡ true
+  pub once : is_twice p.key p.second ≡ false
+  pub said : body_said (op_of p.header.op) p.body ≡ true
+  pub key_bytes : AreBytes p.key
+  pub second_bytes : AreBytes p.second
+  pub body_bytes : AreBytes p.body
 
 pub record Good (p : Parts) : Type 0 where
   pub names : AllPass (names_rows p.header)
   pub ballot : AllPass (ballot_rows (version_in p) p.header)
   pub vote : AllPass (vote_rows p.header)
   pub body : AllPass (body_rows (version_in p) p.header)
-  pub key : length p.key ≡ p.header.key_len
-  pub value : length p.value ≡ p.header.value_len
-  pub count : length p.deps ≡ p.header.count
-  pub deps : deps_allowed (version_in p) p.deps ≡ true
-  pub keys_differ : (eqb p.header.op 5 && same_list p.key p.value) ≡ false
-  pub key_bytes : AreBytes p.key
-  pub value_bytes : AreBytes p.value
+  pub late : AllPass (late_rows (version_in p) p.header)
+  pub generation : p.header.generation < 2 ^ 32
   pub out : p.header.out < 2 ^ 16
   pub entry : p.header.entry < 2 ^ 32
+  pub runs : GoodRuns p
 
 pub record Found (p : Parts) : Type 0 where
+  pub version : HasItsGeneration (version_in p)
   pub origin : IsOrigin p.header.from (origin_in p.header)
   pub message : IsMessage (message_of p)
   pub sayable : CanSay (version_in p) (message_of p)
@@ -54,8 +66,8 @@ abbrev with_status : ℕ → Parts → Parts
 with_status s p = record p { header = record p.header { kind = 7; status = s } }
 
 -- parts with these in place of its own
-abbrev made : Parts → (magic version leader number counter replica status other_counter other_replica seq op kl vl count : ℕ) (key value deps : List ℕ) → Parts
-made q magic version leader number counter replica status other_counter other_replica seq op kl vl count key value deps = record {
+abbrev made : Parts → (magic version generation leader number counter replica status other_counter other_replica seq op kl sl bl count : ℕ) (key second body deps : List ℕ) → Parts
+made q magic version generation leader number counter replica status other_counter other_replica seq op kl sl bl count key second body deps = record {
   header = record q.header {
     magic = magic;
     version = version;
@@ -69,11 +81,14 @@ made q magic version leader number counter replica status other_counter other_re
     seq = seq;
     op = op;
     key_len = kl;
-    value_len = vl;
+    second_len = sl;
     count = count;
+    generation = generation;
+    body_len = bl;
   };
   key = key;
-  value = value;
+  second = second;
+  body = body;
   deps = deps;
 }
 
@@ -84,19 +99,23 @@ record Front (p : Parts) : Type 0 where
   origin : IsOrigin p.header.from (origin_in p.header)
   magic : 17744 ≡ p.header.magic
   version : version_number (version_in p) ≡ p.header.version
+  generation : generation_of (version_in p) ≡ p.header.generation
+  has : HasItsGeneration (version_in p)
   instance : IsInstance (instance_in p.header)
   known : IsInstanceIn (version_in p) (instance_in p.header)
   leader : leader_of (instance_in p.header) ≡ p.header.leader
   number : number_of (instance_in p.header) ≡ p.header.number
   leader_small : p.header.leader ≤ 6
 
-front : (p : Parts) (k : ℕ) → AllPass (names_rows (with_kind k p).header) → leb p.header.leader 6 ≡ true → within 1 (highest_in (version_in p)) p.header.number ≡ true → p.header.out < 2 ^ 16 → p.header.entry < 2 ^ 32 → Front p
-front p k n l m out entry =
+front : (p : Parts) (k : ℕ) → AllPass (names_rows (with_kind k p).header) → leb p.header.leader 6 ≡ true → within 1 (highest_in (version_in p)) p.header.number ≡ true → p.header.out < 2 ^ 16 → p.header.entry < 2 ^ 32
+    → generation_fits (version_in p) p.header.generation ≡ true → p.header.generation < 2 ^ 32 → Front p
+front p k n l m out entry fits small_generation =
     let to = and_parts (leb p.header.to 6) (not (eqb p.header.to p.header.from)) n.1.1.1.1.0 in
     let stamp = within-is 1 281474976710655 p.header.stamp n.1.1.1.1.1.1.0 in
     let small : p.header.leader ≤ 6 = leb-true _ _ l in
     let number = within-is 1 (highest_in (version_in p)) p.header.number m in
     let high : p.header.number ≤ 2000 = let most = number_low (version_in p) in omega (arith, number.1, most) in
+    let own = version_is p.header.version p.header.generation n.1.0 fits small_generation in
     let is_leader = leader_again p.header.leader p.header.number (omega (arith, high)) in
     let is_number = number_again p.header.leader p.header.number (omega (arith, high)) in
     record {
@@ -111,7 +130,9 @@ front p k n l m out entry =
         stamp_high = omega (arith, stamp.1);
       };
       magic = sym (eqb-true p.header.magic 17744 n.0);
-      version = version_found p.header.version n.1.0;
+      version = own.number;
+      generation = own.generation;
+      has = own.has;
       instance = (omega (arith, is_leader, small), omega (arith, is_number, number.0), omega (arith, is_number, high));
       known = omega (arith, is_number, number.1);
       leader = is_leader;
@@ -154,53 +175,61 @@ joined_ballot : (p : Parts) → Front p → within 1 60000 p.header.counter ≡ 
     → BallotIs (instance_in p.header) 1 p.header.counter p.header.replica
 joined_ballot p f c r = let n = within-is 1 60000 p.header.counter c in ballot_found (instance_in p.header) p.header.leader 1 p.header.counter p.header.replica f.leader f.leader_small n.0 n.1 r
 
-record CommandIs (op : ℕ) (key value : List ℕ) : Type 0 where
-  is : IsCommand (command_of op key value)
-  op_is : op_code (command_of op key value) ≡ op
-  key_is : key_in (command_of op key value) ≡ key
-  value_is : value_in (command_of op key value) ≡ value
+nothing_found : (xs : List ℕ) (n : ℕ) → length xs ≡ n → eqb n 0 ≡ true → [] ≡ xs
+nothing_found xs n len e = sym (nil_from_length xs (len ∙ eqb-true n 0 e))
 
-command_found : (op kl vl : ℕ) (key value : List ℕ) → 1 ≤ op → op ≤ 5 → cond (within 2 5 op) (within 1 255 kl) (eqb kl 0) ≡ true
-    → cond (eqb op 3) (leb vl 1024) (cond (eqb op 5) (within 1 255 vl) (eqb vl 0)) ≡ true → (eqb op 5 && same_list key value) ≡ false
-    → length key ≡ kl → length value ≡ vl → AreBytes key → AreBytes value → CommandIs op key value
-command_found zero kl vl key value lo hi k v a lk lv bk bv = absurd (omega arith)
-command_found (suc zero) kl vl key value lo hi k v a lk lv bk bv =
-    record { is = tt; op_is = refl; key_is = sym (nil_from_length key (lk ∙ eqb-true kl 0 k)); value_is = sym (nil_from_length value (lv ∙ eqb-true vl 0 v)) }
-command_found (suc (suc zero)) kl vl key value lo hi k v a lk lv bk bv =
-    let n = within-is 1 255 kl k in
-    record { is = (omega (arith, n.0, lk), omega (arith, n.1, lk), bk); op_is = refl; key_is = refl; value_is = sym (nil_from_length value (lv ∙ eqb-true vl 0 v)) }
-command_found (suc (suc (suc zero))) kl vl key value lo hi k v a lk lv bk bv =
-    let n = within-is 1 255 kl k in
-    let m = leb-true vl 1024 v in
-    record { is = ((omega (arith, n.0, lk), omega (arith, n.1, lk), bk), omega (arith, m, lv), bv); op_is = refl; key_is = refl; value_is = refl }
-command_found (suc (suc (suc (suc zero)))) kl vl key value lo hi k v a lk lv bk bv =
-    let n = within-is 1 255 kl k in
-    record { is = (omega (arith, n.0, lk), omega (arith, n.1, lk), bk); op_is = refl; key_is = refl; value_is = sym (nil_from_length value (lv ∙ eqb-true vl 0 v)) }
-command_found (suc (suc (suc (suc (suc zero))))) kl vl key value lo hi k v a lk lv bk bv =
-    let n = within-is 1 255 kl k in
-    let m = within-is 1 255 vl v in
+-- the parts are those of a command
+pub parts_there : (p : Parts) → first_fits (op_of p.header.op) p.header.key_len ≡ true → second_fits (op_of p.header.op) p.header.second_len ≡ true → body_fits (op_of p.header.op) p.header.body_len ≡ true → GoodRuns p
+    → are_parts (command_parts_of p) ≡ true
+parts_there p k s y r =
+    let o = op_of p.header.op in
+    fits_from o p.key p.second p.body
+    (record { first = ap (first_fits o) r.key ∙ k; second = ap (second_fits o) r.second ∙ s; body = ap (body_fits o) r.body ∙ y; once = ap not r.once; said = r.said })
+
+record CommandIs (p : Parts) : Type 0 where
+  is : IsCommand (command_in (command_parts_of p))
+  parts_are : command_parts (command_in (command_parts_of p)) ≡ command_parts_of p
+  op_is : op_number (command_parts (command_in (command_parts_of p))).op ≡ p.header.op
+
+command_found : (p : Parts) → 1 ≤ p.header.op → p.header.op ≤ 9 → are_parts (command_parts_of p) ≡ true → GoodRuns p → CommandIs p
+command_found p lo hi e r =
+    let q = command_parts_of p in
+    let c = command_in q in
+    let some : command_of q ≡ Some c = ap (λ (b : Bool). cond b (Some c) None) e in
+    let are : command_parts c ≡ q = parts_law_lem.back q c some in
     record {
-      is = ((omega (arith, n.0, lk), omega (arith, n.1, lk), bk), (omega (arith, m.0, lv), omega (arith, m.1, lv), bv), differ key value a);
-      op_is = refl;
-      key_is = refl;
-      value_is = refl;
+      is = record {
+        in_range = parts_law_lem.ranges q c some;
+        first = subst (λ (x : CommandParts). AreBytes x.first) (sym are) r.key_bytes;
+        second = subst (λ (x : CommandParts). AreBytes x.second) (sym are) r.second_bytes;
+        body = subst (λ (x : CommandParts). AreBytes x.body) (sym are) r.body_bytes;
+      };
+      parts_are = are;
+      op_is = ap (λ (x : CommandParts). op_number x.op) are ∙ op_found p.header.op lo hi;
     }
-command_found (suc (suc (suc (suc (suc (suc op)))))) kl vl key value lo hi k v a lk lv bk bv = absurd (omega arith)
 
-record NoCommand (op kl vl : ℕ) (key value : List ℕ) : Type 0 where
+record NoCommand (op kl sl bl : ℕ) (key second body : List ℕ) : Type 0 where
   op_is : 0 ≡ op
   kl_is : 0 ≡ kl
-  vl_is : 0 ≡ vl
+  sl_is : 0 ≡ sl
+  bl_is : 0 ≡ bl
   key_is : [] ≡ key
-  value_is : [] ≡ value
+  second_is : [] ≡ second
+  body_is : [] ≡ body
 
-no_command : (op kl vl : ℕ) (key value : List ℕ) → eqb op 0 ≡ true → cond (within 2 5 op) (within 1 255 kl) (eqb kl 0) ≡ true
-    → cond (eqb op 3) (leb vl 1024) (cond (eqb op 5) (within 1 255 vl) (eqb vl 0)) ≡ true
-    → length key ≡ kl → length value ≡ vl → NoCommand op kl vl key value
-no_command zero kl vl key value o k v lk lv =
-    let ek = eqb-true kl 0 k in let ev = eqb-true vl 0 v in
-    record { op_is = refl; kl_is = sym ek; vl_is = sym ev; key_is = sym (nil_from_length key (lk ∙ ek)); value_is = sym (nil_from_length value (lv ∙ ev)) }
-no_command (suc op) kl vl key value o k v lk lv = let e = eqb-true (suc op) 0 o in absurd (omega arith)
+no_command : (op kl sl bl : ℕ) (key second body : List ℕ) → eqb op 0 ≡ true → first_fits (op_of op) kl ≡ true
+    → second_fits (op_of op) sl ≡ true → body_fits (op_of op) bl ≡ true → length key ≡ kl → length second ≡ sl → length body ≡ bl → NoCommand op kl sl bl key second body
+no_command zero kl sl bl key second body o k s y lk ls ly =
+    record {
+      op_is = refl;
+      kl_is = sym (eqb-true kl 0 k);
+      sl_is = sym (eqb-true sl 0 s);
+      bl_is = sym (eqb-true bl 0 y);
+      key_is = nothing_found key kl lk k;
+      second_is = nothing_found second sl ls s;
+      body_is = nothing_found body bl ly y;
+    }
+no_command (suc op) kl sl bl key second body o k s y lk ls ly = let e = eqb-true (suc op) 0 o in absurd (omega arith)
 
 pub rising_found : (ds : List ℕ) → are_deps ds ≡ true → IsRising ds × AllByRecursion IsInstance ds
 rising_found [] e = (tt, tt)
@@ -239,150 +268,182 @@ no_attrs seq count deps s c len = let ec = eqb-true count 0 c in record { seq_is
 record DecreeIs (p : Parts) : Type 0 where
   is : IsDecree (decree_of p)
   known : IsDecreeIn (version_in p) (decree_of p)
-  op_is : op_code (decree_of p).command ≡ p.header.op
-  kl_is : length (key_in (decree_of p).command) ≡ p.header.key_len
-  vl_is : length (value_in (decree_of p).command) ≡ p.header.value_len
-  key_is : key_in (decree_of p).command ≡ p.key
-  value_is : value_in (decree_of p).command ≡ p.value
+  op_is : op_number (command_parts (decree_of p).command).op ≡ p.header.op
+  kl_is : length (command_parts (decree_of p).command).first ≡ p.header.key_len
+  sl_is : length (command_parts (decree_of p).command).second ≡ p.header.second_len
+  bl_is : length (command_parts (decree_of p).command).body ≡ p.header.body_len
+  key_is : (command_parts (decree_of p).command).first ≡ p.key
+  second_is : (command_parts (decree_of p).command).second ≡ p.second
+  body_is : (command_parts (decree_of p).command).body ≡ p.body
 
-decree_found : (p : Parts) → within 1 1000000 p.header.seq ≡ true → within 1 (highest_op (version_in p)) p.header.op ≡ true → cond (within 2 5 p.header.op) (within 1 255 p.header.key_len) (eqb p.header.key_len 0) ≡ true
-    → cond (eqb p.header.op 3) (leb p.header.value_len 1024) (cond (eqb p.header.op 5) (within 1 255 p.header.value_len) (eqb p.header.value_len 0)) ≡ true → leb p.header.count (most_deps_in (version_in p)) ≡ true
-    → length p.key ≡ p.header.key_len → length p.value ≡ p.header.value_len → length p.deps ≡ p.header.count → deps_allowed (version_in p) p.deps ≡ true
-    → (eqb p.header.op 5 && same_list p.key p.value) ≡ false → AreBytes p.key → AreBytes p.value → DecreeIs p
-decree_found p s o k v n lk lv ld d a bk bv =
+decree_found : (p : Parts) → within 1 1000000 p.header.seq ≡ true → within 1 (highest_op (version_in p)) p.header.op ≡ true → first_fits (op_of p.header.op) p.header.key_len ≡ true
+    → text_fits (version_in p) (op_of p.header.op) p.header.second_len p.header.body_len ≡ true → leb p.header.count (most_deps_in (version_in p)) ≡ true → body_fits (op_of p.header.op) p.header.body_len ≡ true
+    → GoodRuns p → DecreeIs p
+decree_found p s o k v n y r =
     let op = within-is 1 (highest_op (version_in p)) p.header.op o in
     let most = op_low (version_in p) in
-    let c = command_found p.header.op p.header.key_len p.header.value_len p.key p.value op.0 (omega (arith, op.1, most)) k v a lk lv bk bv in
-    let same : op_code (decree_of p).command ≡ p.header.op = c.op_is in
+    let text = text_is (version_in p) (op_of p.header.op) p.header.second_len p.header.body_len v in
+    let c = command_found p op.0 (omega (arith, op.1, most)) (parts_there p k text.0 y r) r in
+    let same = c.op_is in
+    let first = ap (λ (x : CommandParts). x.first) c.parts_are in
+    let second = ap (λ (x : CommandParts). x.second) c.parts_are in
+    let body = ap (λ (x : CommandParts). x.body) c.parts_are in
+    let len : length (command_parts (decree_of p).command).body ≡ p.header.body_len = ap length body ∙ r.body in
     record {
-      is = record { command = c.is; attrs = attrs_found p s n ld d };
-      known = (op_known (version_in p) (decree_of p).command c.is (omega (arith, same, op.1)), attrs_known p d);
-      op_is = c.op_is;
-      kl_is = ap length c.key_is ∙ lk;
-      vl_is = ap length c.value_is ∙ lv;
-      key_is = c.key_is;
-      value_is = c.value_is;
+      is = record { command = c.is; attrs = attrs_found p s n r.count r.deps };
+      known = (op_known (version_in p) (decree_of p).command (subst (λ (n : ℕ). n ≤ highest_op (version_in p)) (sym same) op.1) (subst (IsShortIn (version_in p)) (sym len) text.1), attrs_known p r.deps);
+      op_is = same;
+      kl_is = ap length first ∙ r.key;
+      sl_is = ap length second ∙ r.second;
+      bl_is = len;
+      key_is = first;
+      second_is = second;
+      body_is = body;
     }
+
+-- that there is no command
+nothing_is : (p : Parts) → eqb p.header.op 0 ≡ true → first_fits (op_of p.header.op) p.header.key_len ≡ true
+    → text_fits (version_in p) (op_of p.header.op) p.header.second_len p.header.body_len ≡ true → body_fits (op_of p.header.op) p.header.body_len ≡ true → GoodRuns p
+    → NoCommand p.header.op p.header.key_len p.header.second_len p.header.body_len p.key p.second p.body
+nothing_is p o k v y r =
+    let text = text_is (version_in p) (op_of p.header.op) p.header.second_len p.header.body_len v in
+    no_command p.header.op p.header.key_len p.header.second_len p.header.body_len p.key p.second p.body o k text.0 y r.key r.second r.body
 
 -- ---- kinds
 
+-- the kind and the status have no part in them
+
+of_kind : (k : ℕ) (p : Parts) → GoodRuns (with_kind k p) → GoodRuns p
+of_kind k p r = record { key = r.key; second = r.second; body = r.body; count = r.count; deps = r.deps; once = r.once; said = r.said; key_bytes = r.key_bytes; second_bytes = r.second_bytes; body_bytes = r.body_bytes }
+
+of_status : (s : ℕ) (p : Parts) → GoodRuns (with_status s p) → GoodRuns p
+of_status s p r = record { key = r.key; second = r.second; body = r.body; count = r.count; deps = r.deps; once = r.once; said = r.said; key_bytes = r.key_bytes; second_bytes = r.second_bytes; body_bytes = r.body_bytes }
+
 kind1 : (p : Parts) → Good (with_kind 1 p) → Found (with_kind 1 p)
 kind1 p g =
-    let f = front p 1 g.names g.ballot.0 g.ballot.1.0 g.out g.entry in
+    let f = front p 1 g.names g.ballot.0 g.ballot.1.0 g.out g.entry g.late.0 g.generation in
     let b = any_ballot p f g.ballot.1.1.0 g.ballot.1.1.1.0 in
-    let x = decree_found p g.body.0 g.body.1.0 g.body.1.1.0 g.body.1.1.1.0 g.body.1.1.1.1.0 g.key g.value g.count g.deps g.keys_differ g.key_bytes g.value_bytes in
+    let x = decree_found p g.body.0 g.body.1.0 g.body.1.1.0 g.body.1.1.1.0 g.body.1.1.1.1.0 g.late.1.0 (of_kind 1 p g.runs) in
     let es = eqb-true p.header.status 0 g.vote.0 in let ec = eqb-true p.header.other_counter 0 g.vote.1.0 in let er = eqb-true p.header.other_replica 0 g.vote.1.1.0 in
     record {
+      version = f.has;
       origin = f.origin;
       message = (f.instance, b.is, x.is);
       sayable = (f.known, x.known);
-      is = λ t. made (with_kind 1 p) (f.magic t) (f.version t) (f.leader t) (f.number t) (b.counter_is t) (b.replica_is t) (sym es t) (sym ec t) (sym er t)
-          p.header.seq (x.op_is t) (x.kl_is t) (x.vl_is t) (g.count t) (x.key_is t) (x.value_is t) p.deps;
+      is = λ t. made (with_kind 1 p) (f.magic t) (f.version t) (f.generation t) (f.leader t) (f.number t) (b.counter_is t) (b.replica_is t) (sym es t) (sym ec t) (sym er t)
+          p.header.seq (x.op_is t) (x.kl_is t) (x.sl_is t) (x.bl_is t) (g.runs.count t) (x.key_is t) (x.second_is t) (x.body_is t) p.deps;
     }
 
 kind2 : (p : Parts) → Good (with_kind 2 p) → Found (with_kind 2 p)
 kind2 p g =
-    let f = front p 2 g.names g.ballot.0 g.ballot.1.0 g.out g.entry in
+    let f = front p 2 g.names g.ballot.0 g.ballot.1.0 g.out g.entry g.late.0 g.generation in
     let b = any_ballot p f g.ballot.1.1.0 g.ballot.1.1.1.0 in
-    let c = no_command p.header.op p.header.key_len p.header.value_len p.key p.value g.body.1.0 g.body.1.1.0 g.body.1.1.1.0 g.key g.value in
+    let c = nothing_is p g.body.1.0 g.body.1.1.0 g.body.1.1.1.0 g.late.1.0 (of_kind 2 p g.runs) in
     let es = eqb-true p.header.status 0 g.vote.0 in let ec = eqb-true p.header.other_counter 0 g.vote.1.0 in let er = eqb-true p.header.other_replica 0 g.vote.1.1.0 in
     record {
+      version = f.has;
       origin = f.origin;
-      message = (f.instance, b.is, attrs_found p g.body.0 g.body.1.1.1.1.0 g.count g.deps);
-      sayable = (f.known, attrs_known p g.deps);
-      is = λ t. made (with_kind 2 p) (f.magic t) (f.version t) (f.leader t) (f.number t) (b.counter_is t) (b.replica_is t) (sym es t) (sym ec t) (sym er t)
-          p.header.seq (c.op_is t) (c.kl_is t) (c.vl_is t) (g.count t) (c.key_is t) (c.value_is t) p.deps;
+      message = (f.instance, b.is, attrs_found p g.body.0 g.body.1.1.1.1.0 g.runs.count g.runs.deps);
+      sayable = (f.known, attrs_known p g.runs.deps);
+      is = λ t. made (with_kind 2 p) (f.magic t) (f.version t) (f.generation t) (f.leader t) (f.number t) (b.counter_is t) (b.replica_is t) (sym es t) (sym ec t) (sym er t)
+          p.header.seq (c.op_is t) (c.kl_is t) (c.sl_is t) (c.bl_is t) (g.runs.count t) (c.key_is t) (c.second_is t) (c.body_is t) p.deps;
     }
 
 kind3 : (p : Parts) → Good (with_kind 3 p) → Found (with_kind 3 p)
 kind3 p g =
-    let f = front p 3 g.names g.ballot.0 g.ballot.1.0 g.out g.entry in
+    let f = front p 3 g.names g.ballot.0 g.ballot.1.0 g.out g.entry g.late.0 g.generation in
     let b = any_ballot p f g.ballot.1.1.0 g.ballot.1.1.1.0 in
-    let x = decree_found p g.body.0 g.body.1.0 g.body.1.1.0 g.body.1.1.1.0 g.body.1.1.1.1.0 g.key g.value g.count g.deps g.keys_differ g.key_bytes g.value_bytes in
+    let x = decree_found p g.body.0 g.body.1.0 g.body.1.1.0 g.body.1.1.1.0 g.body.1.1.1.1.0 g.late.1.0 (of_kind 3 p g.runs) in
     let es = eqb-true p.header.status 0 g.vote.0 in let ec = eqb-true p.header.other_counter 0 g.vote.1.0 in let er = eqb-true p.header.other_replica 0 g.vote.1.1.0 in
     record {
+      version = f.has;
       origin = f.origin;
       message = (f.instance, b.is, x.is);
       sayable = (f.known, x.known);
-      is = λ t. made (with_kind 3 p) (f.magic t) (f.version t) (f.leader t) (f.number t) (b.counter_is t) (b.replica_is t) (sym es t) (sym ec t) (sym er t)
-          p.header.seq (x.op_is t) (x.kl_is t) (x.vl_is t) (g.count t) (x.key_is t) (x.value_is t) p.deps;
+      is = λ t. made (with_kind 3 p) (f.magic t) (f.version t) (f.generation t) (f.leader t) (f.number t) (b.counter_is t) (b.replica_is t) (sym es t) (sym ec t) (sym er t)
+          p.header.seq (x.op_is t) (x.kl_is t) (x.sl_is t) (x.bl_is t) (g.runs.count t) (x.key_is t) (x.second_is t) (x.body_is t) p.deps;
     }
 
 kind4 : (p : Parts) → Good (with_kind 4 p) → Found (with_kind 4 p)
 kind4 p g =
-    let f = front p 4 g.names g.ballot.0 g.ballot.1.0 g.out g.entry in
+    let f = front p 4 g.names g.ballot.0 g.ballot.1.0 g.out g.entry g.late.0 g.generation in
     let b = any_ballot p f g.ballot.1.1.0 g.ballot.1.1.1.0 in
-    let c = no_command p.header.op p.header.key_len p.header.value_len p.key p.value g.body.1.0 g.body.1.1.0 g.body.1.1.1.0 g.key g.value in
-    let a = no_attrs p.header.seq p.header.count p.deps g.body.0 g.body.1.1.1.1.0 g.count in
+    let c = nothing_is p g.body.1.0 g.body.1.1.0 g.body.1.1.1.0 g.late.1.0 (of_kind 4 p g.runs) in
+    let a = no_attrs p.header.seq p.header.count p.deps g.body.0 g.body.1.1.1.1.0 g.runs.count in
     let es = eqb-true p.header.status 0 g.vote.0 in let ec = eqb-true p.header.other_counter 0 g.vote.1.0 in let er = eqb-true p.header.other_replica 0 g.vote.1.1.0 in
     record {
+      version = f.has;
       origin = f.origin;
       message = (f.instance, b.is);
       sayable = f.known;
-      is = λ t. made (with_kind 4 p) (f.magic t) (f.version t) (f.leader t) (f.number t) (b.counter_is t) (b.replica_is t) (sym es t) (sym ec t) (sym er t)
-          (a.seq_is t) (c.op_is t) (c.kl_is t) (c.vl_is t) (a.count_is t) (c.key_is t) (c.value_is t) (a.deps_is t);
+      is = λ t. made (with_kind 4 p) (f.magic t) (f.version t) (f.generation t) (f.leader t) (f.number t) (b.counter_is t) (b.replica_is t) (sym es t) (sym ec t) (sym er t)
+          (a.seq_is t) (c.op_is t) (c.kl_is t) (c.sl_is t) (c.bl_is t) (a.count_is t) (c.key_is t) (c.second_is t) (c.body_is t) (a.deps_is t);
     }
 
 kind5 : (p : Parts) → Good (with_kind 5 p) → Found (with_kind 5 p)
 kind5 p g =
-    let f = front p 5 g.names g.ballot.0 g.ballot.1.0 g.out g.entry in
-    let x = decree_found p g.body.0 g.body.1.0 g.body.1.1.0 g.body.1.1.1.0 g.body.1.1.1.1.0 g.key g.value g.count g.deps g.keys_differ g.key_bytes g.value_bytes in
+    let f = front p 5 g.names g.ballot.0 g.ballot.1.0 g.out g.entry g.late.0 g.generation in
+    let x = decree_found p g.body.0 g.body.1.0 g.body.1.1.0 g.body.1.1.1.0 g.body.1.1.1.1.0 g.late.1.0 (of_kind 5 p g.runs) in
     let es = eqb-true p.header.status 0 g.vote.0 in let ec = eqb-true p.header.other_counter 0 g.vote.1.0 in let er = eqb-true p.header.other_replica 0 g.vote.1.1.0 in
     let bc = eqb-true p.header.counter 0 g.ballot.1.1.0 in let br = eqb-true p.header.replica 0 g.ballot.1.1.1.0 in
     record {
+      version = f.has;
       origin = f.origin;
       message = (f.instance, x.is);
       sayable = (f.known, x.known);
-      is = λ t. made (with_kind 5 p) (f.magic t) (f.version t) (f.leader t) (f.number t) (sym bc t) (sym br t) (sym es t) (sym ec t) (sym er t)
-          p.header.seq (x.op_is t) (x.kl_is t) (x.vl_is t) (g.count t) (x.key_is t) (x.value_is t) p.deps;
+      is = λ t. made (with_kind 5 p) (f.magic t) (f.version t) (f.generation t) (f.leader t) (f.number t) (sym bc t) (sym br t) (sym es t) (sym ec t) (sym er t)
+          p.header.seq (x.op_is t) (x.kl_is t) (x.sl_is t) (x.bl_is t) (g.runs.count t) (x.key_is t) (x.second_is t) (x.body_is t) p.deps;
     }
 
 kind6 : (p : Parts) → Good (with_kind 6 p) → Found (with_kind 6 p)
 kind6 p g =
-    let f = front p 6 g.names g.ballot.0 g.ballot.1.0 g.out g.entry in
+    let f = front p 6 g.names g.ballot.0 g.ballot.1.0 g.out g.entry g.late.0 g.generation in
     let b = joined_ballot p f g.ballot.1.1.0 g.ballot.1.1.1.0 in
-    let c = no_command p.header.op p.header.key_len p.header.value_len p.key p.value g.body.1.0 g.body.1.1.0 g.body.1.1.1.0 g.key g.value in
-    let a = no_attrs p.header.seq p.header.count p.deps g.body.0 g.body.1.1.1.1.0 g.count in
+    let c = nothing_is p g.body.1.0 g.body.1.1.0 g.body.1.1.1.0 g.late.1.0 (of_kind 6 p g.runs) in
+    let a = no_attrs p.header.seq p.header.count p.deps g.body.0 g.body.1.1.1.1.0 g.runs.count in
     let es = eqb-true p.header.status 0 g.vote.0 in let ec = eqb-true p.header.other_counter 0 g.vote.1.0 in let er = eqb-true p.header.other_replica 0 g.vote.1.1.0 in
     record {
+      version = f.has;
       origin = f.origin;
       message = (f.instance, b.is);
       sayable = f.known;
-      is = λ t. made (with_kind 6 p) (f.magic t) (f.version t) (f.leader t) (f.number t) (b.counter_is t) (b.replica_is t) (sym es t) (sym ec t) (sym er t)
-          (a.seq_is t) (c.op_is t) (c.kl_is t) (c.vl_is t) (a.count_is t) (c.key_is t) (c.value_is t) (a.deps_is t);
+      is = λ t. made (with_kind 6 p) (f.magic t) (f.version t) (f.generation t) (f.leader t) (f.number t) (b.counter_is t) (b.replica_is t) (sym es t) (sym ec t) (sym er t)
+          (a.seq_is t) (c.op_is t) (c.kl_is t) (c.sl_is t) (c.bl_is t) (a.count_is t) (c.key_is t) (c.second_is t) (c.body_is t) (a.deps_is t);
     }
 
 kind8 : (p : Parts) → Good (with_kind 8 p) → Found (with_kind 8 p)
 kind8 p g =
-    let f = front p 8 g.names g.ballot.0 g.ballot.1.0 g.out g.entry in
+    let f = front p 8 g.names g.ballot.0 g.ballot.1.0 g.out g.entry g.late.0 g.generation in
     let b = any_ballot p f g.ballot.1.1.0 g.ballot.1.1.1.0 in
-    let c = no_command p.header.op p.header.key_len p.header.value_len p.key p.value g.body.1.0 g.body.1.1.0 g.body.1.1.1.0 g.key g.value in
-    let a = no_attrs p.header.seq p.header.count p.deps g.body.0 g.body.1.1.1.1.0 g.count in
+    let c = nothing_is p g.body.1.0 g.body.1.1.0 g.body.1.1.1.0 g.late.1.0 (of_kind 8 p g.runs) in
+    let a = no_attrs p.header.seq p.header.count p.deps g.body.0 g.body.1.1.1.1.0 g.runs.count in
     let es = eqb-true p.header.status 0 g.vote.0 in
     let n = within-is 1 60000 p.header.other_counter g.vote.1.0 in let r = leb-true _ _ g.vote.1.1.0 in
     let pc = counter_again p.header.other_counter p.header.other_replica (omega (arith, r)) in let pr = owner_again p.header.other_counter p.header.other_replica (omega (arith, r)) in
     record {
+      version = f.has;
       origin = f.origin;
       message = (f.instance, b.is, omega (arith, pc, n.0), omega (arith, pc, n.1), omega (arith, pr, r));
       sayable = f.known;
-      is = λ t. made (with_kind 8 p) (f.magic t) (f.version t) (f.leader t) (f.number t) (b.counter_is t) (b.replica_is t) (sym es t) (pc t) (pr t)
-          (a.seq_is t) (c.op_is t) (c.kl_is t) (c.vl_is t) (a.count_is t) (c.key_is t) (c.value_is t) (a.deps_is t);
+      is = λ t. made (with_kind 8 p) (f.magic t) (f.version t) (f.generation t) (f.leader t) (f.number t) (b.counter_is t) (b.replica_is t) (sym es t) (pc t) (pr t)
+          (a.seq_is t) (c.op_is t) (c.kl_is t) (c.sl_is t) (c.bl_is t) (a.count_is t) (c.key_is t) (c.second_is t) (c.body_is t) (a.deps_is t);
     }
 
 status0 : (p : Parts) → Good (with_status 0 p) → Found (with_status 0 p)
 status0 p g =
-    let f = front p 7 g.names g.ballot.0 g.ballot.1.0 g.out g.entry in
+    let f = front p 7 g.names g.ballot.0 g.ballot.1.0 g.out g.entry g.late.0 g.generation in
     let b = joined_ballot p f g.ballot.1.1.0 g.ballot.1.1.1.0 in
-    let c = no_command p.header.op p.header.key_len p.header.value_len p.key p.value g.body.1.0 g.body.1.1.0 g.body.1.1.1.0 g.key g.value in
-    let a = no_attrs p.header.seq p.header.count p.deps g.body.0 g.body.1.1.1.1.0 g.count in
+    let c = nothing_is p g.body.1.0 g.body.1.1.0 g.body.1.1.1.0 g.late.1.0 (of_status 0 p g.runs) in
+    let a = no_attrs p.header.seq p.header.count p.deps g.body.0 g.body.1.1.1.1.0 g.runs.count in
     let ec = eqb-true p.header.other_counter 0 g.vote.1.0 in
     let er = eqb-true p.header.other_replica p.header.leader (chosen _ _ _ g.vote.1.0 g.vote.1.1.0) in
     record {
+      version = f.has;
       origin = f.origin;
       message = (f.instance, b.is, tt);
       sayable = (f.known, tt);
-      is = λ t. made (with_status 0 p) (f.magic t) (f.version t) (f.leader t) (f.number t) (b.counter_is t) (b.replica_is t) 0 (sym ec t) ((f.leader ∙ sym er) t)
-          (a.seq_is t) (c.op_is t) (c.kl_is t) (c.vl_is t) (a.count_is t) (c.key_is t) (c.value_is t) (a.deps_is t);
+      is = λ t. made (with_status 0 p) (f.magic t) (f.version t) (f.generation t) (f.leader t) (f.number t) (b.counter_is t) (b.replica_is t) 0 (sym ec t) ((f.leader ∙ sym er) t)
+          (a.seq_is t) (c.op_is t) (c.kl_is t) (c.sl_is t) (c.bl_is t) (a.count_is t) (c.key_is t) (c.second_is t) (c.body_is t) (a.deps_is t);
     }
 
 -- the answer to a Prepare with this vote
@@ -390,6 +451,7 @@ abbrev voted : Parts → Status → Message
 voted p st = PrepareOk (instance_in p.header) (ballot_in p.header) (Some (record { status = st; ballot = other_in p.header; decree = decree_of p }))
 
 record FoundVote (p : Parts) (s : ℕ) (st : Status) : Type 0 where
+  version : HasItsGeneration (version_in p)
   origin : IsOrigin p.header.from (origin_in p.header)
   message : IsMessage (voted p st)
   sayable : CanSay (version_in p) (voted p st)
@@ -398,24 +460,25 @@ record FoundVote (p : Parts) (s : ℕ) (st : Status) : Type 0 where
 vote_found : (p : Parts) (s : ℕ) (st : Status) → status_code st ≡ s → eqb s 0 ≡ false → Good (with_status s p) → FoundVote p s st
 vote_found p s st code e g =
     let has = ap not e in
-    let f = front p 7 g.names g.ballot.0 g.ballot.1.0 g.out g.entry in
+    let f = front p 7 g.names g.ballot.0 g.ballot.1.0 g.out g.entry g.late.0 g.generation in
     let b = joined_ballot p f g.ballot.1.1.0 g.ballot.1.1.1.0 in
-    let x = decree_found p (chosen _ _ _ has g.body.0) (chosen _ _ _ has g.body.1.0) g.body.1.1.0 g.body.1.1.1.0 (chosen _ _ _ has g.body.1.1.1.1.0) g.key g.value g.count g.deps g.keys_differ g.key_bytes g.value_bytes in
+    let x = decree_found p (chosen _ _ _ has g.body.0) (chosen _ _ _ has g.body.1.0) g.body.1.1.0 g.body.1.1.1.0 (chosen _ _ _ has g.body.1.1.1.1.0) g.late.1.0 (of_status s p g.runs) in
     let v =
     ballot_found (instance_in p.header) p.header.leader 0 p.header.other_counter p.header.other_replica f.leader f.leader_small (omega arith) (leb-true _ _ (other_chosen _ _ _ e g.vote.1.0)) g.vote.1.1.0 in
     record {
+      version = f.has;
       origin = f.origin;
       message = (f.instance, b.is, (v.is, x.is));
       sayable = (f.known, x.known);
-      is = λ t. made (with_status s p) (f.magic t) (f.version t) (f.leader t) (f.number t) (b.counter_is t) (b.replica_is t) (code t) (v.counter_is t) (v.replica_is t)
-          p.header.seq (x.op_is t) (x.kl_is t) (x.vl_is t) (g.count t) (x.key_is t) (x.value_is t) p.deps;
+      is = λ t. made (with_status s p) (f.magic t) (f.version t) (f.generation t) (f.leader t) (f.number t) (b.counter_is t) (b.replica_is t) (code t) (v.counter_is t) (v.replica_is t)
+          p.header.seq (x.op_is t) (x.kl_is t) (x.sl_is t) (x.bl_is t) (g.runs.count t) (x.key_is t) (x.second_is t) (x.body_is t) p.deps;
     }
 
 at_status : (p : Parts) (s : ℕ) → s ≤ 3 → Good (with_status s p) → Found (with_status s p)
 at_status p zero le g = status0 p g
-at_status p (suc zero) le g = let v = vote_found p 1 PreAccepted refl refl g in record { origin = v.origin; message = v.message; sayable = v.sayable; is = v.is }
-at_status p (suc (suc zero)) le g = let v = vote_found p 2 Accepted refl refl g in record { origin = v.origin; message = v.message; sayable = v.sayable; is = v.is }
-at_status p (suc (suc (suc zero))) le g = let v = vote_found p 3 Committed refl refl g in record { origin = v.origin; message = v.message; sayable = v.sayable; is = v.is }
+at_status p (suc zero) le g = let v = vote_found p 1 PreAccepted refl refl g in record { version = v.version; origin = v.origin; message = v.message; sayable = v.sayable; is = v.is }
+at_status p (suc (suc zero)) le g = let v = vote_found p 2 Accepted refl refl g in record { version = v.version; origin = v.origin; message = v.message; sayable = v.sayable; is = v.is }
+at_status p (suc (suc (suc zero))) le g = let v = vote_found p 3 Committed refl refl g in record { version = v.version; origin = v.origin; message = v.message; sayable = v.sayable; is = v.is }
 at_status p (suc (suc (suc (suc s)))) le g = absurd (omega arith)
 
 at_kind : (p : Parts) (k : ℕ) → 1 ≤ k → k ≤ 8 → Good (with_kind k p) → Found (with_kind k p)

@@ -1,3 +1,4 @@
+pub mod Limits
 pub mod Deps
 pub mod Packing
 pub mod BigEndian
@@ -5,6 +6,7 @@ pub mod Headers
 pub mod Again
 pub mod Rows
 pub mod Saying
+pub mod Runs
 pub mod Sound
 pub mod Found
 pub mod Reading

@@ -1,12 +1,12 @@
 -- The message that the parts of a message's frame stand for is that message, so no bytes spell two.
-use Rattle.std.proofs.Common.{◌≡◌, ℕ, List, Bool, true, false, cond, eqb, refl, sym, ap, ◌∙◌}
+use Rattle.std.proofs.Common.{◌≡◌, ℕ, ◌≤◌, List, [], ◌∷◌, length, arith, Bool, true, false, cond, eqb, refl, sym, ap, ◌∙◌}
 use Rattle.std.specs.Prelude.{Some, None, Option}
 use Rattle.ep_base.specs.Ballots.{counter_of, owner_of, ballot_of}
 use Rattle.ep_base.specs.Messages.{instance_of_message}
-use Rattle.ep_base.specs.Versions.{version_number, version_of}
+use Rattle.ep_base.specs.Versions.{version_number, generation_of, version_of}
 use Rattle.ep_base.proofs.Versions.{version_again}
 use Rattle.ep_base.specs.declared.decree.Decree.{Decree}
-use Rattle.ep_base.specs.Commands.{Command, Noop, Get, Put, Del, Swap, Cas, Seal, Opaque}
+use Rattle.ep_base.specs.Commands.{Command}
 use Rattle.ep_base.specs.declared.version.Version.{Version}
 use Rattle.ep_base.specs.declared.vote.Vote.{Vote}
 use Rattle.ep_base.specs.declared.vote.Status.{Status}
@@ -14,35 +14,44 @@ use Rattle.ep_base.specs.declared.vote.Status.TheVariants.{PreAccepted, Accepted
 use Rattle.ep_base.specs.declared.message.Message.{Message}
 use Rattle.ep_base.specs.declared.message.Message.TheVariants.{PreAccept, PreAcceptOk, Accept, AcceptOk, Commit, Prepare, PrepareOk, Nack}
 use Rattle.ep_frame.specs.declared.origin.Origin.{Origin}
-use Rattle.ep_frame.specs.Meaning.{origin_in, instance_in, instance_at, command_of, status_of, message_of, version_at, sender_at, origin_at, message_at}
-use Rattle.ep_frame.specs.Spelling.{Parts, parts_at, parts_of, Spells, IsCommand, IsDecree, IsMessage, op_code, key_in, value_in, status_code}
+use Rattle.ep_frame.specs.Meaning.{origin_in, instance_in, instance_at, status_of, message_of, version_at, sender_at, origin_at, message_at}
+use Rattle.ep_frame.specs.Spelling.{Parts, parts_at, parts_of, Spells, IsCommand, IsDecree, IsMessage, status_code}
+use Rattle.ep_base.specs.Ops.{op_number}
+use Rattle.ep_base.specs.Parts.{parts_of as command_parts, command_with, command_in, are_parts}
+use Rattle.ep_base.specs.declared.op.Op.{Op}
+use Rattle.ep_base.proofs.Partitions.{parts_law_lem}
+use Rattle.ep_frame.specs.Faults.{op_of}
+use Rattle.ep_frame.proofs.Saying.{op_again}
 use Rattle.ep_frame.proofs.Packing.{instance_again, ballot_again}
 use Rattle.ep_frame.proofs.Again.{parts_again}
 use Rattle.ep_frame.proofs.Sound.{sound, has_status}
 
-command_again : (c : Command) → IsCommand c → command_of (op_code c) (key_in c) (value_in c) ≡ c
-command_again Noop h = refl
-command_again (Get k) h = refl
-command_again (Put k v) h = refl
-command_again (Del k) h = refl
-command_again (Swap p) h = refl
-command_again (Cas k x y) h = absurd h
-command_again (Seal x) h = absurd h
-command_again (Opaque p b) h = absurd h
+-- the command that the parts of a command in range, with the op's number, make
+abbrev numbered : Command → Command
+numbered c = command_with (op_of (op_number (command_parts c).op)) (command_parts c).first (command_parts c).second (command_parts c).body
+
+some_if : {X : Type 0} (b : Bool) (x y : X) → cond b (Some x) None ≡ Some y → x ≡ y
+some_if true x y e = cc
+some_if false x y e = absurd (cc)
+
+command_again : (c : Command) → IsCommand c → numbered c ≡ c
+command_again c h =
+    let p = command_parts c in
+    ap (λ (o : Op). command_with o p.first p.second p.body) (op_again p.op) ∙ some_if (are_parts p) (command_in p) c (parts_law_lem.forth c h.in_range)
 
 status_again : (s : Status) → status_of (status_code s) ≡ s
 status_again PreAccepted = refl
 status_again Accepted = refl
 status_again Committed = refl
 
-decree_again : (x : Decree) → IsDecree x → record { command = command_of (op_code x.command) (key_in x.command) (value_in x.command); attrs = x.attrs } ≡ x
+decree_again : (x : Decree) → IsDecree x → record { command = numbered x.command; attrs = x.attrs } ≡ x
 decree_again x h = λ t. record { command = command_again x.command h.command t; attrs = x.attrs }
 
 abbrev vote_made : Status → ℕ → Decree → Option Vote
 vote_made s b x = Some (record { status = s; ballot = b; decree = x })
 
 vote_again : (v : Vote) → IsDecree v.decree → cond (eqb (status_code v.status) 0) None
-    (vote_made (status_of (status_code v.status)) (ballot_of (counter_of v.ballot) (owner_of v.ballot)) (record { command = command_of (op_code v.decree.command) (key_in v.decree.command) (value_in v.decree.command); attrs = v.decree.attrs }))
+    (vote_made (status_of (status_code v.status)) (ballot_of (counter_of v.ballot) (owner_of v.ballot)) (record { command = numbered v.decree.command; attrs = v.decree.attrs }))
     ≡ Some v
 vote_again v h =
     (λ t. cond (has_status v.status t) None (vote_made (status_again v.status t) (ballot_again v.ballot t) (decree_again v.decree h t)))
@@ -91,12 +100,24 @@ version_kept v from o (PrepareOk i b None) = refl
 version_kept v from o (PrepareOk i b (Some x)) = refl
 version_kept v from o (Nack i p q) = refl
 
+generation_kept : (v : Version) (from : ℕ) (o : Origin) (m : Message) → (parts_of v from o m).header.generation ≡ generation_of v
+generation_kept v from o (PreAccept i b x) = refl
+generation_kept v from o (PreAcceptOk i b a) = refl
+generation_kept v from o (Accept i b x) = refl
+generation_kept v from o (AcceptOk i b) = refl
+generation_kept v from o (Commit i x) = refl
+generation_kept v from o (Prepare i b) = refl
+generation_kept v from o (PrepareOk i b None) = refl
+generation_kept v from o (PrepareOk i b (Some x)) = refl
+generation_kept v from o (Nack i p q) = refl
+
 parts_spelled : (v : Version) (b : List ℕ) (from : ℕ) (o : Origin) (m : Message) → Spells v b from o m → parts_at b ≡ parts_of v from o m
-parts_spelled v b from o m s = ap parts_at s.is ∙ parts_again (parts_of v from o m) (sound v from o m s.origin s.message s.sayable).fits
+parts_spelled v b from o m s = ap parts_at s.is ∙ parts_again (parts_of v from o m) (sound v from o m s.version s.origin s.message s.sayable).fits
 
 -- the bytes that spell a message stand for it
 pub version_spelled : (v : Version) (b : List ℕ) (from : ℕ) (o : Origin) (m : Message) → Spells v b from o m → version_at b ≡ v
-version_spelled v b from o m s = ap (λ (p : Parts). version_of p.header.version) (parts_spelled v b from o m s) ∙ ap version_of (version_kept v from o m) ∙ version_again v
+version_spelled v b from o m s =
+    ap (λ (p : Parts). version_of p.header.version p.header.generation) (parts_spelled v b from o m s) ∙ (λ t. version_of (version_kept v from o m t) (generation_kept v from o m t)) ∙ version_again v
 
 pub sender_spelled : (v : Version) (b : List ℕ) (from : ℕ) (o : Origin) (m : Message) → Spells v b from o m → sender_at b ≡ from
 sender_spelled v b from o m s = ap (λ (p : Parts). p.header.from) (parts_spelled v b from o m s) ∙ sender_again v from o m

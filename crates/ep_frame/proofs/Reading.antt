@@ -5,12 +5,14 @@ use Rattle.ep_base.specs.Attributes.{same_list}
 use Rattle.ep_base.specs.Versions.{highest_in}
 use Rattle.std.proofs.lemmas.Bool.{eqb-true, eq-eqb, leb-true, and_parts}
 use Rattle.ep_frame.specs.declared.header.Header.{Header}
-use Rattle.ep_frame.specs.Faults.{within, highest_op, are_deps, are_in, has_command, counter_allowed, replica_allowed, other_counter_allowed, other_replica_allowed}
+use Rattle.ep_frame.specs.Faults.{within, op_of, are_deps, are_in, has_command, counter_allowed, replica_allowed, other_counter_allowed, other_replica_allowed}
 use Rattle.ep_frame.specs.Ranges.{Readable}
 use Rattle.ep_frame.specs.Spelling.{Parts}
+use Rattle.ep_base.specs.Parts.{are_parts}
+use Rattle.ep_frame.specs.Meaning.{command_parts_of}
 use Rattle.ep_frame.proofs.Rows.{within-is, within-from, chosen, other_chosen, either}
-use Rattle.ep_frame.proofs.Found.{Good, version_in}
-use Rattle.ep_frame.proofs.Saying.{number_low, op_low, differ}
+use Rattle.ep_frame.proofs.Found.{Good, version_in, parts_there}
+use Rattle.ep_frame.proofs.Saying.{number_low, text_is}
 
 at_zero : (n high : ℕ) → eqb n 0 ≡ true → n ≤ high
 at_zero n high e = let z = eqb-true n 0 e in omega (arith, z)
@@ -39,17 +41,11 @@ small_other_replica h le e =
     (λ t. either (eqb h.other_counter 0) _ _ t (as_leader h.leader h.other_replica le) (leb-true h.other_replica 6))
     (λ t. either (eqb h.kind 8) _ _ t (leb-true h.other_replica 6) (at_zero h.other_replica 6))
 
-small_value : (op vl : ℕ) → cond (eqb op 3) (leb vl 1024) (cond (eqb op 5) (within 1 255 vl) (eqb vl 0)) ≡ true → vl ≤ 1024
-small_value op vl e =
-    either (eqb op 3) _ _ e (leb-true vl 1024) (λ t. either (eqb op 5) _ _ t (λ r. let n = within-is 1 255 vl r in omega (arith, n.1)) (at_zero vl 1024))
-
--- the second key of a swap
-second_key : (op vl : ℕ) → op ≡ 5 → cond (eqb op 3) (leb vl 1024) (cond (eqb op 5) (within 1 255 vl) (eqb vl 0)) ≡ true → (1 ≤ vl) × (vl ≤ 255)
-second_key op vl five e =
-    within-is 1 255 vl (chosen _ _ _ (eq-eqb op 5 five) (other_chosen _ _ _ (ap (λ n. eqb n 3) five) e))
-
-two_keys : (op : ℕ) (k l : List ℕ) → op ≡ 5 → (eqb op 5 && same_list k l) ≡ false → k ≢ l
-two_keys op k l five e = differ k l (ap (λ b. b && same_list k l) (sym (eq-eqb op 5 five)) ∙ e)
+command_there : (p : Parts) → Good p → are_parts (command_parts_of p) ≡ true
+command_there p g =
+    let h = p.header in
+    let text = text_is (version_in p) (op_of h.op) h.second_len h.body_len g.body.1.1.1.0 in
+    parts_there p g.body.1.1.0 text.0 g.late.1.0 g.runs
 
 pub readable : (p : Parts) → Good p → Readable p
 readable p g =
@@ -58,11 +54,6 @@ readable p g =
     let v = version_in p in
     let number = within-is 1 (highest_in v) h.number g.ballot.1.0 in
     let most = number_low v in
-    let last = op_low v in
-    let in_version : h.op ≤ highest_op v = either (has_command h) _ _ g.body.1.0 (up_to 1 (highest_op v) h.op) (at_zero h.op (highest_op v)) in
-    let op : h.op ≤ 5 = omega (arith, in_version, last) in
-    let key : h.key_len ≤ 255 = either (within 2 5 h.op) _ _ g.body.1.1.0 (up_to 1 255 h.key_len) (at_zero h.key_len 255) in
-    let value : h.value_len ≤ 1024 = small_value h.op h.value_len g.body.1.1.1.0 in
     record {
       leader = leader;
       number_low = number.0;
@@ -73,15 +64,6 @@ readable p g =
       other_replica = small_other_replica h leader g.vote.1.1.0;
       seq_low = λ t. let n = within-is 1 1000000 h.seq (chosen _ _ _ t g.body.0) in n.0;
       seq_high = λ t. let n = within-is 1 1000000 h.seq (chosen _ _ _ t g.body.0) in n.1;
-      op_low = λ t. let n = within-is 1 (highest_op v) h.op (chosen _ _ _ t g.body.1.0) in n.0;
-      op_high = op;
-      key_low = λ two. let n = within-is 1 255 h.key_len (chosen _ _ _ (within-from 2 5 h.op two op) g.body.1.1.0) in omega (arith, n.0, g.key);
-      key_high = omega (arith, key, g.key);
-      value = omega (arith, value, g.value);
-      swap = λ five. (
-        let n = second_key h.op h.value_len five g.body.1.1.1.0 in omega (arith, n.0, g.value),
-        let n = second_key h.op h.value_len five g.body.1.1.1.0 in omega (arith, n.1, g.value),
-        two_keys h.op p.key p.value five g.keys_differ,
-      );
-      deps = (and_parts (are_deps p.deps) (are_in v p.deps) g.deps).0;
+      command = command_there p g;
+      deps = (and_parts (are_deps p.deps) (are_in v p.deps) g.runs.deps).0;
     }

@@ -7,7 +7,7 @@ use Rattle.ep_base.specs.declared.message.Message.{Message}
 use Rattle.ep_base.specs.declared.version.Version.{Version}
 use Rattle.ep_base.specs.declared.message.Message.TheVariants.{PreAccept, PreAcceptOk, Accept, AcceptOk, Commit, Prepare, PrepareOk, Nack}
 use Rattle.ep_frame.specs.declared.origin.Origin.{Origin}
-use Rattle.ep_frame.specs.Fields.{spelled, number_at, number_bytes, start_fields, origin_fields, ballot_fields, vote_fields, body_fields, dep_bytes}
+use Rattle.ep_frame.specs.Fields.{spelled, number_at, number_bytes, start_fields, origin_fields, ballot_fields, vote_fields, body_fields, late_fields, dep_bytes}
 use Rattle.ep_frame.specs.Origins.{origin_bytes, readdressed, OriginFits, KeepsMessage}
 use Rattle.ep_frame.specs.Spelling.{Parts, Spells, parts_bytes, parts_of, spelling}
 use Rattle.ep_frame.proofs.Again.{length-spelled}
@@ -28,17 +28,17 @@ reorigin_is v from o n (PrepareOk i b (Some x)) = refl
 reorigin_is v from o n (Nack i p q) = refl
 
 abbrev tail_of : Parts → List ℕ
-tail_of p = spelled (ballot_fields p.header) ++ (spelled (vote_fields p.header) ++ (spelled (body_fields p.header) ++ (p.key ++ (p.value ++ flat_map dep_bytes p.deps))))
+tail_of p = spelled (ballot_fields p.header) ++ (spelled (vote_fields p.header) ++ (spelled (body_fields p.header) ++ (spelled (late_fields p.header) ++ (p.key ++ (p.second ++ (p.body ++ flat_map dep_bytes p.deps))))))
 
-regrouped : (s o a v y k w d : List ℕ) → (((((((s ++ o) ++ a) ++ v) ++ y) ++ k) ++ w) ++ d) ≡ s ++ (o ++ (a ++ (v ++ (y ++ (k ++ (w ++ d))))))
-regrouped s o a v y k w d = simp append_assoc
+regrouped : (s o a v y l k w c d : List ℕ) → (((((((((s ++ o) ++ a) ++ v) ++ y) ++ l) ++ k) ++ w) ++ c) ++ d) ≡ s ++ (o ++ (a ++ (v ++ (y ++ (l ++ (k ++ (w ++ (c ++ d))))))))
+regrouped s o a v y l k w c d = simp append_assoc
 
 origin_joined : (a b c d : List ℕ) → ((a ++ b) ++ c) ++ d ≡ a ++ (b ++ (c ++ (d ++ [])))
 origin_joined a b c d = simp (append_assoc, append-nil)
 
 parts_split : (p : Parts) → parts_bytes p ≡ spelled (start_fields p.header) ++ (spelled (origin_fields p.header) ++ tail_of p)
 parts_split p =
-    regrouped (spelled (start_fields p.header)) (spelled (origin_fields p.header)) (spelled (ballot_fields p.header)) (spelled (vote_fields p.header)) (spelled (body_fields p.header)) p.key p.value (flat_map dep_bytes p.deps)
+    regrouped (spelled (start_fields p.header)) (spelled (origin_fields p.header)) (spelled (ballot_fields p.header)) (spelled (vote_fields p.header)) (spelled (body_fields p.header)) (spelled (late_fields p.header)) p.key p.second p.body (flat_map dep_bytes p.deps)
 
 changed : (o : Origin) (p : Parts) → parts_bytes (reorigin o p) ≡ (take 5 (parts_bytes p) ++ origin_bytes o) ++ drop 20 (parts_bytes p)
 changed o p =
@@ -52,6 +52,7 @@ changed o p =
 -- a frame whose origin is replaced keeps its message
 pub again : (v : Version) (b : List ℕ) (from : ℕ) (o n : Origin) (m : Message) → Spells v b from o m → n.to ≢ from → OriginFits n → Spells v (readdressed b n) from n m
 again v b from o n m s apart fits = record {
+  version = s.version;
   origin = record {
     sender = s.origin.sender;
     receiver = fits.receiver;

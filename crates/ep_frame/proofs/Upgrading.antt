@@ -35,32 +35,35 @@ says_same b c s = record {
 abbrev pub in_version_2 : List ℕ → List ℕ
 in_version_2 b = take 2 b ++ 2 ∷ drop 3 b
 
-abbrev parts_in_version_2 : Parts → Parts
-parts_in_version_2 p = record p { header = record p.header { version = 2 } }
+abbrev parts_in : ℕ → Parts → Parts
+parts_in n p = record p { header = record p.header { version = n } }
 
--- the versions spell a message alike, but for their number
-same_parts : (from : ℕ) (o : Origin) (m : Message) → parts_of V2 from o m ≡ parts_in_version_2 (parts_of V1 from o m)
-same_parts from o (PreAccept i b x) = refl
-same_parts from o (PreAcceptOk i b a) = refl
-same_parts from o (Accept i b x) = refl
-same_parts from o (AcceptOk i b) = refl
-same_parts from o (Commit i x) = refl
-same_parts from o (Prepare i b) = refl
-same_parts from o (PrepareOk i b None) = refl
-same_parts from o (PrepareOk i b (Some x)) = refl
-same_parts from o (Nack i p q) = refl
+-- versions 1 and 2 spell a message alike, but for their number
+same_parts : (from : ℕ) (o : Origin) (m : Message) → (parts_of V2 from o m ≡ parts_in 2 (parts_of V1 from o m)) × (parts_of V1 from o m ≡ parts_in 1 (parts_of V1 from o m))
+same_parts from o (PreAccept i b x) = (refl, refl)
+same_parts from o (PreAcceptOk i b a) = (refl, refl)
+same_parts from o (Accept i b x) = (refl, refl)
+same_parts from o (AcceptOk i b) = (refl, refl)
+same_parts from o (Commit i x) = (refl, refl)
+same_parts from o (Prepare i b) = (refl, refl)
+same_parts from o (PrepareOk i b None) = (refl, refl)
+same_parts from o (PrepareOk i b (Some x)) = (refl, refl)
+same_parts from o (Nack i p q) = (refl, refl)
 
-changed : (p : Parts) → parts_bytes (parts_in_version_2 p) ≡ in_version_2 (parts_bytes p)
+changed : (p : Parts) → parts_bytes (parts_in 2 p) ≡ in_version_2 (parts_bytes (parts_in 1 p))
 unfolding number_bytes
 changed p = refl
 
 upgraded_1 : (b : List ℕ) (from : ℕ) (o : Origin) (m : Message) → Spells V1 b from o m → Spells V2 (in_version_2 b) from o m
-upgraded_1 b from o m s = record {
-  origin = s.origin;
-  message = s.message;
-  sayable = said_later V1 m s.sayable;
-  is = ap in_version_2 s.is ∙ sym (changed (parts_of V1 from o m)) ∙ ap parts_bytes (sym (same_parts from o m));
-}
+upgraded_1 b from o m s =
+    let same = same_parts from o m in
+    record {
+      version = tt;
+      origin = s.origin;
+      message = s.message;
+      sayable = said_later V1 V2 m (omega arith) s.sayable;
+      is = ap in_version_2 (s.is ∙ ap parts_bytes same.1) ∙ sym (changed (parts_of V1 from o m)) ∙ ap parts_bytes (sym same.0);
+    }
 
 pub long : (b : List ℕ) → Spells (version_at b) b (sender_at b) (origin_at b) (message_at b) → 3 ≤ length b
 long b s = let all = frame_long b (frame_again (version_at b) b (sender_at b) (origin_at b) (message_at b) s) in omega arith

@@ -54,7 +54,7 @@ named n v from o (Nack i p q) =
 spelled_within : (n : ℕ) (v : Version) (b : List ℕ) (from : ℕ) (o : Origin) (m : Message) → Spells v b from o m → parts_within n (parts_at b) ≡ (ltb from n && (ltb o.to n && message_within n m))
 spelled_within n v b from o m s =
     ap (λ (c : List ℕ). parts_within n (parts_at c)) s.is
-    ∙ ap (parts_within n) (parts_again (parts_of v from o m) (sound v from o m s.origin s.message s.sayable).fits)
+    ∙ ap (parts_within n) (parts_again (parts_of v from o m) (sound v from o m s.version s.origin s.message s.sayable).fits)
     ∙ named n v from o m
 
 pub within_is : (n : ℕ) (b : List ℕ) → IsBytes b → HasNoFault b → parts_within n (parts_at b) ≡ is_within n b

@@ -9,6 +9,6 @@ pub record AreDepBytes (b : List ℕ) : Type 0 where
   pub whole : length b ≡ 3 * length (deps_in b)
   pub deps : IsDeps (deps_in b)
 
--- the dependencies of a frame: all that stands after the value
+-- the dependencies of a frame: all that stands after the body
 abbrev pub deps_at : List ℕ → List ℕ
 deps_at b = deps_in (drop (deps_place (header_at b)) b)

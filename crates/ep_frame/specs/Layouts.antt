@@ -1,19 +1,22 @@
 -- The parts that the code's structs borrow.
+use Rattle.std.specs.Prelude.{◌+◌, take, drop}
 use Rattle.ep_base.specs.Messages.{says}
 use Rattle.ep_base.specs.declared.message.Message.{Message}
 use Rattle.ep_frame.specs.declared.layout.Layout.{Layout}
 use Rattle.ep_frame.specs.declared.telling.Telling.{Telling}
-use Rattle.ep_frame.specs.declared.sections.Sections.{Sections}
-use Rattle.ep_frame.specs.Fields.{deps_in}
 use Rattle.ep_frame.specs.Spelling.{Parts}
 
--- what goes into a frame
+-- what goes into a frame: both keys and the body stand in one run
 abbrev pub parts_in : Layout → Parts
-parts_in l = record { header = l.header; key = l.key.now; value = l.value.now; deps = l.deps.now }
-
--- what a frame's bytes have
-abbrev pub parts_read : Sections → Parts
-parts_read s = record { header = s.header; key = s.key.now; value = s.value.now; deps = deps_in s.deps.now }
+parts_in l =
+    let h = l.header in
+    record {
+      header = h;
+      key = take h.key_len l.run.now;
+      second = take h.second_len (drop h.key_len l.run.now);
+      body = drop (h.key_len + h.second_len) l.run.now;
+      deps = l.deps.now;
+    }
 
 -- the message that is told
 abbrev pub told_by : Telling → Message

@@ -1,11 +1,10 @@
 -- What the parts of a frame stand for.
-use Rattle.std.specs.Prelude.{Bool, true, false, ltb, ◌&&◌, ℕ, List, Option, Some, None, ◌==◌, if◌then◌else◌}
+use Rattle.std.specs.Prelude.{Bool, true, false, ltb, ◌&&◌, ℕ, List, Option, Some, None, ◌==◌, if◌then◌else◌, slice_range}
 use Rattle.ep_base.specs.Instances.{instance_of}
 use Rattle.ep_base.specs.Ballots.{ballot_of}
-use Rattle.ep_base.specs.Versions.{version_of}
 use Rattle.ep_base.specs.declared.attrs.Attrs.{Attrs}
 use Rattle.ep_base.specs.declared.decree.Decree.{Decree}
-use Rattle.ep_base.specs.Commands.{Command, Noop, Get, Put, Del, Swap}
+use Rattle.ep_base.specs.Commands.{Command}
 use Rattle.ep_base.specs.declared.version.Version.{Version}
 use Rattle.ep_base.specs.declared.vote.Vote.{Vote}
 use Rattle.ep_base.specs.declared.vote.Status.{Status}
@@ -17,6 +16,9 @@ use Rattle.ep_frame.specs.declared.header.Header.{Header}
 use Rattle.ep_frame.specs.declared.kind.Kind.{Kind}
 use Rattle.ep_frame.specs.declared.kind.Kind.TheVariants as kind
 use Rattle.ep_frame.specs.declared.origin.Origin.{Origin}
+use Rattle.ep_base.specs.Parts.{command_in, Parts as CommandParts}
+use Rattle.ep_frame.specs.Faults.{version_in, op_of, deps_place}
+use Rattle.ep_frame.specs.Fields.{header_at, header_len}
 use Rattle.ep_frame.specs.Spelling.{Parts, parts_at}
 
 abbrev pub origin_in : Header → Origin
@@ -36,17 +38,12 @@ other_in h = ballot_of h.other_counter h.other_replica
 abbrev pub attrs_of : Parts → Attrs
 attrs_of p = record { seq = p.header.seq; deps = p.deps }
 
--- the second text is a put's value, or a swap's second key
-abbrev pub command_of : ℕ → List ℕ → List ℕ → Command
-command_of op key text =
-    if op == 1 then Noop
-    else if op == 2 then Get key
-    else if op == 3 then Put key text
-    else if op == 4 then Del key
-    else Swap (record { first = key; second = text })
+-- the parts of the command
+abbrev pub command_parts_of : Parts → CommandParts
+command_parts_of p = record { op = op_of p.header.op; first = p.key; second = p.second; body = p.body }
 
 abbrev pub decree_of : Parts → Decree
-decree_of p = record { command = command_of p.header.op p.key p.value; attrs = attrs_of p }
+decree_of p = record { command = command_in (command_parts_of p); attrs = attrs_of p }
 
 abbrev pub status_of : ℕ → Status
 status_of n = if n == 1 then PreAccepted else if n == 2 then Accepted else Committed
@@ -69,7 +66,7 @@ message_of p =
 -- what a frame's bytes stand for
 
 abbrev pub version_at : List ℕ → Version
-version_at b = version_of (parts_at b).header.version
+version_at b = version_in (parts_at b).header
 
 abbrev pub sender_at : List ℕ → ℕ
 sender_at b = (parts_at b).header.from
@@ -105,8 +102,16 @@ ballot_at b = ballot_in (parts_at b).header
 abbrev pub other_at : List ℕ → ℕ
 other_at b = other_in (parts_at b).header
 
+-- the parts of the command, and the run of both its keys and its body
+
+abbrev pub command_parts_at : List ℕ → CommandParts
+command_parts_at b = command_parts_of (parts_at b)
+
+abbrev pub run_at : List ℕ → List ℕ
+run_at b = slice_range b (header_len (header_at b).version) (deps_place (header_at b))
+
 abbrev pub command_at : List ℕ → Command
-command_at b = command_of (parts_at b).header.op (parts_at b).key (parts_at b).value
+command_at b = command_in (command_parts_at b)
 
 abbrev pub attrs_at : List ℕ → Attrs
 attrs_at b = attrs_of (parts_at b)

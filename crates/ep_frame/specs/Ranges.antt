@@ -1,9 +1,11 @@
 -- The ranges of the fields that all kinds of frame have.
-use Rattle.std.specs.Prelude.{ℕ, ◌≡◌, ◌≢◌, ◌≤◌, List, length, true}
+use Rattle.std.specs.Prelude.{ℕ, ◌≡◌, ◌≤◌, List, length, true}
 use Rattle.ep_base.specs.Instances.{highest_number}
 use Rattle.ep_base.specs.Ballots.{highest_counter}
-use Rattle.ep_frame.specs.Faults.{has_attributes, has_command, are_deps}
+use Rattle.ep_frame.specs.Faults.{has_attributes, are_deps}
 use Rattle.ep_frame.specs.Spelling.{Parts}
+use Rattle.ep_base.specs.Parts.{are_parts}
+use Rattle.ep_frame.specs.Meaning.{command_parts_of}
 use Rattle.ep_frame.specs.Fields.{number_at}
 
 pub record InRange (b : List ℕ) : Type 0 where
@@ -28,10 +30,5 @@ pub record Readable (p : Parts) : Type 0 where
   pub other_replica : p.header.other_replica ≤ 6
   pub seq_low : has_attributes p.header ≡ true → 1 ≤ p.header.seq
   pub seq_high : has_attributes p.header ≡ true → p.header.seq ≤ 1000000
-  pub op_low : has_command p.header ≡ true → 1 ≤ p.header.op
-  pub op_high : p.header.op ≤ 5
-  pub key_low : 2 ≤ p.header.op → 1 ≤ length p.key
-  pub key_high : length p.key ≤ 255
-  pub value : length p.value ≤ 1024
-  pub swap : p.header.op ≡ 5 → (1 ≤ length p.value) × (length p.value ≤ 255) × (p.key ≢ p.value)
+  pub command : are_parts (command_parts_of p) ≡ true
   pub deps : are_deps p.deps ≡ true

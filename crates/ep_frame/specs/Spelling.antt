@@ -4,8 +4,11 @@ use Rattle.std.specs.List.{flat_map}
 use Rattle.ep_base.specs.Instances.{leader_of, number_of, IsInstance}
 use Rattle.ep_base.specs.Ballots.{counter_of, owner_of, highest_counter}
 use Rattle.ep_base.specs.Deps.{IsRising, AreInstances, most_deps}
-use Rattle.ep_base.specs.Versions.{version_number, CanSay}
-use Rattle.ep_base.specs.Commands.{Command, Noop, Get, Put, Del, Swap, Cas, Seal, Opaque}
+use Rattle.ep_base.specs.Generations.{HasItsGeneration}
+use Rattle.ep_base.specs.Ops.{op_number}
+use Rattle.ep_base.specs.Parts.{parts_of as command_parts, IsInRange}
+use Rattle.ep_base.specs.Versions.{version_number, generation_of, CanSay}
+use Rattle.ep_base.specs.Commands.{Command}
 use Rattle.ep_base.specs.declared.attrs.Attrs.{Attrs}
 use Rattle.ep_base.specs.declared.decree.Decree.{Decree}
 use Rattle.ep_base.specs.declared.message.Message.{Message}
@@ -16,36 +19,42 @@ use Rattle.ep_base.specs.declared.vote.Status.{Status}
 use Rattle.ep_base.specs.declared.vote.Status.TheVariants.{PreAccepted, Accepted, Committed}
 use Rattle.ep_frame.specs.declared.header.Header.{Header}
 use Rattle.ep_frame.specs.declared.origin.Origin.{Origin}
-use Rattle.ep_frame.specs.Fields.{header_bytes, header_at, dep_bytes, deps_in}
+use Rattle.ep_frame.specs.Faults.{second_place, body_place, deps_place}
+use Rattle.ep_frame.specs.Fields.{header_bytes, header_at, header_len, dep_bytes, deps_in}
 
--- a frame's fields, and the bytes and instances after them. The value of a swap is its second key
+-- a frame's fields, and the bytes and instances after them
 pub record Parts : Type 0 where
   pub header : Header
   pub key : List ℕ
-  pub value : List ℕ
+  pub second : List ℕ
+  pub body : List ℕ
   pub deps : List ℕ
 
 abbrev pub parts_bytes : Parts → List ℕ
-parts_bytes p = header_bytes p.header ++ p.key ++ p.value ++ flat_map dep_bytes p.deps
+parts_bytes p = header_bytes p.header ++ p.key ++ p.second ++ p.body ++ flat_map dep_bytes p.deps
 
--- where the key lies, and what is after it: a put's value, or a swap's second key
+-- where the keys and the body lie
+
 abbrev pub key_at : List ℕ → List ℕ
-key_at b = slice_range b 40 (40 + (header_at b).key_len)
-
-abbrev pub text_at : List ℕ → List ℕ
-text_at b = slice_range b (40 + (header_at b).key_len) (40 + (header_at b).key_len + (header_at b).value_len)
-
-abbrev pub value_at : List ℕ → List ℕ
-value_at b = if (header_at b).op == 5 then [] else text_at b
+key_at b = slice_range b (header_len (header_at b).version) (second_place (header_at b))
 
 abbrev pub second_key_at : List ℕ → List ℕ
-second_key_at b = if (header_at b).op == 5 then text_at b else []
+second_key_at b = slice_range b (second_place (header_at b)) (body_place (header_at b))
+
+abbrev pub body_at : List ℕ → List ℕ
+body_at b = slice_range b (body_place (header_at b)) (deps_place (header_at b))
 
 -- the parts of a frame's bytes
 abbrev pub parts_at : List ℕ → Parts
 parts_at b =
     let h = header_at b in
-    record { header = h; key = take h.key_len (drop 40 b); value = take h.value_len (drop (40 + h.key_len) b); deps = deps_in (drop (40 + h.key_len + h.value_len) b) }
+    record {
+      header = h;
+      key = take h.key_len (drop (header_len h.version) b);
+      second = take h.second_len (drop (second_place h) b);
+      body = take h.body_len (drop (body_place h) b);
+      deps = deps_in (drop (deps_place h) b);
+    }
 
 -- a frame of this version and kind in which all that a kind may leave out is zero
 abbrev pub blank : Version → ℕ → Origin → ℕ → ℕ → Parts
@@ -69,11 +78,14 @@ blank v from o kind i = record {
     seq = 0;
     op = 0;
     key_len = 0;
-    value_len = 0;
+    second_len = 0;
     count = 0;
+    generation = generation_of v;
+    body_len = 0;
   };
   key = [];
-  value = [];
+  second = [];
+  body = [];
   deps = [];
 }
 
@@ -86,42 +98,19 @@ with_other status counter replica p = record p { header = record p.header { stat
 abbrev pub with_attrs : Attrs → Parts → Parts
 with_attrs a p = record p { header = record p.header { seq = a.seq; count = length a.deps }; deps = a.deps }
 
-abbrev pub with_op : ℕ → List ℕ → List ℕ → Parts → Parts
-with_op op key value p = record p { header = record p.header { op = op; key_len = length key; value_len = length value }; key = key; value = value }
+abbrev pub with_parts : (op : ℕ) (key second body : List ℕ) → Parts → Parts
+with_parts op key second body p = record p {
+  header = record p.header { op = op; key_len = length key; second_len = length second; body_len = length body };
+  key = key;
+  second = second;
+  body = body;
+}
 
--- the op of a command, 0 where no version has it
-abbrev pub op_code : Command → ℕ
-op_code Noop = 1
-op_code (Get key) = 2
-op_code (Put key value) = 3
-op_code (Del key) = 4
-op_code (Swap keys) = 5
-op_code (Cas key expected new) = 0
-op_code (Seal value) = 0
-op_code (Opaque p body) = 0
-
-abbrev pub key_in : Command → List ℕ
-key_in Noop = []
-key_in (Get key) = key
-key_in (Put key value) = key
-key_in (Del key) = key
-key_in (Swap keys) = keys.first
-key_in (Cas key expected new) = []
-key_in (Seal value) = []
-key_in (Opaque p body) = []
-
-abbrev pub value_in : Command → List ℕ
-value_in Noop = []
-value_in (Get key) = []
-value_in (Put key value) = value
-value_in (Del key) = []
-value_in (Swap keys) = keys.second
-value_in (Cas key expected new) = []
-value_in (Seal value) = []
-value_in (Opaque p body) = []
+abbrev pub with_command : Command → Parts → Parts
+with_command c p = with_parts (op_number (command_parts c).op) (command_parts c).first (command_parts c).second (command_parts c).body p
 
 abbrev pub with_decree : Decree → Parts → Parts
-with_decree x p = with_attrs x.attrs (with_op (op_code x.command) (key_in x.command) (value_in x.command) p)
+with_decree x p = with_attrs x.attrs (with_command x.command p)
 
 abbrev pub status_code : Status → ℕ
 status_code PreAccepted = 1
@@ -160,19 +149,12 @@ pub record IsBallot (i : ℕ) (least : ℕ) (b : ℕ) : Type 0 where
 abbrev pub AreBytes : List ℕ → Type 0
 AreBytes bs = (k : ℕ) → slice_index bs k < 256
 
-abbrev pub IsKey : List ℕ → Type 0
-IsKey k = (1 ≤ length k) × (length k ≤ 255) × AreBytes k
-
--- a command that some version has
-abbrev pub IsCommand : Command → Type 0
-IsCommand Noop = Unit {0}
-IsCommand (Get key) = IsKey key
-IsCommand (Put key value) = IsKey key × (length value ≤ 1024) × AreBytes value
-IsCommand (Del key) = IsKey key
-IsCommand (Swap keys) = IsKey keys.first × IsKey keys.second × (keys.first ≢ keys.second)
-IsCommand (Cas key expected new) = ⊥
-IsCommand (Seal value) = ⊥
-IsCommand (Opaque p body) = ⊥
+-- a command in range, of bytes
+pub record IsCommand (c : Command) : Type 0 where
+  pub in_range : IsInRange c
+  pub first : AreBytes (command_parts c).first
+  pub second : AreBytes (command_parts c).second
+  pub body : AreBytes (command_parts c).body
 
 pub record AreAttrs (a : Attrs) : Type 0 where
   pub low : 1 ≤ a.seq
@@ -211,6 +193,7 @@ pub record IsOrigin (from : ℕ) (o : Origin) : Type 0 where
 
 -- the bytes are the frame of version v that the sender `from` sends with this origin for the message m
 pub record Spells (v : Version) (bytes : List ℕ) (from : ℕ) (o : Origin) (m : Message) : Type 0 where
+  pub version : HasItsGeneration v
   pub origin : IsOrigin from o
   pub message : IsMessage m
   pub sayable : CanSay v m

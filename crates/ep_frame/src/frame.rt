@@ -2,6 +2,7 @@
 
 ghost use Rattle.std.specs.Prelude.{◌≡◌, ◌≤◌, ◌∷◌, ◌++◌, Ok, Err, IfOk, IsOk, MatchResult, length, take, drop};
 ghost use Rattle.ep_base.specs.Messages.{instance_of_message};
+ghost use Rattle.ep_base.specs.Versions.{generation_of};
 ghost use Rattle.ep_base.specs.declared.version_kind.VersionKind.TheVariants.{V2};
 ghost use Rattle.ep_frame.specs.Faults.{HasNoFault, fault_of};
 ghost use Rattle.ep_frame.specs.Meaning.{version_at, sender_at, origin_at, instance_at, message_at};
@@ -12,7 +13,7 @@ use crate::fault::FrameFault;
 use crate::origin::Origin;
 use crate::view::FrameView;
 use bytes::Bytes;
-use ep_base::{InstanceId, ReplicaId, Version};
+use ep_base::{InstanceId, ReplicaId, Version, VersionKind};
 use std::alloc::{AllocError, Global};
 use std::marker::Model;
 
@@ -54,7 +55,7 @@ impl Frame {
         ensures only { IsFrame bytes → IsOk result }
         ensures frame { IfOk result (λ f. f ≡ bytes) }
     {
-        FrameView::read(bytes.as_slice())?;
+        FrameView::read(&bytes)?;
         Ok(Frame { bytes })
     }
 
@@ -72,7 +73,7 @@ impl Frame {
         ensures spelled { Spells (version_at self.now) self.now (sender_at self.now) (origin_at self.now) (message_at self.now) }
         ensures frame { IsFrame self.now }
     {
-        FrameView::known(self.bytes.as_slice())
+        FrameView::known(&self.bytes)
     }
 
     /// The bytes.
@@ -119,18 +120,21 @@ impl Frame {
     }
 
     /// The frame in version 2, of the same sender, origin and message. One of version 2 shares its bytes; one of version 1 is
-    /// copied, and its version alone changes: nothing is read or checked again.
+    /// copied, and its version alone changes: nothing is read or checked again. One of version 3, which version 2 may not be
+    /// able to say, is given again.
     pub fn upgraded(&self, alloc: Global) -> Result<Frame, AllocError>
-        ensures upgraded { IfOk result (λ f. IsUpgradedFrame self.now f) }
+        ensures upgraded { generation_of (version_at self.now) ≡ 0 → IfOk result (λ f. IsUpgradedFrame self.now f) }
         ensures same { version_at self.now ≡ V2 → IfOk result (λ f. f ≡ self.now) }
+        ensures later { 1 ≤ generation_of (version_at self.now) → IfOk result (λ f. f ≡ self.now) }
     {
         let view = self.view();
-        match view.version() {
-            Version::V1 => {
+        match view.version().kind() {
+            VersionKind::V1 => {
                 let bytes = in_version_2(alloc, self.as_slice())?;
                 Ok(Frame::written(bytes))
             }
-            Version::V2 => self.clone(),
+            VersionKind::V2 => self.clone(),
+            VersionKind::V3(_) => self.clone(),
         }
     }
 }

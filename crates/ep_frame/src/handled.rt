@@ -1,22 +1,26 @@
 //! The parts of a frame's message, read off its bytes as they are asked for.
 
-ghost use Rattle.std.specs.Prelude.{◌≡◌, ◌≤◌, IfOk, OnOk, OnErr, length, drop, true};
+ghost use Rattle.std.specs.Prelude.{◌≡◌, ◌≤◌, ◌+◌, ◌++◌, ◌&&◌, eqb, Some, IfOk, OnOk, OnErr, length, drop, true};
 ghost use Rattle.ep_base.specs.Attributes.{join, same_attrs, same_list};
+ghost use Rattle.ep_base.specs.Ops.{op_number};
+ghost use Rattle.ep_base.specs.Parts.{parts_of, command_in, command_of, are_parts, cut};
 ghost use Rattle.ep_base.specs.Sameness.{same_command, same_decree};
 ghost use Rattle.ep_rules.specs.Steps.{are_within};
 ghost use Rattle.ep_frame.specs.DepBytes.{AreDepBytes};
-ghost use Rattle.ep_frame.specs.Faults.{HasNoFault, deps_place, frame_len, has_attributes, has_command};
+ghost use Rattle.ep_frame.specs.Faults.{HasNoFault, deps_place, frame_len, has_attributes};
 ghost use Rattle.ep_frame.specs.Fields.{deps_in, header_at};
-ghost use Rattle.ep_frame.specs.Meaning.{kind_at, ballot_at, other_at, command_at, attrs_at, decree_at, vote_at, message_at, message_by, tells_attrs, tells_decree, is_within, parts_within};
+ghost use Rattle.ep_frame.specs.Meaning.{version_at, sender_at, origin_at, kind_at, command_parts_at, run_at, ballot_at, other_at, command_at, attrs_at, decree_at, vote_at, message_at, message_by, tells_attrs, tells_decree, is_within, parts_within};
 ghost use Rattle.ep_frame.specs.declared.kind.Kind.TheVariants.{PrepareOk};
-ghost use Rattle.ep_frame.specs.Ranges.{Readable};
-ghost use Rattle.ep_frame.specs.Spelling.{parts_at};
+ghost use Rattle.ep_frame.specs.Ranges.{InRange, Readable};
+ghost use Rattle.ep_frame.specs.Spelling.{Spells, parts_at};
 
+use crate::header::{made_op, second_len_at};
 use crate::kind::{Kind, made_kind};
+use crate::made::{made_ballot, made_deps, made_seq, made_status};
 use crate::numbers::{u8_at, u16_at, u32_at};
-use crate::sections::{made_ballot, made_command, made_deps, made_seq, made_status};
-use crate::view::{FrameView, key_in, text_in};
-use ep_base::{Attrs, Ballot, Command, Decree, InstanceId, Seq, Vote};
+use crate::view::{FrameView, dep_bytes_in, instance_in, is_spelled, run_place};
+use bytes::Bytes;
+use ep_base::{Attrs, Ballot, Command, Decree, InstanceId, Message, Op, Seq, Vote};
 use std::alloc::{AllocError, Global};
 
 /// What is known of a frame's bytes: a law, which costs nothing to call.
@@ -53,25 +57,39 @@ fn seq_in(bytes: &[u8]) -> Seq
     made_seq(u32_at(bytes, 30))
 }
 
-// What stands after the value.
-#[tactic(auto, using(crate::proofs::Deps::rest_of))]
-fn dep_bytes_in(bytes: &[u8]) -> &[u8]
-    requires long { 40 ≤ length bytes.now }
-    requires whole { length bytes.now ≡ frame_len (header_at bytes.now) }
-    ensures { result.now ≡ drop (deps_place (header_at bytes.now)) bytes.now }
+// The command of these parts.
+fn made_command(op: Op, run: Bytes, first: u8, second: u8) -> Command
+    requires long { first + second ≤ length run }
+    requires parts { are_parts (cut op run first second) ≡ true }
+    ensures { result ≡ command_in (cut op run first second) }
 {
-    let place = 40 + u8_at(bytes, 35) as usize + u16_at(bytes, 36) as usize;
-    &bytes[place..]
+    match Command::from_parts(op, run, first, second) {
+        Some(command) => command,
+        None => unreachable!(),
+    }
 }
 
-fn command_in(alloc: Global, bytes: &[u8]) -> Result<Command, AllocError>
-    requires long { 40 ≤ length bytes.now }
+// The command whose parts stand in this run of the frame's bytes.
+fn command_of(bytes: &[u8], run: Bytes) -> Command
     requires whole { length bytes.now ≡ frame_len (header_at bytes.now) }
     requires readable { Readable (parts_at bytes.now) }
-    requires command { has_command (header_at bytes.now) ≡ true }
+    requires run { run ≡ run_at bytes.now }
+    ensures { result ≡ command_at bytes.now }
+{
+    let op = made_op(u8_at(bytes, 34));
+    made_command(op, run, u8_at(bytes, 35), second_len_at(bytes) as u8)
+}
+
+// The command, which shares the frame's bytes.
+fn command_in(bytes: &Bytes) -> Result<Command, AllocError>
+    requires whole { length bytes.now ≡ frame_len (header_at bytes.now) }
+    requires readable { Readable (parts_at bytes.now) }
     ensures { IfOk result (λ c. c ≡ command_at bytes.now) }
 {
-    made_command(alloc, u8_at(bytes, 34), key_in(bytes), text_in(bytes))
+    let all = bytes.as_slice();
+    let (start, end) = run_place(all);
+    let run = bytes.slice(start..end)?;
+    Ok(command_of(all, run))
 }
 
 fn attrs_in(alloc: Global, bytes: &[u8]) -> Result<Attrs, AllocError>
@@ -88,34 +106,33 @@ fn attrs_in(alloc: Global, bytes: &[u8]) -> Result<Attrs, AllocError>
     })
 }
 
-fn decree_in(alloc: Global, bytes: &[u8]) -> Result<Decree, AllocError>
+fn decree_in(alloc: Global, bytes: &Bytes) -> Result<Decree, AllocError>
     requires long { 40 ≤ length bytes.now }
     requires whole { length bytes.now ≡ frame_len (header_at bytes.now) }
     requires readable { Readable (parts_at bytes.now) }
     requires attributes { has_attributes (header_at bytes.now) ≡ true }
-    requires command { has_command (header_at bytes.now) ≡ true }
     ensures { IfOk result (λ x. x ≡ decree_at bytes.now) }
 {
-    let command = command_in(alloc, bytes)?;
-    let attrs = attrs_in(alloc, bytes)?;
+    let command = command_in(bytes)?;
+    let attrs = attrs_in(alloc, bytes.as_slice())?;
     Ok(Decree { command, attrs })
 }
 
-fn vote_in(alloc: Global, bytes: &[u8]) -> Result<Option<Vote>, AllocError>
+fn vote_in(alloc: Global, bytes: &Bytes) -> Result<Option<Vote>, AllocError>
     requires long { 40 ≤ length bytes.now }
     requires whole { length bytes.now ≡ frame_len (header_at bytes.now) }
     requires readable { Readable (parts_at bytes.now) }
     requires kind { (header_at bytes.now).kind ≡ 7 }
     ensures { IfOk result (λ v. v ≡ vote_at bytes.now) }
 {
-    let status = u8_at(bytes, 26);
+    let status = u8_at(bytes.as_slice(), 26);
     if status == 0 {
         return Ok(None);
     }
     let decree = decree_in(alloc, bytes)?;
     Ok(Some(Vote {
         status: made_status(status),
-        ballot: other_in(bytes),
+        ballot: other_in(bytes.as_slice()),
         decree,
     }))
 }
@@ -145,26 +162,26 @@ fn has_attrs_in(bytes: &[u8], attrs: &Attrs) -> bool
     u32_at(bytes, 30) == attrs.seq.number() && are_these(dep_bytes_in(bytes), attrs.deps.as_slice())
 }
 
+// Whether the op, the lengths of both keys, and the run of both keys and the body are the command's.
+fn has_parts_in(bytes: &[u8], command: &Command) -> bool
+    requires { length bytes.now ≡ frame_len (header_at bytes.now) }
+    ensures test { result ≡ (eqb (op_number (command_parts_at bytes.now).op) (op_number (parts_of command.now).op) && (eqb (header_at bytes.now).key_len (length (parts_of command.now).first) && (eqb (header_at bytes.now).second_len (length (parts_of command.now).second) && same_list (run_at bytes.now) ((parts_of command.now).first ++ (parts_of command.now).second ++ (parts_of command.now).body)))) }
+    ensures command { command_of (parts_of command.now) ≡ Some command.now }
+{
+    let (start, end) = run_place(bytes);
+    let op = command.op();
+    made_op(u8_at(bytes, 34)).number() == op.number()
+        && (u8_at(bytes, 35) as usize == command.first().len()
+            && (second_len_at(bytes) as usize == command.second().len()
+                && &bytes[start..end] == command.as_slice()))
+}
+
 fn has_command_in(bytes: &[u8], command: &Command) -> bool
-    requires long { 40 ≤ length bytes.now }
     requires whole { length bytes.now ≡ frame_len (header_at bytes.now) }
     requires readable { Readable (parts_at bytes.now) }
-    requires command { has_command (header_at bytes.now) ≡ true }
     ensures { result ≡ same_command (command_at bytes.now) command.now }
 {
-    let op = u8_at(bytes, 34);
-    let key = key_in(bytes);
-    let text = text_in(bytes);
-    match command {
-        Command::Noop => op == 1,
-        Command::Get(own) => op == 2 && key == own.as_slice(),
-        Command::Put(own, value) => { op == 3 && key == own.as_slice() && text == value.as_slice() }
-        Command::Del(own) => op == 4 && key == own.as_slice(),
-        Command::Swap(keys) => {
-            op == 5 && key == keys.first().as_slice() && text == keys.second().as_slice()
-        }
-        Command::Cas { .. } | Command::Seal(_) | Command::Opaque(_, _) => false,
-    }
+    has_parts_in(bytes, command)
 }
 
 // Whether the dependencies are led by replicas below `count`. They rise, so that the last one's leader is the greatest.
@@ -200,6 +217,53 @@ fn is_within(bytes: &[u8], count: u8) -> bool
     names_within(bytes, count)
 }
 
+// The message that the bytes spell.
+#[tactic(auto, using(crate::proofs::Told::by_kind))]
+fn message_in(alloc: Global, bytes: &Bytes) -> Result<Message, AllocError>
+    requires long { 40 ≤ length bytes.now }
+    requires whole { length bytes.now ≡ frame_len (header_at bytes.now) }
+    requires ranges { InRange bytes.now }
+    requires readable { Readable (parts_at bytes.now) }
+    ensures { IfOk result (λ m. m ≡ message_at bytes.now) }
+{
+    let all = bytes.as_slice();
+    let instance = instance_in(all);
+    let ballot = ballot_in(all);
+    match made_kind(u8_at(all, 3)) {
+        Kind::PreAccept => Ok(Message::PreAccept {
+            instance,
+            ballot,
+            decree: decree_in(alloc, bytes)?,
+        }),
+        Kind::PreAcceptOk => Ok(Message::PreAcceptOk {
+            instance,
+            ballot,
+            attrs: attrs_in(alloc, all)?,
+        }),
+        Kind::Accept => Ok(Message::Accept {
+            instance,
+            ballot,
+            decree: decree_in(alloc, bytes)?,
+        }),
+        Kind::AcceptOk => Ok(Message::AcceptOk { instance, ballot }),
+        Kind::Commit => Ok(Message::Commit {
+            instance,
+            decree: decree_in(alloc, bytes)?,
+        }),
+        Kind::Prepare => Ok(Message::Prepare { instance, ballot }),
+        Kind::PrepareOk => Ok(Message::PrepareOk {
+            instance,
+            ballot,
+            vote: vote_in(alloc, bytes)?,
+        }),
+        Kind::Nack => Ok(Message::Nack {
+            instance,
+            refused: ballot,
+            promised: other_in(all),
+        }),
+    }
+}
+
 impl<'a> FrameView<'a> {
     /// Which message it spells.
     #[tactic(auto, using(crate::proofs::Told::by_kind, crate::proofs::Frames::frame_long))]
@@ -207,33 +271,33 @@ impl<'a> FrameView<'a> {
         ensures value { result ≡ kind_at self.now }
         ensures message { message_at self.now ≡ message_by result self.now }
     {
-        made_kind(u8_at(self.bytes, 3))
+        made_kind(u8_at(self.bytes.as_slice(), 3))
     }
 
     /// The ballot that is led, answered or refused; in a commit the least one.
     pub fn ballot(&self) -> Ballot
         ensures { result ≡ ballot_at self.now }
     {
-        are_known(self.bytes);
-        ballot_in(self.bytes)
+        are_known(self.bytes.as_slice());
+        ballot_in(self.bytes.as_slice())
     }
 
     /// The ballot that was voted at, or is promised.
     pub fn other(&self) -> Ballot
         ensures { result ≡ other_at self.now }
     {
-        are_known(self.bytes);
-        other_in(self.bytes)
+        are_known(self.bytes.as_slice());
+        other_in(self.bytes.as_slice())
     }
 
-    /// Its command, copied.
+    /// Its command, which shares the frame's bytes.
     #[tactic(auto, using(crate::proofs::Told::decree_there))]
-    pub fn to_command(&self, alloc: Global) -> Result<Command, AllocError>
+    pub fn to_command(&self) -> Result<Command, AllocError>
         requires { tells_decree (kind_at self.now) ≡ true }
         ensures { IfOk result (λ c. c ≡ command_at self.now) }
     {
-        are_known(self.bytes);
-        command_in(alloc, self.bytes)
+        are_known(self.bytes.as_slice());
+        command_in(self.bytes)
     }
 
     /// Its attributes, copied.
@@ -242,27 +306,27 @@ impl<'a> FrameView<'a> {
         requires { tells_attrs (kind_at self.now) ≡ true }
         ensures { IfOk result (λ a. a ≡ attrs_at self.now) }
     {
-        are_known(self.bytes);
-        attrs_in(alloc, self.bytes)
+        are_known(self.bytes.as_slice());
+        attrs_in(alloc, self.bytes.as_slice())
     }
 
-    /// Its command and attributes, copied.
+    /// Its command, which shares the frame's bytes, and its attributes, copied.
     #[tactic(auto, using(crate::proofs::Told::decree_there, crate::proofs::Told::decree_attrs_there))]
     pub fn to_decree(&self, alloc: Global) -> Result<Decree, AllocError>
         requires { tells_decree (kind_at self.now) ≡ true }
         ensures { IfOk result (λ x. x ≡ decree_at self.now) }
     {
-        are_known(self.bytes);
+        are_known(self.bytes.as_slice());
         decree_in(alloc, self.bytes)
     }
 
-    /// The vote that it answers, copied.
+    /// The vote that it answers: its command shares the frame's bytes, the rest is copied.
     #[tactic(auto, using(crate::proofs::Told::vote_there))]
     pub fn to_vote(&self, alloc: Global) -> Result<Option<Vote>, AllocError>
         requires { kind_at self.now ≡ PrepareOk }
         ensures { IfOk result (λ v. v ≡ vote_at self.now) }
     {
-        are_known(self.bytes);
+        are_known(self.bytes.as_slice());
         vote_in(alloc, self.bytes)
     }
 
@@ -270,8 +334,8 @@ impl<'a> FrameView<'a> {
     pub fn has_attrs(&self, attrs: &Attrs) -> bool
         ensures { result ≡ same_attrs (attrs_at self.now) attrs.now }
     {
-        are_known(self.bytes);
-        has_attrs_in(self.bytes, attrs)
+        are_known(self.bytes.as_slice());
+        has_attrs_in(self.bytes.as_slice(), attrs)
     }
 
     /// Whether this is its decree.
@@ -280,8 +344,8 @@ impl<'a> FrameView<'a> {
         requires { tells_decree (kind_at self.now) ≡ true }
         ensures { result ≡ same_decree (decree_at self.now) decree.now }
     {
-        are_known(self.bytes);
-        has_command_in(self.bytes, &decree.command) && has_attrs_in(self.bytes, &decree.attrs)
+        are_known(self.bytes.as_slice());
+        has_command_in(self.bytes.as_slice(), &decree.command) && has_attrs_in(self.bytes.as_slice(), &decree.attrs)
     }
 
     /// Joins its attributes to these. It takes no memory where they are the same.
@@ -291,11 +355,11 @@ impl<'a> FrameView<'a> {
         ensures ok { OnOk result (attrs.new ≡ join (attrs_at self.now) attrs.old) }
         ensures err { OnErr result (attrs.new ≡ attrs.old) }
     {
-        are_known(self.bytes);
-        if has_attrs_in(self.bytes, attrs) {
+        are_known(self.bytes.as_slice());
+        if has_attrs_in(self.bytes.as_slice(), attrs) {
             return Ok(());
         }
-        let mut joined = attrs_in(alloc, self.bytes)?;
+        let mut joined = attrs_in(alloc, self.bytes.as_slice())?;
         joined.merge(alloc, attrs)?;
         *attrs = joined;
         Ok(())
@@ -305,6 +369,17 @@ impl<'a> FrameView<'a> {
     pub fn is_within(&self, count: u8) -> bool
         ensures { result ≡ is_within count self.now }
     {
-        is_within(self.bytes, count)
+        is_within(self.bytes.as_slice(), count)
+    }
+
+    /// The message that the bytes spell.
+    #[tactic(auto, using(crate::proofs::Frames::frame_ranges))]
+    pub fn to_message(&self, alloc: Global) -> Result<Message, AllocError>
+        ensures value { IfOk result (λ m. m ≡ message_at self.now) }
+        ensures spelled { IfOk result (λ m. Spells (version_at self.now) self.now (sender_at self.now) (origin_at self.now) m) }
+    {
+        are_known(self.bytes.as_slice());
+        is_spelled(self.bytes.as_slice());
+        message_in(alloc, self.bytes)
     }
 }

@@ -1,20 +1,21 @@
 //! The header of a frame.
 
 ghost use Rattle.std.specs.Prelude.{◌≡◌, ◌≤◌, ◌<◌, ◌^◌, [], ◌∷◌, length};
+ghost use Rattle.ep_base.specs.Ops.{second_fits};
 ghost use Rattle.ep_base.specs.Versions.{version_of};
-ghost use Rattle.ep_frame.specs.Fields.{header_at};
-ghost use Rattle.ep_frame.specs.Faults.{checked, names_rows, ballot_rows, vote_rows, body_rows, has_attributes, has_command, counter_allowed, replica_allowed, status_allowed, other_counter_allowed, other_replica_allowed, seq_allowed, highest_op, op_allowed, key_len_allowed, value_len_allowed, count_allowed, header_fault, deps_place, frame_len};
+ghost use Rattle.ep_frame.specs.Fields.{header_at, header_len, number_at, second_len_from, generation_from, body_len_from};
+ghost use Rattle.ep_frame.specs.Faults.{checked, names_rows, ballot_rows, vote_rows, body_rows, late_rows, has_attributes, has_command, counter_allowed, replica_allowed, status_allowed, other_counter_allowed, other_replica_allowed, seq_allowed, highest_op, op_allowed, op_of, key_len_allowed, text_len_allowed, generation_allowed, body_len_allowed, count_allowed, version_in, header_fault_in, header_fault, second_place, body_place, deps_place, frame_len};
 
 use crate::fault::FrameFault;
 use crate::numbers::{u8_at, u16_at, u32_at, u64_at};
-use ep_base::Version;
+use ep_base::{Op, Version, VersionKind};
 
-/// The fields of a frame's first 40 bytes, in their order. All numbers stand with their highest byte first.
+/// The fields of a frame's first 40 bytes, in version 3 of its first 48, in their order. All numbers stand with their highest byte first.
 #[derive(Clone, Copy, Debug, PartialEq, Eq)]
 pub struct Header {
     /// The bytes `EP`, 0x4550.
     pub magic: u16,
-    /// The version, 1 or 2.
+    /// The version, 1 to 3.
     pub version: u8,
     /// The kind of message, 1 to 8.
     pub kind: u8,
@@ -44,14 +45,20 @@ pub struct Header {
     pub other_replica: u8,
     /// The sequence number, 1 to 1,000,000; 0 in a message without attributes.
     pub seq: u32,
-    /// The command: 1 no-op, 2 get, 3 put, 4 del, and in version 2 also 5 swap; 0 in a message without a command.
+    /// The command: 1 no-op, 2 get, 3 put, 4 del; from version 2 on also 5 swap; in version 3 also 6 compare-and-set, 7 ask,
+    /// 8 act, 9 seal; 0 in a message without a command.
     pub op: u8,
-    /// How many bytes the key, of a swap the first one, has, 1 to 255; 0 without a key.
+    /// How many bytes the key, of two the first one, has, 1 to 255; 0 without a key.
     pub key_len: u8,
-    /// How many bytes a put's value has, 0 to 1,024, or a swap's second key, 1 to 255; else 0.
-    pub value_len: u16,
+    /// How many bytes the second key has: a swap's 1 to 255, of an ask or act 0 to 255; else 0.
+    pub second_len: u16,
     /// How many dependencies there are, 0 to 14,000; in version 1 to 7,000.
     pub count: u16,
+    /// The generation, 1 or more; 0 in versions 1 and 2, which have none.
+    pub generation: u32,
+    /// How many bytes the body has: of a put, an ask, an act or a seal 0 to 65,535, in versions 1 and 2 to 1,024; of a
+    /// compare-and-set 2 to 131,080; else 0.
+    pub body_len: u32,
 }
 
 fn check(allowed: bool, fault: FrameFault) -> Result<(), FrameFault>
@@ -60,19 +67,84 @@ fn check(allowed: bool, fault: FrameFault) -> Result<(), FrameFault>
     if allowed { Ok(()) } else { Err(fault) }
 }
 
+/// The op of this number: 1 to 9 in the order of the ops. Where there is no command, and the number is 0, it is the no-op.
+pub(crate) fn made_op(number: u8) -> Op
+    ensures { result ≡ op_of number }
+{
+    match number {
+        2 => Op::Get,
+        3 => Op::Put,
+        4 => Op::Del,
+        5 => Op::Swap,
+        6 => Op::Cas,
+        7 => Op::Ask,
+        8 => Op::Act,
+        9 => Op::Seal,
+        _ => Op::Noop,
+    }
+}
+
 // The last command of the version.
 fn highest_op(version: Version) -> u8
     ensures { result ≡ highest_op version }
 {
-    match version {
-        Version::V1 => 4,
-        Version::V2 => 5,
+    match version.kind() {
+        VersionKind::V1 => 4,
+        VersionKind::V2 => 5,
+        VersionKind::V3(_) => 9,
+    }
+}
+
+/// How many bytes the header of this version's number has.
+pub(crate) fn header_len(version: u8) -> usize
+    ensures value { result ≡ header_len version }
+    ensures small { result ≤ 48 }
+    ensures long { 40 ≤ result }
+{
+    if version == 3 { 48 } else { 40 }
+}
+
+/// The length of the second key.
+pub(crate) fn second_len_at(bytes: &[u8]) -> u16
+    requires { 40 ≤ length bytes.now }
+    ensures { result ≡ second_len_from (number_at 2 1 bytes.now) (number_at 34 1 bytes.now) (number_at 36 2 bytes.now) }
+{
+    if u8_at(bytes, 2) != 3 && u8_at(bytes, 34) == 3 {
+        0
+    } else {
+        u16_at(bytes, 36)
+    }
+}
+
+/// The generation; 0 in versions 1 and 2.
+pub(crate) fn generation_at(bytes: &[u8]) -> u32
+    requires { header_len (number_at 2 1 bytes.now) ≤ length bytes.now }
+    ensures { result ≡ generation_from (number_at 2 1 bytes.now) (number_at 40 4 bytes.now) }
+{
+    if u8_at(bytes, 2) == 3 {
+        u32_at(bytes, 40)
+    } else {
+        0
+    }
+}
+
+/// The length of the body.
+pub(crate) fn body_len_at(bytes: &[u8]) -> u32
+    requires { header_len (number_at 2 1 bytes.now) ≤ length bytes.now }
+    ensures { result ≡ body_len_from (number_at 2 1 bytes.now) (number_at 34 1 bytes.now) (number_at 36 2 bytes.now) (number_at 44 4 bytes.now) }
+{
+    if u8_at(bytes, 2) == 3 {
+        u32_at(bytes, 44)
+    } else if u8_at(bytes, 34) == 3 {
+        u16_at(bytes, 36) as u32
+    } else {
+        0
     }
 }
 
 impl Header {
     pub(crate) fn parse(bytes: &[u8]) -> Header
-        requires { 40 ≤ length bytes.now }
+        requires { header_len (number_at 2 1 bytes.now) ≤ length bytes.now }
         ensures { result ≡ header_at bytes.now }
     {
         Header {
@@ -94,20 +166,26 @@ impl Header {
             seq: u32_at(bytes, 30),
             op: u8_at(bytes, 34),
             key_len: u8_at(bytes, 35),
-            value_len: u16_at(bytes, 36),
+            second_len: second_len_at(bytes),
             count: u16_at(bytes, 38),
+            generation: generation_at(bytes),
+            body_len: body_len_at(bytes),
         }
     }
 
     /// The version that the frame is of.
     pub fn version(&self) -> Version
-        ensures { result ≡ version_of self.now.version }
+        requires { self.now.version ≡ 3 → 1 ≤ self.now.generation }
+        ensures { result ≡ version_in self.now }
     {
-        if self.version == 1 {
-            Version::V1
-        } else {
-            Version::V2
-        }
+        Version::known(self.version, self.generation)
+    }
+
+    // A version with the limits of the frame's: those of version 3 are the same in all generations.
+    pub(crate) fn limits(&self) -> Version
+        ensures { result ≡ version_of self.now.version 1 }
+    {
+        Version::known(self.version, 1)
     }
 
     /// Whether the message carries attributes: a pre-accept, its answer, an accept, a commit, or an answer to a Prepare with a vote.
@@ -128,7 +206,7 @@ impl Header {
         ensures { result ≡ checked (names_rows self.now) }
     {
         check(self.magic == 0x4550, FrameFault::Magic)?;
-        check(self.version == 1 || self.version == 2, FrameFault::Version)?;
+        check(self.version >= 1 && self.version <= 3, FrameFault::Version)?;
         check(self.kind >= 1 && self.kind <= 8, FrameFault::Kind)?;
         check(self.from <= 6, FrameFault::Field(4))?;
         check(self.to <= 6 && self.to != self.from, FrameFault::Field(5))?;
@@ -233,21 +311,37 @@ impl Header {
     fn key_len_allowed(&self) -> bool
         ensures { result ≡ key_len_allowed self.now }
     {
-        if self.op >= 2 && self.op <= 5 {
-            self.key_len >= 1
-        } else {
-            self.key_len == 0
+        made_op(self.op).first_fits(self.key_len as usize)
+    }
+
+    fn second_len_allowed(&self) -> bool
+        ensures { result ≡ second_fits (op_of self.now.op) self.now.second_len }
+    {
+        made_op(self.op).second_fits(self.second_len as usize)
+    }
+
+    fn text_len_allowed(&self, version: Version) -> bool
+        ensures { result ≡ text_len_allowed version self.now }
+    {
+        match version.kind() {
+            VersionKind::V1 | VersionKind::V2 => self.second_len_allowed() && self.body_len <= 1024,
+            VersionKind::V3(_) => self.second_len_allowed(),
         }
     }
 
-    fn value_len_allowed(&self) -> bool
-        ensures { result ≡ value_len_allowed self.now }
+    fn generation_allowed(&self, version: Version) -> bool
+        ensures { result ≡ generation_allowed version self.now }
     {
-        match self.op {
-            3 => self.value_len <= 1024,
-            5 => self.value_len >= 1 && self.value_len <= 255,
-            _ => self.value_len == 0,
+        match version.kind() {
+            VersionKind::V1 | VersionKind::V2 => self.generation == 0,
+            VersionKind::V3(_) => self.generation >= 1,
         }
+    }
+
+    fn body_len_allowed(&self) -> bool
+        ensures { result ≡ body_len_allowed self.now }
+    {
+        made_op(self.op).body_fits(self.body_len as usize)
     }
 
     fn count_allowed(&self, version: Version) -> bool
@@ -266,28 +360,58 @@ impl Header {
         check(self.seq_allowed(), FrameFault::Field(30))?;
         check(self.op_allowed(version), FrameFault::Field(34))?;
         check(self.key_len_allowed(), FrameFault::Field(35))?;
-        check(self.value_len_allowed(), FrameFault::Field(36))?;
+        check(self.text_len_allowed(version), FrameFault::Field(36))?;
         check(self.count_allowed(version), FrameFault::Field(38))
     }
 
+    fn check_late(&self, version: Version) -> Result<(), FrameFault>
+        ensures { result ≡ checked (late_rows version self.now) }
+    {
+        check(self.generation_allowed(version), FrameFault::Field(40))?;
+        check(self.body_len_allowed(), FrameFault::Field(44))
+    }
+
+    #[tactic(auto, unfolding(crate::specs::Faults::header_fault_in))]
+    fn check_in(&self, version: Version) -> Result<(), FrameFault>
+        ensures { result ≡ header_fault_in version self.now }
+    {
+        self.check_names()?;
+        self.check_ballot(version)?;
+        self.check_vote()?;
+        self.check_body(version)?;
+        self.check_late(version)
+    }
+
     /// The first field that isn't allowed.
-    #[tactic(auto, unfolding(crate::specs::Faults::header_fault))]
+    #[tactic(auto, using(crate::proofs::Limits::same_faults))]
     pub(crate) fn check(&self) -> Result<(), FrameFault>
         ensures { result ≡ header_fault self.now }
     {
-        self.check_names()?;
-        let version = self.version();
-        self.check_ballot(version)?;
-        self.check_vote()?;
-        self.check_body(version)
+        self.check_in(self.limits())
+    }
+
+    /// Where the second key begins.
+    pub(crate) fn second_place(&self) -> usize
+        ensures value { result ≡ second_place self.now }
+        ensures small { result < 2 ^ 9 }
+    {
+        header_len(self.version) + self.key_len as usize
+    }
+
+    /// Where the body begins.
+    pub(crate) fn body_place(&self) -> usize
+        ensures value { result ≡ body_place self.now }
+        ensures small { result < 2 ^ 17 }
+    {
+        self.second_place() + self.second_len as usize
     }
 
     /// Where the dependencies begin.
     pub(crate) fn deps_place(&self) -> usize
         ensures value { result ≡ deps_place self.now }
-        ensures small { result < 2 ^ 17 }
+        ensures small { result < 2 ^ 33 }
     {
-        40 + self.key_len as usize + self.value_len as usize
+        self.body_place() + self.body_len as usize
     }
 
     /// How many bytes the frame has.

@@ -1,6 +1,7 @@
 //! Laws of the spelling.
 
 ghost use Rattle.std.specs.Prelude.{◌≡◌, ℕ, List};
+ghost use Rattle.ep_base.specs.Generations.{HasItsGeneration};
 ghost use Rattle.ep_base.specs.Versions.{CanSay};
 ghost use Rattle.ep_base.specs.declared.message.Message.{Message};
 ghost use Rattle.ep_base.specs.declared.version.Version.{Version};
@@ -15,5 +16,5 @@ pub fn one_spelling()
     ensures origin { (v w : Version) (b : List ℕ) (f g : ℕ) (o p : Origin) (m n : Message) → Spells v b f o m → Spells w b g p n → o ≡ p }
     ensures message { (v w : Version) (b : List ℕ) (f g : ℕ) (o p : Origin) (m n : Message) → Spells v b f o m → Spells w b g p n → m ≡ n }
     ensures bytes { (v : Version) (b c : List ℕ) (f : ℕ) (o : Origin) (m : Message) → Spells v b f o m → Spells v c f o m → b ≡ c }
-    ensures spelled { (v : Version) (f : ℕ) (o : Origin) (m : Message) → IsOrigin f o → IsMessage m → CanSay v m → (b : List ℕ) × Spells v b f o m }
+    ensures spelled { (v : Version) (f : ℕ) (o : Origin) (m : Message) → HasItsGeneration v → IsOrigin f o → IsMessage m → CanSay v m → (b : List ℕ) × Spells v b f o m }
 {}

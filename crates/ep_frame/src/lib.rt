@@ -10,6 +10,7 @@
 //! the format, and `one_spelling` has to hold of it too.
 #![tactic(auto)]
 
+
 mod deps_view;
 mod fault;
 mod frame;
@@ -19,10 +20,10 @@ mod header;
 mod kind;
 mod laws;
 mod layout;
+mod made;
 mod numbers;
 mod origin;
 mod round;
-mod sections;
 mod telling;
 mod view;
 mod writing;

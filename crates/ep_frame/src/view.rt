@@ -1,30 +1,32 @@
 //! Reading a frame.
 
-ghost use Rattle.std.specs.Prelude.{◌≡◌, ◌≤◌, ◌+◌, ◌*◌, ◌↔◌, Ok, Err, IfOk, IsOk, IfSome, IsSome, IsTrue, MatchResult, length, drop};
+ghost use Rattle.std.specs.Prelude.{◌≡◌, ◌≤◌, ◌<◌, ◌^◌, ◌+◌, ◌*◌, ◌↔◌, Ok, Err, IfOk, IsOk, IfSome, IsSome, IsTrue, MatchResult, length, drop};
 ghost use Rattle.ep_base.specs.Instances.{instance_of, highest_number};
+ghost use Rattle.ep_base.specs.Parts.{body_said};
 ghost use Rattle.ep_base.specs.Messages.{instance_of_message};
-ghost use Rattle.ep_frame.specs.Faults.{HasNoFault, are_deps, are_early, are_in, deps_allowed, has_same_keys, fault_of, is_instance, rest_fault, deps_place, frame_len};
+ghost use Rattle.ep_frame.specs.Faults.{HasNoFault, are_deps, are_early, are_in, deps_allowed, has_same_keys, has_other_body, is_short, fault_of, is_instance, rest_fault, second_place, body_place, deps_place, frame_len};
 ghost use Rattle.ep_frame.specs.DepBytes.{deps_at};
-ghost use Rattle.ep_frame.specs.Fields.{deps_in, header_at, number_at};
-ghost use Rattle.ep_frame.specs.Spelling.{IsFrame, Spells, key_at, text_at, value_at, second_key_at, parts_at};
-ghost use Rattle.ep_frame.specs.Layouts.{parts_read};
+ghost use Rattle.ep_frame.specs.Fields.{deps_in, header_at, header_len, number_at};
+ghost use Rattle.ep_frame.specs.Spelling.{IsFrame, Spells, key_at, second_key_at, body_at, parts_at};
 ghost use Rattle.ep_frame.specs.Ranges.{InRange};
 ghost use Rattle.ep_frame.specs.Meaning.{version_at, sender_at, origin_at, instance_at, message_at};
 
 use crate::deps_view::DepsView;
 use crate::fault::FrameFault;
-use crate::header::Header;
+
+use crate::header::{
+    Header, body_len_at, generation_at, header_len, made_op, second_len_at,
+};
 use crate::numbers::{u8_at, u16_at, u32_at, u64_at};
 use crate::origin::Origin;
-use crate::sections::Sections;
-use ep_base::{InstanceId, Message, ReplicaId, Stamp, Version};
-use std::alloc::{AllocError, Global};
+use bytes::Bytes;
+use ep_base::{InstanceId, Op, ReplicaId, Stamp, Version, VersionKind, is_comparison};
 use std::marker::Model;
 
 /// The bytes of a frame, borrowed. A frame spells one message, in one version, from one sender and with one origin.
 #[derive(Drop)]
 pub struct FrameView<'a> {
-    pub(crate) bytes: &'a [u8],
+    pub(crate) bytes: &'a Bytes,
 }
 
 impl<'a> Model for FrameView<'a> {
@@ -88,9 +90,9 @@ fn are_early(bytes: &[u8]) -> bool
 fn are_in(version: Version, bytes: &[u8]) -> bool
     ensures { result ≡ are_in version (deps_in bytes.now) }
 {
-    match version {
-        Version::V1 => are_early(bytes),
-        Version::V2 => true,
+    match version.kind() {
+        VersionKind::V1 => are_early(bytes),
+        VersionKind::V2 | VersionKind::V3(_) => true,
     }
 }
 
@@ -101,33 +103,73 @@ fn deps_allowed(version: Version, bytes: &[u8]) -> bool
     deps_rise(bytes) && are_in(version, bytes)
 }
 
-// Whether the command is a swap, and both its keys are the same.
+// Whether there are two keys, and they are the same.
 #[tactic(auto, using(crate::proofs::Deps::part_of))]
 fn has_same_keys(header: &Header, bytes: &[u8]) -> bool
     requires { length bytes.now ≡ frame_len header.now }
     ensures { result ≡ has_same_keys header.now bytes.now }
 {
-    let place = 40 + header.key_len as usize;
-    let key = &bytes[40..place];
-    let text = &bytes[place..header.deps_place()];
-    header.op == 5 && key == text
+    let key = &bytes[header_len(header.version)..header.second_place()];
+    let second = &bytes[header.second_place()..header.body_place()];
+    !second.is_empty() && second == key
 }
 
-/// Whether the length is that of the fields, the dependencies are in order, and two keys differ.
-#[tactic(auto, using(crate::proofs::Deps::rest_of), unfolding(crate::specs::Faults::rest_fault))]
+// Whether the command is a comparison, and its body is none.
+#[tactic(auto, using(crate::proofs::Deps::part_of))]
+fn has_other_body(header: &Header, bytes: &[u8]) -> bool
+    requires { length bytes.now ≡ frame_len header.now }
+    ensures { result ≡ has_other_body header.now bytes.now }
+{
+    let body = &bytes[header.body_place()..header.deps_place()];
+    !is_said(made_op(header.op), body)
+}
+
+// Whether a command of this op may have this body.
+fn is_said(op: Op, body: &[u8]) -> bool
+    ensures { result ≡ body_said op body.now }
+{
+    match op {
+        Op::Cas => is_comparison(body),
+        Op::Noop
+        | Op::Get
+        | Op::Put
+        | Op::Del
+        | Op::Swap
+        | Op::Ask
+        | Op::Act
+        | Op::Seal => true,
+    }
+}
+
+/// Whether the length is that of the fields, the dependencies are in order, two keys differ, and a comparison's body is one.
+#[tactic(auto, using(crate::proofs::Deps::rest_of, crate::proofs::Limits::same_deps), unfolding(crate::specs::Faults::rest_fault))]
 fn check_rest(header: &Header, bytes: &[u8]) -> Result<(), FrameFault>
     ensures { result ≡ rest_fault header.now bytes.now }
 {
     if bytes.len() != header.len() {
         return Err(FrameFault::Length);
     }
-    if !deps_allowed(header.version(), &bytes[header.deps_place()..]) {
+    if !deps_allowed(header.limits(), &bytes[header.deps_place()..]) {
         return Err(FrameFault::Order);
     }
     if has_same_keys(header, bytes) {
         return Err(FrameFault::SameKey);
     }
+    if has_other_body(header, bytes) {
+        return Err(FrameFault::Body);
+    }
     Ok(())
+}
+
+// Whether they are fewer bytes than a header of its version has.
+#[tactic(auto, using(crate::proofs::Limits::is_short_below))]
+fn is_short(bytes: &[u8]) -> bool
+    ensures { result ≡ is_short bytes.now }
+{
+    if bytes.len() < 40 {
+        return true;
+    }
+    bytes.len() < header_len(u8_at(bytes, 2))
 }
 
 /// The first fault of the bytes.
@@ -135,7 +177,7 @@ fn check_rest(header: &Header, bytes: &[u8]) -> Result<(), FrameFault>
 pub(crate) fn check_frame(bytes: &[u8]) -> Result<(), FrameFault>
     ensures { result ≡ fault_of bytes.now }
 {
-    if bytes.len() < 40 {
+    if is_short(bytes) {
         return Err(FrameFault::Short);
     }
     let header = Header::parse(bytes);
@@ -143,48 +185,57 @@ pub(crate) fn check_frame(bytes: &[u8]) -> Result<(), FrameFault>
     check_rest(&header, bytes)
 }
 
-pub(crate) fn key_in(bytes: &[u8]) -> &[u8]
-    requires long { 40 ≤ length bytes.now }
-    requires whole { length bytes.now ≡ frame_len (header_at bytes.now) }
-    ensures { result.now ≡ key_at bytes.now }
+// Where the second key begins, the body, and the dependencies.
+
+fn second_place_in(bytes: &[u8]) -> usize
+    requires { length bytes.now ≡ frame_len (header_at bytes.now) }
+    ensures value { result ≡ second_place (header_at bytes.now) }
+    ensures small { result < 2 ^ 9 }
 {
-    let end = 40 + u8_at(bytes, 35) as usize;
-    &bytes[40..end]
+    header_len(u8_at(bytes, 2)) + u8_at(bytes, 35) as usize
 }
 
-// What stands after the key: a put's value, or a swap's second key.
-pub(crate) fn text_in(bytes: &[u8]) -> &[u8]
-    requires long { 40 ≤ length bytes.now }
-    requires whole { length bytes.now ≡ frame_len (header_at bytes.now) }
-    ensures { result.now ≡ text_at bytes.now }
+fn body_place_in(bytes: &[u8]) -> usize
+    requires { length bytes.now ≡ frame_len (header_at bytes.now) }
+    ensures value { result ≡ body_place (header_at bytes.now) }
+    ensures small { result < 2 ^ 17 }
 {
-    let start = 40 + u8_at(bytes, 35) as usize;
-    let end = start + u16_at(bytes, 36) as usize;
+    second_place_in(bytes) + second_len_at(bytes) as usize
+}
+
+fn deps_place_in(bytes: &[u8]) -> usize
+    requires { length bytes.now ≡ frame_len (header_at bytes.now) }
+    ensures value { result ≡ deps_place (header_at bytes.now) }
+    ensures small { result < 2 ^ 33 }
+{
+    body_place_in(bytes) + body_len_at(bytes) as usize
+}
+
+pub(crate) fn key_in(bytes: &[u8]) -> &[u8]
+    requires { length bytes.now ≡ frame_len (header_at bytes.now) }
+    ensures { result.now ≡ key_at bytes.now }
+{
+    let start = header_len(u8_at(bytes, 2));
+    let end = second_place_in(bytes);
     &bytes[start..end]
 }
 
-fn value_in(bytes: &[u8]) -> &[u8]
-    requires long { 40 ≤ length bytes.now }
-    requires whole { length bytes.now ≡ frame_len (header_at bytes.now) }
-    ensures { result.now ≡ value_at bytes.now }
-{
-    if u8_at(bytes, 34) == 5 {
-        &[]
-    } else {
-        text_in(bytes)
-    }
-}
-
-fn second_key_in(bytes: &[u8]) -> &[u8]
-    requires long { 40 ≤ length bytes.now }
-    requires whole { length bytes.now ≡ frame_len (header_at bytes.now) }
+pub(crate) fn second_key_in(bytes: &[u8]) -> &[u8]
+    requires { length bytes.now ≡ frame_len (header_at bytes.now) }
     ensures { result.now ≡ second_key_at bytes.now }
 {
-    if u8_at(bytes, 34) == 5 {
-        text_in(bytes)
-    } else {
-        &[]
-    }
+    let start = second_place_in(bytes);
+    let end = body_place_in(bytes);
+    &bytes[start..end]
+}
+
+pub(crate) fn body_in(bytes: &[u8]) -> &[u8]
+    requires { length bytes.now ≡ frame_len (header_at bytes.now) }
+    ensures { result.now ≡ body_at bytes.now }
+{
+    let start = body_place_in(bytes);
+    let end = deps_place_in(bytes);
+    &bytes[start..end]
 }
 
 /// The replica of this number.
@@ -231,11 +282,19 @@ fn stamp_at(bytes: &[u8], place: usize) -> Stamp
     }
 }
 
-fn instance_in(bytes: &[u8]) -> InstanceId
+pub(crate) fn instance_in(bytes: &[u8]) -> InstanceId
     requires { InRange bytes.now }
     ensures { result ≡ instance_at bytes.now }
 {
     made_instance(u8_at(bytes, 20), u16_at(bytes, 21))
+}
+
+#[tactic(auto, using(crate::proofs::Frames::frame_long, crate::proofs::Frames::frame_header, crate::proofs::Frames::frame_generation))]
+fn version_in(bytes: &[u8]) -> Version
+    requires { HasNoFault bytes.now }
+    ensures { result ≡ version_at bytes.now }
+{
+    Version::known(u8_at(bytes, 2), generation_at(bytes))
 }
 
 fn sender_in(bytes: &[u8]) -> ReplicaId
@@ -257,45 +316,35 @@ fn origin_in(bytes: &[u8]) -> Origin
     }
 }
 
-// The fields, and the bytes after them.
-fn sections_in(bytes: &[u8]) -> Sections<'_>
-    requires long { 40 ≤ length bytes.now }
-    requires whole { length bytes.now ≡ frame_len (header_at bytes.now) }
-    ensures { parts_read result ≡ parts_at bytes.now }
-{
-    let header = Header::parse(bytes);
-    Sections {
-        header,
-        key: key_in(bytes),
-        value: text_in(bytes),
-        deps: &bytes[header.deps_place()..],
-    }
-}
-
-// What stands after the value.
+// What stands after the body.
 #[tactic(auto, using(crate::proofs::Deps::rest_of))]
-fn rest_in(bytes: &[u8]) -> &[u8]
-    requires long { 40 ≤ length bytes.now }
-    requires whole { length bytes.now ≡ frame_len (header_at bytes.now) }
+pub(crate) fn dep_bytes_in(bytes: &[u8]) -> &[u8]
+    requires { length bytes.now ≡ frame_len (header_at bytes.now) }
     ensures { result.now ≡ drop (deps_place (header_at bytes.now)) bytes.now }
 {
-    let place = Header::parse(bytes).deps_place();
+    let place = deps_place_in(bytes);
     &bytes[place..]
 }
 
-// The message that the bytes spell.
-fn message_in(alloc: Global, bytes: &[u8]) -> Result<Message, AllocError>
-    requires { HasNoFault bytes.now }
-    ensures value { IfOk result (λ m. m ≡ message_at bytes.now) }
-    ensures spelled { IfOk result (λ m. Spells (version_at bytes.now) bytes.now (sender_at bytes.now) (origin_at bytes.now) m) }
+// Both keys and the body, one after the other.
+pub(crate) fn run_place(bytes: &[u8]) -> (usize, usize)
+    requires { length bytes.now ≡ frame_len (header_at bytes.now) }
+    ensures start { result.0 ≡ header_len (header_at bytes.now).version }
+    ensures end { result.1 ≡ deps_place (header_at bytes.now) }
 {
-    let message = sections_in(bytes).message(alloc)?;
-    Ok(message)
+    (header_len(u8_at(bytes, 2)), deps_place_in(bytes))
 }
+
+/// What bytes without a fault spell: a law, which costs nothing to call.
+pub(crate) fn is_spelled(bytes: &[u8])
+    requires { HasNoFault bytes.now }
+    ensures spelled { Spells (version_at bytes.now) bytes.now (sender_at bytes.now) (origin_at bytes.now) (message_at bytes.now) }
+    ensures frame { IsFrame bytes.now }
+{}
 
 impl<'a> FrameView<'a> {
     /// The frame that the bytes are; otherwise the first fault from left to right.
-    pub fn read(bytes: &'a [u8]) -> Result<FrameView<'a>, FrameFault>
+    pub fn read(bytes: &'a Bytes) -> Result<FrameView<'a>, FrameFault>
         ensures exact { MatchResult result (λ v. fault_of bytes.now ≡ Ok tt) (λ f. fault_of bytes.now ≡ Err f) }
         // What is read spells the message that its fields tell.
         ensures found { IfOk result (λ _. Spells (version_at bytes.now) bytes.now (sender_at bytes.now) (origin_at bytes.now) (message_at bytes.now)) }
@@ -303,17 +352,19 @@ impl<'a> FrameView<'a> {
         ensures only { IsFrame bytes.now → IsOk result }
         ensures view { IfOk result (λ v. v ≡ bytes.now) }
     {
-        check_frame(bytes)?;
+        check_frame(bytes.as_slice())?;
+        is_spelled(bytes.as_slice());
         Ok(FrameView { bytes })
     }
 
     /// The frame that the bytes are known to be.
-    pub(crate) fn known(bytes: &'a [u8]) -> FrameView<'a>
+    pub(crate) fn known(bytes: &'a Bytes) -> FrameView<'a>
         requires { HasNoFault bytes.now }
         ensures value { result ≡ bytes.now }
         ensures spelled { Spells (version_at bytes.now) bytes.now (sender_at bytes.now) (origin_at bytes.now) (message_at bytes.now) }
         ensures frame { IsFrame bytes.now }
     {
+        is_spelled(bytes.as_slice());
         FrameView { bytes }
     }
 
@@ -321,14 +372,15 @@ impl<'a> FrameView<'a> {
     pub fn version(&self) -> Version
         ensures { result ≡ version_at self.now }
     {
-        self.header().version()
+        version_in(self.bytes.as_slice())
     }
 
-    /// The fields of the first 40 bytes.
+    /// The fields of the header.
+    #[tactic(auto, using(crate::proofs::Frames::frame_header))]
     pub fn header(&self) -> Header
         ensures { result ≡ header_at self.now }
     {
-        Header::parse(self.bytes)
+        Header::parse(self.bytes.as_slice())
     }
 
     #[tactic(auto, using(crate::proofs::Frames::frame_ranges))]
@@ -336,7 +388,7 @@ impl<'a> FrameView<'a> {
     pub fn from(&self) -> ReplicaId
         ensures { result ≡ sender_at self.now }
     {
-        sender_in(self.bytes)
+        sender_in(self.bytes.as_slice())
     }
 
     #[tactic(auto, using(crate::proofs::Frames::frame_ranges))]
@@ -344,7 +396,7 @@ impl<'a> FrameView<'a> {
     pub fn origin(&self) -> Origin
         ensures { result ≡ origin_at self.now }
     {
-        origin_in(self.bytes)
+        origin_in(self.bytes.as_slice())
     }
 
     #[tactic(auto, using(crate::proofs::Frames::frame_ranges, crate::proofs::Meanings::instance_named))]
@@ -353,44 +405,38 @@ impl<'a> FrameView<'a> {
         ensures value { result ≡ instance_at self.now }
         ensures message { result ≡ instance_of_message (message_at self.now) }
     {
-        instance_in(self.bytes)
+        instance_in(self.bytes.as_slice())
     }
 
-    /// The bytes of the key, of a swap the first one: those from place 40 on that the header counts. None where the frame has
-    /// no key.
+    /// The bytes of the key, of two the first one: those behind the header that it counts. None where the frame has no key.
+    #[tactic(auto, using(crate::proofs::Frames::frame_whole))]
     pub fn key(&self) -> &'a [u8]
         ensures { result.now ≡ key_at self.now }
     {
-        key_in(self.bytes)
+        key_in(self.bytes.as_slice())
     }
 
-    /// The bytes of the value: those after the key that the header counts. None in a swap.
-    pub fn value(&self) -> &'a [u8]
-        ensures { result.now ≡ value_at self.now }
-    {
-        value_in(self.bytes)
-    }
-
-    /// The bytes of a swap's second key, which stand in the value's place. None where the frame has no swap.
+    /// The bytes of the second key, which stand behind the first one. None where the frame has no second key.
+    #[tactic(auto, using(crate::proofs::Frames::frame_whole))]
     pub fn second_key(&self) -> &'a [u8]
         ensures { result.now ≡ second_key_at self.now }
     {
-        second_key_in(self.bytes)
+        second_key_in(self.bytes.as_slice())
     }
 
-    #[tactic(auto, using(crate::proofs::Frames::frame_long, crate::proofs::Frames::frame_whole, crate::proofs::Frames::frame_deps))]
-    /// The dependencies: what stands after the value.
+    /// The bytes of the command's body: those behind the keys that the header counts.
+    #[tactic(auto, using(crate::proofs::Frames::frame_whole))]
+    pub fn body(&self) -> &'a [u8]
+        ensures { result.now ≡ body_at self.now }
+    {
+        body_in(self.bytes.as_slice())
+    }
+
+    #[tactic(auto, using(crate::proofs::Frames::frame_whole, crate::proofs::Frames::frame_deps))]
+    /// The dependencies: what stands after the body.
     pub fn deps(&self) -> DepsView<'a>
         ensures { result ≡ deps_at self.now }
     {
-        DepsView::of(rest_in(self.bytes))
-    }
-
-    /// The message that the bytes spell.
-    pub fn to_message(&self, alloc: Global) -> Result<Message, AllocError>
-        ensures value { IfOk result (λ m. m ≡ message_at self.now) }
-        ensures spelled { IfOk result (λ m. Spells (version_at self.now) self.now (sender_at self.now) (origin_at self.now) m) }
-    {
-        message_in(alloc, self.bytes)
+        DepsView::of(dep_bytes_in(self.bytes.as_slice()))
     }
 }

@@ -1,8 +1,8 @@
 //! Writing a message as a frame.
 
-ghost use Rattle.std.specs.Prelude.{◌≡◌, ◌≢◌, ◌≤◌, ◌++◌, length, OnOk, IfOk};
+ghost use Rattle.std.specs.Prelude.{◌≡◌, ◌≢◌, ◌≤◌, ◌<◌, ◌^◌, ◌++◌, ◌∷◌, [], length, OnOk, IfOk};
 ghost use Rattle.std.specs.List.{flat_map, concat, AllByRecursion};
-ghost use Rattle.ep_frame.specs.Fields.{spelled, start_fields, origin_fields, ballot_fields, vote_fields, body_fields, header_bytes, dep_bytes};
+ghost use Rattle.ep_frame.specs.Fields.{spelled, start_fields, origin_fields, ballot_fields, vote_fields, text_len, body_fields, late_fields, header_bytes, dep_bytes};
 ghost use Rattle.ep_frame.specs.Spelling.{IsFrame, Spells, parts_bytes};
 ghost use Rattle.ep_base.specs.Fitting.{BallotsFit};
 ghost use Rattle.ep_base.specs.Versions.{CanSay};
@@ -66,12 +66,25 @@ fn vote_array(header: Header) -> [u8; 4]
     [header.status, counter[0], counter[1], header.other_replica]
 }
 
+// The field at 36.
+fn text_len(header: Header) -> u16
+    requires { text_len header < 2 ^ 16 }
+    ensures { result ≡ text_len header }
+{
+    if header.version != 3 && header.op == 3 {
+        header.body_len as u16
+    } else {
+        header.second_len
+    }
+}
+
 #[tactic(auto, unfolding(crate::specs::Fields::number_bytes))]
 fn body_array(header: Header) -> [u8; 10]
+    requires { text_len header < 2 ^ 16 }
     ensures { result ≡ spelled (body_fields header) }
 {
     let seq = header.seq.to_be_bytes();
-    let value_len = header.value_len.to_be_bytes();
+    let text_len = text_len(header).to_be_bytes();
     let count = header.count.to_be_bytes();
     [
         seq[0],
@@ -80,21 +93,50 @@ fn body_array(header: Header) -> [u8; 10]
         seq[3],
         header.op,
         header.key_len,
-        value_len[0],
-        value_len[1],
+        text_len[0],
+        text_len[1],
         count[0],
         count[1],
     ]
 }
 
+#[tactic(auto, unfolding(crate::specs::Fields::number_bytes))]
+fn late_array(header: Header) -> [u8; 8]
+    ensures { result ≡ spelled ((4, header.generation) ∷ (4, header.body_len) ∷ []) }
+{
+    let generation = header.generation.to_be_bytes();
+    let body_len = header.body_len.to_be_bytes();
+    [
+        generation[0],
+        generation[1],
+        generation[2],
+        generation[3],
+        body_len[0],
+        body_len[1],
+        body_len[2],
+        body_len[3],
+    ]
+}
+
+fn put_late(out: &mut Vec<u8>, header: Header) -> Result<(), AllocError>
+    ensures { OnOk result (out.new.items ≡ out.old.items ++ spelled (late_fields header)) }
+{
+    if header.version == 3 {
+        return out.extend_from_slice(&late_array(header));
+    }
+    Ok(())
+}
+
 fn put_header(out: &mut Vec<u8>, header: Header) -> Result<(), AllocError>
+    requires { text_len header < 2 ^ 16 }
     ensures { OnOk result (out.new.items ≡ out.old.items ++ header_bytes header) }
 {
     out.extend_from_slice(&start_array(header))?;
     out.extend_from_slice(&destination_array(header))?;
     out.extend_from_slice(&ballot_array(header))?;
     out.extend_from_slice(&vote_array(header))?;
-    out.extend_from_slice(&body_array(header))
+    out.extend_from_slice(&body_array(header))?;
+    put_late(out, header)
 }
 
 fn put_each(out: &mut Vec<u8>, deps: &[InstanceId]) -> Result<(), AllocError>
@@ -140,12 +182,13 @@ fn put_deps(out: &mut Vec<u8>, deps: &[InstanceId]) -> Result<(), AllocError>
 }
 
 fn put_parts(out: &mut Vec<u8>, parts: &Layout<'_>) -> Result<(), AllocError>
+    requires { text_len parts.now.header < 2 ^ 16 }
     ensures { OnOk result (out.new.items ≡ out.old.items ++ parts_bytes (parts_in parts.now)) }
 {
     put_header(out, parts.header)?;
-    out.extend_from_slice(parts.key)?;
-    out.extend_from_slice(parts.value)?;
-    put_deps(out, parts.deps)
+    out.extend_from_slice(parts.run)?;
+    put_deps(out, parts.deps)?;
+    Ok(())
 }
 
 /// The frame of the message in this version, from this sender and with this origin.
@@ -215,7 +258,6 @@ pub fn write_each(
 }
 
 /// The bytes of the frame of what is told.
-#[tactic(auto, using(ep_base::proofs::Versions::said_later))]
 fn written(
     alloc: Global,
     version: Version,
@@ -229,6 +271,7 @@ fn written(
     requires sayable { CanSay version (told_by telling.now) }
     ensures { IfOk result (λ b. Spells version b.items from origin (told_by telling.now)) }
 {
+    let _kind = version.kind();
     let parts = Layout::of(version, from, origin, telling);
     let mut out = Vec::with_capacity(alloc, parts.header.len())?;
     put_parts(&mut out, &parts)?;

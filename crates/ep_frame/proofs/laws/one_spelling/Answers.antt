@@ -19,4 +19,4 @@ pub returns-clause-bytes : goal.returns-clause-bytes
 returns-clause-bytes c = λ v a b f o m s t. s.is ∙ sym t.is
 
 pub returns-clause-spelled : goal.returns-clause-spelled
-returns-clause-spelled c = λ v f o m i j k. (spelling v f o m, record { origin = i; message = j; sayable = k; is = refl })
+returns-clause-spelled c = λ v f o m g i j k. (spelling v f o m, record { version = g; origin = i; message = j; sayable = k; is = refl })

@@ -7,4 +7,4 @@ use Rattle.ep_frame.proofs.view.FrameView.join_to.Goals as goal
 pub returns-then-has_attrs_in-clause-ok : goal.returns-then-has_attrs_in-clause-ok
 returns-then-has_attrs_in-clause-ok c =
     let a = c.args.attrs.now in
-    subst (λ (b : List ℕ). a ≡ join (attrs_at b) a) c.self.view_is (joined_same (attrs_at c.self.inside.bytes.now) a (sym c.has_attrs_in.ensures ∙ c.if-has_attrs_in.true))
+    subst (λ (b : List ℕ). a ≡ join (attrs_at b) a) (c.as_slice-2.ensures ∙ c.self.view_is) (joined_same (attrs_at c.as_slice-2.result.now) a (sym c.has_attrs_in.ensures ∙ c.if-has_attrs_in.true))
