@@ -126,7 +126,7 @@ fn pre_accept(
     ensures refused { IfErr result (λ e. IsRefused (pre_accepted cell.now.instance (sender_at frame.now) (ballot_at frame.now) (decree_at frame.now) (interference cell.now.records cell.now.instance (decree_at frame.now).command)) e) }
 {
     let ballot = frame.ballot();
-    let command = frame.to_command(alloc)?;
+    let command = frame.to_command()?;
     let mut attrs = own_attrs(alloc, cell, &command)?;
     frame.join_to(alloc, &mut attrs)?;
     let out = Sending {
