@@ -85,7 +85,7 @@ commits_about f me s (Execute root) done j = inr refl
 -- the state that the entry leaves
 after : (k : Kept) (taken : Happening) (e : Entry) (k' : Kept) → Applied k taken e k' → state_of k' ≡ leaves k.faults k.me (state_of k) (event_of taken) e.done
 after k taken e k' a =
-    ap state_of a.appended ∙ state_grows k.faults k.me k.entries e ∙ ap (λ (h : Happening). leaves k.faults k.me (state_of k) (event_of h) e.done) a.event
+    ap state_of a.appended ∙ state_grows no_opening k.faults k.me k.entries e ∙ ap (λ (h : Happening). leaves k.faults k.me (state_of k) (event_of h) e.done) a.event
 
 pub grown : (k : Kept) (taken : Happening) (e : Entry) (k' : Kept) (subject : Option ℕ) → Applied k taken e k' → ((i : ℕ) → about (event_of taken) ≡ Some i → committed_in (state_of k).records i ≡ None → subject ≡ Some i) → Grows k k' subject
 grown k taken e k' subject a named =
