@@ -1,6 +1,7 @@
 //! Replays of scripts.
 
 ghost use Rattle.std.specs.Prelude.{◌≡◌, ℕ, ◌≤◌, ◌++◌, List, [], false, length, OnOk, IfOk};
+ghost use Rattle.ep_base.specs.declared.version_kind.VersionKind.TheVariants.{V2};
 ghost use Rattle.ep_rules.specs.Audits.{IsAccepted};
 ghost use Rattle.ep_rules.specs.Counts.{AreOnce};
 ghost use Rattle.ep_rules.specs.declared.receipt.Receipt.{Receipt as Told};
@@ -315,6 +316,7 @@ impl Player {
 /// each instance, so at most 14,000 in all. The audit accepts what a replay leaves.
 pub fn replay(alloc: Global, script: &Script) -> Result<Replayed, AllocError>
     ensures value { IfOk result (λ d. IsReplay script.now d) }
+    ensures version { IfOk result (λ d. d.journals.version ≡ V2) }
     ensures accepted { IfOk result (λ d. IsAccepted (opens d.journals.opening) d.journals.faults (journals_of d.journals) d.receipts.items) }
     ensures once { IfOk result (λ d. AreOnce (instances_of d.receipts.items)) }
     ensures few { IfOk result (λ d. length d.receipts.items ≤ 14000) }
