@@ -1,7 +1,6 @@
 -- The parts of a command in its run of bytes, and those of a comparison's body.
 use Rattle.std.proofs.Common.{◌≡◌, ℕ, ◌+◌, ◌-◌, ◌≤◌, ◌<◌, List, [], ◌∷◌, ◌++◌, length, take, drop, append_assoc, length-append, length-take-le, length-drop, Option, Some, None, Result, Ok, Err, Bool, true, false, cond, refl, sym, ap, subst, ◌∙◌, true≢false, arith}
-use Rattle.std.specs.Prelude.{◌≢◌, ◌↔◌, ◌||◌, ◌&&◌, eqb, IsTrue, IfOk}
-use Rattle.std.specs.Option.{option_copied}
+use Rattle.std.specs.Prelude.{◌↔◌, ◌||◌, ◌&&◌, eqb, IsTrue, IfOk}
 use Rattle.std.specs.Cmp.{both_ways}
 use Rattle.std.specs.Cmp.Derive.{both_true}
 use Rattle.std.proofs.Math.Bool.{or_assoc}
@@ -10,15 +9,15 @@ use Rattle.std.proofs.lemmas.Bool.{eqb-true, eq-eqb}
 use Rattle.std.proofs.lemmas.List.{append-nil, take-append-drop, drop-drop, drop-take, take_all}
 use Rattle.ep_base.specs.Attributes.{same_list}
 use Rattle.ep_base.specs.Commands.{Command, Cas, Opaque}
-use Rattle.ep_base.specs.Interference.{keys_of, has_key, share_key, listed, key_of, second_key_of}
+use Rattle.ep_base.specs.Interference.{keys_of, has_key, share_key, listed}
 use Rattle.ep_base.specs.Parts.{Parts, parts_of, command_in, command_with, command_of, are_parts, cut, body_said, key_if_any, key_bytes, part_bytes, part_at, expected_in, new_in, is_short, is_comparison, IsShort, IsPartLen, IsInRange}
-use Rattle.ep_base.specs.Ops.{is_key_len, body_fits}
+use Rattle.ep_base.specs.Ops.{is_key_len}
 use Rattle.ep_base.specs.Sameness.{same_command}
 use Rattle.ep_base.specs.Touched.{Touched}
 use Rattle.ep_base.specs.declared.command_fault.CommandFault.{CommandFault}
 use Rattle.ep_base.specs.declared.op.Op.{Op}
 use Rattle.ep_base.specs.declared.op.Op.TheVariants as op
-use Rattle.ep_base.proofs.Partitions.{both, key_there, key_from, short_there, short_from, fits, fits_with, of_then, of_fitting, back_is, range_is, forth_lem, again_with, keys_lem, Compares, compares, compares_from}
+use Rattle.ep_base.proofs.Partitions.{both, key_there, key_from, short_there, short_from, fits, fits_with, of_then, back_is, range_is, forth_lem, again_with, keys_lem, Compares, compares, compares_from}
 use Rattle.ep_base.proofs.Same.{Decides-same_command}
 
 -- A run of bytes that is a command's.

@@ -7,7 +7,7 @@ ghost use Rattle.std.specs.Prelude.{Option, Some, None};
 ghost use Rattle.ep_base.specs.Commands.{Noop, Get, Put, Del, Swap, Cas, Seal, Opaque};
 ghost use Rattle.ep_base.specs.Interference.{only_reads, is_swap, is_late, is_long, is_seal, keys_of, key_of, second_key_of, has_key, listed};
 ghost use Rattle.ep_base.specs.Partition.{PartsLaw};
-ghost use Rattle.ep_base.specs.Parts.{is_short, parts_of, command_of, are_parts, lengths_fit, is_twice, body_said, cut, key_if_any, IsInRange};
+ghost use Rattle.ep_base.specs.Parts.{is_short, parts_of, command_in, command_of, are_parts, lengths_fit, is_twice, body_said, cut, key_if_any, IsInRange};
 ghost use Rattle.ep_base.specs.Sameness.{same_command, is_noop};
 ghost use Rattle.ep_base.specs.Values.{most_value};
 ghost use Rattle.ep_base.specs.Views.{means, touched};
@@ -196,6 +196,21 @@ impl Command {
             second,
             run,
         })
+    }
+
+    /// The same, where they are known to be a command's.
+    #[inline(always)]
+    pub fn known(op: Op, run: Bytes, first: u8, second: u8) -> Command
+        requires long { first + second ≤ length run }
+        requires parts { are_parts (cut op run first second) ≡ true }
+        ensures { result ≡ command_in (cut op run first second) }
+    {
+        Command {
+            op,
+            first,
+            second,
+            run,
+        }
     }
 
     /// The same command again, which shares its bytes.

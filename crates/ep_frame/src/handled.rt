@@ -70,7 +70,7 @@ fn made_command(op: Op, run: Bytes, first: u8, second: u8) -> Command
 }
 
 // The command whose parts stand in this run of the frame's bytes.
-fn command_of(bytes: &[u8], run: Bytes) -> Command
+fn command_from(bytes: &[u8], run: Bytes) -> Command
     requires whole { length bytes.now ≡ frame_len (header_at bytes.now) }
     requires readable { Readable (parts_at bytes.now) }
     requires run { run ≡ run_at bytes.now }
@@ -89,7 +89,7 @@ fn command_in(bytes: &Bytes) -> Result<Command, AllocError>
     let all = bytes.as_slice();
     let (start, end) = run_place(all);
     let run = bytes.slice(start..end)?;
-    Ok(command_of(all, run))
+    Ok(command_from(all, run))
 }
 
 fn attrs_in(alloc: Global, bytes: &[u8]) -> Result<Attrs, AllocError>
@@ -345,7 +345,8 @@ impl<'a> FrameView<'a> {
         ensures { result ≡ same_decree (decree_at self.now) decree.now }
     {
         are_known(self.bytes.as_slice());
-        has_command_in(self.bytes.as_slice(), &decree.command) && has_attrs_in(self.bytes.as_slice(), &decree.attrs)
+        has_command_in(self.bytes.as_slice(), &decree.command)
+            && has_attrs_in(self.bytes.as_slice(), &decree.attrs)
     }
 
     /// Joins its attributes to these. It takes no memory where they are the same.

@@ -10,7 +10,6 @@
 //! the format, and `one_spelling` has to hold of it too.
 #![tactic(auto)]
 
-
 mod deps_view;
 mod fault;
 mod frame;

@@ -13,10 +13,7 @@ ghost use Rattle.ep_frame.specs.Meaning.{version_at, sender_at, origin_at, insta
 
 use crate::deps_view::DepsView;
 use crate::fault::FrameFault;
-
-use crate::header::{
-    Header, body_len_at, generation_at, header_len, made_op, second_len_at,
-};
+use crate::header::{Header, body_len_at, generation_at, header_len, made_op, second_len_at};
 use crate::numbers::{u8_at, u16_at, u32_at, u64_at};
 use crate::origin::Origin;
 use bytes::Bytes;
@@ -130,14 +127,7 @@ fn is_said(op: Op, body: &[u8]) -> bool
 {
     match op {
         Op::Cas => is_comparison(body),
-        Op::Noop
-        | Op::Get
-        | Op::Put
-        | Op::Del
-        | Op::Swap
-        | Op::Ask
-        | Op::Act
-        | Op::Seal => true,
+        Op::Noop | Op::Get | Op::Put | Op::Del | Op::Swap | Op::Ask | Op::Act | Op::Seal => true,
     }
 }
 
@@ -216,26 +206,21 @@ pub(crate) fn key_in(bytes: &[u8]) -> &[u8]
     ensures { result.now ≡ key_at bytes.now }
 {
     let start = header_len(u8_at(bytes, 2));
-    let end = second_place_in(bytes);
-    &bytes[start..end]
+    &bytes[start..second_place_in(bytes)]
 }
 
 pub(crate) fn second_key_in(bytes: &[u8]) -> &[u8]
     requires { length bytes.now ≡ frame_len (header_at bytes.now) }
     ensures { result.now ≡ second_key_at bytes.now }
 {
-    let start = second_place_in(bytes);
-    let end = body_place_in(bytes);
-    &bytes[start..end]
+    &bytes[second_place_in(bytes)..body_place_in(bytes)]
 }
 
 pub(crate) fn body_in(bytes: &[u8]) -> &[u8]
     requires { length bytes.now ≡ frame_len (header_at bytes.now) }
     ensures { result.now ≡ body_at bytes.now }
 {
-    let start = body_place_in(bytes);
-    let end = deps_place_in(bytes);
-    &bytes[start..end]
+    &bytes[body_place_in(bytes)..deps_place_in(bytes)]
 }
 
 /// The replica of this number.

@@ -1,5 +1,5 @@
 -- From what a step does to the parts of a state to the rule book's step of the whole.
-use Rattle.std.proofs.Common.{◌≡◌, inl, inr, ℕ, suc, ◌≤◌, Bool, true, false, cond, leb, arith, List, [], ◌∷◌, Option, Some, None, Result, Ok, Err, IfOk, IfErr, OnErr, refl, sym, ap, subst, ◌∙◌, append-nil, eqb, eqb→eq}
+use Rattle.std.proofs.Common.{◌≡◌, inl, inr, ℕ, suc, ◌≤◌, Bool, true, false, cond, leb, arith, List, [], ◌∷◌, Option, Some, None, Result, Ok, Err, IfOk, IfErr, OnErr, refl, sym, ap, subst, ◌∙◌, append-nil, T, eqb, eqb→eq}
 use Rattle.std.proofs.lemmas.Bool.{leb-true}
 use Rattle.std.specs.Prelude.{IsErrAnd}
 use Rattle.std.specs.List.{AllByRecursion}
@@ -350,7 +350,7 @@ same_version V2 V2 e = refl
 same_version V2 (V3 h) e = absurd (cc)
 same_version (V3 g) V1 e = absurd (cc)
 same_version (V3 g) V2 e = absurd (cc)
-same_version (V3 g) (V3 h) e = ap V3 (eqb→eq g h (said (eqb g h) OtherGeneration e))
+same_version (V3 g) (V3 h) e = ap V3 (eqb→eq g h (subst T (sym (said (eqb g h) OtherGeneration e)) tt))
 
 event_had : (v : Version) (e : Happening) → IsReadable e → lacking v e ≡ None → HasEvent v (event_of e)
 event_had v (Propose client request c seen) h e = said (knows v c) OutOfRange e

@@ -2,7 +2,7 @@ use Rattle.std.proofs.Common.{ap, ◌∙◌}
 use Rattle.ep_base.specs.Parts.{are_parts, command_in}
 use Rattle.ep_frame.specs.Faults.{op_of}
 use Rattle.ep_frame.proofs.Runs.{cut_there, cut_long}
-use Rattle.ep_frame.proofs.handled.command_of.Goals as goal
+use Rattle.ep_frame.proofs.handled.command_from.Goals as goal
 
 pub made_command-requires-clause-long : goal.made_command-requires-clause-long
 made_command-requires-clause-long c = cut_long c.args.bytes.now c.args.run c.u8_at-2.result c.second_len_at.result c.requires.whole c.requires.run c.u8_at-2.ensures c.second_len_at.ensures
