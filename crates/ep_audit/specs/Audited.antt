@@ -19,7 +19,7 @@ use Rattle.ep_audit.specs.declared.refusal.Refusal.{Refusal}
 use Rattle.ep_audit.specs.declared.refusal.Refusal.TheVariants.{Memory, Fault}
 use Rattle.ep_rules.specs.OneMap.{Store}
 
--- The journals, merged in the schedule's order, are a run of the protocol; h is their one history.
+-- The journals of replicas that open with the map base, merged in the schedule's order, are a run of the protocol; h is their one history.
 pub record IsOneHistory (base : Store) (f : ℕ) (journal : Journals) (receipts : List Receipt) (schedule : List Scheduled) (h : List ℕ) : Type 0 where
   pub scheduled : IsSchedule journal schedule
   pub history : h ≡ history_of (command_at base f journal) schedule
@@ -39,7 +39,7 @@ pub record IsOneHistory (base : Store) (f : ℕ) (journal : Journals) (receipts 
   pub dependency :
       (i j r q : ℕ) (x y : Decree) → i ≢ j → committed_by base f journal r i ≡ Some x → committed_by base f journal q j ≡ Some y →
       interfere x.command y.command ≡ true → Has x.attrs.deps j ⊎ Has y.attrs.deps i
-  -- each answer of each execution is one map's reply at the command's place in the history; a no-op answers lost, and has no place
+  -- each answer of each execution is one map's reply, from base on, at the command's place in the history; a no-op answers lost, and has no place
   pub replies : (a : Scheduled) (i : ℕ) (x : Answer) → In a schedule → In (i, x) a.entry.done → IsReply base (command_at base f journal) h i x
   -- each replica executes two interfering commands in the history's order
   pub order :
