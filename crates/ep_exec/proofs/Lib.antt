@@ -15,3 +15,4 @@ pub mod Marking
 pub mod Searching
 pub mod Sealed
 pub mod Rising
+pub mod Sorting

@@ -9,3 +9,4 @@ pub mod Refusal
 pub mod Cut
 pub mod Missing
 pub mod Taking
+pub mod Sorting

@@ -2,7 +2,7 @@
 
 ghost use Rattle.std.specs.Prelude.{◌≡◌, ◌↔◌, ◌++◌, ◌∷◌, [], ℕ, List, IsTrue, true, OnOk, OnErr, IfOk, IfErr};
 ghost use Rattle.std.specs.Ordering.{is_lt};
-ghost use Rattle.std.specs.FinMap.{entries as entries_in, is_sorted};
+ghost use Rattle.std.specs.FinMap.{entries as entries_in, from_sorted, is_sorted};
 ghost use Rattle.ep_exec.specs.Taking.{IsNotTaken};
 ghost use Rattle.ep_exec.specs.Table.{key_cmp};
 ghost use Rattle.ep_rules.specs.OneMap.{empty};
@@ -43,6 +43,14 @@ impl Contents {
         Contents {
             items: Vec::new(alloc),
         }
+    }
+
+    /// These entries, whose keys rise strictly.
+    pub(crate) fn of_sorted(items: Vec<(Key, Value)>) -> Contents
+        requires { is_sorted key_cmp items.items ≡ true }
+        ensures { result ≡ from_sorted items.items }
+    {
+        Contents { items }
     }
 
     /// Takes one more key, with what it has; `NotAbove` unless the key is above all that are there. As it was at an `Err`.

@@ -1,9 +1,9 @@
-//! Why a key isn't taken among the contents of a map.
+//! Why there are no such contents of a map.
 
 use std::alloc::AllocError;
 use thiserror::Error;
 
-/// Why a key isn't taken among the contents of a map.
+/// Why there are no such contents of a map.
 #[derive(Clone, Copy, Debug, PartialEq, Eq, Error)]
 pub enum ContentsFault {
     #[error("out of memory")]
@@ -11,6 +11,9 @@ pub enum ContentsFault {
     /// The key isn't above the one before it.
     #[error("not above the key before")]
     NotAbove,
+    /// A key is not of 1 to 255 bytes.
+    #[error("out of range")]
+    OutOfRange,
 }
 
 impl From<AllocError> for ContentsFault {

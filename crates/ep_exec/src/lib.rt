@@ -23,6 +23,7 @@ mod plan_fault;
 mod planning;
 mod reach;
 mod ready;
+mod sorted;
 mod store;
 mod table;
 mod trial;
