@@ -14,11 +14,11 @@ on_err (Err e) f h = f h
 pub returns-in-Some-clause-ok : goal.returns-in-Some-clause-ok
 returns-in-Some-clause-ok c =
     on_ok c.insert.result
-    (run-changed (with_instance c.args.id) c.args.index.now.entries _ c.args.key.now c.in-Some.run'.now c.insert.new.run (sym c.in-Some.ensures.value) (c.get_mut.follows.holds c.insert.new.run).0)
+    (run-changed (with_instance c.args.id) c.args.runs.now.entries _ c.args.key.now c.in-Some.run'.now c.insert.new.run (sym c.in-Some.ensures.value) (c.get_mut.follows.holds c.insert.new.run).0)
     c.insert.ensures.ok
 
 pub returns-in-Some-clause-err : goal.returns-in-Some-clause-err
 returns-in-Some-clause-err c =
     on_err c.insert.result
-    (run-kept c.args.index.now.entries _ c.args.key.now c.in-Some.run'.now c.insert.new.run (sym c.in-Some.ensures.value) (c.get_mut.follows.holds c.insert.new.run).0)
+    (run-kept c.args.runs.now.entries _ c.args.key.now c.in-Some.run'.now c.insert.new.run (sym c.in-Some.ensures.value) (c.get_mut.follows.holds c.insert.new.run).0)
     c.insert.ensures.err

@@ -5,4 +5,4 @@ use Rattle.ep_space.proofs.index.remove.Goals as goal
 
 pub returns : goal.returns
 returns c =
-    run-changed (without c.args.id) c.args.index.now.entries _ c.args.key.now c.in-Some.run'.now c.take.new.run (sym c.in-Some.ensures.value) (c.get_mut.follows.holds c.take.new.run).0 c.take.ensures
+    run-changed (without c.args.id) c.args.runs.now.entries _ c.args.key.now c.in-Some.run'.now c.take.new.run (sym c.in-Some.ensures.value) (c.get_mut.follows.holds c.take.new.run).0 c.take.ensures
