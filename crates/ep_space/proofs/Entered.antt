@@ -1,5 +1,5 @@
 -- What a change of one entry of an index says of its runs.
-use Rattle.std.proofs.Common.{◌≡◌, ◌≤◌, ℕ, suc, ◌+◌, length, drop, arith, Bool, true, false, true≢false, cond, Some, List, [], ◌∷◌, refl, sym, ap, ◌∙◌}
+use Rattle.std.proofs.Common.{◌≡◌, ◌≤◌, eqb, ℕ, suc, ◌+◌, length, drop, arith, Bool, true, false, true≢false, cond, Some, List, [], ◌∷◌, refl, sym, ap, ◌∙◌}
 use Rattle.std.proofs.Math.Seq.{drop-cons}
 use Rattle.std.proofs.lemmas.Option.{slice_get_within, get_or_from_slice_get}
 use Rattle.std.specs.Cmp.Lexicographic.{nat_list_eq_equiv}
@@ -95,6 +95,10 @@ run-from es k n e q here next =
 key_apart : (key : List ℕ) → 1 ≤ length key → same_list [] key ≡ false
 key_apart [] some = absurd (omega (arith, some))
 key_apart (b ∷ bs) some = refl
+
+pub run-of_some : (x : Index) (k : List ℕ) → false ≡ eqb (length k) 0 → run x k ≡ run_in x.runs.entries k
+run-of_some x [] e = absurd (true≢false (sym e))
+run-of_some x (b ∷ bs) e = refl
 
 -- a change of the run of a key leaves that of seals
 pub run-of_key : (f : List ℕ → List ℕ) (x y : Index) (key : List ℕ) → 1 ≤ length key → y.seals ≡ x.seals → Changes f x.runs.entries key y.runs.entries

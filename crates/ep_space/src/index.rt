@@ -43,7 +43,13 @@ pub(crate) fn run_of<'a>(index: &'a Index, key: &[u8]) -> &'a [InstanceId]
     if key.is_empty() {
         return seals_of(index);
     }
-    match index.runs.get(key) {
+    run_at(&index.runs, key)
+}
+
+fn run_at<'a>(runs: &'a Runs, key: &[u8]) -> &'a [InstanceId]
+    ensures { result.now ≡ run_in runs.now.entries key.now }
+{
+    match runs.get(key) {
         None => &[],
         Some(run) => run.as_slice(),
     }
@@ -97,7 +103,7 @@ pub(crate) fn enter(
     there: Option<&Record>,
     value: &Option<Record>,
 ) -> Result<(), AllocError>
-    requires { StandsUnder id (recorded_keys (option_copied there.entry)) index.old }
+    requires { StandsUnder id (recorded_keys (option_copied there)) index.old }
     ensures ok { OnOk result ((k : List ℕ) → run index.new k ≡ cond (brings (recorded_keys (option_copied there.entry)) (recorded_keys value.now) k) (with_instance id (run index.old k)) (run index.old k)) }
     ensures err { OnErr result ((k : List ℕ) → run index.new k ≡ run index.old k) }
     ensures succeeds { NeedsNoRoom (recorded_keys (option_copied there.entry)) (recorded_keys value.now) → IsOk result }
@@ -114,7 +120,7 @@ fn enter_record(
     there: Option<&Record>,
     written: &Record,
 ) -> Result<(), AllocError>
-    requires { StandsUnder id (recorded_keys (option_copied there.entry)) index.old }
+    requires { StandsUnder id (recorded_keys (option_copied there)) index.old }
     ensures ok { OnOk result ((k : List ℕ) → run index.new k ≡ cond (brings (recorded_keys (option_copied there.entry)) (voted_keys written.now.vote) k) (with_instance id (run index.old k)) (run index.old k)) }
     ensures err { OnErr result ((k : List ℕ) → run index.new k ≡ run index.old k) }
     ensures succeeds { NeedsNoRoom (recorded_keys (option_copied there.entry)) (voted_keys written.now.vote) → IsOk result }
@@ -131,7 +137,7 @@ fn enter_command(
     there: Option<&Record>,
     command: &Command,
 ) -> Result<(), AllocError>
-    requires { StandsUnder id (recorded_keys (option_copied there.entry)) index.old }
+    requires { StandsUnder id (recorded_keys (option_copied there)) index.old }
     ensures ok { OnOk result ((k : List ℕ) → run index.new k ≡ cond (brings (recorded_keys (option_copied there.entry)) (index_keys command.now) k) (with_instance id (run index.old k)) (run index.old k)) }
     ensures err { OnErr result ((k : List ℕ) → run index.new k ≡ run index.old k) }
     ensures succeeds { NeedsNoRoom (recorded_keys (option_copied there.entry)) (index_keys command.now) → IsOk result }
@@ -152,7 +158,7 @@ fn enter_one(
     there: Option<&Record>,
     key: &Key,
 ) -> Result<(), AllocError>
-    requires { StandsUnder id (recorded_keys (option_copied there.entry)) index.old }
+    requires { StandsUnder id (recorded_keys (option_copied there)) index.old }
     ensures ok { OnOk result ((k : List ℕ) → run index.new k ≡ cond (brings (recorded_keys (option_copied there.entry)) (key.now ∷ []) k) (with_instance id (run index.old k)) (run index.old k)) }
     ensures err { OnErr result ((k : List ℕ) → run index.new k ≡ run index.old k) }
     ensures succeeds { NeedsNoRoom (recorded_keys (option_copied there.entry)) (key.now ∷ []) → IsOk result }
@@ -162,7 +168,7 @@ fn enter_one(
 }
 
 fn enter_seal(index: &mut Index, id: InstanceId, there: Option<&Record>) -> Result<(), AllocError>
-    requires { StandsUnder id (recorded_keys (option_copied there.entry)) index.old }
+    requires { StandsUnder id (recorded_keys (option_copied there)) index.old }
     ensures ok { OnOk result ((k : List ℕ) → run index.new k ≡ cond (brings (recorded_keys (option_copied there.entry)) ([] ∷ []) k) (with_instance id (run index.old k)) (run index.old k)) }
     ensures err { OnErr result ((k : List ℕ) → run index.new k ≡ run index.old k) }
     ensures succeeds { NeedsNoRoom (recorded_keys (option_copied there.entry)) ([] ∷ []) → IsOk result }
@@ -177,7 +183,7 @@ fn enter_touched(
     there: Option<&Record>,
     own: &Footprint,
 ) -> Result<(), AllocError>
-    requires { StandsUnder id (recorded_keys (option_copied there.entry)) index.old }
+    requires { StandsUnder id (recorded_keys (option_copied there)) index.old }
     ensures ok { OnOk result ((k : List ℕ) → run index.new k ≡ cond (brings (recorded_keys (option_copied there.entry)) (keys_in own.now) k) (with_instance id (run index.old k)) (run index.old k)) }
     ensures err { OnErr result ((k : List ℕ) → run index.new k ≡ run index.old k) }
     ensures succeeds { NeedsNoRoom (recorded_keys (option_copied there.entry)) (keys_in own.now) → IsOk result }
@@ -196,7 +202,7 @@ fn enter_two(
     first: &Key,
     second: &Key,
 ) -> Result<(), AllocError>
-    requires stands { StandsUnder id (recorded_keys (option_copied there.entry)) index.old }
+    requires stands { StandsUnder id (recorded_keys (option_copied there)) index.old }
     requires apart { first.now ≢ second.now }
     ensures ok { OnOk result ((k : List ℕ) → run index.new k ≡ cond (brings (recorded_keys (option_copied there.entry)) (first.now ∷ second.now ∷ []) k) (with_instance id (run index.old k)) (run index.old k)) }
     ensures err { OnErr result ((k : List ℕ) → run index.new k ≡ run index.old k) }
@@ -222,7 +228,7 @@ pub(crate) fn leave(
     value: &Option<Record>,
 )
     requires rising { (k : List ℕ) → IsRising (run index.old k) }
-    requires has { (k : List ℕ) → has_key k (recorded_keys (option_copied there.entry)) ≡ true → Has (run index.old k) id }
+    requires has { (k : List ℕ) → has_key k (recorded_keys (option_copied there)) ≡ true → Has (run index.old k) id }
     ensures { (k : List ℕ) → run index.new k ≡ cond (brings (recorded_keys value.now) (recorded_keys (option_copied there.entry)) k) (without id (run index.old k)) (run index.old k) }
 {
     match there {

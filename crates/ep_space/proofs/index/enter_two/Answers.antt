@@ -1,4 +1,4 @@
-use Rattle.std.proofs.Common.{◌≡◌, ◌≢◌, ◌∙◌, ◌&&◌, not, ℕ, List, cond, sym, subst}
+use Rattle.std.proofs.Common.{◌≡◌, ◌≢◌, ◌∙◌, ◌&&◌, not, ℕ, List, cond, refl, sym, subst}
 use Rattle.std.specs.Option.{option_copied}
 use Rattle.ep_base.specs.Attributes.{same_list}
 use Rattle.ep_base.specs.Deps.{IsRising}
@@ -6,7 +6,7 @@ use Rattle.ep_base.specs.Interference.{has_key}
 use Rattle.ep_base.specs.Places.{Has}
 use Rattle.ep_space.specs.Index.{run, with_instance, without}
 use Rattle.ep_space.specs.Keys.{recorded_keys}
-use Rattle.ep_space.proofs.Bringing.{other_run}
+use Rattle.ep_space.proofs.Bringing.{both_steps, other_run}
 use Rattle.ep_space.proofs.Undone.{rising-once, Has-once, taken_back}
 use Rattle.ep_space.proofs.index.enter_two.Goals as goal
 
@@ -53,3 +53,9 @@ returns-in-Err-clause-err c = λ k.
     in
     c.remove_unless.ensures k ∙ (λ d. cond (same_list k c.args.first.now && not s) (without c.args.id (e d)) (e d))
     ∙ taken_back c.args.id (recorded_keys (option_copied c.args.there)) es c.requires.stands p s is k
+
+pub returns-in-Ok-clause-ok : goal.returns-in-Ok-clause-ok
+returns-in-Ok-clause-ok c = λ k.
+    both_steps with_instance (recorded_keys (option_copied c.args.there)) c.args.first.now c.args.second.now k c.is_named-first_stays.result c.is_named-second_stays.result c.args.id c.args.id c.args.id
+    (run c.args.index.now k) (run c.add_unless.new.index k) (run c.add_unless-2.new.index k) c.requires.apart c.is_named-first_stays.ensures c.is_named-second_stays.ensures refl refl
+    (c.in_ok-add_unless.ensures.ok k) (c.in-Ok.ensures.ok k)
