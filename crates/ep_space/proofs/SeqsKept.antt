@@ -2,6 +2,7 @@
 use Rattle.std.proofs.Common.{◌≡◌, ◌≢◌, ℕ, ◌<◌, ◌≤◌, Bool, true, false, cond, ◌||◌, Option, Some, None, List, [], Result, Ok, Err, OnOk, OnErr, ◌⊎◌, inl, inr, refl, sym, ap, subst, ◌∙◌, true≢false, arith, length}
 use Rattle.std.specs.Prelude.{slice_index_or, slice_set}
 use Rattle.std.specs.Cmp.{nat_cmp_total, unsigned_tied}
+use Rattle.std.specs.FinMap as map
 use Rattle.std.specs.FinSet as set
 use Rattle.std.specs.Ordering.{nat_cmp, eq_by_cmp}
 use Rattle.std.specs.declared.alloc.AllocError.{AllocError}
@@ -24,8 +25,8 @@ use Rattle.ep_space.proofs.Spots.{slot-is}
 
 pub seqs-none : (ns : List ℕ) → ns ≡ [] → AreSeqs (record { held = none; places = set.empty }) ns
 seqs-none ns e = record {
-  told = λ i h. ap (λ xs. slice_index_or xs (slot i) 0) e;
-  room = λ i h. absurd (true≢false (sym h));
+  told = λ i h. ap (λ xs. slice_index_or xs (slot i) 0) e ∙ sym (ap recorded_seq (map.get-empty nat_cmp i));
+  room = λ i h. absurd (true≢false (sym h ∙ set.contains-empty nat_cmp i));
 }
 
 pub seqs-written : (m : Map Record) (places : Places) (i n : ℕ) (o : Option Record) (ns : List ℕ) → AreSeqs (record { held = m; places = places }) ns → IsInstance i → slot i < length ns → n ≡ recorded_seq o
@@ -68,17 +69,18 @@ pub seq_settled : (o : Option Record) → recorded_seq (as_settled o) ≡ record
 seq_settled None = refl
 seq_settled (Some r) = seq_committed r.vote
 
+-- with more slots
+pub longer-seqs : (t : Held Record) (ns more : List ℕ) → AreSeqs t ns → length ns ≤ length more → ((k : ℕ) → slice_index_or more k 0 ≡ slice_index_or ns k 0) → AreSeqs t more
+longer-seqs t ns more s longer same = record {
+  told = λ q h. same (slot q) ∙ s.told q h;
+  room = λ q h. let low = s.room q h in omega (arith, low, longer);
+}
+
 -- with a place more, for which there is a slot
 module _ (old new : Held Record) (i : ℕ) (ns more : List ℕ) (s : AreSeqs old ns) (longer : length ns ≤ length more) (same : (k : ℕ) → slice_index_or more k 0 ≡ slice_index_or ns k 0) where
-  longer-seqs : AreSeqs old more
-  longer-seqs = record {
-    told = λ q h. same (slot q) ∙ s.told q h;
-    room = λ q h. let low = s.room q h in omega (arith, low, longer);
-  }
-
   placed-seqs : slot i < length more → AreSeqs (record { held = old.held; places = set.insert old.places i }) more
   placed-seqs within = record {
-    told = longer-seqs.told;
+    told = λ q h. same (slot q) ∙ s.told q h;
     room = λ q h. go q (eq_by_cmp nat_cmp q i) refl (sym (set.contains-insert nat_cmp_total old.places i q) ∙ h);
   }
     where
@@ -88,4 +90,4 @@ module _ (old new : Held Record) (i : ℕ) (ns more : List ℕ) (s : AreSeqs old
 
   pub seqs-at : (r : Result (Unit {0}) AllocError) → slot i < length more → OnOk r (new ≡ record { held = old.held; places = set.insert old.places i }) → OnErr r (new ≡ old) → AreSeqs new more
   seqs-at (Ok x) within ok err = subst (λ t. AreSeqs t more) (sym ok) (placed-seqs within)
-  seqs-at (Err e) within ok err = subst (λ t. AreSeqs t more) (sym err) longer-seqs
+  seqs-at (Err e) within ok err = subst (λ t. AreSeqs t more) (sym err) (longer-seqs old ns more s longer same)

@@ -14,21 +14,21 @@ pub gathered_plain-requires-clause-rising : goal.gathered_plain-requires-clause-
 gathered_plain-requires-clause-rising c = subst IsRising (sym c.requires.holders) (rising-holders_of (keys_of c.args.command.now) c.args.records.now.held)
 
 pub gathered_plain-requires-clause-plain : goal.gathered_plain-requires-clause-plain
-gathered_plain-requires-clause-plain c = plain_holders c.args.command.now c.args.records.now.held c.args.run.now (sym c.seals.ensures ∙ none_of c.seals.result.now c.if-is_empty.ensures) c.requires.holders
+gathered_plain-requires-clause-plain c = plain_holders c.args.command.now c.args.records.now.held c.args.run.now (sym c.seals-seals.ensures ∙ none_of c.seals-seals.result.now c.if-is_empty.ensures) c.requires.holders
 
 pub returns-then-is_empty : goal.returns-then-is_empty
 returns-then-is_empty c =
     let m = c.args.records.now.held in
     on_value c.gathered_plain.result
     (λ g e. ap next_attrs e
-    ∙ ap (λ is. next_attrs (gather_all (touches c.args.command.now c.args.except) m (record { seq = 0; deps = [] }) is)) (sym (union_none c.args.run.now c.seals.result.now c.if-is_empty.ensures))
-    ∙ (λ d. next_attrs (gather_all (touches c.args.command.now c.args.except) m (record { seq = 0; deps = [] }) (union (c.requires.holders d) (c.seals.ensures d))))
+    ∙ ap (λ is. next_attrs (gather_all (touches c.args.command.now c.args.except) m (record { seq = 0; deps = [] }) is)) (sym (union_none c.args.run.now c.seals-seals.result.now c.if-is_empty.ensures))
+    ∙ (λ d. next_attrs (gather_all (touches c.args.command.now c.args.except) m (record { seq = 0; deps = [] }) (union (c.requires.holders d) (c.seals-seals.ensures d))))
     ∙ gathered-keys c.args.command.now c.args.except c.requires.no_seal m)
     c.gathered_plain.ensures
 
 pub gathered_run-requires-clause-rising : goal.gathered_run-requires-clause-rising
 gathered_run-requires-clause-rising c =
-    subst IsRising (sym (c.as_slice.ensures.value ∙ c.in_ok-all.ensures ∙ (λ d. union (c.requires.holders d) (c.seals.ensures d))))
+    subst IsRising (sym (c.as_slice.ensures.value ∙ c.in_ok-all.ensures ∙ (λ d. union (c.requires.holders d) (c.seals-seals.ensures d))))
     (IsRising-union (holders_of (keys_of c.args.command.now) c.args.records.now.held) (holders [] c.args.records.now.held) (rising-holders_of (keys_of c.args.command.now) c.args.records.now.held) (rising-holders [] c.args.records.now.held))
 
 pub returns : goal.returns
@@ -37,6 +37,6 @@ returns c =
     on_value c.gathered_run.result
     (λ g e. ap next_attrs e
     ∙ ap (λ is. next_attrs (gather_all (touches c.args.command.now c.args.except) m (record { seq = 0; deps = [] }) is)) (c.as_slice.ensures.value ∙ c.in_ok-all.ensures)
-    ∙ (λ d. next_attrs (gather_all (touches c.args.command.now c.args.except) m (record { seq = 0; deps = [] }) (union (c.requires.holders d) (c.seals.ensures d))))
+    ∙ (λ d. next_attrs (gather_all (touches c.args.command.now c.args.except) m (record { seq = 0; deps = [] }) (union (c.requires.holders d) (c.seals-seals.ensures d))))
     ∙ gathered-keys c.args.command.now c.args.except c.requires.no_seal m)
     c.gathered_run.ensures
