@@ -1,5 +1,5 @@
 -- What a write leaves of the sequence numbers by instance.
-use Rattle.std.proofs.Common.{◌≡◌, ◌≢◌, ℕ, ◌<◌, ◌≤◌, Bool, true, false, cond, ◌||◌, Option, Some, None, List, [], Result, Ok, Err, OnOk, OnErr, ◌⊎◌, inl, inr, refl, sym, ap, subst, ◌∙◌, true≢false, arith, length}
+use Rattle.std.proofs.Common.{◌≡◌, ℕ, ◌<◌, ◌≤◌, Bool, true, false, ◌||◌, Option, Some, None, List, [], Result, Ok, Err, OnOk, OnErr, inl, inr, refl, sym, ap, subst, ◌∙◌, true≢false, arith, length}
 use Rattle.std.specs.Prelude.{slice_index_or, slice_set}
 use Rattle.std.specs.Cmp.{nat_cmp_total, unsigned_tied}
 use Rattle.std.specs.FinMap as map
@@ -17,7 +17,7 @@ use Rattle.ep_rules.specs.Maps.{Map, none, get}
 use Rattle.ep_rules.specs.States.{with_held}
 use Rattle.ep_rules.specs.declared.record.Record.{Record}
 use Rattle.ep_space.specs.Entries.{slot}
-use Rattle.ep_space.specs.Held.{Held, Places, HasPlace}
+use Rattle.ep_space.specs.Held.{Held, Places}
 use Rattle.ep_space.specs.Seqs.{recorded_seq, AreSeqs}
 use Rattle.ep_space.specs.Settled.{committed_vote, as_settled}
 use Rattle.ep_space.proofs.Kept.{either_way, get-other, get-own}
