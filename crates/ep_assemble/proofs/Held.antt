@@ -3,7 +3,7 @@ use Rattle.std.proofs.Common.{◌≡◌, ℕ, ◌+◌, ◌≤◌, ◌<◌, true,
 use Rattle.std.specs.Global.{Vec}
 use Rattle.std.proofs.lemmas.Bool.{ltb-true, ltb-false}
 use Rattle.std.proofs.lemmas.List.{take_more, map-append}
-use Rattle.ep_base.specs.declared.version.Version.TheVariants.{V2}
+use Rattle.ep_base.specs.declared.version_kind.VersionKind.TheVariants.{V2}
 use Rattle.ep_bundle.proofs.ReadEntries.{receipt_gives}
 use Rattle.ep_bundle.proofs.ReadNumbers.{Took, length_number, rest_bytes}
 use Rattle.ep_bundle.specs.Bytes.{claim_bytes, outcome_bytes, receipt_bytes}

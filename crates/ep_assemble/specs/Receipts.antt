@@ -1,6 +1,6 @@
 -- What files of receipts hold, in a cluster of n replicas: receipts, one after the other, as a bundle of version 2 has them.
 use Rattle.std.specs.Prelude.{◌≡◌, ℕ, ◌+◌, ◌*◌, ◌^◌, ◌≤◌, ◌<◌, Bool, cond, eqb, leb, ltb, List, [], ◌∷◌, ◌++◌, length, take, Some, Ok, Err, slice_get, slice_index_or as get_or}
-use Rattle.ep_base.specs.declared.version.Version.TheVariants.{V2}
+use Rattle.ep_base.specs.declared.version_kind.VersionKind.TheVariants.{V2}
 use Rattle.ep_bundle.specs.Reading.{Left}
 use Rattle.ep_bundle.specs.Stages.{receipt}
 use Rattle.ep_bundle.specs.declared.bundle_fault.BundleFault.{BundleFault}

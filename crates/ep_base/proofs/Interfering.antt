@@ -6,8 +6,7 @@ use Rattle.std.specs.Bool.{Decides}
 use Rattle.std.specs.List.{HoldsAt}
 use Rattle.std.proofs.lemmas.Bool.Decides.{Decides-like, Decides-and, Decides-or, Decides-not, Decides-by_or}
 use Rattle.std.proofs.lemmas.List.Elements.{Decides-contains, Contains-get_or, at_from_Contains}
-use Rattle.ep_base.specs.declared.command.Command.{Command}
-use Rattle.ep_base.specs.declared.command.Command.TheVariants.{Noop, Get, Put, Del, Swap, Cas, Seal, Opaque}
+use Rattle.ep_base.specs.Commands.{Command, Noop, Get, Put, Del, Swap, Cas, Seal, Opaque}
 use Rattle.ep_base.specs.Attributes.{same_list}
 use Rattle.ep_base.specs.Interference.{keys_of, has_key, share_key, only_reads, is_seal, meet, part, interfere, Meets, Parts, Interferes, InterferenceLaw}
 use Rattle.ep_base.specs.Sameness.{is_noop}

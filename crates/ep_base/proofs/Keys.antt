@@ -1,8 +1,7 @@
 -- The keys that a command names, one after the other.
 use Rattle.std.proofs.Common.{◌≡◌, ◌++◌, refl}
 use Rattle.std.specs.Prelude.{Bool, true, false, ◌||◌}
-use Rattle.ep_base.specs.declared.command.Command.{Command}
-use Rattle.ep_base.specs.declared.command.Command.TheVariants.{Noop, Get, Put, Del, Swap, Cas, Seal, Opaque}
+use Rattle.ep_base.specs.Commands.{Command, Noop, Get, Put, Del, Swap, Cas, Seal, Opaque}
 use Rattle.ep_base.specs.Interference.{listed, keys_of, key_of, second_key_of}
 
 pub or_false : (b : Bool) → (b || false) ≡ b

@@ -7,6 +7,7 @@ pub mod Bound
 pub mod Versions
 pub mod Keys
 pub mod Same
+pub mod Partitions
+pub mod Runs
 pub mod Interfering
 pub mod Footprints
-pub mod Partitions

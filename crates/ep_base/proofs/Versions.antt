@@ -4,61 +4,78 @@ use Rattle.std.specs.Prelude.{◌||◌}
 use Rattle.std.proofs.lemmas.Bool.{eqb-true}
 use Rattle.ep_base.specs.Deps.{IsRising, AreInstances, most_deps}
 use Rattle.ep_base.specs.Instances.{leader_of, number_of, IsInstance}
-use Rattle.ep_base.specs.Interference.{is_swap, is_late}
-use Rattle.ep_base.specs.Versions.{version_number, version_of, most_deps_in, knows, IsInstanceIn, AreDepsIn, IsDecreeIn, IsVoteIn, CanSay}
-use Rattle.ep_base.specs.declared.command.Command.{Command}
+use Rattle.ep_base.specs.Interference.{is_swap, is_late, is_long}
+use Rattle.ep_base.specs.Versions.{version_number, generation_of, version_of, highest_in, most_deps_in, knows, IsInstanceIn, AreDepsIn, IsDecreeIn, IsVoteIn, CanSay}
+use Rattle.ep_base.specs.Commands.{Command}
 use Rattle.ep_base.specs.declared.decree.Decree.{Decree}
 use Rattle.ep_base.specs.declared.message.Message.{Message}
 use Rattle.ep_base.specs.declared.message.Message.TheVariants.{PreAccept, PreAcceptOk, Accept, AcceptOk, Commit, Prepare, PrepareOk, Nack}
 use Rattle.ep_base.specs.declared.version.Version.{Version}
-use Rattle.ep_base.specs.declared.version.Version.TheVariants.{V1, V2}
+use Rattle.ep_base.specs.declared.version_kind.VersionKind.TheVariants.{V1, V2, V3}
 use Rattle.ep_base.specs.declared.vote.Vote.{Vote}
 
-pub version_again : (v : Version) → version_of (version_number v) ≡ v
+pub version_again : (v : Version) → version_of (version_number v) (generation_of v) ≡ v
 version_again V1 = refl
 version_again V2 = refl
+version_again (V3 g) = refl
 
-pub version_found : (n : ℕ) → (eqb n 1 || eqb n 2) ≡ true → version_number (version_of n) ≡ n
-version_found n e = go (eqb n 1) refl e
+pub version_found : (n g : ℕ) → (eqb n 1 || eqb n 2) ≡ true → version_number (version_of n g) ≡ n
+version_found n g e = go (eqb n 1) (eqb n 3) refl refl e
   where
-    go : (a : Bool) → eqb n 1 ≡ a → (a || eqb n 2) ≡ true → version_number (cond a V1 V2) ≡ n
-    go true is e = sym (eqb-true n 1 is)
-    go false is e = sym (eqb-true n 2 e)
+    go : (a b : Bool) → eqb n 1 ≡ a → eqb n 3 ≡ b → (a || eqb n 2) ≡ true → version_number (cond a V1 (cond b (V3 g) V2)) ≡ n
+    go true b is third e = sym (eqb-true n 1 is)
+    go false true is third e = sym (eqb-true n 3 third)
+    go false false is third e = sym (eqb-true n 2 e)
 
--- Version 2 has all that version 1 has.
+-- A later version has all that an earlier one has.
 
-pub instance_later : (v : Version) (i : ℕ) → IsInstanceIn v i → IsInstanceIn V2 i
-instance_later V1 i h = omega (arith, h)
-instance_later V2 i h = h
+highest_later : (v w : Version) → version_number v ≤ version_number w → highest_in v ≤ highest_in w
+highest_later V1 V1 h = omega arith
+highest_later V1 V2 h = omega arith
+highest_later V1 (V3 g) h = omega arith
+highest_later V2 V1 h = omega (arith, h)
+highest_later V2 V2 h = omega arith
+highest_later V2 (V3 g) h = omega arith
+highest_later (V3 f) V1 h = omega (arith, h)
+highest_later (V3 f) V2 h = omega (arith, h)
+highest_later (V3 f) (V3 g) h = omega arith
 
-pub deps_later : (v : Version) (is : List ℕ) → AreDepsIn v is → AreDepsIn V2 is
-deps_later v [] h = tt
-deps_later v (i ∷ is) h = (instance_later v i h.0, deps_later v is h.1)
+pub instance_later : (v w : Version) (i : ℕ) → version_number v ≤ version_number w → IsInstanceIn v i → IsInstanceIn w i
+instance_later v w i e h = let later = highest_later v w e in omega (arith, h)
+
+pub deps_later : (v w : Version) (is : List ℕ) → version_number v ≤ version_number w → AreDepsIn v is → AreDepsIn w is
+deps_later v w [] e h = tt
+deps_later v w (i ∷ is) e h = (instance_later v w i e h.0, deps_later v w is e h.1)
 
 not_either : (a b : Bool) → not (a || b) ≡ true → not b ≡ true
 not_either true b h = absurd (true≢false (sym h))
 not_either false b h = h
 
-pub knows_later : (v : Version) (c : Command) → knows v c ≡ true → knows V2 c ≡ true
-knows_later V1 c h = not_either (is_swap c) (is_late c) h
-knows_later V2 c h = h
+pub knows_later : (v w : Version) (c : Command) → version_number v ≤ version_number w → knows v c ≡ true → knows w c ≡ true
+knows_later v (V3 g) c e h = refl
+knows_later V1 V1 c e h = h
+knows_later V1 V2 c e h = not_either (is_swap c) (is_late c || is_long c) h
+knows_later V2 V1 c e h = absurd (let f : 2 ≤ 1 = e in omega arith)
+knows_later V2 V2 c e h = h
+knows_later (V3 f) V1 c e h = absurd (let f : 3 ≤ 1 = e in omega arith)
+knows_later (V3 f) V2 c e h = absurd (let f : 3 ≤ 2 = e in omega arith)
 
-decree_later : (v : Version) (x : Decree) → IsDecreeIn v x → IsDecreeIn V2 x
-decree_later v x h = (knows_later v x.command h.0, deps_later v x.attrs.deps h.1)
+decree_later : (v w : Version) (x : Decree) → version_number v ≤ version_number w → IsDecreeIn v x → IsDecreeIn w x
+decree_later v w x e h = (knows_later v w x.command e h.0, deps_later v w x.attrs.deps e h.1)
 
-pub vote_later : (v : Version) (o : Option Vote) → IsVoteIn v o → IsVoteIn V2 o
-vote_later v None h = tt
-vote_later v (Some vote) h = decree_later v vote.decree h
+pub vote_later : (v w : Version) (o : Option Vote) → version_number v ≤ version_number w → IsVoteIn v o → IsVoteIn w o
+vote_later v w None e h = tt
+vote_later v w (Some vote) e h = decree_later v w vote.decree e h
 
-pub said_later : (v : Version) (m : Message) → CanSay v m → CanSay V2 m
-said_later v (PreAccept i b x) h = (instance_later v i h.0, decree_later v x h.1)
-said_later v (PreAcceptOk i b a) h = (instance_later v i h.0, deps_later v a.deps h.1)
-said_later v (Accept i b x) h = (instance_later v i h.0, decree_later v x h.1)
-said_later v (AcceptOk i b) h = instance_later v i h
-said_later v (Commit i x) h = (instance_later v i h.0, decree_later v x h.1)
-said_later v (Prepare i b) h = instance_later v i h
-said_later v (PrepareOk i b o) h = (instance_later v i h.0, vote_later v o h.1)
-said_later v (Nack i b p) h = instance_later v i h
+pub said_later : (v w : Version) (m : Message) → version_number v ≤ version_number w → CanSay v m → CanSay w m
+said_later v w (PreAccept i b x) e h = (instance_later v w i e h.0, decree_later v w x e h.1)
+said_later v w (PreAcceptOk i b a) e h = (instance_later v w i e h.0, deps_later v w a.deps e h.1)
+said_later v w (Accept i b x) e h = (instance_later v w i e h.0, decree_later v w x e h.1)
+said_later v w (AcceptOk i b) e h = instance_later v w i e h
+said_later v w (Commit i x) e h = (instance_later v w i e h.0, decree_later v w x e h.1)
+said_later v w (Prepare i b) e h = instance_later v w i e h
+said_later v w (PrepareOk i b o) e h = (instance_later v w i e h.0, vote_later v w o e h.1)
+said_later v w (Nack i b p) e h = instance_later v w i e h
 
 -- and all instances
 pub deps_in_last : (is : List ℕ) → AreInstances is → AreDepsIn V2 is
@@ -82,3 +99,4 @@ length_in_first (i ∷ is) h k e = let rest = few_from_first i is h k e in let i
 pub length_in : (v : Version) (is : List ℕ) → IsRising is → AreInstances is → length is ≤ most_deps → AreDepsIn v is → length is ≤ most_deps_in v
 length_in V1 is h k few e = length_in_first is h k e
 length_in V2 is h k few e = few
+length_in (V3 g) is h k few e = few

@@ -1,7 +1,6 @@
 -- Which commands interfere (EPaxos, section 4.1): those whose order matters.
-use Rattle.std.specs.Prelude.{◌≡◌, ◌≢◌, ◌⊎◌, ◌↔◌, ℕ, List, [], ◌∷◌, Option, Some, None, Bool, true, false, not, ◌&&◌, ◌||◌, IsTrue, Contains}
-use Rattle.ep_base.specs.declared.command.Command.{Command}
-use Rattle.ep_base.specs.declared.command.Command.TheVariants.{Noop, Get, Put, Del, Swap, Cas, Seal, Opaque}
+use Rattle.std.specs.Prelude.{◌≡◌, ◌≢◌, ◌⊎◌, ◌↔◌, ℕ, List, [], ◌∷◌, Option, Some, None, Bool, true, false, not, ◌&&◌, ◌||◌, IsTrue, Contains, length, ltb}
+use Rattle.ep_base.specs.Commands.{Command, Noop, Get, Put, Del, Swap, Cas, Seal, Opaque}
 use Rattle.ep_base.specs.Attributes.{same_list}
 use Rattle.ep_base.specs.Sameness.{is_noop}
 use Rattle.ep_base.specs.Touched.{Touched}
@@ -89,6 +88,17 @@ is_late (Swap keys) = false
 is_late (Cas key expected new) = true
 is_late (Seal value) = true
 is_late (Opaque p body) = true
+
+-- nor have they values of more than 1,024 bytes
+abbrev pub is_long : Command → Bool
+is_long Noop = false
+is_long (Get key) = false
+is_long (Put key value) = ltb 1024 (length value)
+is_long (Del key) = false
+is_long (Swap keys) = false
+is_long (Cas key expected new) = false
+is_long (Seal value) = false
+is_long (Opaque p body) = false
 
 abbrev pub has_key : List ℕ → List (List ℕ) → Bool
 has_key k [] = false

@@ -3,6 +3,11 @@ pub mod Ballots
 pub mod Quorums
 pub mod TwoKeys
 pub mod Touched
+pub mod Commands
+pub mod Ops
+pub mod Views
+pub mod Parts
+pub mod Values
 pub mod Interference
 pub mod Places
 pub mod Deps
@@ -10,6 +15,7 @@ pub mod Attributes
 pub mod Messages
 pub mod Sameness
 pub mod Devices
+pub mod Generations
 pub mod Versions
 pub mod Fitting
 pub mod Partition

@@ -1,39 +1,49 @@
 -- What each version of the formats has room for. The rule book has no version: it has the limits of the last one, and a run of an earlier version is a run.
 use Rattle.std.specs.Prelude.{ℕ, ◌≡◌, ◌≤◌, Bool, true, not, ◌||◌, Option, Some, None, List, ◌==◌, if◌then◌else◌}
 use Rattle.std.specs.List.{AllByRecursion}
-use Rattle.ep_base.specs.declared.command.Command.{Command}
+use Rattle.ep_base.specs.Commands.{Command}
 use Rattle.ep_base.specs.declared.decree.Decree.{Decree}
 use Rattle.ep_base.specs.declared.message.Message.{Message}
 use Rattle.ep_base.specs.declared.message.Message.TheVariants.{PreAccept, PreAcceptOk, Accept, AcceptOk, Commit, Prepare, PrepareOk, Nack}
 use Rattle.ep_base.specs.declared.version.Version.{Version}
-use Rattle.ep_base.specs.declared.version.Version.TheVariants.{V1, V2}
+use Rattle.ep_base.specs.declared.version_kind.VersionKind.TheVariants.{V1, V2, V3}
 use Rattle.ep_base.specs.declared.vote.Vote.{Vote}
 use Rattle.ep_base.specs.Deps.{most_deps}
 use Rattle.ep_base.specs.Instances.{number_of, highest_number}
-use Rattle.ep_base.specs.Interference.{is_swap, is_late}
+use Rattle.ep_base.specs.Interference.{is_swap, is_late, is_long}
 
 abbrev pub version_number : Version → ℕ
 version_number V1 = 1
 version_number V2 = 2
+version_number (V3 g) = 3
 
--- the version of the number 1 or 2
-abbrev pub version_of : ℕ → Version
-version_of n = if n == 1 then V1 else V2
+-- the generation's number, which versions 1 and 2 don't have
+abbrev pub generation_of : Version → ℕ
+generation_of V1 = 0
+generation_of V2 = 0
+generation_of (V3 g) = g
+
+-- the version of the number 1, 2 or 3, and of this generation
+abbrev pub version_of : ℕ → ℕ → Version
+version_of n g = if n == 1 then V1 else (if n == 3 then V3 g else V2)
 
 -- the numbers of a replica's own instances are 1 to this one
 abbrev pub highest_in : Version → ℕ
 highest_in V1 = 1000
 highest_in V2 = highest_number
+highest_in (V3 g) = highest_number
 
 -- as many as there are instances
 abbrev pub most_deps_in : Version → ℕ
 most_deps_in V1 = 7000
 most_deps_in V2 = most_deps
+most_deps_in (V3 g) = most_deps
 
--- version 1 has no swap, and neither has what version 3 is for
+-- version 1 has no swap, and neither it nor version 2 has what version 3 is for
 abbrev pub knows : Version → Command → Bool
-knows V1 c = not (is_swap c || is_late c)
-knows V2 c = not (is_late c)
+knows V1 c = not (is_swap c || (is_late c || is_long c))
+knows V2 c = not (is_late c || is_long c)
+knows (V3 g) c = true
 
 -- what a version has: instances of its numbers, dependencies among them, and decrees of commands that it knows
 

@@ -8,7 +8,7 @@ pub enum CommandFault {
     /// Memory was refused.
     #[error("out of memory")]
     Memory,
-    /// A key has not 1 to 255 bytes, the value has more than 1,024, or two keys are one.
+    /// A key has not 1 to 255 bytes, a value has more than 65,535, or two keys are one.
     #[error("out of range")]
     OutOfRange,
 }

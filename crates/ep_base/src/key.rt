@@ -2,7 +2,6 @@
 
 ghost use Rattle.std.specs.Prelude.{◌≡◌, ◌≤◌, ◌<◌, ◌↔◌, ◌⊎◌, IsTrue, IfOk, List, ℕ, length};
 ghost use Rattle.ep_base.specs.Attributes.{same_list};
-ghost use Rattle.ep_base.specs.Sameness.{same_option};
 
 use crate::command_fault::CommandFault;
 use std::alloc::{AllocError, Global};
@@ -59,26 +58,5 @@ impl Key {
         ensures same { IsTrue result ↔ (self.now ≡ other.now) }
     {
         self.as_slice() == other.as_slice()
-    }
-    /// The same key again, or none again.
-    pub fn copy_option(key: &Option<Key>, alloc: Global) -> Result<Option<Key>, AllocError>
-        ensures { IfOk result (λ k. k ≡ key.now) }
-    {
-        match key {
-            None => Ok(None),
-            Some(key) => Ok(Some(key.copy(alloc)?)),
-        }
-    }
-
-    /// Whether both are one key, or none.
-    pub fn same_option(key: &Option<Key>, other: &Option<Key>) -> bool
-        ensures test { result ≡ same_option key.now other.now }
-        ensures same { IsTrue result ↔ (key.now ≡ other.now) }
-    {
-        match (key, other) {
-            (None, None) => true,
-            (Some(key), Some(other)) => key.is_same(other),
-            _ => false,
-        }
     }
 }

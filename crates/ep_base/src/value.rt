@@ -2,13 +2,13 @@
 
 ghost use Rattle.std.specs.Prelude.{◌≡◌, ◌≤◌, ◌<◌, ◌↔◌, IsTrue, IfOk, List, ℕ, length};
 ghost use Rattle.ep_base.specs.Attributes.{same_list};
-ghost use Rattle.ep_base.specs.Sameness.{same_option};
+ghost use Rattle.ep_base.specs.Values.{most_value};
 
 use crate::command_fault::CommandFault;
 use std::alloc::{AllocError, Global};
 use std::marker::Model;
 
-/// A value, of 0 to 1,024 bytes.
+/// A value, of 0 to 65,535 bytes.
 #[derive(Debug, Drop)]
 pub struct Value {
     bytes: Vec<u8>,
@@ -16,24 +16,34 @@ pub struct Value {
 
 impl Model for Value {
     ghost use Rattle.std.specs.Prelude.{ℕ, ◌≤◌, List, length};
+    ghost use Rattle.ep_base.specs.Values.{most_value};
 
     ghost Value = { List ℕ };
 
     ghost view = { λ v. v.bytes.items };
 
-    ghost invariant = { λ v. length v.bytes.items ≤ 1024 };
+    ghost invariant = { λ v. length v.bytes.items ≤ most_value };
 }
 
 impl Value {
-    /// The value of these bytes; `OutOfRange` where they are more than 1,024.
+    /// The value of these bytes; `OutOfRange` where they are more than 65,535.
     pub fn new(alloc: Global, bytes: &[u8]) -> Result<Value, CommandFault>
         ensures ok { IfOk result (λ v. v ≡ bytes.now) }
-        ensures out_of_range { result ≡ Err CommandFault.OutOfRange ↔ (1024 < length bytes.now) }
+        ensures out_of_range { result ≡ Err CommandFault.OutOfRange ↔ (most_value < length bytes.now) }
     {
-        if bytes.len() > 1024 {
+        if bytes.len() > 65535 {
             return Err(CommandFault::OutOfRange);
         }
         let bytes = Vec::from_slice(alloc, bytes).map_err(|_| CommandFault::Memory)?;
+        Ok(Value { bytes })
+    }
+
+    /// The value of these bytes, of which there are at most 65,535.
+    pub fn known(alloc: Global, bytes: &[u8]) -> Result<Value, AllocError>
+        requires { length bytes.now ≤ most_value }
+        ensures { IfOk result (λ v. v ≡ bytes.now) }
+    {
+        let bytes = Vec::from_slice(alloc, bytes)?;
         Ok(Value { bytes })
     }
 
@@ -45,10 +55,25 @@ impl Value {
         Ok(Value { bytes })
     }
 
+    /// How many bytes there are.
+    pub fn len(&self) -> usize
+        ensures value { result ≡ length self.now }
+        ensures in_range { result ≤ most_value }
+    {
+        self.bytes.len()
+    }
+
+    /// Whether there are none.
+    pub fn is_empty(&self) -> bool
+        ensures { IsTrue result ↔ (length self.now ≡ 0) }
+    {
+        self.bytes.is_empty()
+    }
+
     /// The value's bytes.
     pub fn as_slice(&self) -> &[u8]
         ensures value { result.now ≡ self.now }
-        ensures in_range { length self.now ≤ 1024 }
+        ensures in_range { length self.now ≤ most_value }
     {
         self.bytes.as_slice()
     }
@@ -68,18 +93,6 @@ impl Value {
         match value {
             None => Ok(None),
             Some(value) => Ok(Some(value.copy(alloc)?)),
-        }
-    }
-
-    /// Whether both are one value, or none.
-    pub fn same_option(value: &Option<Value>, other: &Option<Value>) -> bool
-        ensures test { result ≡ same_option value.now other.now }
-        ensures same { IsTrue result ↔ (value.now ≡ other.now) }
-    {
-        match (value, other) {
-            (None, None) => true,
-            (Some(value), Some(other)) => value.is_same(other),
-            _ => false,
         }
     }
 }

@@ -1,21 +1,76 @@
 //! Versions of the formats.
 
-ghost use Rattle.std.specs.Prelude.{◌≡◌, ◌↔◌, IsTrue, IfSome, IsSome, ◌⊎◌};
-ghost use Rattle.ep_base.specs.Versions.{version_number, highest_in, most_deps_in, knows};
+ghost use Rattle.std.specs.Prelude.{◌≡◌, ◌≤◌, ◌↔◌, ◌⊎◌, IfSome, IsSome};
+ghost use Rattle.ep_base.specs.Generations.{HasItsGeneration};
+ghost use Rattle.ep_base.specs.Versions.{version_number, generation_of, version_of, highest_in, most_deps_in, knows};
 
 use crate::command::Command;
+use crate::generation::Generation;
+use crate::version_kind::VersionKind;
+use std::marker::Model;
 
-/// A version of the formats of frames and bundles. A replica, and what it leaves, is of one version.
+/// A version of the formats of frames and bundles, and in version 3 a generation. A replica, and what it leaves, is of one of them.
 #[derive(Clone, Copy, Debug, PartialEq, Eq)]
-pub enum Version {
-    /// Commands name one key at most, and a replica leads 1,000 instances.
-    V1,
-    /// There are swaps too, and a replica leads 2,000 instances.
-    V2,
+pub struct Version {
+    kind: VersionKind,
+}
+
+impl Model for Version {
+    ghost use Rattle.ep_base.specs.declared.version_kind.VersionKind.{VersionKind};
+    ghost use Rattle.ep_base.specs.Generations.{HasItsGeneration};
+
+    ghost Value = { VersionKind };
+
+    ghost view = { λ v. v.kind };
+
+    ghost invariant = { λ v. HasItsGeneration v.kind };
+
+    ghost inverse = { λ k. record { kind = k } };
 }
 
 impl Version {
-    /// The version of this number, 1 or 2; there is no other.
+    /// The first version.
+    pub const V1: Version = Version {
+        kind: VersionKind::V1,
+    };
+    /// The second version.
+    pub const V2: Version = Version {
+        kind: VersionKind::V2,
+    };
+
+    /// Version 3 of this generation.
+    pub fn of_generation(generation: Generation) -> Version
+        ensures { result ≡ VersionKind.V3 generation }
+    {
+        Version {
+            kind: VersionKind::V3(generation.number()),
+        }
+    }
+
+    /// The version of these numbers: version 1 of the number 1, version 3 of the number 3 and the generation, which is then
+    /// 1 or more, and else version 2.
+    pub fn known(number: u8, generation: u32) -> Version
+        requires { number ≡ 3 → 1 ≤ generation }
+        ensures { result ≡ version_of number generation }
+    {
+        match number {
+            1 => Version::V1,
+            3 => Version {
+                kind: VersionKind::V3(generation),
+            },
+            _ => Version::V2,
+        }
+    }
+
+    /// What the version is.
+    pub fn kind(self) -> VersionKind
+        ensures value { result ≡ self }
+        ensures generation { HasItsGeneration result }
+    {
+        self.kind
+    }
+
+    /// The version of this number that has no generation, 1 or 2; there is no other.
     pub fn of_number(number: u8) -> Option<Version>
         ensures found { IfSome result (λ v. number ≡ version_number v) }
         ensures only { IsSome result ↔ ((number ≡ 1) ⊎ (number ≡ 2)) }
@@ -27,13 +82,24 @@ impl Version {
         }
     }
 
-    /// The version's number, 1 or 2.
+    /// The version's number, 1 to 3.
     pub fn number(self) -> u8
         ensures { result ≡ version_number self }
     {
-        match self {
-            Version::V1 => 1,
-            Version::V2 => 2,
+        match self.kind {
+            VersionKind::V1 => 1,
+            VersionKind::V2 => 2,
+            VersionKind::V3(_) => 3,
+        }
+    }
+
+    /// The generation's number; 0 in versions 1 and 2, which have none.
+    pub fn generation(self) -> u32
+        ensures { result ≡ generation_of self }
+    {
+        match self.kind {
+            VersionKind::V1 | VersionKind::V2 => 0,
+            VersionKind::V3(generation) => generation,
         }
     }
 
@@ -41,9 +107,9 @@ impl Version {
     pub fn highest_number(self) -> u16
         ensures { result ≡ highest_in self }
     {
-        match self {
-            Version::V1 => 1000,
-            Version::V2 => 2000,
+        match self.kind {
+            VersionKind::V1 => 1000,
+            VersionKind::V2 | VersionKind::V3(_) => 2000,
         }
     }
 
@@ -51,19 +117,21 @@ impl Version {
     pub fn most_deps(self) -> u16
         ensures { result ≡ most_deps_in self }
     {
-        match self {
-            Version::V1 => 7000,
-            Version::V2 => 14000,
+        match self.kind {
+            VersionKind::V1 => 7000,
+            VersionKind::V2 | VersionKind::V3(_) => 14000,
         }
     }
 
-    /// Whether the version has this command: version 1 has no swap, and neither has comparisons, seals or commands of machines outside.
+    /// Whether the version has this command: version 1 has no swap, and neither it nor version 2 has comparisons, seals,
+    /// commands of machines outside, or values of more than 1,024 bytes.
     pub fn knows(self, command: &Command) -> bool
         ensures { result ≡ knows self command.now }
     {
-        match self {
-            Version::V1 => !(command.is_swap() || command.is_late()),
-            Version::V2 => !command.is_late(),
+        match self.kind {
+            VersionKind::V1 => !(command.is_swap() || (command.is_late() || command.is_long())),
+            VersionKind::V2 => !(command.is_late() || command.is_long()),
+            VersionKind::V3(_) => true,
         }
     }
 }

@@ -1,7 +1,7 @@
 -- Several commands that are all kept or all taken back.
 use Rattle.std.specs.Prelude.{refl}
 use Rattle.std.specs.Coded.{Coded, code_by, coded×}
-use Rattle.ep_base.specs.declared.command.Command.{Command}
+use Rattle.ep_base.specs.Commands.{Command}
 use Rattle.ep_rules.specs.OneMap.{Store, after}
 use Rattle.ep_exec.specs.Table.{store_code}
 

@@ -2,12 +2,13 @@
 
 ghost use Rattle.std.specs.Prelude.{◌≡◌, ℕ, List, None, true, false, IfOk, OnOk, OnErr};
 ghost use Rattle.std.specs.Option.{option_copied, option_flatten};
-ghost use Rattle.ep_base.specs.declared.command.Command.{Command};
+ghost use Rattle.ep_base.specs.Commands.{Swap, Cas};
+ghost use Rattle.ep_base.specs.Parts.{IsShort};
 ghost use Rattle.ep_rules.specs.OneMap.{Contents, value_at, with_key, written, read, told, sealed_by};
 ghost use Rattle.ep_base.specs.Sameness.{same_option};
 ghost use Rattle.ep_exec.specs.Table.{HavePlaces, contents_of, has_place, restored};
 
-use ep_base::{Command, KeyPair, Reply, Value};
+use ep_base::{Command, CommandView, Reply, Value};
 use indexmap::IndexMap;
 use std::alloc::{AllocError, Global};
 
@@ -132,13 +133,18 @@ pub fn put_back(table: &mut Table, key: Vec<u8>, value: Option<Value>) -> Option
 }
 
 /// Makes a place for both keys.
-fn make_places(alloc: Global, table: &mut Table, keys: &KeyPair) -> Result<(), AllocError>
+fn make_places(
+    alloc: Global,
+    table: &mut Table,
+    first: &[u8],
+    second: &[u8],
+) -> Result<(), AllocError>
     ensures contents { contents_of table.new.entries ≡ contents_of table.old.entries }
-    ensures first { OnOk result (has_place table.new.entries keys.now.first ≡ true) }
-    ensures second { OnOk result (has_place table.new.entries keys.now.second ≡ true) }
+    ensures first { OnOk result (has_place table.new.entries first.now ≡ true) }
+    ensures second { OnOk result (has_place table.new.entries second.now ≡ true) }
 {
-    make_place(alloc, table, keys.first().as_slice())?;
-    make_place(alloc, table, keys.second().as_slice())
+    make_place(alloc, table, first)?;
+    make_place(alloc, table, second)
 }
 
 /// Sets what two keys have that have places, and gives what the first one had.
@@ -162,30 +168,46 @@ fn put_both(
 
 /// Exchanges what two keys have, and gives what the first one had. Both places are made, and all memory is taken, before either key is
 /// written.
-pub fn swap(alloc: Global, table: &mut Table, keys: &KeyPair) -> Result<Option<Value>, AllocError>
-    ensures was { IfOk result (λ was. was ≡ value_at (contents_of table.old.entries) keys.now.first) }
-    ensures ok { OnOk result (contents_of table.new.entries ≡ written (contents_of table.old.entries) (Command.Swap keys.now)) }
+pub fn swap(
+    alloc: Global,
+    table: &mut Table,
+    first: &[u8],
+    second: &[u8],
+) -> Result<Option<Value>, AllocError>
+    ensures was { IfOk result (λ was. was ≡ value_at (contents_of table.old.entries) first.now) }
+    ensures ok { OnOk result (contents_of table.new.entries ≡ written (contents_of table.old.entries) (Swap (record { first = first.now; second = second.now }))) }
     ensures err { OnErr result (contents_of table.new.entries ≡ contents_of table.old.entries) }
 {
-    let own = copied(alloc, value_of(table, keys.first().as_slice()))?;
-    let other = copied(alloc, value_of(table, keys.second().as_slice()))?;
-    let name = Vec::from_slice(alloc, keys.first().as_slice())?;
-    let other_name = Vec::from_slice(alloc, keys.second().as_slice())?;
-    make_places(alloc, table, keys)?;
+    let own = copied(alloc, value_of(table, first))?;
+    let other = copied(alloc, value_of(table, second))?;
+    let name = Vec::from_slice(alloc, first)?;
+    let other_name = Vec::from_slice(alloc, second)?;
+    make_places(alloc, table, first, second)?;
     let was = put_both(table, name, other, other_name, own);
-    sweep(table, keys.first().as_slice());
-    sweep(table, keys.second().as_slice());
+    sweep(table, first);
+    sweep(table, second);
     Ok(was)
 }
 
 /// Whether the key has this value, or none.
-pub fn has_value(table: &Table, key: &[u8], expected: &Option<Value>) -> bool
-    ensures { result ≡ same_option (value_at (contents_of table.now.entries) key.now) expected.now }
+pub fn has_value(table: &Table, key: &[u8], expected: Option<&[u8]>) -> bool
+    ensures { result ≡ same_option (value_at (contents_of table.now.entries) key.now) (option_copied expected.entry) }
 {
     match (value_of(table, key), expected) {
         (None, None) => true,
-        (Some(value), Some(expected)) => value.is_same(expected),
+        (Some(value), Some(expected)) => value.as_slice() == expected,
         _ => false,
+    }
+}
+
+/// A new value of these bytes, or none again.
+fn made(alloc: Global, bytes: Option<&[u8]>) -> Result<Option<Value>, AllocError>
+    requires { IsShort (option_copied bytes) }
+    ensures { IfOk result (λ v. v ≡ option_copied bytes.entry) }
+{
+    match bytes {
+        None => Ok(None),
+        Some(bytes) => Ok(Some(Value::known(alloc, bytes)?)),
     }
 }
 
@@ -194,11 +216,12 @@ pub fn compare(
     alloc: Global,
     table: &mut Table,
     key: &[u8],
-    expected: &Option<Value>,
-    new: &Option<Value>,
+    expected: Option<&[u8]>,
+    new: Option<&[u8]>,
 ) -> Result<Option<Value>, AllocError>
+    requires { IsShort (option_copied new) }
     ensures was { IfOk result (λ was. was ≡ value_at (contents_of table.old.entries) key.now) }
-    ensures ok { OnOk result (contents_of table.new.entries ≡ written (contents_of table.old.entries) (Command.Cas key.now expected.now new.now)) }
+    ensures ok { OnOk result (contents_of table.new.entries ≡ written (contents_of table.old.entries) (Cas key.now (option_copied expected.entry) (option_copied new.entry))) }
     ensures err { OnErr result (contents_of table.new.entries ≡ contents_of table.old.entries) }
 {
     if !has_value(table, key, expected) {
@@ -206,9 +229,9 @@ pub fn compare(
     }
     match new {
         None => Ok(remove(table, key)),
-        Some(value) => {
+        Some(bytes) => {
             let name = Vec::from_slice(alloc, key)?;
-            let value = value.copy(alloc)?;
+            let value = Value::known(alloc, bytes)?;
             set(table, name, Some(value))
         }
     }
@@ -220,19 +243,19 @@ pub fn apply_open(alloc: Global, table: &mut Table, command: &Command) -> Result
     ensures ok { OnOk result (contents_of table.new.entries ≡ written (contents_of table.old.entries) command.now) }
     ensures err { OnErr result (contents_of table.new.entries ≡ contents_of table.old.entries) }
 {
-    match command {
-        Command::Noop | Command::Seal(_) => Ok(Reply::Absent),
-        Command::Opaque(_, _) => Ok(Reply::Ordered),
-        Command::Get(key) => Ok(told(copied(alloc, value_of(table, key.as_slice()))?)),
-        Command::Put(key, value) => {
-            let name = Vec::from_slice(alloc, key.as_slice())?;
-            let value = value.copy(alloc)?;
+    match command.view() {
+        CommandView::Noop | CommandView::Seal(_) => Ok(Reply::Absent),
+        CommandView::Opaque(_, _) => Ok(Reply::Ordered),
+        CommandView::Get(key) => Ok(told(copied(alloc, value_of(table, key))?)),
+        CommandView::Put(key, bytes) => {
+            let name = Vec::from_slice(alloc, key)?;
+            let value = Value::known(alloc, bytes)?;
             Ok(told(set(table, name, Some(value))?))
         }
-        Command::Del(key) => Ok(told(remove(table, key.as_slice()))),
-        Command::Swap(keys) => Ok(told(swap(alloc, table, keys)?)),
-        Command::Cas { key, expected, new } => {
-            Ok(told(compare(alloc, table, key.as_slice(), expected, new)?))
+        CommandView::Del(key) => Ok(told(remove(table, key))),
+        CommandView::Swap(first, second) => Ok(told(swap(alloc, table, first, second)?)),
+        CommandView::Cas(key, expected, new) => {
+            Ok(told(compare(alloc, table, key, expected, new)?))
         }
     }
 }
@@ -241,15 +264,15 @@ pub fn apply_open(alloc: Global, table: &mut Table, command: &Command) -> Result
 pub fn sealed(alloc: Global, command: &Command) -> Result<Option<Value>, AllocError>
     ensures { IfOk result (λ v. v ≡ sealed_by command.now) }
 {
-    match command {
-        Command::Seal(value) => Ok(Some(value.copy(alloc)?)),
-        Command::Noop
-        | Command::Get(_)
-        | Command::Put(_, _)
-        | Command::Del(_)
-        | Command::Swap(_)
-        | Command::Cas { .. }
-        | Command::Opaque(_, _) => Ok(None),
+    match command.view() {
+        CommandView::Seal(bytes) => Ok(Some(Value::known(alloc, bytes)?)),
+        CommandView::Noop
+        | CommandView::Get(_)
+        | CommandView::Put(_, _)
+        | CommandView::Del(_)
+        | CommandView::Swap(_, _)
+        | CommandView::Cas(_, _, _)
+        | CommandView::Opaque(_, _) => Ok(None),
     }
 }
 
@@ -300,18 +323,19 @@ pub fn exchange(
     alloc: Global,
     table: &mut Table,
     undo: &mut Vec<(Vec<u8>, Option<Value>)>,
-    keys: &KeyPair,
+    first: &[u8],
+    second: &[u8],
 ) -> Result<Option<Value>, AllocError>
-    ensures was { IfOk result (λ was. was ≡ value_at (contents_of table.old.entries) keys.now.first) }
-    ensures ok { OnOk result (contents_of table.new.entries ≡ written (contents_of table.old.entries) (Command.Swap keys.now)) }
+    ensures was { IfOk result (λ was. was ≡ value_at (contents_of table.old.entries) first.now) }
+    ensures ok { OnOk result (contents_of table.new.entries ≡ written (contents_of table.old.entries) (Swap (record { first = first.now; second = second.now }))) }
     ensures err { OnErr result (contents_of table.new.entries ≡ contents_of table.old.entries) }
     ensures undo { restored undo.new.items (contents_of table.new.entries) ≡ restored undo.old.items (contents_of table.old.entries) }
     ensures places { HavePlaces table.old.entries undo.old.items → HavePlaces table.new.entries undo.new.items }
 {
-    let own = copied(alloc, value_of(table, keys.first().as_slice()))?;
-    let other = copied(alloc, value_of(table, keys.second().as_slice()))?;
-    let name = note(alloc, table, undo, keys.first().as_slice())?;
-    let other_name = note(alloc, table, undo, keys.second().as_slice())?;
+    let own = copied(alloc, value_of(table, first))?;
+    let other = copied(alloc, value_of(table, second))?;
+    let name = note(alloc, table, undo, first)?;
+    let other_name = note(alloc, table, undo, second)?;
     Ok(put_both(table, name, other, other_name, own))
 }
 
@@ -321,11 +345,12 @@ pub fn compare_noted(
     table: &mut Table,
     undo: &mut Vec<(Vec<u8>, Option<Value>)>,
     key: &[u8],
-    expected: &Option<Value>,
-    new: &Option<Value>,
+    expected: Option<&[u8]>,
+    new: Option<&[u8]>,
 ) -> Result<Option<Value>, AllocError>
+    requires { IsShort (option_copied new) }
     ensures was { IfOk result (λ was. was ≡ value_at (contents_of table.old.entries) key.now) }
-    ensures ok { OnOk result (contents_of table.new.entries ≡ written (contents_of table.old.entries) (Command.Cas key.now expected.now new.now)) }
+    ensures ok { OnOk result (contents_of table.new.entries ≡ written (contents_of table.old.entries) (Cas key.now (option_copied expected.entry) (option_copied new.entry))) }
     ensures err { OnErr result (contents_of table.new.entries ≡ contents_of table.old.entries) }
     ensures undo { restored undo.new.items (contents_of table.new.entries) ≡ restored undo.old.items (contents_of table.old.entries) }
     ensures places { HavePlaces table.old.entries undo.old.items → HavePlaces table.new.entries undo.new.items }
@@ -333,7 +358,7 @@ pub fn compare_noted(
     if !has_value(table, key, expected) {
         return copied(alloc, value_of(table, key));
     }
-    let value = Value::copy_option(new, alloc)?;
+    let value = made(alloc, new)?;
     write(alloc, table, undo, key, value)
 }
 

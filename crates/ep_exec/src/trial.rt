@@ -12,7 +12,7 @@ use crate::store::Store;
 use crate::table::{
     Table, compare_noted, copied, exchange, sealed, sweep_all, take_back, told, value_of, write,
 };
-use ep_base::{Answer, Command, Reply, Value};
+use ep_base::{Answer, Command, CommandView, Reply, Value};
 use std::alloc::{AllocError, Global};
 use std::marker::Model;
 
@@ -146,29 +146,26 @@ fn try_open(
     ensures undo { restored undo.new.items (contents_of table.new.entries) ≡ restored undo.old.items (contents_of table.old.entries) }
     ensures places { HavePlaces table.old.entries undo.old.items → HavePlaces table.new.entries undo.new.items }
 {
-    match command {
-        Command::Noop => Ok(Answer::Lost),
-        Command::Seal(_) => Ok(Answer::Told(Reply::Absent)),
-        Command::Opaque(_, _) => Ok(Answer::Told(Reply::Ordered)),
-        Command::Get(key) => Ok(Answer::Told(told(copied(
-            alloc,
-            value_of(table, key.as_slice()),
-        )?))),
-        Command::Put(key, value) => {
-            let value = value.copy(alloc)?;
-            let was = write(alloc, table, undo, key.as_slice(), Some(value))?;
+    match command.view() {
+        CommandView::Noop => Ok(Answer::Lost),
+        CommandView::Seal(_) => Ok(Answer::Told(Reply::Absent)),
+        CommandView::Opaque(_, _) => Ok(Answer::Told(Reply::Ordered)),
+        CommandView::Get(key) => Ok(Answer::Told(told(copied(alloc, value_of(table, key))?))),
+        CommandView::Put(key, bytes) => {
+            let value = Value::known(alloc, bytes)?;
+            let was = write(alloc, table, undo, key, Some(value))?;
             Ok(Answer::Told(told(was)))
         }
-        Command::Del(key) => {
-            let was = write(alloc, table, undo, key.as_slice(), None)?;
+        CommandView::Del(key) => {
+            let was = write(alloc, table, undo, key, None)?;
             Ok(Answer::Told(told(was)))
         }
-        Command::Swap(keys) => {
-            let was = exchange(alloc, table, undo, keys)?;
+        CommandView::Swap(first, second) => {
+            let was = exchange(alloc, table, undo, first, second)?;
             Ok(Answer::Told(told(was)))
         }
-        Command::Cas { key, expected, new } => {
-            let was = compare_noted(alloc, table, undo, key.as_slice(), expected, new)?;
+        CommandView::Cas(key, expected, new) => {
+            let was = compare_noted(alloc, table, undo, key, expected, new)?;
             Ok(Answer::Told(told(was)))
         }
     }

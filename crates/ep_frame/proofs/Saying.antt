@@ -5,10 +5,9 @@ use Rattle.ep_base.specs.Attributes.{same_list}
 use Rattle.ep_base.specs.Deps.{AreInstances}
 use Rattle.ep_base.specs.Instances.{number_of}
 use Rattle.ep_base.specs.Versions.{version_number, highest_in, most_deps_in, knows, AreDepsIn}
-use Rattle.ep_base.specs.declared.command.Command.{Command}
-use Rattle.ep_base.specs.declared.command.Command.TheVariants.{Noop, Get, Put, Del, Swap, Cas, Seal, Opaque}
+use Rattle.ep_base.specs.Commands.{Command, Noop, Get, Put, Del, Swap, Cas, Seal, Opaque}
 use Rattle.ep_base.specs.declared.version.Version.{Version}
-use Rattle.ep_base.specs.declared.version.Version.TheVariants.{V1, V2}
+use Rattle.ep_base.specs.declared.version_kind.VersionKind.TheVariants.{V1, V2}
 use Rattle.ep_base.proofs.Same.{Decides-same_list}
 use Rattle.ep_base.proofs.Versions.{deps_in_last}
 use Rattle.ep_frame.specs.Faults.{highest_op, are_early, are_in}

@@ -9,12 +9,11 @@ use Rattle.ep_base.specs.Attributes.{same_list}
 use Rattle.ep_base.specs.Deps.{IsRising, IsBelowFirst}
 use Rattle.ep_base.specs.Versions.{version_number, version_of, highest_in, most_deps_in, knows, IsInstanceIn, AreDepsIn, IsDecreeIn, CanSay}
 use Rattle.ep_base.specs.declared.version.Version.{Version}
-use Rattle.ep_base.specs.declared.version.Version.TheVariants.{V1, V2}
+use Rattle.ep_base.specs.declared.version_kind.VersionKind.TheVariants.{V1, V2}
 use Rattle.ep_base.proofs.Versions.{version_again, length_in}
 use Rattle.ep_base.specs.declared.attrs.Attrs.{Attrs}
 use Rattle.ep_base.specs.declared.decree.Decree.{Decree}
-use Rattle.ep_base.specs.declared.command.Command.{Command}
-use Rattle.ep_base.specs.declared.command.Command.TheVariants.{Noop, Get, Put, Del, Swap, Cas, Seal, Opaque}
+use Rattle.ep_base.specs.Commands.{Command, Noop, Get, Put, Del, Swap, Cas, Seal, Opaque}
 use Rattle.ep_base.specs.declared.vote.Status.{Status}
 use Rattle.ep_base.specs.declared.vote.Status.TheVariants.{PreAccepted, Accepted, Committed}
 use Rattle.ep_base.specs.declared.message.Message.{Message}

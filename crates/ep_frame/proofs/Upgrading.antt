@@ -4,7 +4,7 @@ use Rattle.std.specs.Prelude.{Some, None, slice_set as set}
 use Rattle.ep_base.proofs.Versions.{said_later}
 use Rattle.ep_base.specs.declared.message.Message.{Message}
 use Rattle.ep_base.specs.declared.message.Message.TheVariants.{PreAccept, PreAcceptOk, Accept, AcceptOk, Commit, Prepare, PrepareOk, Nack}
-use Rattle.ep_base.specs.declared.version.Version.TheVariants.{V1, V2}
+use Rattle.ep_base.specs.declared.version_kind.VersionKind.TheVariants.{V1, V2}
 use Rattle.ep_frame.specs.declared.origin.Origin.{Origin}
 use Rattle.ep_frame.specs.Fields.{number_bytes}
 use Rattle.ep_frame.specs.Meaning.{version_at, sender_at, origin_at, message_at}

@@ -4,7 +4,7 @@ use Rattle.ep_base.specs.Attributes.{same_list}
 use Rattle.ep_base.specs.Instances.{leader_of, number_of, highest_number}
 use Rattle.ep_base.specs.Versions.{version_of, highest_in, most_deps_in}
 use Rattle.ep_base.specs.declared.version.Version.{Version}
-use Rattle.ep_base.specs.declared.version.Version.TheVariants.{V1, V2}
+use Rattle.ep_base.specs.declared.version_kind.VersionKind.TheVariants.{V1, V2}
 use Rattle.ep_frame.specs.declared.header.Header.{Header}
 use Rattle.ep_frame.specs.declared.fault.FrameFault.{FrameFault}
 use Rattle.ep_frame.specs.declared.fault.FrameFault.TheVariants.{Short, Magic, Version as OtherVersion, Kind, Field, Length, Order, SameKey}

@@ -1,6 +1,6 @@
 -- A frame written again in version 2.
 use Rattle.std.specs.Prelude.{ℕ, List}
-use Rattle.ep_base.specs.declared.version.Version.TheVariants.{V2}
+use Rattle.ep_base.specs.declared.version_kind.VersionKind.TheVariants.{V2}
 use Rattle.ep_frame.specs.Meaning.{sender_at, origin_at, message_at}
 use Rattle.ep_frame.specs.Spelling.{Spells}
 

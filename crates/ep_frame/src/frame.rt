@@ -2,7 +2,7 @@
 
 ghost use Rattle.std.specs.Prelude.{◌≡◌, ◌≤◌, ◌∷◌, ◌++◌, Ok, Err, IfOk, IsOk, MatchResult, length, take, drop};
 ghost use Rattle.ep_base.specs.Messages.{instance_of_message};
-ghost use Rattle.ep_base.specs.declared.version.Version.TheVariants.{V2};
+ghost use Rattle.ep_base.specs.declared.version_kind.VersionKind.TheVariants.{V2};
 ghost use Rattle.ep_frame.specs.Faults.{HasNoFault, fault_of};
 ghost use Rattle.ep_frame.specs.Meaning.{version_at, sender_at, origin_at, instance_at, message_at};
 ghost use Rattle.ep_frame.specs.Spelling.{IsFrame, Spells};

@@ -9,7 +9,7 @@ use Rattle.ep_base.specs.Quorums.{size}
 use Rattle.ep_frame.specs.Meaning.{sender_at}
 use Rattle.rtrb.specs.Ring.{received}
 use Rattle.ep_base.specs.declared.version.Version.{Version}
-use Rattle.ep_base.specs.declared.version.Version.TheVariants.{V2}
+use Rattle.ep_base.specs.declared.version_kind.VersionKind.TheVariants.{V2}
 use Rattle.ep_rules.specs.Audits.{IsAccepted}
 use Rattle.ep_rules.specs.Steps.{Frame, Handle as Handles}
 use Rattle.ep_rules.specs.Worlds.{In}

@@ -1,7 +1,7 @@
 -- Frames of version 2, and that no replica refuses them for their version.
 use Rattle.std.proofs.Common.{◌≡◌, ℕ, zero, suc, List, [], ◌∷◌, Some, None, inl, inr, arith, All, ap}
 use Rattle.ep_base.specs.declared.version.Version.{Version}
-use Rattle.ep_base.specs.declared.version.Version.TheVariants.{V2}
+use Rattle.ep_base.specs.declared.version_kind.VersionKind.TheVariants.{V2}
 use Rattle.ep_frame.specs.Meaning.{version_at}
 use Rattle.ep_journal.specs.Entries.{AreFramesIn, AreEntriesIn}
 use Rattle.ep_journal.specs.Events.{event_of, spelled_in}

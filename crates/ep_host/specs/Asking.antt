@@ -2,7 +2,7 @@
 use Rattle.std.specs.Prelude.{◌≡◌, ℕ, ◌<◌, ◌≤◌, Bool, true, false, List, Option, Some, IfSome}
 use Rattle.ep_base.specs.Instances.{leader_of}
 use Rattle.ep_base.specs.Quorums.{size}
-use Rattle.ep_base.specs.declared.version.Version.TheVariants.{V2}
+use Rattle.ep_base.specs.declared.version_kind.VersionKind.TheVariants.{V2}
 use Rattle.ep_journal.specs.Entries.{entries_of, IsJournal}
 use Rattle.ep_journal.specs.declared.entry.Entry.{Entry}
 use Rattle.ep_journal.specs.declared.event.Event.{Event}

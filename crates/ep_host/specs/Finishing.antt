@@ -1,7 +1,7 @@
 -- What a host that is finished hands back.
 use Rattle.std.specs.Prelude.{◌≡◌, List, MatchResult, All}
 use Rattle.ep_audit.specs.Audited.{IsAudited}
-use Rattle.ep_base.specs.declared.version.Version.TheVariants.{V2}
+use Rattle.ep_base.specs.declared.version_kind.VersionKind.TheVariants.{V2}
 use Rattle.ep_journal.specs.Entries.{Log, journals_of}
 use Rattle.ep_report.specs.Refusals.{fault_of}
 use Rattle.ep_rules.specs.Audits.{IsFault}

@@ -2,7 +2,7 @@
 use Rattle.std.specs.Prelude.{◌≡◌, ℕ, ◌+◌, ◌<◌, List, [], length, slice_index_or, Contains, All}
 use mathlib.Core.List.{IsPrefix}
 use Rattle.ep_base.specs.Quorums.{size}
-use Rattle.ep_base.specs.declared.version.Version.TheVariants.{V2}
+use Rattle.ep_base.specs.declared.version_kind.VersionKind.TheVariants.{V2}
 use Rattle.ep_frame.specs.Meaning.{sender_at}
 use Rattle.ep_rules.specs.Journals.{AreClocked}
 use Rattle.ep_journal.specs.Entries.{entries_of, IsJournal}

@@ -1,6 +1,6 @@
 -- What hosts carry: frames of version 2, of which their replicas are.
 use Rattle.std.specs.Prelude.{◌≡◌, ◌≢◌, ℕ, List, All}
-use Rattle.ep_base.specs.declared.version.Version.TheVariants.{V2}
+use Rattle.ep_base.specs.declared.version_kind.VersionKind.TheVariants.{V2}
 use Rattle.ep_frame.specs.Meaning.{version_at}
 use Rattle.ep_journal.specs.declared.event.Event.TheVariants.{Handle}
 use Rattle.ep_journal.specs.declared.step_fault.StepFault.{StepFault}

@@ -1,6 +1,6 @@
 -- The journals and the receipts of a host's nodes.
 use Rattle.std.specs.Prelude.{List, [], ◌∷◌, ◌++◌, slice_index_or}
-use Rattle.ep_base.specs.declared.version.Version.TheVariants.{V2}
+use Rattle.ep_base.specs.declared.version_kind.VersionKind.TheVariants.{V2}
 use Rattle.ep_rules.specs.Journals.{Journals}
 use Rattle.ep_rules.specs.declared.receipt.Receipt.{Receipt}
 use Rattle.ep_journal.specs.Entries.{entries_of, Log}

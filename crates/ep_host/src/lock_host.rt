@@ -124,7 +124,7 @@ fn journals_of(alloc: Global, seats: Vec<Seat>) -> Result<Vec<Journal>, AllocErr
 impl LockHost {
     ghost use Rattle.std.specs.Prelude.{◌≡◌, ◌≤◌, ◌<◌, IfOk, IfErr, IfSome, OnOk};
     ghost use Rattle.ep_base.specs.Quorums.{size};
-    ghost use Rattle.ep_base.specs.declared.version.Version.TheVariants.{V2};
+    ghost use Rattle.ep_base.specs.declared.version_kind.VersionKind.TheVariants.{V2};
     ghost use Rattle.ep_journal.specs.declared.event.Event.TheVariants.{Propose};
     ghost use Rattle.ep_host.specs.Asking.{IsTaken, IsSubmitted, IsPumped, IsRefused, IsUntold, AreTold, IsOutcomeIn};
     ghost use Rattle.ep_host.specs.Finishing.{IsFinished};

@@ -1,7 +1,7 @@
 //! The audit of the nodes of a host.
 
 ghost use Rattle.std.specs.Prelude.{◌≡◌, ◌++◌, [], ℕ, IfOk, IsOk, OnOk};
-ghost use Rattle.ep_base.specs.declared.version.Version.TheVariants.{V2};
+ghost use Rattle.ep_base.specs.declared.version_kind.VersionKind.TheVariants.{V2};
 ghost use Rattle.ep_rules.specs.Audits.{IsAccepted};
 ghost use Rattle.ep_journal.specs.Entries.{journals_of};
 ghost use Rattle.ep_audit.specs.Audited.{IsAudited};

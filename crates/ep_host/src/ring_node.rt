@@ -51,7 +51,7 @@ impl Model for RingNode {
 
 impl RingNode {
     ghost use Rattle.std.specs.Prelude.{◌≡◌, ◌<◌, ◌++◌, ◌∷◌, [], false, length, IfOk, IfErr, OnOk, OnErr};
-    ghost use Rattle.ep_base.specs.declared.version.Version.TheVariants.{V2};
+    ghost use Rattle.ep_base.specs.declared.version_kind.VersionKind.TheVariants.{V2};
     ghost use Rattle.ep_journal.specs.Entries.{entries_of};
     ghost use Rattle.ep_replica.specs.Receipts.{receipts_after};
     ghost use Rattle.ep_rules.specs.Verdicts.{IsOwn};

@@ -1,6 +1,6 @@
 -- What is done in turn is an execution's order with its answers.
 use Rattle.std.proofs.Common.{◌≡◌, ℕ, List, [], ◌∷◌, refl, ap}
-use Rattle.ep_base.specs.declared.command.Command.{Command}
+use Rattle.ep_base.specs.Commands.{Command}
 use Rattle.ep_base.specs.declared.reply.Answer.{Answer}
 use Rattle.ep_rules.specs.OneMap.{Store, after, answer, answers_of}
 use Rattle.ep_rules.specs.Steps.{order_of, answers_in}

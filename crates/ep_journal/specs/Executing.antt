@@ -1,6 +1,6 @@
 -- An execution by the code's parts: what it does, and why there is none.
 use Rattle.std.specs.Prelude.{◌≡◌, ℕ, List, [], ◌∷◌, ◌++◌}
-use Rattle.ep_base.specs.declared.command.Command.{Command}
+use Rattle.ep_base.specs.Commands.{Command}
 use Rattle.ep_base.specs.declared.reply.Answer.{Answer}
 use Rattle.ep_base.specs.Places.{Has}
 use Rattle.ep_rules.specs.OneMap.{Store, after, after_all, answer, answers_of}

@@ -2,7 +2,7 @@
 
 ghost use Rattle.std.specs.Prelude.{◌≡◌, ℕ, List, Some, IfOk, IfErr};
 ghost use Rattle.ep_base.specs.Devices.{FailsAsTold};
-ghost use Rattle.ep_base.specs.declared.version.Version.TheVariants.{V2};
+ghost use Rattle.ep_base.specs.declared.version_kind.VersionKind.TheVariants.{V2};
 ghost use Rattle.ep_bundle.specs.Bytes.{bundle_bytes};
 ghost use Rattle.ep_journal.specs.Upgrading.{IsUpgraded};
 ghost use Rattle.ep_main.specs.Faults.{is_read, is_write};

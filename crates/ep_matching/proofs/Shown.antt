@@ -3,7 +3,7 @@ use Rattle.std.proofs.Common.{◌≡◌, ℕ, zero, suc, ◌+◌, inl, inr, Opti
 use Rattle.std.proofs.lemmas.Bool.{cases_lt}
 use Rattle.ep_base.specs.Quorums.{size}
 use Rattle.ep_base.specs.declared.version.Version.{Version}
-use Rattle.ep_base.specs.declared.version.Version.TheVariants.{V1, V2}
+use Rattle.ep_base.specs.declared.version_kind.VersionKind.TheVariants.{V1, V2}
 use Rattle.ep_frame.specs.Meaning.{version_at}
 use Rattle.ep_frame.specs.Spelling.{IsFrame}
 use Rattle.ep_journal.specs.Entries.{Collected, entry_of, entries_of, entries_at, journals_of, frames_at, AreFrames, AreReadable, AreFramesIn, IsEntryIn, AreEntriesIn, AreJournals}

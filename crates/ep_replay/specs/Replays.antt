@@ -1,7 +1,7 @@
 -- A replay of a script: what its lines do in a world, one after another.
 use Rattle.std.specs.Prelude.{◌≡◌, ◌≢◌, ◌⊎◌, ◌↔◌, ℕ, ◌+◌, ◌≤◌, ◌&&◌, nat_le, Bool, cond, List, [], ◌∷◌, ◌++◌, length}
 use Rattle.ep_base.specs.Deps.{IsRising}
-use Rattle.ep_base.specs.declared.command.Command.{Command}
+use Rattle.ep_base.specs.Commands.{Command}
 use Rattle.ep_rules.specs.Worlds.{In}
 use Rattle.ep_rules.specs.declared.receipt.Receipt.{Receipt}
 use Rattle.ep_journal.specs.Entries.{entry_of}

@@ -5,7 +5,7 @@ use Rattle.ep_base.specs.Instances.{instance_of, leader_of, number_of, highest_n
 use Rattle.ep_base.specs.Messages.{instance_of_message}
 use Rattle.ep_base.specs.Places.{Has}
 use Rattle.ep_base.specs.declared.attrs.Attrs.{Attrs}
-use Rattle.ep_base.specs.declared.command.Command.{Command}
+use Rattle.ep_base.specs.Commands.{Command}
 use Rattle.ep_base.specs.declared.decree.Decree.{Decree}
 use Rattle.ep_base.specs.declared.reply.Answer.{Answer}
 use Rattle.ep_base.specs.declared.vote.Status.TheVariants.{PreAccepted}

@@ -1,6 +1,6 @@
 -- One event of a replica: the entry that it makes, by the clock, and why there is none.
 use Rattle.std.specs.Prelude.{◌≡◌, MatchResult, ℕ, ◌+◌, ◌&&◌, ltb, max, length, cond, List, [], ◌∷◌, ◌++◌, Option, Some, None}
-use Rattle.ep_base.specs.declared.version.Version.TheVariants.{V2}
+use Rattle.ep_base.specs.declared.version_kind.VersionKind.TheVariants.{V2}
 use Rattle.ep_frame.specs.Faults.{fault_of}
 use Rattle.ep_rules.specs.Journals.{IsEntry, AreMarked, last_stamp, heard}
 use Rattle.ep_journal.specs.Entries.{entry_of, entries_of, AreFrames, IsEntryIn}

@@ -1,7 +1,7 @@
 -- A replica: its journal, which is of version 2, and the state that this leaves.
 use Rattle.std.specs.Prelude.{ℕ, List, refl}
 use Rattle.std.specs.Coded.{Coded, code_by, coded×, coded_ℕ, coded_list}
-use Rattle.ep_base.specs.declared.version.Version.TheVariants.{V2}
+use Rattle.ep_base.specs.declared.version_kind.VersionKind.TheVariants.{V2}
 use Rattle.ep_journal.specs.Entries.{Log}
 use Rattle.ep_journal.specs.Leaving as journals
 use Rattle.ep_journal.specs.Standing.{Standing}

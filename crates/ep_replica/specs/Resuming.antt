@@ -1,6 +1,6 @@
 -- Which journal a replica can go on from.
 use Rattle.std.specs.Prelude.{◌≡◌, ◌+◌, ◌==◌, ℕ, max, cond, List, [], ◌∷◌, Option, Some, None}
-use Rattle.ep_base.specs.declared.version.Version.TheVariants.{V1}
+use Rattle.ep_base.specs.declared.version_kind.VersionKind.TheVariants.{V1}
 use Rattle.ep_rules.specs.Journals.{heard}
 use Rattle.ep_rules.specs.Journals as rules
 use Rattle.ep_journal.specs.Entries.{Log, entries_of}

@@ -2,8 +2,7 @@
 use Rattle.std.proofs.Common.{◌≡◌, ℕ, true, false, Bool, List, [], ◌∷◌, map, Option, Some, None, refl}
 use Rattle.ep_base.specs.Instances.{instance_of}
 use Rattle.ep_base.specs.Interference.{interfere}
-use Rattle.ep_base.specs.declared.command.Command.{Command}
-use Rattle.ep_base.specs.declared.command.Command.TheVariants.{Noop, Put, Get, Del, Swap, Cas, Opaque}
+use Rattle.ep_base.specs.Commands.{Command, Noop, Put, Get, Del, Swap, Cas, Opaque}
 use Rattle.ep_base.specs.declared.reply.Reply.{Reply}
 use Rattle.ep_base.specs.declared.reply.Reply.TheVariants.{Absent, Present, Ordered}
 use Rattle.ep_rows.specs.OneMap.{empty, Store, opened, after, after_commands, replies}

@@ -3,8 +3,7 @@ use Rattle.std.proofs.Common.{ℕ, pred, List, [], ◌∷◌, ◌++◌, Option, 
 use Rattle.std.specs.Prelude.{Result, Ok, Err}
 use Rattle.ep_base.specs.Instances.{instance_of}
 use Rattle.ep_base.specs.declared.attrs.Attrs.{Attrs}
-use Rattle.ep_base.specs.declared.command.Command.{Command}
-use Rattle.ep_base.specs.declared.command.Command.TheVariants.{Get, Put}
+use Rattle.ep_base.specs.Commands.{Command, Get, Put}
 use Rattle.ep_base.specs.declared.decree.Decree.{Decree}
 use Rattle.ep_base.specs.declared.reply.Answer.{Answer}
 use Rattle.ep_rules.specs.Cells.{Change, Refusal, OutOfRange}

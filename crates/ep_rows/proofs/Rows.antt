@@ -3,8 +3,7 @@ use Rattle.std.proofs.Common.{◌≡◌, ℕ, false, List, [], ◌∷◌, map, O
 use Rattle.ep_base.specs.Ballots.{ballot_of}
 use Rattle.ep_base.specs.Instances.{instance_of}
 use Rattle.ep_base.specs.Interference.{interfere}
-use Rattle.ep_base.specs.declared.command.Command.{Command}
-use Rattle.ep_base.specs.declared.command.Command.TheVariants.{Noop, Put, Get, Swap}
+use Rattle.ep_base.specs.Commands.{Command, Noop, Put, Get, Swap}
 use Rattle.ep_base.specs.declared.message.Message.TheVariants.{PrepareOk, Nack}
 use Rattle.ep_base.specs.declared.reply.Answer.TheVariants.{Told}
 use Rattle.ep_base.specs.declared.reply.Reply.TheVariants.{Absent, Present}

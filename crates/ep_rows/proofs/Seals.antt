@@ -2,8 +2,7 @@
 use Rattle.std.proofs.Common.{◌≡◌, ℕ, true, false, List, [], ◌∷◌, ◌++◌, map, Option, Some, None, refl, arith}
 use Rattle.ep_base.specs.Instances.{instance_of}
 use Rattle.ep_base.specs.Interference.{interfere}
-use Rattle.ep_base.specs.declared.command.Command.{Command}
-use Rattle.ep_base.specs.declared.command.Command.TheVariants.{Noop, Get, Cas, Seal, Opaque}
+use Rattle.ep_base.specs.Commands.{Command, Noop, Get, Cas, Seal, Opaque}
 use Rattle.ep_base.specs.declared.reply.Answer.{Answer}
 use Rattle.ep_base.specs.declared.reply.Answer.TheVariants.{Told}
 use Rattle.ep_base.specs.declared.reply.Reply.TheVariants.{Absent, Present, Closed}

@@ -2,7 +2,7 @@
 use Rattle.std.specs.Prelude.{ℕ, ◌+◌, max, Bool, ◌&&◌, not, eqb, cond, false, List, [], ◌∷◌, Option, Some, None}
 use Rattle.ep_base.specs.Interference.{interfere}
 use Rattle.ep_base.specs.declared.attrs.Attrs.{Attrs}
-use Rattle.ep_base.specs.declared.command.Command.{Command}
+use Rattle.ep_base.specs.Commands.{Command}
 use Rattle.ep_base.specs.declared.vote.Vote.{Vote}
 use Rattle.ep_rows.specs.Maps.{Map, entries}
 use Rattle.ep_rules.specs.declared.record.Record.{Record}

@@ -5,8 +5,7 @@ use Rattle.ep_base.specs.Interference.{interfere}
 use Rattle.ep_base.specs.Places.{place, Has}
 use Rattle.ep_base.specs.Quorums.{size}
 use Rattle.ep_base.specs.Sameness.{is_noop}
-use Rattle.ep_base.specs.declared.command.Command.{Command}
-use Rattle.ep_base.specs.declared.command.Command.TheVariants.{Seal}
+use Rattle.ep_base.specs.Commands.{Command, Seal}
 use Rattle.ep_rules.specs.Closing.{up_to_seal, HasClosed, RunsExecuteAll}
 use Rattle.ep_rules.specs.History.{nothing, done_after, merged}
 use Rattle.ep_rules.specs.Linearizable.{IsLinearizable}

@@ -5,7 +5,7 @@ use Rattle.std.specs.List.{filter}
 use Rattle.ep_base.specs.Interference.{interfere}
 use Rattle.ep_base.specs.Places.{place, Has}
 use Rattle.ep_base.specs.Sameness.{is_noop}
-use Rattle.ep_base.specs.declared.command.Command.{Command}
+use Rattle.ep_base.specs.Commands.{Command}
 use Rattle.ep_rules.specs.Graph.{Graph}
 use Rattle.ep_rules.specs.History.{Execution, Done, nothing, with_done, done_after, of, merged, AreDependent}
 use Rattle.ep_rules.specs.Machines.{AreFree, Machine, after_operations, reply_to, ArePlanned, OneMachine, OneState}

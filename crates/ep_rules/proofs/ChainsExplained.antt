@@ -6,7 +6,7 @@ use Rattle.ep_base.specs.Interference.{is_seal}
 use Rattle.ep_base.specs.Places.{place, Has}
 use Rattle.ep_base.specs.Quorums.{size}
 use Rattle.ep_base.specs.Sameness.{is_noop}
-use Rattle.ep_base.specs.declared.command.Command.{Command}
+use Rattle.ep_base.specs.Commands.{Command}
 use Rattle.ep_base.specs.declared.reply.Answer.{Answer}
 use Rattle.ep_rules.specs.Chains.{store_left, history_from, SameHistory, JournalsClose, IsChain, histories, Explains, ChainsExplain, ClocksGoOn, ChainsKeepCallers}
 use Rattle.ep_rules.specs.Closing.{has_seal, up_to_seal, first_seal, written_by}

@@ -5,7 +5,7 @@ use Rattle.std.specs.Prelude.{◌&&◌, ◌||◌, not}
 use Rattle.ep_base.specs.Interference.{is_seal, meet}
 use Rattle.ep_base.specs.Places.{Has}
 use Rattle.ep_base.specs.Sameness.{is_noop}
-use Rattle.ep_base.specs.declared.command.Command.{Command}
+use Rattle.ep_base.specs.Commands.{Command}
 use Rattle.ep_rules.specs.Closing.{has_seal, up_to_seal}
 use Rattle.ep_rules.specs.History.{nothing, done_after}
 use Rattle.ep_rules.specs.Machines.{AreFree, Machine, after_operations, reply_to, executed_at, executed_in, RunsCloseMachines, JournalsOneMachine}

@@ -5,7 +5,7 @@ use Rattle.std.specs.Prelude.{is_none}
 use Rattle.ep_base.specs.Interference.{is_seal}
 use Rattle.ep_base.specs.Quorums.{size}
 use Rattle.ep_base.specs.Sameness.{is_noop}
-use Rattle.ep_base.specs.declared.command.Command.{Command}
+use Rattle.ep_base.specs.Commands.{Command}
 use Rattle.ep_base.specs.declared.decree.Decree.{Decree}
 use Rattle.ep_rules.specs.Closing.{has_seal, up_to_seal, first_seal, written_by, SealCloses, store_of, HasClosed, ClosedStays, RunsClose, RunsCloseAlike}
 use Rattle.ep_rules.specs.History.{nothing, done_after, merged, OneClosing}

@@ -5,8 +5,7 @@ use Rattle.std.specs.List.{filter}
 use Rattle.ep_base.specs.Interference.{is_seal}
 use Rattle.ep_base.specs.Places.{place, Has}
 use Rattle.ep_base.specs.Sameness.{is_noop}
-use Rattle.ep_base.specs.declared.command.Command.{Command}
-use Rattle.ep_base.specs.declared.command.Command.TheVariants.{Noop, Get, Put, Del, Swap, Cas, Seal, Opaque}
+use Rattle.ep_base.specs.Commands.{Command, Noop, Get, Put, Del, Swap, Cas, Seal, Opaque}
 use Rattle.ep_base.specs.declared.reply.Reply.TheVariants.{Absent, Closed}
 use Rattle.ep_rules.specs.Closing.{has_seal, up_to_seal, written_by, read_by}
 use Rattle.ep_rules.specs.History.{is_new}

@@ -6,7 +6,7 @@ use Rattle.ep_base.specs.Places.{Has}
 use Rattle.ep_rules.specs.Graph.{Graph}
 use Rattle.ep_rules.proofs.Places.{has_or, has_left, has_right, has_split, filter_has}
 use Rattle.ep_rules.specs.History.{Execution, Done, nothing, with_done, done_after, Agrees, is_new, merged}
-use Rattle.ep_base.specs.declared.command.Command.{Command}
+use Rattle.ep_base.specs.Commands.{Command}
 use Rattle.ep_rules.specs.Order.{IsPlan}
 use Rattle.ep_rules.specs.OneMap.{after_all, answers_of, Store}
 use Rattle.ep_rules.proofs.Wells.{Well, well_nil, well_plan, well_merge, same_news, new_yes}

@@ -4,7 +4,7 @@ use Rattle.std.proofs.lemmas.Bool.{or_cases, or_left, or_right, and_parts, and_f
 use Rattle.ep_base.specs.Ballots.{owner_of}
 use Rattle.ep_base.specs.Quorums.{size, is_fast}
 use Rattle.ep_base.specs.Sameness.{is_noop}
-use Rattle.ep_base.specs.declared.command.Command.{Command}
+use Rattle.ep_base.specs.Commands.{Command}
 use Rattle.ep_base.specs.declared.decree.Decree.{Decree}
 use Rattle.ep_rules.proofs.Facts.{Free, Seen, Backed, Quiet, History, Safe, IsValid, HistoryOk, Advance}
 use Rattle.ep_rules.proofs.Stable.{safe_kept, valid_kept, free_kept, quiet_kept, backed_kept, seen_kept, none_before}

@@ -6,7 +6,7 @@ use Rattle.ep_base.specs.Places.{Has}
 use Rattle.ep_rules.specs.Graph.{Graph}
 use Rattle.ep_rules.proofs.Places.{has_or, has_left, has_right, has_split, Once, has_tail, place_head}
 use Rattle.ep_rules.specs.History.{Execution, Done, nothing, with_done, done_after, merged, is_new, of, IsLocal, IsWhole, OneOrder, OneReply, Components, OneHistory}
-use Rattle.ep_base.specs.declared.command.Command.{Command}
+use Rattle.ep_base.specs.Commands.{Command}
 use Rattle.ep_rules.proofs.Wells.{well_plan, same_order, linked, well_ordered}
 use Rattle.ep_rules.proofs.Replies.{one_reply}
 use Rattle.ep_rules.proofs.Executions.{AreExecuted, AreAnswered, AllWell, all_well, all_well_next, start}

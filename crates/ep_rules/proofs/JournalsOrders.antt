@@ -2,8 +2,7 @@
 use Rattle.std.proofs.Common.{◌≡◌, ◌<◌, true, false, cond, [], refl, sym, ap, subst, ◌∙◌}
 use Rattle.ep_base.specs.Interference.{interfere}
 use Rattle.ep_base.specs.Sameness.{is_noop}
-use Rattle.ep_base.specs.declared.command.Command.{Command}
-use Rattle.ep_base.specs.declared.command.Command.TheVariants.{Noop, Get, Put, Del, Swap, Cas, Seal, Opaque}
+use Rattle.ep_base.specs.Commands.{Command, Noop, Get, Put, Del, Swap, Cas, Seal, Opaque}
 use Rattle.ep_base.specs.Places.{place, Has}
 use Rattle.ep_rules.specs.History.{nothing, done_after, merged}
 use Rattle.ep_base.proofs.Interfering.{Decides-interfere, Interferes-symmetric, Interferes-noop}

@@ -5,7 +5,7 @@ use Rattle.ep_base.specs.Interference.{interfere}
 use Rattle.ep_base.specs.Quorums.{size}
 use Rattle.ep_base.specs.Sameness.{is_noop}
 use Rattle.ep_base.specs.declared.attrs.Attrs.{Attrs}
-use Rattle.ep_base.specs.declared.command.Command.{Command}
+use Rattle.ep_base.specs.Commands.{Command}
 use Rattle.ep_base.specs.declared.reply.Answer.{Answer}
 use Rattle.ep_base.specs.Places.{Has}
 use Rattle.ep_rules.specs.History

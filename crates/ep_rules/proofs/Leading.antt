@@ -8,7 +8,7 @@ use Rattle.ep_base.specs.Instances.{leader_of}
 use Rattle.ep_base.specs.Quorums.{size, spared, is_fast}
 use Rattle.ep_base.specs.Sameness.{is_noop}
 use Rattle.ep_base.specs.declared.attrs.Attrs.{Attrs}
-use Rattle.ep_base.specs.declared.command.Command.{Command}
+use Rattle.ep_base.specs.Commands.{Command}
 use Rattle.ep_base.specs.declared.decree.Decree.{Decree}
 use Rattle.ep_base.specs.declared.message.Message.TheVariants.{PreAcceptOk, Accept, Commit}
 use Rattle.ep_base.specs.declared.vote.Status.TheVariants.{PreAccepted, Accepted}

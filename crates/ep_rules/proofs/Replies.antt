@@ -1,8 +1,7 @@
 -- The replies of the map in two lists that order interfering commands alike: the map is a machine whose commands, where they don't interfere, commute.
 use Rattle.std.proofs.Common.{◌≡◌, ℕ, List, [], ◌∷◌, take, Bool, false, sym, ap, ◌∙◌, refl}
 use Rattle.std.specs.List.{filter}
-use Rattle.ep_base.specs.declared.command.Command.{Command}
-use Rattle.ep_base.specs.declared.command.Command.TheVariants.{Noop}
+use Rattle.ep_base.specs.Commands.{Command, Noop}
 use Rattle.ep_base.specs.declared.reply.Reply.{Reply}
 use Rattle.ep_base.specs.Interference.{interfere}
 use Rattle.ep_base.specs.Places.{place, Has}

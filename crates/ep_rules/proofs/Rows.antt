@@ -3,8 +3,7 @@ use Rattle.std.proofs.Common.{◌≡◌, ℕ, [], ◌∷◌, Option, Some, None,
 use Rattle.ep_base.specs.Ballots.{ballot_of}
 use Rattle.ep_base.specs.Instances.{instance_of}
 use Rattle.ep_base.specs.declared.attrs.Attrs.{Attrs}
-use Rattle.ep_base.specs.declared.command.Command.{Command}
-use Rattle.ep_base.specs.declared.command.Command.TheVariants.{Put}
+use Rattle.ep_base.specs.Commands.{Command, Put}
 use Rattle.ep_base.specs.declared.decree.Decree.{Decree}
 use Rattle.ep_base.specs.declared.message.Message.TheVariants.{PreAcceptOk, Accept, Commit, Nack}
 use Rattle.ep_base.specs.declared.vote.Status.{Status}

@@ -6,7 +6,7 @@ use Rattle.ep_base.specs.Interference.{interfere}
 use Rattle.ep_base.specs.Places.{Has}
 use Rattle.ep_base.specs.Quorums.{size}
 use Rattle.ep_base.specs.declared.attrs.Attrs.{Attrs}
-use Rattle.ep_base.specs.declared.command.Command.{Command}
+use Rattle.ep_base.specs.Commands.{Command}
 use Rattle.ep_base.specs.declared.decree.Decree.{Decree}
 use Rattle.ep_rules.specs.Cells.{committed_decree, record_or_fresh}
 use Rattle.ep_rules.specs.Graph.{Graph}

@@ -5,7 +5,7 @@ use Rattle.std.proofs.lemmas.List.Elements.{filter-append}
 use Rattle.std.specs.List.{filter}
 use Rattle.ep_base.specs.Places.{place, Has}
 use Rattle.ep_base.specs.Sameness.{is_noop}
-use Rattle.ep_base.specs.declared.command.Command.{Command}
+use Rattle.ep_base.specs.Commands.{Command}
 use Rattle.ep_base.specs.declared.decree.Decree.{Decree}
 use Rattle.ep_rules.specs.History.{is_new, merged}
 use Rattle.ep_rules.specs.Linearizable.{HistoryGrows}

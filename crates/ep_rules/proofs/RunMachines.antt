@@ -5,7 +5,7 @@ use Rattle.std.specs.List.{filter}
 use Rattle.ep_base.specs.Places.{Has}
 use Rattle.ep_base.specs.Quorums.{size}
 use Rattle.ep_base.specs.Sameness.{is_noop}
-use Rattle.ep_base.specs.declared.command.Command.{Command}
+use Rattle.ep_base.specs.Commands.{Command}
 use Rattle.ep_rules.specs.Graph.{Graph}
 use Rattle.ep_rules.specs.History.{Execution, nothing, done_after, of, merged, IsLocal}
 use Rattle.ep_rules.specs.Machines.{Machine, after_operations, reply_to, ArePlanned, ArePlans, executed_at, HandedStays, RunsOneMachine, RunsOneState}

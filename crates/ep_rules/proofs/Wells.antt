@@ -10,7 +10,7 @@ use Rattle.ep_rules.specs.Graph.Reaches.{itself, onward}
 use Rattle.ep_rules.specs.Order.{seq_at, Ranks, Rises, Together, IsReady, IsNext, InBlocks, IsComplete, IsPlan}
 use Rattle.ep_rules.proofs.Reaching.{reach_trans}
 use Rattle.ep_rules.proofs.Places.{place_cons, place_head, place_le, has_or, not_has, place_inj, place-append_in, place-append_out, has_left, has_right, has_split, has_tail, Once, once-append, once_filter, has_filter, filter_has, filter_forth, filter_back, filter_none}
-use Rattle.ep_base.specs.declared.command.Command.{Command}
+use Rattle.ep_base.specs.Commands.{Command}
 use Rattle.ep_base.specs.Interference.{interfere}
 use Rattle.ep_rules.specs.History.{Agrees, is_new, AreDependent, DependsOn}
 use Rattle.ep_rules.proofs.Turns.{IsOrdered}

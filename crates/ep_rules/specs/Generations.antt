@@ -4,7 +4,7 @@ use Rattle.ep_base.specs.Instances.{instance_of, leader_of}
 use Rattle.ep_base.specs.Interference.{interfere}
 use Rattle.ep_base.specs.Places.{place, Has}
 use Rattle.ep_base.specs.Quorums.{size}
-use Rattle.ep_base.specs.declared.command.Command.{Command}
+use Rattle.ep_base.specs.Commands.{Command}
 use Rattle.ep_base.specs.declared.reply.Answer.{Answer}
 use Rattle.ep_base.specs.declared.reply.Answer.TheVariants.{Lost, Told}
 use Rattle.ep_base.specs.declared.reply.Reply.{Reply}

@@ -4,7 +4,7 @@ use Rattle.ep_base.specs.Interference.{interfere, keys_of, has_key, only_reads}
 use Rattle.ep_base.specs.Places.{Has}
 use Rattle.ep_base.specs.Quorums.{size}
 use Rattle.ep_base.specs.Sameness.{is_noop}
-use Rattle.ep_base.specs.declared.command.Command.{Command}
+use Rattle.ep_base.specs.Commands.{Command}
 use Rattle.ep_base.specs.declared.reply.Reply.{Reply}
 use Rattle.ep_rules.specs.Closing.{has_seal, up_to_seal}
 use Rattle.ep_rules.specs.Graph.{Graph}

@@ -1,7 +1,7 @@
 -- The history that acts make: the operations that they execute, in order.
 use Rattle.std.specs.Prelude.{ℕ, cond, List, [], ◌∷◌, ◌++◌, filter}
 use Rattle.ep_base.specs.Sameness.{is_noop}
-use Rattle.ep_base.specs.declared.command.Command.{Command}
+use Rattle.ep_base.specs.Commands.{Command}
 use Rattle.ep_rules.specs.History.{is_new}
 use Rattle.ep_rules.specs.States.{command_in}
 use Rattle.ep_rules.specs.Steps.{order_of}

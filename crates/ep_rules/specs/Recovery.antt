@@ -5,8 +5,7 @@ use Rattle.ep_base.specs.Instances.{leader_of}
 use Rattle.ep_base.specs.Quorums.{size}
 use Rattle.ep_base.specs.Sameness.{same_decree}
 use Rattle.ep_base.specs.declared.attrs.Attrs.{Attrs}
-use Rattle.ep_base.specs.declared.command.Command.{Command}
-use Rattle.ep_base.specs.declared.command.Command.TheVariants.{Noop}
+use Rattle.ep_base.specs.Commands.{Command, Noop}
 use Rattle.ep_base.specs.declared.decree.Decree.{Decree}
 use Rattle.ep_base.specs.declared.message.Message.TheVariants.{Prepare, PrepareOk, Nack}
 use Rattle.ep_base.specs.declared.vote.Vote.{Vote}

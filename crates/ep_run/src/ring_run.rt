@@ -130,7 +130,7 @@ fn turned<R: Threads + Sync>(rt: &R, nodes: Vec<RingNode>, turns: u32) -> Vec<Ri
 
 impl RingRun {
     ghost use Rattle.std.specs.Prelude.{◌≡◌, ◌++◌, ◌∷◌, [], ◌≤◌, ◌<◌, length, ℕ, List, All, IfOk, OnOk, IsOk};
-    ghost use Rattle.ep_base.specs.declared.version.Version.TheVariants.{V2};
+    ghost use Rattle.ep_base.specs.declared.version_kind.VersionKind.TheVariants.{V2};
     ghost use Rattle.ep_host.specs.Finishing.{IsFinished};
     ghost use Rattle.ep_script.specs.Fits.{FitsSection};
     ghost use Rattle.ep_script.specs.Plan.{SectionPlan};

@@ -6,8 +6,7 @@ use Rattle.std.specs.Option.{option_map_or}
 use Rattle.ep_base.specs.Attributes.{same_list}
 use Rattle.ep_base.specs.Instances.{instance_of, highest_number}
 use Rattle.ep_base.specs.TwoKeys.{TwoKeys}
-use Rattle.ep_base.specs.declared.command.Command.{Command}
-use Rattle.ep_base.specs.declared.command.Command.TheVariants.{Get, Put, Del, Swap}
+use Rattle.ep_base.specs.Commands.{Command, Get, Put, Del, Swap}
 use Rattle.ep_script.specs.Word.{bytes_of}
 use Rattle.ep_script.specs.Parts.{number_of}
 use Rattle.ep_script.specs.declared.agenda_line.AgendaLine.{AgendaLine}

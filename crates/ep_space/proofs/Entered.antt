@@ -1,6 +1,7 @@
 -- What a change of one entry of an index says of its runs.
 use Rattle.std.proofs.Common.{◌≡◌, ◌≤◌, eqb, ℕ, suc, ◌+◌, length, drop, arith, Bool, true, false, true≢false, cond, Some, List, [], ◌∷◌, refl, sym, ap, ◌∙◌}
 use Rattle.std.proofs.Math.Seq.{drop-cons}
+use Rattle.std.proofs.lemmas.Bool.{eqb-true}
 use Rattle.std.proofs.lemmas.Option.{slice_get_within, get_or_from_slice_get}
 use Rattle.std.specs.Cmp.Lexicographic.{nat_list_eq_equiv}
 use Rattle.std.specs.Prelude.{Vec, is_some, slice_get}
@@ -99,6 +100,14 @@ key_apart (b ∷ bs) some = refl
 pub run-of_some : (x : Index) (k : List ℕ) → false ≡ eqb (length k) 0 → run x k ≡ run_in x.runs.entries k
 run-of_some x [] e = absurd (true≢false (sym e))
 run-of_some x (b ∷ bs) e = refl
+
+pub some_of : (k : List ℕ) → false ≡ eqb (length k) 0 → 1 ≤ length k
+some_of [] e = absurd (true≢false (sym e))
+some_of (b ∷ bs) e = omega arith
+
+pub empty_of : (k : List ℕ) → true ≡ eqb (length k) 0 → k ≡ []
+empty_of [] e = refl
+empty_of (b ∷ bs) e = absurd (let is = eqb-true (suc (length bs)) 0 (sym e) in omega arith)
 
 -- a change of the run of a key leaves that of seals
 pub run-of_key : (f : List ℕ → List ℕ) (x y : Index) (key : List ℕ) → 1 ≤ length key → y.seals ≡ x.seals → Changes f x.runs.entries key y.runs.entries

@@ -14,8 +14,7 @@ use Rattle.ep_base.specs.Deps.{IsRising, union}
 use Rattle.ep_base.specs.Interference.{keys_of, has_key, share_key, only_reads, is_seal, meet, part, interfere}
 use Rattle.ep_base.specs.Places.{Has}
 use Rattle.ep_base.specs.Sameness.{is_noop}
-use Rattle.ep_base.specs.declared.command.Command.{Command}
-use Rattle.ep_base.specs.declared.command.Command.TheVariants.{Noop, Get, Put, Del, Swap, Cas, Seal, Opaque}
+use Rattle.ep_base.specs.Commands.{Command, Noop, Get, Put, Del, Swap, Cas, Seal, Opaque}
 use Rattle.ep_base.specs.declared.vote.Vote.{Vote}
 use Rattle.ep_rules.specs.InterferenceSet.{touches, votes_against, those, greatest_seq, seq_of, instances, interference}
 use Rattle.ep_rules.specs.Maps.{Map, get, entries}

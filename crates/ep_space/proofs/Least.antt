@@ -3,7 +3,7 @@ use Rattle.std.proofs.Common.{◌≡◌, ℕ, suc, zero, ◌<◌, ◌≤◌, ◌
 use Rattle.ep_base.specs.Instances.{highest_number}
 use Rattle.ep_base.specs.Versions.{highest_in}
 use Rattle.ep_base.specs.declared.version.Version.{Version}
-use Rattle.ep_base.specs.declared.version.Version.TheVariants.{V1, V2}
+use Rattle.ep_base.specs.declared.version_kind.VersionKind.TheVariants.{V1, V2}
 use Rattle.ep_rules.specs.Counting.{least, or_this}
 use Rattle.ep_rules.specs.Maps.{Map}
 use Rattle.ep_rules.specs.States.{is_free, free_number}

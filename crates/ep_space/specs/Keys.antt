@@ -2,8 +2,7 @@
 use Rattle.std.specs.Prelude.{◌≡◌, ℕ, Bool, true, List, [], ◌∷◌, Option, Some, None, false}
 use Rattle.std.specs.List.{AllByRecursion}
 use Rattle.ep_base.specs.Interference.{has_key, share_key, keys_in, keys_of, is_seal}
-use Rattle.ep_base.specs.declared.command.Command.{Command}
-use Rattle.ep_base.specs.declared.command.Command.TheVariants.{Noop, Get, Put, Del, Swap, Cas, Seal, Opaque}
+use Rattle.ep_base.specs.Commands.{Command, Noop, Get, Put, Del, Swap, Cas, Seal, Opaque}
 use Rattle.ep_base.specs.declared.vote.Vote.{Vote}
 use Rattle.ep_rules.specs.InterferenceSet.{those, instances}
 use Rattle.ep_rules.specs.Maps.{Map, get, entries}

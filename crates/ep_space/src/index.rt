@@ -5,12 +5,14 @@ ghost use Rattle.std.specs.Map.{lookup};
 ghost use Rattle.ep_base.specs.Attributes.{same_list};
 ghost use Rattle.ep_base.specs.Deps.{IsRising};
 ghost use Rattle.ep_base.specs.Interference.{has_key, keys_in, listed};
+ghost use Rattle.ep_base.specs.Parts.{IsSecond};
+ghost use Rattle.ep_base.specs.Views.{touched};
 ghost use Rattle.std.specs.Option.{option_copied};
 ghost use Rattle.ep_base.specs.Places.{Has};
 ghost use Rattle.ep_space.specs.Index.{is_at, run, run_in, count_below, with_instance, without, brings, StandsUnder};
 ghost use Rattle.ep_space.specs.Keys.{index_keys, voted_keys, recorded_keys, NeedsNoRoom};
 
-use ep_base::{Command, Footprint, InstanceId, Key};
+use ep_base::{Command, CommandView, InstanceId, Touching};
 use ep_rules::Record;
 use indexmap::IndexMap;
 use std::alloc::{AllocError, Global};
@@ -142,13 +144,15 @@ fn enter_command(
     ensures err { OnErr result ((k : List ℕ) → run index.new k ≡ run index.old k) }
     ensures succeeds { NeedsNoRoom (recorded_keys (option_copied there.entry)) (index_keys command.now) → IsOk result }
 {
-    match command {
-        Command::Noop => Ok(()),
-        Command::Get(key) | Command::Put(key, _) | Command::Del(key) | Command::Cas { key, .. } =>
-            enter_one(index, id, there, key),
-        Command::Swap(keys) => enter_two(index, id, there, keys.first(), keys.second()),
-        Command::Seal(_) => enter_seal(index, id, there),
-        Command::Opaque(own, _) => enter_touched(index, id, there, own),
+    match command.view() {
+        CommandView::Noop => Ok(()),
+        CommandView::Get(key)
+        | CommandView::Put(key, _)
+        | CommandView::Del(key)
+        | CommandView::Cas(key, _, _) => enter_one(index, id, there, key),
+        CommandView::Swap(first, second) => enter_two(index, id, there, first, second),
+        CommandView::Seal(_) => enter_seal(index, id, there),
+        CommandView::Opaque(own, _) => enter_touched(index, id, there, &own),
     }
 }
 
@@ -156,7 +160,7 @@ fn enter_one(
     index: &mut Index,
     id: InstanceId,
     there: Option<&Record>,
-    key: &Key,
+    key: &[u8],
 ) -> Result<(), AllocError>
     requires { StandsUnder id (recorded_keys (option_copied there)) index.old }
     ensures ok { OnOk result ((k : List ℕ) → run index.new k ≡ cond (brings (recorded_keys (option_copied there.entry)) (key.now ∷ []) k) (with_instance id (run index.old k)) (run index.old k)) }
@@ -181,16 +185,17 @@ fn enter_touched(
     index: &mut Index,
     id: InstanceId,
     there: Option<&Record>,
-    own: &Footprint,
+    own: &Touching<'_>,
 ) -> Result<(), AllocError>
-    requires { StandsUnder id (recorded_keys (option_copied there)) index.old }
-    ensures ok { OnOk result ((k : List ℕ) → run index.new k ≡ cond (brings (recorded_keys (option_copied there.entry)) (keys_in own.now) k) (with_instance id (run index.old k)) (run index.old k)) }
+    requires second { IsSecond own.now.first.now (option_copied own.now.second) }
+    requires stands { StandsUnder id (recorded_keys (option_copied there)) index.old }
+    ensures ok { OnOk result ((k : List ℕ) → run index.new k ≡ cond (brings (recorded_keys (option_copied there.entry)) (keys_in (touched own.now)) k) (with_instance id (run index.old k)) (run index.old k)) }
     ensures err { OnErr result ((k : List ℕ) → run index.new k ≡ run index.old k) }
-    ensures succeeds { NeedsNoRoom (recorded_keys (option_copied there.entry)) (keys_in own.now) → IsOk result }
+    ensures succeeds { NeedsNoRoom (recorded_keys (option_copied there.entry)) (keys_in (touched own.now)) → IsOk result }
 {
-    match own.second() {
-        None => enter_one(index, id, there, own.first()),
-        Some(second) => enter_two(index, id, there, own.first(), second),
+    match own.second {
+        None => enter_one(index, id, there, own.first),
+        Some(second) => enter_two(index, id, there, own.first, second),
     }
 }
 
@@ -199,8 +204,8 @@ fn enter_two(
     index: &mut Index,
     id: InstanceId,
     there: Option<&Record>,
-    first: &Key,
-    second: &Key,
+    first: &[u8],
+    second: &[u8],
 ) -> Result<(), AllocError>
     requires stands { StandsUnder id (recorded_keys (option_copied there)) index.old }
     requires apart { first.now ≢ second.now }
@@ -253,17 +258,19 @@ fn leave_command(index: &mut Index, id: InstanceId, command: &Command, value: &O
     requires there { (k : List ℕ) → has_key k (index_keys command.now) ≡ true → Has (run index.old k) id }
     ensures { (k : List ℕ) → run index.new k ≡ cond (brings (recorded_keys value.now) (index_keys command.now) k) (without id (run index.old k)) (run index.old k) }
 {
-    match command {
-        Command::Noop => (),
-        Command::Get(key) | Command::Put(key, _) | Command::Del(key) | Command::Cas { key, .. } =>
-            leave_one(index, id, key, value),
-        Command::Swap(keys) => leave_two(index, id, keys.first(), keys.second(), value),
-        Command::Seal(_) => leave_seal(index, id, value),
-        Command::Opaque(own, _) => leave_touched(index, id, own, value),
+    match command.view() {
+        CommandView::Noop => (),
+        CommandView::Get(key)
+        | CommandView::Put(key, _)
+        | CommandView::Del(key)
+        | CommandView::Cas(key, _, _) => leave_one(index, id, key, value),
+        CommandView::Swap(first, second) => leave_two(index, id, first, second, value),
+        CommandView::Seal(_) => leave_seal(index, id, value),
+        CommandView::Opaque(own, _) => leave_touched(index, id, &own, value),
     }
 }
 
-fn leave_one(index: &mut Index, id: InstanceId, key: &Key, value: &Option<Record>)
+fn leave_one(index: &mut Index, id: InstanceId, key: &[u8], value: &Option<Record>)
     requires rising { IsRising (run index.old key.now) }
     requires there { Has (run index.old key.now) id }
     ensures { (k : List ℕ) → run index.new k ≡ cond (brings (recorded_keys value.now) (key.now ∷ []) k) (without id (run index.old k)) (run index.old k) }
@@ -281,18 +288,19 @@ fn leave_seal(index: &mut Index, id: InstanceId, value: &Option<Record>)
     remove_seal_unless(index, stays, id)
 }
 
-fn leave_touched(index: &mut Index, id: InstanceId, own: &Footprint, value: &Option<Record>)
+fn leave_touched(index: &mut Index, id: InstanceId, own: &Touching<'_>, value: &Option<Record>)
+    requires second { IsSecond own.now.first.now (option_copied own.now.second) }
     requires rising { (k : List ℕ) → IsRising (run index.old k) }
-    requires there { (k : List ℕ) → has_key k (keys_in own.now) ≡ true → Has (run index.old k) id }
-    ensures { (k : List ℕ) → run index.new k ≡ cond (brings (recorded_keys value.now) (keys_in own.now) k) (without id (run index.old k)) (run index.old k) }
+    requires there { (k : List ℕ) → has_key k (keys_in (touched own.now)) ≡ true → Has (run index.old k) id }
+    ensures { (k : List ℕ) → run index.new k ≡ cond (brings (recorded_keys value.now) (keys_in (touched own.now)) k) (without id (run index.old k)) (run index.old k) }
 {
-    match own.second() {
-        None => leave_one(index, id, own.first(), value),
-        Some(second) => leave_two(index, id, own.first(), second, value),
+    match own.second {
+        None => leave_one(index, id, own.first, value),
+        Some(second) => leave_two(index, id, own.first, second, value),
     }
 }
 
-fn leave_two(index: &mut Index, id: InstanceId, first: &Key, second: &Key, value: &Option<Record>)
+fn leave_two(index: &mut Index, id: InstanceId, first: &[u8], second: &[u8], value: &Option<Record>)
     requires apart { first.now ≢ second.now }
     requires rising { (k : List ℕ) → IsRising (run index.old k) }
     requires there { (k : List ℕ) → has_key k (first.now ∷ second.now ∷ []) ≡ true → Has (run index.old k) id }
@@ -303,7 +311,7 @@ fn leave_two(index: &mut Index, id: InstanceId, first: &Key, second: &Key, value
 }
 
 // Puts the instance into the key's run, unless it stays there.
-fn add_unless(index: &mut Index, stays: bool, key: &Key, id: InstanceId) -> Result<(), AllocError>
+fn add_unless(index: &mut Index, stays: bool, key: &[u8], id: InstanceId) -> Result<(), AllocError>
     requires { IsRising (run index.old key.now) }
     ensures ok { OnOk result ((k : List ℕ) → run index.new k ≡ cond (same_list k key.now && not stays) (with_instance id (run index.old k)) (run index.old k)) }
     ensures err { OnErr result ((k : List ℕ) → run index.new k ≡ run index.old k) }
@@ -312,11 +320,11 @@ fn add_unless(index: &mut Index, stays: bool, key: &Key, id: InstanceId) -> Resu
     if stays {
         return Ok(());
     }
-    add(&mut index.runs, key.as_slice(), id)
+    add(index, key, id)
 }
 
 // Takes the instance out of the key's run, unless it stays there.
-fn remove_unless(index: &mut Index, stays: bool, key: &Key, id: InstanceId)
+fn remove_unless(index: &mut Index, stays: bool, key: &[u8], id: InstanceId)
     requires rising { IsRising (run index.old key.now) }
     requires there { stays ≡ false → Has (run index.old key.now) id }
     ensures { (k : List ℕ) → run index.new k ≡ cond (same_list k key.now && not stays) (without id (run index.old k)) (run index.old k) }
@@ -324,7 +332,7 @@ fn remove_unless(index: &mut Index, stays: bool, key: &Key, id: InstanceId)
     if stays {
         return;
     }
-    remove(&mut index.runs, key.as_slice(), id)
+    remove(index, key, id)
 }
 
 // The same of the run of seals.
@@ -351,7 +359,29 @@ fn remove_seal_unless(index: &mut Index, stays: bool, id: InstanceId)
     take(&mut index.seals, id)
 }
 
-fn add(runs: &mut Runs, key: &[u8], id: InstanceId) -> Result<(), AllocError>
+fn add(index: &mut Index, key: &[u8], id: InstanceId) -> Result<(), AllocError>
+    requires { IsRising (run index.old key.now) }
+    ensures ok { OnOk result ((k : List ℕ) → run index.new k ≡ cond (same_list k key.now) (with_instance id (run index.old k)) (run index.old k)) }
+    ensures err { OnErr result ((k : List ℕ) → run index.new k ≡ run index.old k) }
+{
+    if key.is_empty() {
+        return insert(&mut index.seals, id);
+    }
+    add_under(&mut index.runs, key, id)
+}
+
+fn remove(index: &mut Index, key: &[u8], id: InstanceId)
+    requires rising { IsRising (run index.old key.now) }
+    requires there { Has (run index.old key.now) id }
+    ensures { (k : List ℕ) → run index.new k ≡ cond (same_list k key.now) (without id (run index.old k)) (run index.old k) }
+{
+    if key.is_empty() {
+        return take(&mut index.seals, id);
+    }
+    remove_under(&mut index.runs, key, id)
+}
+
+fn add_under(runs: &mut Runs, key: &[u8], id: InstanceId) -> Result<(), AllocError>
     requires { IsRising (run_in runs.old.entries key.now) }
     ensures ok { OnOk result ((k : List ℕ) → run_in runs.new.entries k ≡ cond (same_list k key.now) (with_instance id (run_in runs.old.entries k)) (run_in runs.old.entries k)) }
     ensures err { OnErr result ((k : List ℕ) → run_in runs.new.entries k ≡ run_in runs.old.entries k) }
@@ -377,7 +407,7 @@ fn add_run(runs: &mut Runs, key: &[u8], id: InstanceId) -> Result<(), AllocError
     }
 }
 
-fn remove(runs: &mut Runs, key: &[u8], id: InstanceId)
+fn remove_under(runs: &mut Runs, key: &[u8], id: InstanceId)
     requires rising { IsRising (run_in runs.old.entries key.now) }
     requires there { Has (run_in runs.old.entries key.now) id }
     ensures { (k : List ℕ) → run_in runs.new.entries k ≡ cond (same_list k key.now) (without id (run_in runs.old.entries k)) (run_in runs.old.entries k) }
@@ -440,7 +470,7 @@ fn position(run: &[InstanceId], id: InstanceId) -> usize
 }
 
 // Whether the command of what is there has the key.
-fn is_named(there: Option<&Record>, key: &Key) -> bool
+fn is_named(there: Option<&Record>, key: &[u8]) -> bool
     ensures { result ≡ has_key key.now (recorded_keys (option_copied there.entry)) }
 {
     match there {
@@ -450,7 +480,7 @@ fn is_named(there: Option<&Record>, key: &Key) -> bool
 }
 
 // Whether the command of what is recorded has the key.
-fn names(value: &Option<Record>, key: &Key) -> bool
+fn names(value: &Option<Record>, key: &[u8]) -> bool
     ensures { result ≡ has_key key.now (recorded_keys value.now) }
 {
     match value {
@@ -460,10 +490,10 @@ fn names(value: &Option<Record>, key: &Key) -> bool
 }
 
 // Whether the record's command has the key.
-fn record_names(written: &Record, key: &Key) -> bool
+fn record_names(written: &Record, key: &[u8]) -> bool
     ensures { result ≡ has_key key.now (voted_keys written.now.vote) }
 {
-    stands_under(written, key.as_slice())
+    stands_under(written, key)
 }
 
 // Whether the command of what is there is a seal.
@@ -500,30 +530,30 @@ fn stands_under(written: &Record, key: &[u8]) -> bool
 fn is_under(command: &Command, key: &[u8]) -> bool
     ensures { result ≡ has_key key.now (index_keys command.now) }
 {
-    match command {
-        Command::Noop => false,
-        Command::Get(own)
-        | Command::Put(own, _)
-        | Command::Del(own)
-        | Command::Cas { key: own, .. } => key == own.as_slice(),
-        Command::Swap(own) => key == own.first().as_slice() || key == own.second().as_slice(),
-        Command::Seal(_) => key == [].as_slice(),
-        Command::Opaque(own, _) => is_touched(own, key),
+    match command.view() {
+        CommandView::Noop => false,
+        CommandView::Get(own)
+        | CommandView::Put(own, _)
+        | CommandView::Del(own)
+        | CommandView::Cas(own, _, _) => key == own,
+        CommandView::Swap(first, second) => key == first || key == second,
+        CommandView::Seal(_) => key == [].as_slice(),
+        CommandView::Opaque(own, _) => is_touched(&own, key),
     }
 }
 
-fn is_touched(own: &Footprint, key: &[u8]) -> bool
-    ensures { result ≡ has_key key.now (keys_in own.now) }
+fn is_touched(own: &Touching<'_>, key: &[u8]) -> bool
+    ensures { result ≡ has_key key.now (keys_in (touched own.now)) }
 {
-    key == own.first().as_slice() || is_listed(own.second(), key)
+    key == own.first || is_listed(own.second, key)
 }
 
 #[tactic(auto, using(crate::proofs::Bringing::or_false))]
-fn is_listed(own: Option<&Key>, key: &[u8]) -> bool
+fn is_listed(own: Option<&[u8]>, key: &[u8]) -> bool
     ensures { result ≡ has_key key.now (listed (option_copied own.entry)) }
 {
     match own {
         None => false,
-        Some(own) => key == own.as_slice(),
+        Some(own) => key == own,
     }
 }

@@ -1,7 +1,7 @@
 -- What journals say, as the code tells it.
 use Rattle.std.specs.Prelude.{◌≡◌, ℕ, List, [], ◌∷◌, ◌++◌, map}
 use Rattle.ep_base.specs.Places.{Has}
-use Rattle.ep_base.specs.declared.command.Command.{Command}
+use Rattle.ep_base.specs.Commands.{Command}
 use Rattle.ep_base.specs.declared.reply.Answer.{Answer}
 use Rattle.ep_base.specs.declared.reply.Reply.{Reply}
 use Rattle.ep_rules.specs.Journals.{Journals, Scheduled, IsSchedule}

@@ -3,7 +3,7 @@ use Rattle.std.specs.Prelude.{ℕ, zero, suc, Bool, true, false, ◌&&◌, cond,
 use Rattle.ep_base.specs.Deps.{union}
 use Rattle.ep_base.specs.Interference.{has_key, keys_of}
 use Rattle.ep_base.specs.Quorums.{size}
-use Rattle.ep_base.specs.declared.command.Command.{Command}
+use Rattle.ep_base.specs.Commands.{Command}
 use Rattle.ep_frame.specs.Meaning.{instance_at}
 use Rattle.ep_journal.specs.Entries.{Collected, entries_at}
 use Rattle.ep_journal.specs.declared.entry.Entry.{Entry}

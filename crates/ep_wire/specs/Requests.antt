@@ -2,7 +2,7 @@
 -- a request, which is malformed where kind or body is that of none; it is told by the first field at fault, in their order.
 use Rattle.std.specs.Prelude.{◌≡◌, ℕ, ◌+◌, ◌-◌, ◌*◌, ◌||◌, ◌&&◌, leb, Bool, true, false, cond, eqb, ltb, get_or, List, [], ◌∷◌, length, Option, Some, None, Result, Ok, Err, IsErr}
 use Rattle.ep_base.specs.Attributes.{same_list}
-use Rattle.ep_base.specs.declared.version.Version.TheVariants.{V2}
+use Rattle.ep_base.specs.declared.version_kind.VersionKind.TheVariants.{V2}
 use Rattle.ep_bundle.specs.Journals.{ended}
 use Rattle.ep_bundle.specs.Reading.{Left, Reading, and_then, run, number, field, map_ok}
 use Rattle.ep_bundle.specs.Stages.{instance, counted, command}

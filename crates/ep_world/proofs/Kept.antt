@@ -2,7 +2,7 @@
 use Rattle.std.proofs.Common.{◌≡◌, ℕ, zero, suc, ◌+◌, ◌<◌, ◌≤◌, Option, Some, None, List, [], ◌∷◌, ◌++◌, length, get_or, set, slice_get, refl, sym, ap, subst, ◌∙◌, arith, append-nil, append_assoc, Bor, IfSome, option_copied}
 use Rattle.ep_base.specs.Quorums.{size}
 use Rattle.ep_base.specs.declared.version.Version.{Version}
-use Rattle.ep_base.specs.declared.version.Version.TheVariants.{V2}
+use Rattle.ep_base.specs.declared.version_kind.VersionKind.TheVariants.{V2}
 use Rattle.ep_rules.specs.Journals.{AreClocked}
 use Rattle.ep_journal.specs.Entries.{Log, entries_of, IsJournal, AreInOrder, all_entries, Collected}
 use Rattle.ep_journal.specs.declared.entry.Entry.{Entry}

@@ -2,7 +2,7 @@
 
 ghost use Rattle.std.specs.Prelude.{◌≡◌, ◌<◌, ◌≤◌, ℕ, [], slice_get, slice_index_or, option_copied, IfOk};
 ghost use Rattle.ep_base.specs.Quorums.{size};
-ghost use Rattle.ep_base.specs.declared.version.Version.TheVariants.{V2};
+ghost use Rattle.ep_base.specs.declared.version_kind.VersionKind.TheVariants.{V2};
 ghost use Rattle.ep_frame.specs.Meaning.{origin_at};
 ghost use Rattle.ep_journal.specs.Entries.{IsJournal};
 ghost use Rattle.ep_world.specs.Played.{numbered, frame_of};

@@ -12,13 +12,13 @@ returns-in_err-other_name-clause-undo c =
     let same : contents_of c.note-2.new.table.entries ≡ m = c.note-2.ensures.contents ∙ c.note.ensures.contents in
     ap (λ xs. restored xs (contents_of c.note-2.new.table.entries)) c.in_err-other_name.ensures.err
     ∙ c.in_ok-name.ensures.undo (contents_of c.note-2.new.table.entries)
-    ∙ ap (restored us) (ap (λ x. with_key x c.as_slice-3.result.now (value_at m c.as_slice-3.result.now)) same ∙ with_key_own m c.as_slice-3.result.now)
+    ∙ ap (restored us) (ap (λ x. with_key x c.args.first.now (value_at m c.args.first.now)) same ∙ with_key_own m c.args.first.now)
 
 pub returns-clause-undo : goal.returns-clause-undo
 returns-clause-undo c =
     let n : Contents = contents_of c.note.new.table.entries in
-    let k : List ℕ = c.as_slice-3.result.now in
-    let l : List ℕ = c.as_slice-4.result.now in
+    let k : List ℕ = c.args.first.now in
+    let l : List ℕ = c.args.second.now in
     let o = c.in_ok-other.other in
     let p = c.in_ok-own.own in
     let both : contents_of c.put_both.new.table.entries ≡ with_key (with_key n k o) l p =

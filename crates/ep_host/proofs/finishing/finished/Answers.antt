@@ -1,7 +1,7 @@
 use Rattle.std.proofs.Common.{◌≡◌, ◌+◌, length, vec_len, ap, ◌∙◌, arith}
 use Rattle.std.proofs.lemmas.Result.{IfOk-weaker}
 use Rattle.ep_base.specs.Quorums.{size}
-use Rattle.ep_base.specs.declared.version.Version.TheVariants.{V2}
+use Rattle.ep_base.specs.declared.version_kind.VersionKind.TheVariants.{V2}
 use Rattle.ep_host.proofs.Seating.{counted, version_is}
 use Rattle.ep_host.proofs.finishing.finished.Goals as goal
 

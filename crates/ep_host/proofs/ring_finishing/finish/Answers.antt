@@ -1,6 +1,6 @@
 use Rattle.std.proofs.Common.{rules, ◌≡◌, ◌∙◌, List, All, ap, subst}
 use Rattle.std.proofs.lemmas.List.{with_items_is}
-use Rattle.ep_base.specs.declared.version.Version.TheVariants.{V2}
+use Rattle.ep_base.specs.declared.version_kind.VersionKind.TheVariants.{V2}
 use Rattle.ep_journal.specs.Entries.{AreInOrder, all_entries}
 use Rattle.ep_host.specs.Host.{Looked, Knows, AllSent, AllBegin, AllFrom}
 use Rattle.ep_host.specs.Node.{Node}

@@ -1,5 +1,5 @@
 use Rattle.std.proofs.Common.{◌≡◌, List, ℕ, ◌≤◌, length, sym, ap, subst, ◌∙◌}
-use Rattle.ep_base.specs.declared.version.Version.TheVariants.{V1, V2}
+use Rattle.ep_base.specs.declared.version_kind.VersionKind.TheVariants.{V1, V2}
 use Rattle.ep_frame.specs.Meaning.{version_at, sender_at, origin_at, message_at}
 use Rattle.ep_frame.proofs.Upgrading.{in_version_2, upgraded, long}
 use Rattle.ep_frame.proofs.frame.Frame.upgraded.Goals as goal

@@ -1,5 +1,0 @@
-use Rattle.ep_base.proofs.Interfering.{interference_law_holds}
-use Rattle.ep_base.proofs.command.interference_law.Goals as goal
-
-pub returns : goal.returns
-returns c = interference_law_holds

@@ -1,5 +1,0 @@
-use Rattle.ep_base.proofs.Partitions.{parts_law_lem}
-use Rattle.ep_base.proofs.parts.parts_law.Goals as goal
-
-pub returns : goal.returns
-returns c = parts_law_lem
