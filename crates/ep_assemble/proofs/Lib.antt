@@ -2,3 +2,4 @@ mod Appending
 mod Held
 mod InTurn
 mod Unread
+mod Early

@@ -16,30 +16,30 @@ use Rattle.ep_rules.proofs.Merged.{merged_is_a_run_lem}
 use Rattle.ep_verdict.specs.Verdicts.{IsVerdict}
 use Rattle.ep_verdict.specs.declared.verdict.Verdict.{Verdict}
 use Rattle.ep_audit.specs.Audited.{IsOneHistory, IsAudited}
-use Rattle.ep_rules.specs.OneMap.{opened, empty}
+use Rattle.ep_rules.specs.OneMap.{Store}
 
 -- what is committed after some entries is committed after all
-kept : (f : ℕ) (journal : Journals) (r i : ℕ) (x : Decree) (before rest : List Entry) → before ++ rest ≡ journal r → committed_in (left f r (fresh_state (opened empty)) before).records i ≡ Some x → committed_by (opened empty) f journal r i ≡ Some x
-kept f journal r i x before rest whole h = subst (λ (es : List Entry). committed_in (left f r (fresh_state (opened empty)) es).records i ≡ Some x) whole (journals_keep_lem (opened empty) f r before rest i x h)
+kept : (base : Store) (f : ℕ) (journal : Journals) (r i : ℕ) (x : Decree) (before rest : List Entry) → before ++ rest ≡ journal r → committed_in (left f r (fresh_state base) before).records i ≡ Some x → committed_by base f journal r i ≡ Some x
+kept base f journal r i x before rest whole h = subst (λ (es : List Entry). committed_in (left f r (fresh_state base) es).records i ≡ Some x) whole (journals_keep_lem base f r before rest i x h)
 
 -- the history of the schedule
-one_history : (f : ℕ) (journal : Journals) (receipts : List Receipt) (schedule : List Scheduled) → Merges (opened empty) f journal schedule → IsAccepted (opened empty) f journal receipts →
-    IsOneHistory f journal receipts schedule (history_of (command_at (opened empty) f journal) schedule)
-one_history f journal receipts schedule m a =
+one_history : (base : Store) (f : ℕ) (journal : Journals) (receipts : List Receipt) (schedule : List Scheduled) → Merges base f journal schedule → IsAccepted base f journal receipts →
+    IsOneHistory base f journal receipts schedule (history_of (command_at base f journal) schedule)
+one_history base f journal receipts schedule m a =
     record {
       scheduled = m.scheduled;
       history = refl;
-      run = merged_is_a_run_lem (opened empty) f journal schedule m.local m.matched m.scheduled;
-      agreement = journals_agree_lem (opened empty) f journal schedule m;
-      permanence = kept f journal;
-      validity = journals_propose_lem (opened empty) f journal schedule m;
-      dependency = journals_depend_lem (opened empty) f journal schedule m;
-      replies = each_reply_lem (opened empty) f journal schedule m;
-      order = journals_order_lem (opened empty) f journal schedule m;
-      callers = λ t u there here. caller_order_lem (opened empty) f journal schedule m t u (a.agree t there) (a.agree u here);
+      run = merged_is_a_run_lem base f journal schedule m.local m.matched m.scheduled;
+      agreement = journals_agree_lem base f journal schedule m;
+      permanence = kept base f journal;
+      validity = journals_propose_lem base f journal schedule m;
+      dependency = journals_depend_lem base f journal schedule m;
+      replies = each_reply_lem base f journal schedule m;
+      order = journals_order_lem base f journal schedule m;
+      callers = λ t u there here. caller_order_lem base f journal schedule m t u (a.agree t there) (a.agree u here);
     }
 
-pub audited : (f : ℕ) (journal : Journals) (receipts : List Receipt) (v : Verdict) → 1 ≤ f → f ≤ 3 → AreLocalRuns (opened empty) f journal → IsAccepted (opened empty) f journal receipts → IsVerdict f journal v → IsAudited f journal receipts v
-audited f journal receipts v some few local a is =
-    let m : Merges (opened empty) f journal is.order = record { some = omega arith; few = omega arith; local = local; matched = a.matched; scheduled = is.scheduled } in
-    record { accepted = a; verdict = is; history = subst (λ h. IsOneHistory f journal receipts is.order h) (sym is.history.instances) (one_history f journal receipts is.order m a) }
+pub audited : (base : Store) (f : ℕ) (journal : Journals) (receipts : List Receipt) (v : Verdict) → 1 ≤ f → f ≤ 3 → AreLocalRuns base f journal → IsAccepted base f journal receipts → IsVerdict base f journal v → IsAudited base f journal receipts v
+audited base f journal receipts v some few local a is =
+    let m : Merges base f journal is.order = record { some = omega arith; few = omega arith; local = local; matched = a.matched; scheduled = is.scheduled } in
+    record { accepted = a; verdict = is; history = subst (λ h. IsOneHistory base f journal receipts is.order h) (sym is.history.instances) (one_history base f journal receipts is.order m a) }

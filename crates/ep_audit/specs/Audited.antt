@@ -17,46 +17,46 @@ use Rattle.ep_verdict.specs.Verdicts.{instances_in, IsVerdict}
 use Rattle.ep_verdict.specs.declared.verdict.Verdict.{Verdict}
 use Rattle.ep_audit.specs.declared.refusal.Refusal.{Refusal}
 use Rattle.ep_audit.specs.declared.refusal.Refusal.TheVariants.{Memory, Fault}
-use Rattle.ep_rules.specs.OneMap.{opened, empty}
+use Rattle.ep_rules.specs.OneMap.{Store}
 
--- The journals, merged in the schedule's order, are a run of the protocol; h is their one history.
-pub record IsOneHistory (f : ℕ) (journal : Journals) (receipts : List Receipt) (schedule : List Scheduled) (h : List ℕ) : Type 0 where
+-- The journals of replicas that open with the map base, merged in the schedule's order, are a run of the protocol; h is their one history.
+pub record IsOneHistory (base : Store) (f : ℕ) (journal : Journals) (receipts : List Receipt) (schedule : List Scheduled) (h : List ℕ) : Type 0 where
   pub scheduled : IsSchedule journal schedule
-  pub history : h ≡ history_of (command_at (opened empty) f journal) schedule
+  pub history : h ≡ history_of (command_at base f journal) schedule
   -- merged, they are a run
-  pub run : IsRun f (opening (opened empty)) (acts_of schedule)
+  pub run : IsRun f (opening base) (acts_of schedule)
   -- no two replicas commit different commands or attributes in an instance
-  pub agreement : (i r q : ℕ) (x y : Decree) → committed_by (opened empty) f journal r i ≡ Some x → committed_by (opened empty) f journal q i ≡ Some y → x ≡ y
+  pub agreement : (i r q : ℕ) (x y : Decree) → committed_by base f journal r i ≡ Some x → committed_by base f journal q i ≡ Some y → x ≡ y
   -- what a replica has committed after some of its entries it has committed after all of them
   pub permanence :
-      (r i : ℕ) (x : Decree) (before rest : List Entry) → before ++ rest ≡ journal r → committed_in (left f r (fresh_state (opened empty)) before).records i ≡ Some x →
-      committed_by (opened empty) f journal r i ≡ Some x
+      (r i : ℕ) (x : Decree) (before rest : List Entry) → before ++ rest ≡ journal r → committed_in (left f r (fresh_state base) before).records i ≡ Some x →
+      committed_by base f journal r i ≡ Some x
   -- a committed command other than a no-op was proposed, as this instance, by the replica that leads it
   pub validity :
-      (r i : ℕ) (x : Decree) → committed_by (opened empty) f journal r i ≡ Some x → is_noop x.command ≡ false →
-      (client request : ℕ) × (p : Proposes (opened empty) f (leader_of i) (journal (leader_of i)) i client request) × (p.command ≡ x.command)
+      (r i : ℕ) (x : Decree) → committed_by base f journal r i ≡ Some x → is_noop x.command ≡ false →
+      (client request : ℕ) × (p : Proposes base f (leader_of i) (journal (leader_of i)) i client request) × (p.command ≡ x.command)
   -- of two interfering committed commands one depends on the other
   pub dependency :
-      (i j r q : ℕ) (x y : Decree) → i ≢ j → committed_by (opened empty) f journal r i ≡ Some x → committed_by (opened empty) f journal q j ≡ Some y →
+      (i j r q : ℕ) (x y : Decree) → i ≢ j → committed_by base f journal r i ≡ Some x → committed_by base f journal q j ≡ Some y →
       interfere x.command y.command ≡ true → Has x.attrs.deps j ⊎ Has y.attrs.deps i
-  -- each answer of each execution is one map's reply at the command's place in the history; a no-op answers lost, and has no place
-  pub replies : (a : Scheduled) (i : ℕ) (x : Answer) → In a schedule → In (i, x) a.entry.done → IsReply (opened empty) (command_at (opened empty) f journal) h i x
+  -- each answer of each execution is one map's reply, from base on, at the command's place in the history; a no-op answers lost, and has no place
+  pub replies : (a : Scheduled) (i : ℕ) (x : Answer) → In a schedule → In (i, x) a.entry.done → IsReply base (command_at base f journal) h i x
   -- each replica executes two interfering commands in the history's order
   pub order :
-      (r i j : ℕ) → Has (left f r (fresh_state (opened empty)) (journal r)).executed i → Has (left f r (fresh_state (opened empty)) (journal r)).executed j → i ≢ j →
-      interfere (command_at (opened empty) f journal i) (command_at (opened empty) f journal j) ≡ true →
-      (place (left f r (fresh_state (opened empty)) (journal r)).executed i < place (left f r (fresh_state (opened empty)) (journal r)).executed j) ↔ (place h i < place h j)
+      (r i j : ℕ) → Has (left f r (fresh_state base) (journal r)).executed i → Has (left f r (fresh_state base) (journal r)).executed j → i ≢ j →
+      interfere (command_at base f journal i) (command_at base f journal j) ≡ true →
+      (place (left f r (fresh_state base) (journal r)).executed i < place (left f r (fresh_state base) (journal r)).executed j) ↔ (place h i < place h j)
   -- what a client proposes after it saw a receipt's stamp stands after that receipt's command
   pub callers :
       (t u : Receipt) → In t receipts → In u receipts → u.stamp ≤ t.seen → Has h t.instance → Has h u.instance → place h u.instance < place h t.instance
 
 -- the verdict of journals and receipts that are accepted: its schedule and its history are those of the run
-pub record IsAudited (f : ℕ) (journal : Journals) (receipts : List Receipt) (v : Verdict) : Type 0 where
-  pub accepted : IsAccepted (opened empty) f journal receipts
-  pub verdict : IsVerdict f journal v
-  pub history : IsOneHistory f journal receipts verdict.order (instances_in v.history.items)
+pub record IsAudited (base : Store) (f : ℕ) (journal : Journals) (receipts : List Receipt) (v : Verdict) : Type 0 where
+  pub accepted : IsAccepted base f journal receipts
+  pub verdict : IsVerdict base f journal v
+  pub history : IsOneHistory base f journal receipts verdict.order (instances_in v.history.items)
 
 -- why there is no verdict: want of memory, or the first fault
-abbrev pub IsRefused : ℕ → Journals → List Receipt → Refusal → Type 0
-IsRefused f journal receipts Memory = Unit {0}
-IsRefused f journal receipts (Fault fault) = IsFault (opened empty) f journal receipts (fault_of fault)
+abbrev pub IsRefused : Store → ℕ → Journals → List Receipt → Refusal → Type 0
+IsRefused base f journal receipts Memory = Unit {0}
+IsRefused base f journal receipts (Fault fault) = IsFault base f journal receipts (fault_of fault)

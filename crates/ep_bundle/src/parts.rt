@@ -5,13 +5,14 @@ ghost use Rattle.ep_base.specs.Devices.{FailsAsTold};
 ghost use Rattle.ep_bundle.specs.declared.bundle_fault.BundleFault.TheVariants.{Memory};
 ghost use Rattle.ep_base.specs.Quorums.{size};
 ghost use Rattle.ep_base.specs.Versions.{highest_in};
-ghost use Rattle.ep_frame.specs.Faults.{highest_op};
 ghost use Rattle.ep_bundle.specs.Reading.{field, is_read_failed, Reads};
-ghost use Rattle.ep_bundle.specs.Stages.{answer, command, command_of, has_same_keys, instance, least_value, most_value, replica, reply_by, texts, value};
+ghost use Rattle.ep_bundle.specs.Stages.{answer, command, command_of, has_same_keys, highest_op, instance, least_value, most_value, replica, reply_by, texts, value};
 
 use crate::bundle_fault::BundleFault;
 use crate::fields::{field_u8, field_u16, read_run};
-use ep_base::{Answer, Command, InstanceId, ReplicaId, Reply, Size, Source, Value, Version};
+use ep_base::{
+    Answer, Command, InstanceId, ReplicaId, Reply, Size, Source, Value, Version, VersionKind,
+};
 use std::alloc::Global;
 
 /// A replica of the cluster.
@@ -172,13 +173,13 @@ fn read_text_len<S: Source>(source: &mut S, place: &mut u64, op: u8) -> Result<u
     field_u16(source, place, least_value(op), most_value(op))
 }
 
-/// The highest operation: version 1 has no swap, which is 5.
+/// The highest operation: version 1 has no swap, which is 5. Version 3 has no bundles yet.
 fn highest_op(version: Version) -> u8
     ensures { result ≡ highest_op version }
 {
-    match version {
-        Version::V1 => 4,
-        Version::V2 => 5,
+    match version.kind() {
+        VersionKind::V1 => 4,
+        VersionKind::V2 | VersionKind::V3(_) => 5,
     }
 }
 

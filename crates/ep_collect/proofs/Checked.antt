@@ -4,6 +4,7 @@ use Rattle.std.proofs.lemmas.Option.{slice_get-get_or}
 use Rattle.ep_base.specs.Quorums.{size}
 use Rattle.ep_base.specs.declared.version.Version.{Version}
 use Rattle.ep_journal.specs.Entries.{Log}
+use Rattle.ep_journal.specs.Openings.{Opening}
 use Rattle.ep_collect.specs.Clusters.{IsMember, IsOther, IsNotOne, IsMiscounted, IsAt, IsRefused, count_of}
 use Rattle.ep_collect.specs.declared.collect_fault.CollectFault.{CollectFault}
 use Rattle.ep_collect.specs.declared.collect_fault.CollectFault.TheVariants.{NoJournal, OtherCluster, Twice, Missing}
@@ -17,14 +18,14 @@ miscounted (Missing r) f i ls below before h = (record { below = subst (λ n. n 
 at_place : (ls : List Log) (k : ℕ) (l d : Log) → k < length ls → l ≡ get_or ls k d → slice_get ls k ≡ Some l
 at_place ls k l d less is = slice_get-get_or ls k d less ∙ ap Some (sym is)
 
-pub other : (v : Version) (f place : ℕ) (ls : List Log) (l d : Log) → place < length ls → l ≡ get_or ls place d → (IsMember v f l → ⊥) → All (IsMember v f) (take place ls) → IsOther place v f ls
-other v f place ls l d less is differs before = record { other = l; stands = at_place ls place l d less is; differs = differs; before = before }
+pub other : (v : Version) (o : Opening) (f place : ℕ) (ls : List Log) (l d : Log) → place < length ls → l ≡ get_or ls place d → (IsMember v o f l → ⊥) → All (IsMember v o f) (take place ls) → IsOther place v o f ls
+other v o f place ls l d less is differs before = record { other = l; stands = at_place ls place l d less is; differs = differs; before = before }
 
 pub is_at : (r place : ℕ) (ls : List Log) (l d : Log) → place < length ls → l ≡ get_or ls place d → l.me ≡ r → IsAt r place ls
 is_at r place ls l d less is of = record { journal = l; stands = at_place ls place l d less is; of = of }
 
-pub incomplete : (e : CollectFault) (v : Version) (f : ℕ) (ls : List Log) → All (IsMember v f) ls → IsMiscounted e f ls → IsRefused e ls
-incomplete NoJournal v f ls all h = absurd h
-incomplete (OtherCluster place) v f ls all h = absurd h
-incomplete (Twice r) v f ls all h = record { version = v; faults = f; members = all; miscounted = h }
-incomplete (Missing r) v f ls all h = record { version = v; faults = f; members = all; miscounted = h }
+pub incomplete : (e : CollectFault) (v : Version) (o : Opening) (f : ℕ) (ls : List Log) → All (IsMember v o f) ls → IsMiscounted e f ls → IsRefused e ls
+incomplete NoJournal v o f ls all h = absurd h
+incomplete (OtherCluster place) v o f ls all h = absurd h
+incomplete (Twice r) v o f ls all h = record { version = v; opening = o; faults = f; members = all; miscounted = h }
+incomplete (Missing r) v o f ls all h = record { version = v; opening = o; faults = f; members = all; miscounted = h }

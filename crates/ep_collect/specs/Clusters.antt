@@ -4,6 +4,7 @@ use Rattle.std.specs.List.{count_by}
 use Rattle.ep_base.specs.Quorums.{size}
 use Rattle.ep_base.specs.declared.version.Version.{Version}
 use Rattle.ep_journal.specs.Entries.{Log, Collected, IsOf, entries_at}
+use Rattle.ep_journal.specs.Openings.{Opening}
 use Rattle.ep_collect.specs.declared.collect_fault.CollectFault.{CollectFault}
 use Rattle.ep_collect.specs.declared.collect_fault.CollectFault.TheVariants.{NoJournal, OtherCluster, Twice, Missing}
 
@@ -11,33 +12,33 @@ use Rattle.ep_collect.specs.declared.collect_fault.CollectFault.TheVariants.{NoJ
 abbrev pub count_of : ℕ → List Log → ℕ
 count_of r ls = count_by (λ l. eqb l.me r) ls
 
--- the journal is that of a replica of the cluster, of version v, whose f replicas may fail
-pub record IsMember (v : Version) (f : ℕ) (l : Log) : Type 0 where
+-- the journal is that of a replica of the cluster, of version v and with this opening, whose f replicas may fail
+pub record IsMember (v : Version) (o : Opening) (f : ℕ) (l : Log) : Type 0 where
   pub below : l.me < size f
-  pub of : IsOf v f l.me l
+  pub of : IsOf v o f l.me l
 
 -- they are the cluster's, one for each replica, in any order
-pub record AreOfOne (v : Version) (f : ℕ) (ls : List Log) : Type 0 where
-  pub members : All (IsMember v f) ls
+pub record AreOfOne (v : Version) (o : Opening) (f : ℕ) (ls : List Log) : Type 0 where
+  pub members : All (IsMember v o f) ls
   pub once : (r : ℕ) → r < size f → count_of r ls ≡ 1
 
 -- they are those of one cluster, and each journal's entries are those of its replica
 pub record Collects (ls : List Log) (c : Collected) : Type 0 where
-  pub all : AreOfOne c.version c.faults ls
+  pub all : AreOfOne c.version c.opening c.faults ls
   pub entries : All (λ l. entries_at c l.me ≡ l.entries) ls
 
 -- the journal at the place is the first that isn't one of the cluster's
-pub record IsOther (place : ℕ) (v : Version) (f : ℕ) (ls : List Log) : Type 0 where
+pub record IsOther (place : ℕ) (v : Version) (o : Opening) (f : ℕ) (ls : List Log) : Type 0 where
   pub other : Log
   pub stands : slice_get ls place ≡ Some other
-  pub differs : IsMember v f other → ⊥
-  pub before : All (IsMember v f) (take place ls)
+  pub differs : IsMember v o f other → ⊥
+  pub before : All (IsMember v o f) (take place ls)
 
 -- as the first journal says which cluster it is
 pub record IsOfAnother (place : ℕ) (ls : List Log) : Type 0 where
   pub first : Log
   pub stands : slice_get ls 0 ≡ Some first
-  pub other : IsOther place first.version first.faults ls
+  pub other : IsOther place first.version first.opening first.faults ls
 
 -- r is one of the replicas, and each below it has one journal
 pub record IsReached (f r : ℕ) (ls : List Log) : Type 0 where
@@ -54,8 +55,9 @@ IsMiscounted (Missing r) f ls = IsReached f r ls × (count_of r ls ≡ 0)
 -- all are of one cluster, and this is the first replica that hasn't just one
 pub record IsIncomplete (fault : CollectFault) (ls : List Log) : Type 0 where
   pub version : Version
+  pub opening : Opening
   pub faults : ℕ
-  pub members : All (IsMember version faults) ls
+  pub members : All (IsMember version opening faults) ls
   pub miscounted : IsMiscounted fault faults ls
 
 -- the first fault

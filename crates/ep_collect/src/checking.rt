@@ -6,14 +6,19 @@ ghost use Rattle.ep_collect.specs.Clusters.{IsMember, IsMiscounted, IsNotOne, Is
 
 use crate::collect_fault::CollectFault;
 use ep_base::{ReplicaId, Size, Version};
-use ep_journal::Journal;
+use ep_journal::{Journal, Opening};
 
 /// The place of the first journal that isn't one of this cluster's.
-pub(crate) fn other_place(version: Version, cluster: Size, journals: &[Journal]) -> Option<usize>
-    ensures { MatchOption result (All (IsMember version cluster) journals.now) (λ place. IsOther place version cluster journals.now) }
+pub(crate) fn other_place(
+    version: Version,
+    opening: &Opening,
+    cluster: Size,
+    journals: &[Journal],
+) -> Option<usize>
+    ensures { MatchOption result (All (IsMember version opening.now cluster) journals.now) (λ place. IsOther place version opening.now cluster journals.now) }
 {
     for (place, journal) in journals.iter().enumerate() {
-        if !is_member(version, cluster, journal) {
+        if !is_member(version, opening, cluster, journal) {
             return Some(place);
         }
     }
@@ -21,13 +26,14 @@ pub(crate) fn other_place(version: Version, cluster: Size, journals: &[Journal])
 }
 
 /// Whether the journal is one of this cluster's.
-fn is_member(version: Version, cluster: Size, journal: &Journal) -> bool
-    ensures { (result ≡ true) ↔ IsMember version cluster journal.now }
+fn is_member(version: Version, opening: &Opening, cluster: Size, journal: &Journal) -> bool
+    ensures { (result ≡ true) ↔ IsMember version opening.now cluster journal.now }
 {
     let _ = journal.entries();
     journal.version() == version
         && journal.size() == cluster
         && journal.me().index() < cluster.count()
+        && journal.opening().is_same(opening)
 }
 
 /// Looks whether each replica has one journal.

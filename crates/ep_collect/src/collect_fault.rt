@@ -10,7 +10,7 @@ pub enum CollectFault {
     /// There is no journal.
     #[error("no journal")]
     NoJournal,
-    /// The journal at this place, counted from 0, is of another size or version than the first one; it is the first such.
+    /// The journal at this place, counted from 0, is of another size, version or opening than the first one; it is the first such.
     #[error("another cluster at {0}")]
     OtherCluster(usize),
     /// The replica has more than one journal.

@@ -14,3 +14,5 @@ pub mod Alone
 pub mod Marking
 pub mod Searching
 pub mod Sealed
+pub mod Rising
+pub mod Sorting

@@ -8,3 +8,5 @@ pub mod Ready
 pub mod Refusal
 pub mod Cut
 pub mod Missing
+pub mod Taking
+pub mod Sorting

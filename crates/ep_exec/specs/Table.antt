@@ -4,8 +4,15 @@ use Rattle.std.specs.Global.{Global}
 use Rattle.std.specs.Coded.{Coded, code_by, coded×, coded_list, coded_option, coded_ℕ}
 use Rattle.std.specs.FinMap as map
 use Rattle.std.specs.Map.{lookup}
+use Rattle.std.specs.Ordering.{nat_cmp}
+use Rattle.std.specs.Cmp.Lexicographic.{slice_cmp}
+use Rattle.std.specs.declared.cmp.Ordering.{Ordering}
 use Rattle.ep_base.specs.Attributes.{same_list}
 use Rattle.ep_rules.specs.OneMap.{Contents, empty, with_key, Store}
+
+-- keys by their bytes, a key before the longer ones that begin with it
+abbrev pub key_cmp : List ℕ → List ℕ → Ordering
+key_cmp = slice_cmp nat_cmp
 
 abbrev pub contents_code : Coded Contents
 contents_code = map.code (coded_list coded_ℕ) (coded_list coded_ℕ)

@@ -10,6 +10,8 @@
 //! The walk and the map's table may be made anew freely, as long as `plan`, `plan_left` and `Store` keep their clauses.
 #![tactic(auto)]
 
+mod contents;
+mod contents_fault;
 mod executed;
 mod graph;
 mod level;
@@ -21,11 +23,14 @@ mod plan_fault;
 mod planning;
 mod reach;
 mod ready;
+mod sorted;
 mod store;
 mod table;
 mod trial;
 mod walk;
 
+pub use contents::Contents;
+pub use contents_fault::ContentsFault;
 pub use executed::Executed;
 pub use plan_fault::PlanFault;
 pub use planning::{plan, plan_left};

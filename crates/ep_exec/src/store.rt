@@ -1,11 +1,16 @@
 //! One map of bytes.
 
-ghost use Rattle.std.specs.Prelude.{◌≡◌, ℕ, false, IfOk, OnOk, OnErr, not, is_none};
+ghost use Rattle.std.specs.Prelude.{◌≡◌, ℕ, false, IfOk, IfErr, OnOk, OnErr, not, is_none};
+ghost use Rattle.std.specs.FinMap.{entries};
 ghost use Rattle.std.specs.Option.{option_copied};
 ghost use Rattle.ep_base.specs.Sameness.{is_noop};
 ghost use Rattle.ep_rules.specs.OneMap.{empty, opened, value_at, after, reply};
+ghost use Rattle.ep_exec.specs.Sorting.{IsBad};
 ghost use Rattle.ep_exec.specs.Table.{contents_of};
 
+use crate::contents::Contents;
+use crate::contents_fault::ContentsFault;
+use crate::sorted::sorted;
 use crate::table::{self, Table, apply_open, sealed, value_of};
 use crate::trial::Trial;
 use ep_base::{Command, Key, Reply, Value};
@@ -44,6 +49,18 @@ impl Store {
         }
     }
 
+    /// The open map with these contents.
+    pub fn opened(alloc: Global, contents: &Contents) -> Result<Store, AllocError>
+        ensures { IfOk result (λ s. s ≡ opened contents.now) }
+    {
+        let table = table::filled(alloc, contents.entries())?;
+        Ok(Store {
+            alloc,
+            table,
+            seal: None,
+        })
+    }
+
     /// What the key has.
     pub fn get(&self, key: &Key) -> Option<&Value>
         ensures { option_copied result ≡ value_at self.now.contents key.now }
@@ -73,6 +90,15 @@ impl Store {
         ensures { option_copied result ≡ self.now.seal }
     {
         self.seal.as_ref()
+    }
+
+    /// What the keys have, in rising order of keys: a copy. `OutOfRange` where a key isn't of 1 to 255 bytes, as each command's are.
+    pub fn contents(&self) -> Result<Contents, ContentsFault>
+        ensures ok { IfOk result (λ c. c ≡ self.now.contents) }
+        ensures refused { IfErr result (λ fault. IsBad (entries self.now.contents) fault) }
+    {
+        let items = sorted(self.alloc, &self.table)?;
+        Ok(Contents::of_sorted(items))
     }
 
     /// The same map again.

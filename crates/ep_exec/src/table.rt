@@ -1,6 +1,7 @@
 //! The table behind a map: keys, each with a value or with none.
 
 ghost use Rattle.std.specs.Prelude.{◌≡◌, ℕ, List, None, true, false, IfOk, OnOk, OnErr};
+ghost use Rattle.std.specs.FinMap.{from_entries};
 ghost use Rattle.std.specs.Option.{option_copied, option_flatten};
 ghost use Rattle.ep_base.specs.Commands.{Swap, Cas};
 ghost use Rattle.ep_base.specs.Parts.{IsShort};
@@ -8,7 +9,7 @@ ghost use Rattle.ep_rules.specs.OneMap.{Contents, value_at, with_key, written, r
 ghost use Rattle.ep_base.specs.Sameness.{same_option};
 ghost use Rattle.ep_exec.specs.Table.{HavePlaces, contents_of, has_place, restored};
 
-use ep_base::{Command, CommandView, Reply, Value};
+use ep_base::{Command, CommandView, Key, Reply, Value};
 use indexmap::IndexMap;
 use std::alloc::{AllocError, Global};
 
@@ -94,6 +95,20 @@ pub fn copy(alloc: Global, table: &Table) -> Result<Table, AllocError>
         done(set(&mut copy, name, value)?);
     }
     Ok(copy)
+}
+
+/// The table of these keys, each with its value.
+pub fn filled(alloc: Global, items: &[(Key, Value)]) -> Result<Table, AllocError>
+    ensures { IfOk result (λ t. contents_of t.entries ≡ from_entries items.now) }
+{
+    let mut table = IndexMap::new(alloc);
+    for index in (0..items.len()).rev() {
+        let (key, value) = &items[index];
+        let name = Vec::from_slice(alloc, key.as_slice())?;
+        let value = value.copy(alloc)?;
+        done(set(&mut table, name, Some(value))?);
+    }
+    Ok(table)
 }
 
 /// Makes a place for the key.

@@ -3,6 +3,7 @@ use Rattle.std.proofs.Common.{◌≡◌, ℕ, zero, suc, ◌<◌, Option, Some, 
 use Rattle.ep_base.specs.Quorums.{size}
 use Rattle.ep_journal.specs.Entries.{Collected, entries_at, journals_of, AreJournals}
 use Rattle.ep_journal.specs.declared.entry.Entry.{Entry}
+use Rattle.ep_journal.specs.Openings.{opens}
 use Rattle.ep_matching.specs.Claims.{receipt_fault, first_of}
 use Rattle.ep_matching.specs.Handlings.{entry_fault, or_else, first_in, first_below}
 use Rattle.ep_matching.proofs.Handled.{matched, handled_wrong}
@@ -50,15 +51,15 @@ head_all c ts =
 
 -- whatever has that first one
 module _ (c : Collected) (ts : List Receipt) (h : AreJournals c) (some : 0 < c.faults) where
-  first : (xs : List AuditFault) (o : Option AuditFault) → first_below c (size c.faults) ≡ o → head xs ≡ or_else o (first_of c 1 ts) → IsFirst c.faults (journals_of c) ts xs
+  first : (xs : List AuditFault) (o : Option AuditFault) → first_below c (size c.faults) ≡ o → head xs ≡ or_else o (first_of c 1 ts) → IsFirst (opens c.opening) c.faults (journals_of c) ts xs
   first [] None none is = accepted_if c ts h some (matched c h none) None is
   first (x ∷ xs) None none is = wrong_if c ts h some (matched c h none) (Some x) is
   first [] (Some y) found is = let s : None ≡ Some y = is in absurd (cc)
   first (x ∷ xs) (Some y) found is = let s : Some x ≡ Some y = is in handled_wrong c.faults c ts (size c.faults) x h (found ∙ sym s)
 
-pub is_first : (c : Collected) (ts : List Receipt) → AreJournals c → 0 < c.faults → IsFirst c.faults (journals_of c) ts (all_faults c ts)
+pub is_first : (c : Collected) (ts : List Receipt) → AreJournals c → 0 < c.faults → IsFirst (opens c.opening) c.faults (journals_of c) ts (all_faults c ts)
 is_first c ts h some = first c ts h some (all_faults c ts) (first_below c (size c.faults)) refl (head_all c ts)
 
 -- the same of a list that was made
-pub is_first_of : (c : Collected) (ts : List Receipt) (xs : List AuditFault) → AreJournals c → 0 < c.faults → xs ≡ all_faults c ts → IsFirst c.faults (journals_of c) ts xs
-is_first_of c ts xs h some e = subst (λ z. IsFirst c.faults (journals_of c) ts z) (sym e) (is_first c ts h some)
+pub is_first_of : (c : Collected) (ts : List Receipt) (xs : List AuditFault) → AreJournals c → 0 < c.faults → xs ≡ all_faults c ts → IsFirst (opens c.opening) c.faults (journals_of c) ts xs
+is_first_of c ts xs h some e = subst (λ z. IsFirst (opens c.opening) c.faults (journals_of c) ts z) (sym e) (is_first c ts h some)

@@ -6,6 +6,7 @@ use Rattle.ep_bundle.specs.Texts.{fault_text as refusal_text}
 use Rattle.ep_bundle.specs.declared.bundle_fault.BundleFault.{BundleFault}
 use Rattle.ep_bundle.specs.declared.bundle_fault.BundleFault.TheVariants.{Memory, ReadFailed, BadBundle, NotARun}
 use Rattle.ep_journal.specs.Entries.{Collected, journals_of}
+use Rattle.ep_journal.specs.Openings.{opens}
 use Rattle.ep_report.specs.Reports.{text_of}
 use Rattle.ep_report.specs.declared.audit_fault.AuditFault.{AuditFault}
 use Rattle.ep_rules.specs.declared.receipt.Receipt.{Receipt}
@@ -37,7 +38,7 @@ IsVerdictTold (x ∷ xs) finding text = (finding ≡ Refused) × (told : List �
 
 -- all faults of the journals and the receipts are told, of which the first is the audit's; where there are none, it accepts
 pub record IsJudged (c : Collected) (ts : List Receipt) (finding : Finding) (text : List ℕ) : Type 0 where
-  pub first : IsFirst c.faults (journals_of c) ts (all_faults c ts)
+  pub first : IsFirst (opens c.opening) c.faults (journals_of c) ts (all_faults c ts)
   pub told : IsVerdictTold (all_faults c ts) finding text
 
 -- the bytes, none of which is read yet

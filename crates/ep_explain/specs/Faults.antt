@@ -10,7 +10,7 @@ use Rattle.ep_report.specs.declared.audit_fault.AuditFault.{AuditFault}
 use Rattle.ep_rules.specs.Audits.{IsAccepted, IsFault}
 use Rattle.ep_rules.specs.Journals.{Journals}
 use Rattle.ep_rules.specs.declared.receipt.Receipt.{Receipt}
-use Rattle.ep_rules.specs.OneMap.{opened, empty}
+use Rattle.ep_rules.specs.OneMap.{Store}
 
 -- the fault, if there is one
 abbrev pub listed : Option AuditFault → List AuditFault
@@ -37,6 +37,6 @@ abbrev pub all_faults : Collected → List Receipt → List AuditFault
 all_faults c ts = faults_below c (size c.faults) ++ receipt_faults c 1 ts
 
 -- where there are none, all is accepted; else the first one is the audit's first fault
-abbrev pub IsFirst : ℕ → Journals → List Receipt → List AuditFault → Type 0
-IsFirst f journal receipts [] = IsAccepted (opened empty) f journal receipts
-IsFirst f journal receipts (x ∷ xs) = IsFault (opened empty) f journal receipts (fault_of x)
+abbrev pub IsFirst : Store → ℕ → Journals → List Receipt → List AuditFault → Type 0
+IsFirst base f journal receipts [] = IsAccepted base f journal receipts
+IsFirst base f journal receipts (x ∷ xs) = IsFault base f journal receipts (fault_of x)

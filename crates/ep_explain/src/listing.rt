@@ -3,6 +3,7 @@
 ghost use Rattle.std.specs.Prelude.{◌≡◌, ◌≤◌, ◌++◌, [], IfOk, OnOk};
 ghost use Rattle.ep_base.specs.Quorums.{size};
 ghost use Rattle.ep_journal.specs.Entries.{AreJournals, entries_at, journals_of};
+ghost use Rattle.ep_journal.specs.Openings.{opens};
 ghost use Rattle.ep_matching.specs.Claims.{is_known, is_proposed, is_earlier, proposal_of, receipt_fault};
 ghost use Rattle.ep_matching.specs.Handlings.{frame_fault, entry_fault};
 ghost use Rattle.ep_matching.specs.Lookups.{sent_there};
@@ -186,7 +187,7 @@ pub fn faults(
     receipts: &[Receipt],
 ) -> Result<Vec<AuditFault>, AllocError>
     ensures all { IfOk result (λ found. found.items ≡ all_faults journals.now receipts.now) }
-    ensures first { IfOk result (λ found. IsFirst journals.now.faults (journals_of journals.now) receipts.now found.items) }
+    ensures first { IfOk result (λ found. IsFirst (opens journals.now.opening) journals.now.faults (journals_of journals.now) receipts.now found.items) }
 {
     journals.are_journals();
     let count = journals.size().count();

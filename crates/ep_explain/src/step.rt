@@ -75,7 +75,7 @@ fn add_words(alloc: Global, event: &Event, reasons: &mut Reasons) -> Result<(), 
 
 /// The number and the stamp of the journal's next entry; none where the stamp doesn't rise.
 fn next_mark(journal: &Journal, stamp: Stamp) -> Option<Mark>
-    ensures { IfSome result (λ mark. MarksNext journal.now.entries mark) }
+    ensures { IfSome result (λ mark. MarksNext journal.now.opening journal.now.entries mark) }
 {
     let count = journal.entries().len();
     if stamp.ticks() <= journal.last_stamp() || count >= MOST_ENTRIES {

@@ -18,4 +18,5 @@ pub mod Repeating
 pub mod Joining
 pub mod Upgrading
 pub mod Told
+pub mod Faulting
 pub mod Within

@@ -1,8 +1,8 @@
 //! Frames that are known to be frames.
 
-ghost use Rattle.std.specs.Prelude.{◌≡◌, ◌≤◌, ◌∷◌, ◌++◌, Ok, Err, IfOk, IsOk, MatchResult, length, take, drop};
+ghost use Rattle.std.specs.Prelude.{◌≡◌, ◌≢◌, ◌≤◌, ◌∷◌, ◌++◌, Ok, Err, IfOk, IsOk, MatchResult, length, take, drop};
 ghost use Rattle.ep_base.specs.Messages.{instance_of_message};
-ghost use Rattle.ep_base.specs.Versions.{generation_of};
+ghost use Rattle.ep_base.specs.Versions.{version_number};
 ghost use Rattle.ep_base.specs.declared.version_kind.VersionKind.TheVariants.{V2};
 ghost use Rattle.ep_frame.specs.Faults.{HasNoFault, fault_of};
 ghost use Rattle.ep_frame.specs.Meaning.{version_at, sender_at, origin_at, instance_at, message_at};
@@ -54,6 +54,8 @@ impl Frame {
         // What spells a message is read.
         ensures only { IsFrame bytes → IsOk result }
         ensures frame { IfOk result (λ f. f ≡ bytes) }
+        // It is never of another generation: that is for its reader to see.
+        ensures generation { result ≢ Err FrameFault.Generation }
     {
         FrameView::read(&bytes)?;
         Ok(Frame { bytes })
@@ -120,12 +122,13 @@ impl Frame {
     }
 
     /// The frame in version 2, of the same sender, origin and message. One of version 2 shares its bytes; one of version 1 is
-    /// copied, and its version alone changes: nothing is read or checked again. One of version 3, which version 2 may not be
-    /// able to say, is given again.
+    /// copied, and its version alone changes: nothing is read or checked again.
+    ///
+    /// The caller sees to it that it isn't of version 3, which may say what version 2 cannot.
     pub fn upgraded(&self, alloc: Global) -> Result<Frame, AllocError>
-        ensures upgraded { generation_of (version_at self.now) ≡ 0 → IfOk result (λ f. IsUpgradedFrame self.now f) }
+        requires { version_number (version_at self.now) ≤ 2 }
+        ensures upgraded { IfOk result (λ f. IsUpgradedFrame self.now f) }
         ensures same { version_at self.now ≡ V2 → IfOk result (λ f. f ≡ self.now) }
-        ensures later { 1 ≤ generation_of (version_at self.now) → IfOk result (λ f. f ≡ self.now) }
     {
         let view = self.view();
         match view.version().kind() {
@@ -134,7 +137,7 @@ impl Frame {
                 Ok(Frame::written(bytes))
             }
             VersionKind::V2 => self.clone(),
-            VersionKind::V3(_) => self.clone(),
+            VersionKind::V3(_) => unreachable!(),
         }
     }
 }

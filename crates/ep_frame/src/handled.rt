@@ -3,7 +3,7 @@
 ghost use Rattle.std.specs.Prelude.{◌≡◌, ◌≤◌, ◌+◌, ◌++◌, ◌&&◌, eqb, Some, IfOk, OnOk, OnErr, length, drop, true};
 ghost use Rattle.ep_base.specs.Attributes.{join, same_attrs, same_list};
 ghost use Rattle.ep_base.specs.Ops.{op_number};
-ghost use Rattle.ep_base.specs.Parts.{parts_of, command_in, command_of, are_parts, cut};
+ghost use Rattle.ep_base.specs.Parts.{parts_of, command_of};
 ghost use Rattle.ep_base.specs.Sameness.{same_command, same_decree};
 ghost use Rattle.ep_rules.specs.Steps.{are_within};
 ghost use Rattle.ep_frame.specs.DepBytes.{AreDepBytes};
@@ -20,7 +20,7 @@ use crate::made::{made_ballot, made_deps, made_seq, made_status};
 use crate::numbers::{u8_at, u16_at, u32_at};
 use crate::view::{FrameView, dep_bytes_in, instance_in, is_spelled, run_place};
 use bytes::Bytes;
-use ep_base::{Attrs, Ballot, Command, Decree, InstanceId, Message, Op, Seq, Vote};
+use ep_base::{Attrs, Ballot, Command, Decree, InstanceId, Message, Seq, Vote};
 use std::alloc::{AllocError, Global};
 
 /// What is known of a frame's bytes: a law, which costs nothing to call.
@@ -57,18 +57,6 @@ fn seq_in(bytes: &[u8]) -> Seq
     made_seq(u32_at(bytes, 30))
 }
 
-// The command of these parts.
-fn made_command(op: Op, run: Bytes, first: u8, second: u8) -> Command
-    requires long { first + second ≤ length run }
-    requires parts { are_parts (cut op run first second) ≡ true }
-    ensures { result ≡ command_in (cut op run first second) }
-{
-    match Command::from_parts(op, run, first, second) {
-        Some(command) => command,
-        None => unreachable!(),
-    }
-}
-
 // The command whose parts stand in this run of the frame's bytes.
 fn command_from(bytes: &[u8], run: Bytes) -> Command
     requires whole { length bytes.now ≡ frame_len (header_at bytes.now) }
@@ -77,7 +65,7 @@ fn command_from(bytes: &[u8], run: Bytes) -> Command
     ensures { result ≡ command_at bytes.now }
 {
     let op = made_op(u8_at(bytes, 34));
-    made_command(op, run, u8_at(bytes, 35), second_len_at(bytes) as u8)
+    Command::known(op, run, u8_at(bytes, 35), second_len_at(bytes) as u8)
 }
 
 // The command, which shares the frame's bytes.

@@ -1,6 +1,6 @@
 //! Reading a frame.
 
-ghost use Rattle.std.specs.Prelude.{◌≡◌, ◌≤◌, ◌<◌, ◌^◌, ◌+◌, ◌*◌, ◌↔◌, Ok, Err, IfOk, IsOk, IfSome, IsSome, IsTrue, MatchResult, length, drop};
+ghost use Rattle.std.specs.Prelude.{◌≡◌, ◌≢◌, ◌≤◌, ◌<◌, ◌^◌, ◌+◌, ◌*◌, ◌↔◌, Ok, Err, IfOk, IsOk, IfSome, IsSome, IsTrue, MatchResult, length, drop};
 ghost use Rattle.ep_base.specs.Instances.{instance_of, highest_number};
 ghost use Rattle.ep_base.specs.Parts.{body_said};
 ghost use Rattle.ep_base.specs.Messages.{instance_of_message};
@@ -327,6 +327,11 @@ pub(crate) fn is_spelled(bytes: &[u8])
     ensures frame { IsFrame bytes.now }
 {}
 
+/// Bytes alone aren't of another generation: a law, which costs nothing to call.
+fn are_of_their_generation(bytes: &[u8])
+    ensures { fault_of bytes.now ≢ Err FrameFault.Generation }
+{}
+
 impl<'a> FrameView<'a> {
     /// The frame that the bytes are; otherwise the first fault from left to right.
     pub fn read(bytes: &'a Bytes) -> Result<FrameView<'a>, FrameFault>
@@ -336,7 +341,10 @@ impl<'a> FrameView<'a> {
         // What spells a message is read.
         ensures only { IsFrame bytes.now → IsOk result }
         ensures view { IfOk result (λ v. v ≡ bytes.now) }
+        // It is never of another generation: that is for its reader to see.
+        ensures generation { result ≢ Err FrameFault.Generation }
     {
+        are_of_their_generation(bytes.as_slice());
         check_frame(bytes.as_slice())?;
         is_spelled(bytes.as_slice());
         Ok(FrameView { bytes })

@@ -25,6 +25,7 @@ use Rattle.ep_journal.specs.Events.{event_of, frame_at}
 use Rattle.ep_journal.specs.declared.entry.Entry.{Entry}
 use Rattle.ep_journal.specs.declared.event.Event.{Event as Happening}
 use Rattle.ep_journal.specs.declared.event.Event.TheVariants as taken
+use Rattle.ep_journal.specs.Openings.{Opening, no_opening, opens}
 use Rattle.ep_replica.specs.Kept.{Kept}
 use Rattle.ep_replica.specs.Receipts.{receipts_after}
 use Rattle.ep_replica.proofs.Own.{receipts_are_own}
@@ -97,10 +98,10 @@ module _ (f : ℕ) (nodes : List Node) (host : IsHost f nodes) (know : All Knows
   journal_is : (r : ℕ) → their_journals (replicas_in nodes) r ≡ entries_of (get_or nodes r blank).replica.entries
   journal_is r = ap entries_of (entries_is nodes r)
 
-  runs_at : (r : ℕ) → r < length nodes → IsJournal V2 f r (get_or nodes r blank).replica.entries
+  runs_at : (r : ℕ) → r < length nodes → IsJournal V2 no_opening f r (get_or nodes r blank).replica.entries
   runs_at r low = let j = (know r blank low).journal in
-      subst (λ (q : ℕ). IsJournal V2 f q (get_or nodes r blank).replica.entries) (host.me r blank low)
-      (subst (λ (q : ℕ). IsJournal V2 q (get_or nodes r blank).replica.me (get_or nodes r blank).replica.entries) (host.faults r blank low) j)
+      subst (λ (q : ℕ). IsJournal V2 no_opening f q (get_or nodes r blank).replica.entries) (host.me r blank low)
+      (subst (λ (q : ℕ). IsJournal V2 no_opening q (get_or nodes r blank).replica.me (get_or nodes r blank).replica.entries) (host.faults r blank low) j)
 
   clocked_at : (r : ℕ) → AreClocked 0 (their_journals (replicas_in nodes) r)
   clocked_at r = ⊎_elim
@@ -127,8 +128,8 @@ all_from f nodes host know begins = λ j d e b low c.
     let o = sent_in (get_or nodes t.from d).replica.entries b t.out in
     let run : IsLocalRun (opened empty) f t.from (entries_of (get_or nodes t.from d).replica.entries) =
     (let j = (know t.from d t.low).journal in
-    (subst (λ (q : ℕ). IsJournal V2 f q (get_or nodes t.from d).replica.entries) (host.me t.from d t.low)
-    (subst (λ (q : ℕ). IsJournal V2 q (get_or nodes t.from d).replica.me (get_or nodes t.from d).replica.entries) (host.faults t.from d t.low) j)).run) in
+    (subst (λ (q : ℕ). IsJournal V2 no_opening f q (get_or nodes t.from d).replica.entries) (host.me t.from d t.low)
+    (subst (λ (q : ℕ). IsJournal V2 no_opening q (get_or nodes t.from d).replica.me (get_or nodes t.from d).replica.entries) (host.faults t.from d t.low) j)).run) in
     let is : sender_at b ≡ t.from = (frames_were_sent_lem (opened empty) f (λ (r : ℕ). entries_of (get_or nodes t.from d).replica.entries) t.from o.0 (frame_at b) run o.1 o.2).0.sender in
     subst (λ (n : ℕ). (n < length nodes) × Contains (received (get_or (get_or nodes j d).links (place j n) e).from) b × Contains (frames_of (get_or nodes n d).replica.entries) b) (sym is) (t.low, t.taken e, t.out)
 
@@ -188,95 +189,101 @@ receipts_more nodes n receipts more was is =
     is ∙ ap (λ (l : List Receipt). l ++ own) was ∙ ap (λ (l : List Receipt). their_receipts (replicas_in nodes) ++ l) (sym (append-nil own)) ∙ sym (receipts_both (replicas_in nodes) (n.replica ∷ [])) ∙ ap their_receipts (sym (replicas_both nodes (n ∷ [])))
 
 -- the journal of one node more
-pub logs_more : (nodes : List Node) (n : Node) (l : Log) (logs more : List Log) → logs ≡ logs_of (replicas_in nodes) → l.version ≡ V2 → l.faults ≡ n.replica.faults → l.me ≡ n.replica.me → l.entries ≡ n.replica.entries → more ≡ logs ++ l ∷ [] → more ≡ logs_of (replicas_in (nodes ++ n ∷ []))
-logs_more nodes n l logs more was version faults me entries is =
-    let same : l ≡ log_of n.replica = (λ t. record { version = version t; faults = faults t; me = me t; entries = entries t }) in
+pub logs_more : (nodes : List Node) (n : Node) (l : Log) (logs more : List Log) → logs ≡ logs_of (replicas_in nodes) → l.version ≡ V2 → l.faults ≡ n.replica.faults → l.me ≡ n.replica.me → l.opening ≡ no_opening → l.entries ≡ n.replica.entries → more ≡ logs ++ l ∷ [] → more ≡ logs_of (replicas_in (nodes ++ n ∷ []))
+logs_more nodes n l logs more was version faults me opening entries is =
+    let same : l ≡ log_of n.replica = (λ t. record { version = version t; faults = faults t; me = me t; opening = opening t; entries = entries t }) in
     is ∙ ap (λ (ls : List Log). ls ++ l ∷ []) was ∙ ap (λ (x : Log). logs_of (replicas_in nodes) ++ x ∷ []) same ∙ sym (logs_both (replicas_in nodes) (n.replica ∷ [])) ∙ ap logs_of (sym (replicas_both nodes (n ∷ [])))
 
-in_order : (f r : ℕ) (nodes : List Node) → ((i : ℕ) → i < length nodes → IsOf V2 f (r + i) (log_of (get_or nodes i blank).replica)) → r + length nodes ≡ size f → AreInOrder V2 f r (logs_of (replicas_in nodes))
+in_order : (f r : ℕ) (nodes : List Node) → ((i : ℕ) → i < length nodes → IsOf V2 no_opening f (r + i) (log_of (get_or nodes i blank).replica)) → r + length nodes ≡ size f → AreInOrder V2 no_opening f r (logs_of (replicas_in nodes))
 in_order f r [] h count = (let z : r + 0 ≡ r = omega arith in sym z ∙ count)
 in_order f r (n ∷ ns) h count =
     let z : r + 0 ≡ r = omega arith in (
-      subst (λ (q : ℕ). IsOf V2 f q (log_of n.replica)) z (h 0 (omega arith)),
-      in_order f (suc r) ns (λ i low. let e : r + suc i ≡ suc r + i = omega arith in subst (λ (q : ℕ). IsOf V2 f q (log_of (get_or ns i blank).replica)) e (h (suc i) (omega arith)))
+      subst (λ (q : ℕ). IsOf V2 no_opening f q (log_of n.replica)) z (h 0 (omega arith)),
+      in_order f (suc r) ns (λ i low. let e : r + suc i ≡ suc r + i = omega arith in subst (λ (q : ℕ). IsOf V2 no_opening f q (log_of (get_or ns i blank).replica)) e (h (suc i) (omega arith)))
           (let s : suc r + length ns ≡ r + length (n ∷ ns) = omega arith in s ∙ count),
     )
 
 -- they are the journals of a cluster, in order
-pub host_in_order : (f : ℕ) (nodes : List Node) → IsHost f nodes → All Knows nodes → AreInOrder V2 f 0 (logs_of (replicas_in nodes))
+pub host_in_order : (f : ℕ) (nodes : List Node) → IsHost f nodes → All Knows nodes → AreInOrder V2 no_opening f 0 (logs_of (replicas_in nodes))
 host_in_order f nodes host know = in_order f 0 nodes
-    (λ i low. let e : 0 + i ≡ i = omega arith in rw e record { version = refl; faults = host.faults i blank low; me = host.me i blank low; journal = runs_at f nodes host know i low })
+    (λ i low. let e : 0 + i ≡ i = omega arith in rw e record { version = refl; faults = host.faults i blank low; me = host.me i blank low; opening = refl; opens = refl; journal = runs_at f nodes host know i low })
     (let z : 0 + length nodes ≡ length nodes = omega arith in z ∙ host.count)
 
 entries_each : (ks : List Kept) → all_entries (logs_of ks) ≡ entries_in ks
 entries_each [] = refl
 entries_each (k ∷ ks) = ap (λ (l : List (List Entry)). k.entries ∷ l) (entries_each ks)
 
-first_is : (v : Version) (f g : ℕ) (nodes : List Node) → length nodes ≡ size f → IsHost f nodes → AreInOrder v g 0 (logs_of (replicas_in nodes)) → (v ≡ V2) × (g ≡ f)
-first_is v f g [] count host h = absurd (omega arith)
-first_is v f g (n ∷ ns) count host h = (sym h.0.version, sym h.0.faults ∙ host.faults 0 blank (omega arith))
+first_is : (v : Version) (o : Opening) (f g : ℕ) (nodes : List Node) → length nodes ≡ size f → IsHost f nodes → AreInOrder v o g 0 (logs_of (replicas_in nodes)) → (v ≡ V2) × (o ≡ no_opening) × (g ≡ f)
+first_is v o f g [] count host h = absurd (omega arith)
+first_is v o f g (n ∷ ns) count host h = (sym h.0.version, sym h.0.opening, sym h.0.faults ∙ host.faults 0 blank (omega arith))
 
 -- what is collected is theirs
-pub collected_is : (v : Version) (f g : ℕ) (nodes : List Node) (entries : List (List Entry)) (ls : List Log) → IsHost f nodes → ls ≡ logs_of (replicas_in nodes) → AreInOrder v g 0 ls → entries ≡ all_entries ls →
-    (g ≡ f) × ((λ r. entries_of (get_or entries r [])) ≡ their_journals (replicas_in nodes))
-collected_is v f g nodes entries ls host is h e = (
-  (first_is v f g nodes host.count host (subst (λ (l : List Log). AreInOrder v g 0 l) is h)).1,
+pub collected_is : (v : Version) (o : Opening) (f g : ℕ) (nodes : List Node) (entries : List (List Entry)) (ls : List Log) → IsHost f nodes → ls ≡ logs_of (replicas_in nodes) → AreInOrder v o g 0 ls → entries ≡ all_entries ls →
+    (g ≡ f) × (o ≡ no_opening) × ((λ r. entries_of (get_or entries r [])) ≡ their_journals (replicas_in nodes))
+collected_is v o f g nodes entries ls host is h e = (
+  (first_is v o f g nodes host.count host (subst (λ (l : List Log). AreInOrder v o g 0 l) is h)).2,
+  (first_is v o f g nodes host.count host (subst (λ (l : List Log). AreInOrder v o g 0 l) is h)).1,
   ap (λ (es : List (List Entry)). λ (r : ℕ). entries_of (get_or es r [])) (e ∙ ap all_entries is ∙ entries_each (replicas_in nodes)),
 )
 
 -- What is left at the end of a host: its nodes' journals, collected, and their receipts.
 pub record IsEnd (f : ℕ) (nodes : List Node) (j : Collected) (receipts : List Receipt) : Type 0 where
   pub faults : j.faults ≡ f
+  pub opening : j.opening ≡ no_opening
   pub journals : journals_of j ≡ their_journals (replicas_in nodes)
   pub told : receipts ≡ their_receipts (replicas_in nodes)
 
 pub is_end :
-    (f : ℕ) (nodes after : List Node) (j : Collected) (ls : List Log) (receipts : List Receipt) → IsHost f nodes → Each Looked nodes after → ls ≡ logs_of (replicas_in after) → AreInOrder j.version j.faults 0 ls →
+    (f : ℕ) (nodes after : List Node) (j : Collected) (ls : List Log) (receipts : List Receipt) → IsHost f nodes → Each Looked nodes after → ls ≡ logs_of (replicas_in after) → AreInOrder j.version j.opening j.faults 0 ls →
     j.entries ≡ all_entries ls → receipts ≡ their_receipts (replicas_in after) → IsEnd f nodes j receipts
 is_end f nodes after j ls receipts host looked logs order entries are =
     let same = looked_replicas nodes after looked in
-    let both = collected_is j.version f j.faults nodes j.entries ls host (logs ∙ ap logs_of same) order entries in
-    record { faults = both.0; journals = both.1; told = are ∙ ap their_receipts same }
+    let both = collected_is j.version j.opening f j.faults nodes j.entries ls host (logs ∙ ap logs_of same) order entries in
+    record { faults = both.0; opening = both.1; journals = both.2; told = are ∙ ap their_receipts same }
 
-pub end_in_order : (f : ℕ) (nodes after : List Node) (ls : List Log) → IsHost f nodes → All Knows nodes → Each Looked nodes after → ls ≡ logs_of (replicas_in after) → AreInOrder V2 f 0 ls
-end_in_order f nodes after ls host know looked logs = subst (λ (l : List Log). AreInOrder V2 f 0 l) (sym (logs ∙ ap logs_of (looked_replicas nodes after looked))) (host_in_order f nodes host know)
+pub end_in_order : (f : ℕ) (nodes after : List Node) (ls : List Log) → IsHost f nodes → All Knows nodes → Each Looked nodes after → ls ≡ logs_of (replicas_in after) → AreInOrder V2 no_opening f 0 ls
+end_in_order f nodes after ls host know looked logs = subst (λ (l : List Log). AreInOrder V2 no_opening f 0 l) (sym (logs ∙ ap logs_of (looked_replicas nodes after looked))) (host_in_order f nodes host know)
 
-pub end_accepted : (f : ℕ) (nodes : List Node) (j : Collected) (receipts : List Receipt) → IsHost f nodes → All Knows nodes → AllSent nodes → IsEnd f nodes j receipts → IsAccepted (opened empty) j.faults (journals_of j) receipts
+pub end_accepted : (f : ℕ) (nodes : List Node) (j : Collected) (receipts : List Receipt) → IsHost f nodes → All Knows nodes → AllSent nodes → IsEnd f nodes j receipts → IsAccepted (opens j.opening) j.faults (journals_of j) receipts
 end_accepted f nodes j receipts host know sent e =
-    subst (λ (g : ℕ). IsAccepted (opened empty) g (journals_of j) receipts) (sym e.faults)
+    subst (λ (o : Opening). IsAccepted (opens o) j.faults (journals_of j) receipts) (sym e.opening)
+    (subst (λ (g : ℕ). IsAccepted (opened empty) g (journals_of j) receipts) (sym e.faults)
     (subst (λ (J : Journals). IsAccepted (opened empty) f J receipts) (sym e.journals)
-    (subst (λ (l : List Receipt). IsAccepted (opened empty) f (their_journals (replicas_in nodes)) l) (sym e.told) (host_accepted f nodes (their_receipts (replicas_in nodes)) host know sent (receipts_own f nodes host know))))
+    (subst (λ (l : List Receipt). IsAccepted (opened empty) f (their_journals (replicas_in nodes)) l) (sym e.told) (host_accepted f nodes (their_receipts (replicas_in nodes)) host know sent (receipts_own f nodes host know)))))
 
 pub end_audited :
-    (f : ℕ) (nodes : List Node) (j : Collected) (receipts : List Receipt) → IsEnd f nodes j receipts → (r : Result Verdict AllocError) → IfOk r (λ v. IsAudited j.faults (journals_of j) receipts v) →
-    IfOk r (λ v. IsAudited f (their_journals (replicas_in nodes)) (their_receipts (replicas_in nodes)) v)
+    (f : ℕ) (nodes : List Node) (j : Collected) (receipts : List Receipt) → IsEnd f nodes j receipts → (r : Result Verdict AllocError) → IfOk r (λ v. IsAudited (opens j.opening) j.faults (journals_of j) receipts v) →
+    IfOk r (λ v. IsAudited (opened empty) f (their_journals (replicas_in nodes)) (their_receipts (replicas_in nodes)) v)
 end_audited f nodes j receipts e (Err x) h = tt
 end_audited f nodes j receipts e (Ok v) h =
-    subst (λ (l : List Receipt). IsAudited f (their_journals (replicas_in nodes)) l v) e.told
-    (subst (λ (J : Journals). IsAudited f J receipts v) e.journals
-    (subst (λ (g : ℕ). IsAudited g (journals_of j) receipts v) e.faults h))
+    subst (λ (l : List Receipt). IsAudited (opened empty) f (their_journals (replicas_in nodes)) l v) e.told
+    (subst (λ (J : Journals). IsAudited (opened empty) f J receipts v) e.journals
+    (subst (λ (g : ℕ). IsAudited (opened empty) g (journals_of j) receipts v) e.faults
+    (subst (λ (o : Opening). IsAudited (opens o) j.faults (journals_of j) receipts v) e.opening h)))
 
 -- the journals at the end of a host, with receipts of its nodes' own
 pub ended :
-    (f : ℕ) (nodes after : List Node) (j : Collected) (ls : List Log) → IsHost f nodes → Each Looked nodes after → ls ≡ logs_of (replicas_in after) → AreInOrder j.version j.faults 0 ls → j.entries ≡ all_entries ls →
+    (f : ℕ) (nodes after : List Node) (j : Collected) (ls : List Log) → IsHost f nodes → Each Looked nodes after → ls ≡ logs_of (replicas_in after) → AreInOrder j.version j.opening j.faults 0 ls → j.entries ≡ all_entries ls →
     (j.faults ≡ f) × (j.entries ≡ entries_in (replicas_in nodes))
 ended f nodes after j ls host looked logs order entries =
     let same = looked_replicas nodes after looked in
     let is = logs ∙ ap logs_of same in (
-      (first_is j.version f j.faults nodes host.count host (subst (λ (l : List Log). AreInOrder j.version j.faults 0 l) is order)).1,
+      (first_is j.version j.opening f j.faults nodes host.count host (subst (λ (l : List Log). AreInOrder j.version j.opening j.faults 0 l) is order)).2,
       entries ∙ ap all_entries is ∙ entries_each (replicas_in nodes),
     )
 
--- they are of version 2
-pub ended_version :
-    (f : ℕ) (nodes after : List Node) (j : Collected) (ls : List Log) → IsHost f nodes → Each Looked nodes after → ls ≡ logs_of (replicas_in after) → AreInOrder j.version j.faults 0 ls → j.version ≡ V2
-ended_version f nodes after j ls host looked logs order =
+-- they are of version 2 and open with nothing
+pub ended_edition :
+    (f : ℕ) (nodes after : List Node) (j : Collected) (ls : List Log) → IsHost f nodes → Each Looked nodes after → ls ≡ logs_of (replicas_in after) → AreInOrder j.version j.opening j.faults 0 ls → (j.version ≡ V2) × (j.opening ≡ no_opening)
+ended_edition f nodes after j ls host looked logs order =
     let is = logs ∙ ap logs_of (looked_replicas nodes after looked) in
-    (first_is j.version f j.faults nodes host.count host (subst (λ (l : List Log). AreInOrder j.version j.faults 0 l) is order)).0
+    let first = first_is j.version j.opening f j.faults nodes host.count host (subst (λ (l : List Log). AreInOrder j.version j.opening j.faults 0 l) is order) in
+    (first.0, first.1)
 
 pub ended_accepted :
-    (f : ℕ) (nodes : List Node) (j : Collected) (ts : List Receipt) → IsHost f nodes → All Knows nodes → AllSent nodes → (j.faults ≡ f) × (j.entries ≡ entries_in (replicas_in nodes)) →
-    AreOwn (opened empty) f (their_journals (replicas_in nodes)) ts → IsAccepted (opened empty) j.faults (journals_of j) ts
-ended_accepted f nodes j ts host know sent is own =
+    (f : ℕ) (nodes : List Node) (j : Collected) (ts : List Receipt) → IsHost f nodes → All Knows nodes → AllSent nodes → (j.faults ≡ f) × (j.entries ≡ entries_in (replicas_in nodes)) → j.opening ≡ no_opening →
+    AreOwn (opened empty) f (their_journals (replicas_in nodes)) ts → IsAccepted (opens j.opening) j.faults (journals_of j) ts
+ended_accepted f nodes j ts host know sent is plain own =
     let same : journals_of j ≡ their_journals (replicas_in nodes) = ap (λ (es : List (List Entry)). λ (r : ℕ). entries_of (get_or es r [])) is.1 in
-    subst (λ (g : ℕ). IsAccepted (opened empty) g (journals_of j) ts) (sym is.0) (subst (λ (J : Journals). IsAccepted (opened empty) f J ts) (sym same) (host_accepted f nodes ts host know sent own))
+    subst (λ (o : Opening). IsAccepted (opens o) j.faults (journals_of j) ts) (sym plain)
+    (subst (λ (g : ℕ). IsAccepted (opened empty) g (journals_of j) ts) (sym is.0) (subst (λ (J : Journals). IsAccepted (opened empty) f J ts) (sym same) (host_accepted f nodes ts host know sent own)))

@@ -7,6 +7,7 @@ use Rattle.ep_journal.specs.Entries.{entries_of, IsJournal}
 use Rattle.ep_journal.specs.declared.entry.Entry.{Entry}
 use Rattle.ep_journal.specs.declared.event.Event.{Event}
 use Rattle.ep_journal.specs.declared.step_fault.StepFault.{StepFault}
+use Rattle.ep_journal.specs.Openings.{no_opening}
 use Rattle.ep_replica.specs.Applied.{Applied, IsDeclined}
 use Rattle.ep_replica.specs.Kept.{Kept}
 use Rattle.ep_replica.specs.Pending.{Submits}
@@ -24,7 +25,7 @@ use Rattle.ep_rules.specs.OneMap.{opened, empty}
 
 -- a replica's journal, which is of version 2
 abbrev pub IsKept : Kept → Type 0
-IsKept k = IsJournal V2 k.faults k.me k.entries
+IsKept k = IsJournal V2 no_opening k.faults k.me k.entries
 
 -- some replica took the event
 pub record IsTaken (event : Event) : Type 0 where

@@ -6,6 +6,7 @@ use Rattle.ep_base.specs.declared.version_kind.VersionKind.TheVariants.{V2}
 use Rattle.ep_frame.specs.Meaning.{sender_at}
 use Rattle.ep_rules.specs.Journals.{AreClocked}
 use Rattle.ep_journal.specs.Entries.{entries_of, IsJournal}
+use Rattle.ep_journal.specs.Openings.{no_opening}
 use Rattle.rtrb.specs.Ring.{sent, received, known_free, producer_capacity, IsPair}
 use Rattle.ep_host.specs.Node.{Node}
 use Rattle.ep_host.specs.Pointwise.{Each}
@@ -77,7 +78,7 @@ AllBegin nodes = (i j : ℕ) (d : Node) → j < i → i < length nodes → Begin
 -- what each node knows by itself
 pub record Knows (n : Node) : Type 0 where
   pub booked : IsBooked n.replica.me n.replica.entries n.links
-  pub journal : IsJournal V2 n.replica.faults n.replica.me n.replica.entries
+  pub journal : IsJournal V2 no_opening n.replica.faults n.replica.me n.replica.entries
   pub clocked : AreClocked 0 (entries_of n.replica.entries)
   pub some : 0 < n.replica.faults
 

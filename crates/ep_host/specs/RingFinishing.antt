@@ -5,6 +5,7 @@ use Rattle.ep_rules.specs.Journals.{Journals}
 use Rattle.ep_rules.specs.declared.receipt.Receipt.{Receipt}
 use Rattle.ep_journal.specs.Entries.{entries_of, Log}
 use Rattle.ep_journal.specs.declared.entry.Entry.{Entry}
+use Rattle.ep_journal.specs.Openings.{no_opening}
 use Rattle.ep_replica.specs.Kept.{Kept}
 use Rattle.ep_replica.specs.Receipts.{receipts_after}
 use Rattle.ep_host.specs.Node.{Node}
@@ -13,9 +14,9 @@ abbrev pub replicas_in : List Node → List Kept
 replicas_in [] = []
 replicas_in (n ∷ ns) = n.replica ∷ replicas_in ns
 
--- its journal, which is of version 2
+-- its journal, which is of version 2 and opens with nothing
 abbrev pub log_of : Kept → Log
-log_of k = record { version = V2; faults = k.faults; me = k.me; entries = k.entries }
+log_of k = record { version = V2; faults = k.faults; me = k.me; opening = no_opening; entries = k.entries }
 
 abbrev pub logs_of : List Kept → List Log
 logs_of [] = []

@@ -4,6 +4,7 @@ ghost use Rattle.std.specs.Prelude.{◌≡◌, ◌++◌, [], ℕ, IfOk, IsOk, On
 ghost use Rattle.ep_base.specs.declared.version_kind.VersionKind.TheVariants.{V2};
 ghost use Rattle.ep_rules.specs.Audits.{IsAccepted};
 ghost use Rattle.ep_journal.specs.Entries.{journals_of};
+ghost use Rattle.ep_journal.specs.Openings.{opens};
 ghost use Rattle.ep_audit.specs.Audited.{IsAudited};
 ghost use Rattle.ep_host.specs.Finishing.{IsFinished};
 ghost use Rattle.ep_host.specs.Host.{IsHost, AllBegin, AllFrom};
@@ -43,8 +44,8 @@ fn collected(alloc: Global, nodes: Vec<RingNode>) -> Result<Vec<Journal>, AllocE
 
 /// The audit of journals with receipts that it accepts.
 fn accepted(alloc: Global, journals: &Journals, receipts: &[Receipt]) -> Result<Verdict, AllocError>
-    requires { IsAccepted (opened empty) journals.now.faults (journals_of journals.now) receipts.now }
-    ensures { IfOk result (λ v. IsAudited journals.now.faults (journals_of journals.now) receipts.now v) }
+    requires { IsAccepted (opens journals.now.opening) journals.now.faults (journals_of journals.now) receipts.now }
+    ensures { IfOk result (λ v. IsAudited (opens journals.now.opening) journals.now.faults (journals_of journals.now) receipts.now v) }
 {
     match audit(alloc, journals, receipts) {
         Ok(verdict) => Ok(verdict),
@@ -56,7 +57,7 @@ fn accepted(alloc: Global, journals: &Journals, receipts: &[Receipt]) -> Result<
 /// The audit of the nodes of one host, with all their receipts. It never finds a fault. Want of memory drops the nodes.
 pub fn finish(alloc: Global, mut nodes: Vec<RingNode>) -> Result<Verdict, AllocError>
     requires { (f : ℕ) × IsHost f nodes.items }
-    ensures verdict { (f : ℕ) → IsHost f nodes.items → IfOk result (λ v. IsAudited f (their_journals (replicas_in nodes.items)) (their_receipts (replicas_in nodes.items)) v) }
+    ensures verdict { (f : ℕ) → IsHost f nodes.items → IfOk result (λ v. IsAudited (opened empty) f (their_journals (replicas_in nodes.items)) (their_receipts (replicas_in nodes.items)) v) }
     ensures begins { AllBegin nodes.items }
     ensures from { AllFrom nodes.items }
 {

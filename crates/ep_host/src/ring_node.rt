@@ -53,6 +53,7 @@ impl RingNode {
     ghost use Rattle.std.specs.Prelude.{◌≡◌, ◌<◌, ◌++◌, ◌∷◌, [], false, length, IfOk, IfErr, OnOk, OnErr};
     ghost use Rattle.ep_base.specs.declared.version_kind.VersionKind.TheVariants.{V2};
     ghost use Rattle.ep_journal.specs.Entries.{entries_of};
+    ghost use Rattle.ep_journal.specs.Openings.{no_opening};
     ghost use Rattle.ep_replica.specs.Receipts.{receipts_after};
     ghost use Rattle.ep_rules.specs.Verdicts.{IsOwn};
     ghost use Rattle.ep_rules.specs.Worlds.{In};
@@ -117,9 +118,10 @@ impl RingNode {
         self.refused.as_slice()
     }
 
-    /// The journal alone, which is of version 2.
+    /// The journal alone, which is of version 2 and opens with nothing.
     pub fn into_journal(self) -> Journal
         ensures version { result.version ≡ V2 }
+        ensures opening { result.opening ≡ no_opening }
         ensures entries { result.entries ≡ self.replica.entries }
         ensures faults { result.faults ≡ self.replica.faults }
         ensures me { result.me ≡ self.replica.me }

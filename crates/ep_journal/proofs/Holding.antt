@@ -1,5 +1,5 @@
 -- Each step keeps what a version has of a state, and the version can say all that the step sends.
-use Rattle.std.proofs.Common.{◌≡◌, ℕ, zero, suc, ◌+◌, ◌<◌, Bool, true, false, cond, ◌&&◌, not, eqb, ltb, leb, List, [], ◌∷◌, ◌++◌, Option, Some, None, Result, Ok, Err, refl, sym, subst, ◌∙◌, arith, is_some}
+use Rattle.std.proofs.Common.{◌≡◌, ℕ, zero, suc, ◌+◌, ◌<◌, ◌≤◌, Bool, true, false, cond, ◌&&◌, not, eqb, ltb, leb, List, [], ◌∷◌, ◌++◌, Option, Some, None, Result, Ok, Err, refl, sym, subst, ◌∙◌, arith, is_some}
 use Rattle.std.proofs.lemmas.Bool.{eqb-true, eq-eqb}
 use Rattle.std.specs.FinMap as map
 use Rattle.std.specs.List.{AllByRecursion}
@@ -10,7 +10,8 @@ use Rattle.ep_base.specs.Ballots.{ballot_of, highest_counter}
 use Rattle.ep_base.specs.Instances.{instance_of, leader_of}
 use Rattle.ep_base.specs.Messages.{instance_of_message}
 use Rattle.ep_base.specs.Quorums.{size, is_fast}
-use Rattle.ep_base.specs.Versions.{highest_in, knows, IsInstanceIn, AreDepsIn, IsDecreeIn, IsVoteIn, CanSay}
+use Rattle.ep_base.specs.Interference.{is_seal}
+use Rattle.ep_base.specs.Versions.{version_number, highest_in, knows, IsInstanceIn, AreDepsIn, IsDecreeIn, IsVoteIn, CanSay}
 use Rattle.ep_base.specs.declared.attrs.Attrs.{Attrs}
 use Rattle.ep_base.specs.Commands.{Command, Noop}
 use Rattle.ep_base.specs.declared.decree.Decree.{Decree}
@@ -18,7 +19,7 @@ use Rattle.ep_base.specs.declared.message.Message.{Message}
 use Rattle.ep_base.specs.declared.message.Message.TheVariants.{PreAccept, PreAcceptOk, Accept, AcceptOk, Commit, Prepare, PrepareOk, Nack}
 use Rattle.ep_base.specs.declared.reply.Answer.{Answer}
 use Rattle.ep_base.specs.declared.version.Version.{Version}
-use Rattle.ep_base.specs.declared.version_kind.VersionKind.TheVariants.{V1, V2}
+use Rattle.ep_base.specs.declared.version_kind.VersionKind.TheVariants.{V1, V2, V3}
 use Rattle.ep_base.specs.declared.vote.Status.TheVariants.{PreAccepted, Accepted}
 use Rattle.ep_base.specs.declared.vote.Vote.{Vote}
 use Rattle.ep_frame.proofs.Saying.{number_low}
@@ -37,9 +38,9 @@ use Rattle.ep_rules.specs.declared.led.Led.TheVariants.{Proposing, Accepting, Pr
 use Rattle.ep_rules.specs.declared.record.Record.{Record}
 use Rattle.ep_space.proofs.Holders.{sorted_true, those-found}
 use Rattle.ep_space.proofs.Rising.{all_from}
-use Rattle.ep_journal.proofs.Answering.{knows_noop, known_vote, stays_open}
-use Rattle.ep_journal.specs.Holding.{IsLedIn, Holds, HasEvent, HasRoom, AllSayable, AreSayable}
-use Rattle.ep_rules.specs.OneMap.{opened, empty}
+use Rattle.ep_journal.proofs.Answering.{knows_noop, known_vote, stays_in}
+use Rattle.ep_journal.specs.Holding.{IsLedIn, Holds, IsStoreIn, HasEvent, HasRoom, highest_for, AllSayable, AreSayable}
+use Rattle.ep_rules.specs.OneMap.{Store}
 
 -- Maps.
 
@@ -64,6 +65,25 @@ module _ {X : Type 0} (P : ℕ → X → Type 0) (m : Map X) (i : ℕ) (all : (j
           let gone : get (remove m i) j ≡ None = subst (λ k. get (remove m i) k ≡ None) (sym (eqb-true j i e)) (remove_same m i) in
           absurd (cc)
       go false e = all j y (sym (remove_other m i j (λ is. absurd (let t : eqb j i ≡ true = eq-eqb j i is in cc))) ∙ h)
+
+-- the numbers for a command are the version's
+for_seal : (b : Bool) (n : ℕ) → n < cond b 2000 1990 → n < 2000
+for_seal true n h = h
+for_seal false n h = omega (arith, h)
+
+pub within : (v : Version) (c : Command) (n : ℕ) → n < highest_for v c → n < highest_in v
+within V1 c n h = h
+within V2 c n h = h
+within (V3 g) c n h = for_seal (is_seal c) n h
+
+pub below : (v : Version) (c : Command) → highest_for v c ≤ highest_in v
+below V1 c = omega arith
+below V2 c = omega arith
+below (V3 g) c = for_any (is_seal c)
+  where
+    for_any : (b : Bool) → cond b 2000 1990 ≤ 2000
+    for_any true = omega arith
+    for_any false = omega arith
 
 module _ (version : Version) where
   -- What the version has of a change.
@@ -388,11 +408,11 @@ module _ (version : Version) where
         use_prepare_in f i me b (interference s.records i) (record_in s i) (more_preparing from v (get s.leads i)) said.0 (interference_in i) (more_preparing_in from v (get s.leads i) said.1 (led_in i))
     handled_in f me from (Nack i b p) said = record { entry = tt; lead = tt; out = tt }
 
-    proposed_in : (f me : ℕ) (c : Command) (n : Option ℕ) → knows version c ≡ true → ((k : ℕ) → n ≡ Some k → k < highest_in version) → IsPlacedIn (proposed f me s c n)
+    proposed_in : (f me : ℕ) (c : Command) (n : Option ℕ) → knows version c ≡ true → ((k : ℕ) → n ≡ Some k → k < highest_for version c) → IsPlacedIn (proposed f me s c n)
     proposed_in f me c None plain room = tt
     proposed_in f me c (Some n) plain room =
         let i : ℕ = instance_of me (n + 1) in
-        let less : n < highest_in version = room n refl in
+        let less : n < highest_in version = within version c n (room n refl) in
         let most = number_low version in
         let low : IsInstanceIn version i = omega arith in
         placed_in i (propose f i c (interference s.records i c)) low (propose_in f i c (interference s.records i c) low plain (interference_in i c))
@@ -435,7 +455,7 @@ module _ (version : Version) where
   changed_in s (Ok p) all known = record {
     records = entry_in s.records p.0 p.1.entry known.0 known.1.entry all.records;
     leads = lead_in s.leads p.0 p.1.led known.1.lead all.leads;
-    unsealed = all.unsealed;
+    store = all.store;
   }
   changed_in s (Err e) all known = all
 
@@ -446,35 +466,41 @@ module _ (version : Version) where
       record {
         records = after.records;
         leads = after.leads;
-        unsealed = stays_open version (command_in s.records) (command_known s known) s.store (order_of done) known.unsealed;
+        store = stays_in version (command_in s.records) (command_known s known) s.store (order_of done) known.store;
       }
 
   -- and what is known at first
-  pub fresh_held : Holds version (fresh_state (opened empty))
-  fresh_held = record {
+  pub fresh_held : (base : Store) → IsStoreIn version base → Holds version (fresh_state base)
+  fresh_held base has = record {
     records = λ i r h. absurd (let n : get (none {X = Record}) i ≡ None = none_there i in cc);
     leads = λ i l h. absurd (let n : get (none {X = Led}) i ≡ None = none_there i in cc);
-    unsealed = refl;
+    store = has;
   }
 
--- Version 2 has all that a version has of a state.
+-- Version 2 has all that the first two have of a state.
 
-attrs_later : (v : Version) (answers : Answers Attrs) → AllByRecursion (λ a. AreDepsIn v a.1.deps) answers → AllByRecursion (λ a. AreDepsIn V2 a.1.deps) answers
-attrs_later v [] h = tt
-attrs_later v (a ∷ more) h = (deps_later v a.1.deps h.0, attrs_later v more h.1)
+module _ (v : Version) (early : version_number v ≤ 2) where
+  attrs_later : (answers : Answers Attrs) → AllByRecursion (λ a. AreDepsIn v a.1.deps) answers → AllByRecursion (λ a. AreDepsIn V2 a.1.deps) answers
+  attrs_later [] h = tt
+  attrs_later (a ∷ more) h = (deps_later v V2 a.1.deps early h.0, attrs_later more h.1)
 
-votes_later : (v : Version) (answers : Answers (Option Vote)) → AllByRecursion (λ a. IsVoteIn v a.1) answers → AllByRecursion (λ a. IsVoteIn V2 a.1) answers
-votes_later v [] h = tt
-votes_later v (a ∷ more) h = (vote_later v a.1 h.0, votes_later v more h.1)
+  votes_later : (answers : Answers (Option Vote)) → AllByRecursion (λ a. IsVoteIn v a.1) answers → AllByRecursion (λ a. IsVoteIn V2 a.1) answers
+  votes_later [] h = tt
+  votes_later (a ∷ more) h = (vote_later v V2 a.1 early h.0, votes_later more h.1)
 
-led_later : (v : Version) (l : Led) → IsLedIn v l → IsLedIn V2 l
-led_later v (Proposing b answers) h = attrs_later v answers h
-led_later v (Accepting b answers) h = tt
-led_later v (Preparing b answers) h = votes_later v answers h
+  led_later : (l : Led) → IsLedIn v l → IsLedIn V2 l
+  led_later (Proposing b answers) h = attrs_later answers h
+  led_later (Accepting b answers) h = tt
+  led_later (Preparing b answers) h = votes_later answers h
 
-pub held_later : (v : Version) (s : State) → Holds v s → Holds V2 s
-held_later v s h = record {
-  records = λ i r is. let known = h.records i r is in (instance_later v i known.0, vote_later v r.vote known.1);
-  leads = λ i l is. led_later v l (h.leads i l is);
-  unsealed = h.unsealed;
+store_later : (v : Version) (s : Store) → version_number v ≤ 2 → IsStoreIn v s → IsStoreIn V2 s
+store_later V1 s early h = h
+store_later V2 s early h = h
+store_later (V3 g) s early h = absurd (omega (arith, early))
+
+pub held_later : (v : Version) (s : State) → version_number v ≤ 2 → Holds v s → Holds V2 s
+held_later v s early h = record {
+  records = λ i r is. let known = h.records i r is in (instance_later v V2 i early known.0, vote_later v V2 r.vote early known.1);
+  leads = λ i l is. led_later v early l (h.leads i l is);
+  store = store_later v s.store early h.store;
 }

@@ -8,7 +8,7 @@ use Rattle.ep_rules.specs.Phases.{Outcome}
 use Rattle.ep_rules.specs.Steps.{at}
 use Rattle.ep_journal.specs.Refused.{of_decision, IsRefused}
 use Rattle.ep_journal.specs.declared.step_fault.StepFault.{StepFault}
-use Rattle.ep_journal.specs.declared.step_fault.StepFault.TheVariants.{Memory, OutOfRange, NotMine, OtherVersion, StampFull, SpaceFull, SeqExhausted, NotLeading, TooFewAnswers, AlreadyCommitted, BallotsExhausted, NotCommitted}
+use Rattle.ep_journal.specs.declared.step_fault.StepFault.TheVariants.{Memory, OutOfRange, NotMine, OtherVersion, OtherGeneration, StampFull, SpaceFull, SeqExhausted, NotLeading, TooFewAnswers, AlreadyCommitted, BallotsExhausted, NotCommitted}
 
 pub refused_decision : (o : Outcome) (e : DecisionFault) → RuleRefused o e → IsRefused o (of_decision e)
 refused_decision o decision.Memory h = tt
@@ -24,6 +24,7 @@ refused_at i o Memory h = tt
 refused_at i o OutOfRange h = h
 refused_at i o NotMine h = h
 refused_at i o OtherVersion h = h
+refused_at i o OtherGeneration h = h
 refused_at i o StampFull h = h
 refused_at i o SpaceFull h = ap (at i) h
 refused_at i o SeqExhausted h = ap (at i) h

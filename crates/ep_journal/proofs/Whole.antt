@@ -1,12 +1,12 @@
 -- From what a step does to the parts of a state to the rule book's step of the whole.
-use Rattle.std.proofs.Common.{◌≡◌, inl, inr, ℕ, suc, ◌≤◌, Bool, true, false, cond, leb, arith, List, [], ◌∷◌, Option, Some, None, Result, Ok, Err, IfOk, IfErr, OnErr, refl, sym, ap, subst, ◌∙◌, append-nil}
+use Rattle.std.proofs.Common.{◌≡◌, inl, inr, ℕ, suc, ◌≤◌, Bool, true, false, cond, leb, arith, List, [], ◌∷◌, Option, Some, None, Result, Ok, Err, IfOk, IfErr, OnErr, refl, sym, ap, subst, ◌∙◌, append-nil, T, eqb, eqb→eq}
 use Rattle.std.proofs.lemmas.Bool.{leb-true}
 use Rattle.std.specs.Prelude.{IsErrAnd}
 use Rattle.std.specs.List.{AllByRecursion}
 use Rattle.ep_base.specs.Instances.{number_of}
 use Rattle.ep_base.specs.Versions.{highest_in, knows, CanSay}
 use Rattle.ep_base.specs.declared.version.Version.{Version}
-use Rattle.ep_base.specs.declared.version_kind.VersionKind.TheVariants.{V1, V2}
+use Rattle.ep_base.specs.declared.version_kind.VersionKind.TheVariants.{V1, V2, V3}
 use Rattle.ep_base.specs.Commands.{Command}
 use Rattle.ep_base.specs.declared.message.Message.{Message}
 use Rattle.ep_base.specs.declared.message.Message.TheVariants.{PreAccept, PreAcceptOk, Accept, AcceptOk, Commit, Prepare, PrepareOk, Nack}
@@ -30,7 +30,7 @@ use Rattle.ep_frame.specs.Spelling.{IsMessage, IsVote}
 use Rattle.ep_rules.specs.Fitting.{EventFits}
 use Rattle.ep_rules.proofs.Closed.{leaves_closed}
 use Rattle.ep_rules.proofs.Fitting.{leaves_fit}
-use Rattle.ep_journal.specs.Holding.{Holds, HasEvent}
+use Rattle.ep_journal.specs.Holding.{highest_for, Holds, HasEvent}
 use Rattle.ep_journal.specs.Entries.{entry_of, frames_at, AreFrames, AreFramesIn, AreNumbersIn, IsAnswerIn, AreAnswersIn}
 use Rattle.ep_journal.specs.Events.{frame_at, event_of, IsReadable, AreSpelled, lacking, numbered_in, spelled_in}
 use Rattle.ep_journal.specs.Executing.{IsExecuted, IsUnexecuted}
@@ -47,9 +47,9 @@ use Rattle.ep_journal.specs.declared.event.Event.TheVariants.{Propose, Handle, G
 use Rattle.ep_journal.specs.declared.mark.Mark.{Mark}
 use Rattle.ep_journal.specs.declared.parts.Parts.{Parts}
 use Rattle.ep_journal.specs.declared.step_fault.StepFault.{StepFault}
-use Rattle.ep_journal.specs.declared.step_fault.StepFault.TheVariants.{Memory, OutOfRange, NotMine, OtherVersion, StampFull, SpaceFull, SeqExhausted, NotLeading, TooFewAnswers, AlreadyCommitted, BallotsExhausted, NotCommitted}
+use Rattle.ep_journal.specs.declared.step_fault.StepFault.TheVariants.{Memory, OutOfRange, NotMine, OtherVersion, OtherGeneration, StampFull, SpaceFull, SeqExhausted, NotLeading, TooFewAnswers, AlreadyCommitted, BallotsExhausted, NotCommitted}
 use Rattle.ep_journal.proofs.Asked.{request_full}
-use Rattle.ep_journal.proofs.Answering.{answers_open}
+use Rattle.ep_journal.proofs.Answering.{answers_given}
 use Rattle.ep_journal.proofs.Holding.{acts_in, command_known, leaves_held}
 use Rattle.ep_journal.proofs.Planned.{planned_in}
 use Rattle.ep_journal.proofs.Writable.{step_writable}
@@ -187,6 +187,7 @@ refused_rule s event mark m Memory r given a why = inl refl
 refused_rule s event mark m OutOfRange r given a why = absurd why
 refused_rule s event mark m NotMine r given a why = absurd why
 refused_rule s event mark m OtherVersion r given a why = absurd why
+refused_rule s event mark m OtherGeneration r given a why = absurd why
 refused_rule s event mark m StampFull r given a why = absurd why
 refused_rule s event mark m SpaceFull r given a why = ruled s event mark m SpaceFull _ given refl (subst (IsAsked s event) why a)
 refused_rule s event mark m SeqExhausted r given a why = ruled s event mark m SeqExhausted _ given refl (subst (IsAsked s event) why a)
@@ -198,7 +199,7 @@ refused_rule s event mark m (NotCommitted i) r given a why = absurd why
 
 -- a request that finds no number of the version refuses the event
 full_by : (p : Parts) (client request seen : ℕ) (c : Command) (mark : Option Mark) (m : Mark) (o : Option ℕ) → mark ≡ Some m → IsLet (standing_of p) (Propose client request c seen) → free_number p.space.records p.me ≡ o →
-    ((n : ℕ) → free_number p.space.records p.me ≡ Some n → highest_in p.space.version ≤ n) → IsRefused (standing_of p) (Propose client request c seen) mark SpaceFull
+    ((n : ℕ) → free_number p.space.records p.me ≡ Some n → highest_for p.space.version c ≤ n) → IsRefused (standing_of p) (Propose client request c seen) mark SpaceFull
 full_by p client request seen c mark m None given h free full = refused_rule (standing_of p) (Propose client request c seen) mark m SpaceFull _ given (request_full p client request seen c h free) refl
 full_by p client request seen c mark m (Some n) given h free full = inr (inr (inr (inl (
   refl,
@@ -212,7 +213,7 @@ full_by p client request seen c mark m (Some n) given h free full = inr (inr (in
 ))))
 
 pub refused_full : (p : Parts) (client request seen : ℕ) (c : Command) (mark : Option Mark) (m : Mark) → mark ≡ Some m → IsLet (standing_of p) (Propose client request c seen) →
-    ((n : ℕ) → free_number p.space.records p.me ≡ Some n → highest_in p.space.version ≤ n) → IsRefused (standing_of p) (Propose client request c seen) mark SpaceFull
+    ((n : ℕ) → free_number p.space.records p.me ≡ Some n → highest_for p.space.version c ≤ n) → IsRefused (standing_of p) (Propose client request c seen) mark SpaceFull
 refused_full p client request seen c mark m given h full = full_by p client request seen c mark m (free_number p.space.records p.me) given h refl full
 
 -- What is asked, done or refused.
@@ -256,7 +257,7 @@ numbers_planned v s executed root done held plan = planned_in v s executed root 
 
 -- and the version has its answers
 answers_planned : (v : Version) (s : State) (done : List (ℕ × Answer)) → Holds v s → answers_in done ≡ answers_of (command_in s.records) s.store (order_of done) → AreAnswersIn v done
-answers_planned v s done held is = subst (λ (xs : List Answer). AllByRecursion (IsAnswerIn v) xs) (sym is) (answers_open v (command_in s.records) (command_known v s held) s.store (order_of done) held.unsealed)
+answers_planned v s done held is = subst (λ (xs : List Answer). AllByRecursion (IsAnswerIn v) xs) (sym is) (answers_given v (command_in s.records) (command_known v s held) s.store (order_of done) held.store)
 
 executed_here : (p p' : Parts) (m : Mark) (root : ℕ) (done : List (ℕ × Answer)) → Holds p.space.version (standing_of p).state → IsLet (standing_of p) (Execute root) →
     p'.me ≡ p.me → p'.space ≡ p.space → p'.lead ≡ p.lead → IsExecuted p.space root done p.executed.list p.store p'.executed.list p'.store →
@@ -293,6 +294,7 @@ refused_root p root mark m Memory given h why = inl refl
 refused_root p root mark m OutOfRange given h why = absurd why
 refused_root p root mark m NotMine given h why = absurd why
 refused_root p root mark m OtherVersion given h why = absurd why
+refused_root p root mark m OtherGeneration given h why = absurd why
 refused_root p root mark m StampFull given h why = absurd why
 refused_root p root mark m SpaceFull given h why = absurd why
 refused_root p root mark m SeqExhausted given h why = absurd why
@@ -339,11 +341,16 @@ said false fault e = absurd (cc)
 numbered : (v : Version) (i : ℕ) → numbered_in v i ≡ None → number_of i ≤ highest_in v
 numbered v i e = leb-true (number_of i) (highest_in v) (said (leb (number_of i) (highest_in v)) OutOfRange e)
 
-same_version : (v w : Version) → spelled_in v w ≡ None → v ≡ w
+pub same_version : (v w : Version) → spelled_in v w ≡ None → v ≡ w
 same_version V1 V1 e = refl
 same_version V1 V2 e = absurd (cc)
+same_version V1 (V3 h) e = absurd (cc)
 same_version V2 V1 e = absurd (cc)
 same_version V2 V2 e = refl
+same_version V2 (V3 h) e = absurd (cc)
+same_version (V3 g) V1 e = absurd (cc)
+same_version (V3 g) V2 e = absurd (cc)
+same_version (V3 g) (V3 h) e = ap V3 (eqb→eq g h (subst T (sym (said (eqb g h) OtherGeneration e)) tt))
 
 event_had : (v : Version) (e : Happening) → IsReadable e → lacking v e ≡ None → HasEvent v (event_of e)
 event_had v (Propose client request c seen) h e = said (knows v c) OutOfRange e

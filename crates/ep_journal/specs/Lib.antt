@@ -11,3 +11,4 @@ pub mod Standing
 pub mod Blocks
 pub mod Leaving
 pub mod Upgrading
+pub mod Openings

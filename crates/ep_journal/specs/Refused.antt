@@ -7,7 +7,7 @@ use Rattle.ep_phase.specs.declared.decision_fault.DecisionFault.TheVariants as d
 use Rattle.ep_rules.specs.Cells as rules
 use Rattle.ep_rules.specs.Cells.{Refusal}
 use Rattle.ep_journal.specs.declared.step_fault.StepFault.{StepFault}
-use Rattle.ep_journal.specs.declared.step_fault.StepFault.TheVariants.{Memory, OutOfRange, NotMine, OtherVersion, StampFull, SpaceFull, SeqExhausted, NotLeading, TooFewAnswers, AlreadyCommitted, BallotsExhausted, NotCommitted}
+use Rattle.ep_journal.specs.declared.step_fault.StepFault.TheVariants.{Memory, OutOfRange, NotMine, OtherVersion, OtherGeneration, StampFull, SpaceFull, SeqExhausted, NotLeading, TooFewAnswers, AlreadyCommitted, BallotsExhausted, NotCommitted}
 
 abbrev pub of_decision : DecisionFault → StepFault
 of_decision decision.Memory = Memory
@@ -21,12 +21,13 @@ abbrev pub of_plan : PlanFault → StepFault
 of_plan PlanMemory = Memory
 of_plan (PlanNotCommitted i) = NotCommitted i
 
--- the refusal of the rule book that the fault names; none for want of memory, another version and a full stamp, which the rule book doesn't know
+-- the refusal of the rule book that the fault names; none for want of memory, another version or generation and a full stamp, which the rule book doesn't know
 abbrev pub named : StepFault → Option Refusal
 named Memory = None
 named OutOfRange = Some rules.OutOfRange
 named NotMine = Some rules.NotMine
 named OtherVersion = None
+named OtherGeneration = None
 named StampFull = None
 named SpaceFull = Some rules.SpaceFull
 named SeqExhausted = Some rules.SeqExhausted
@@ -42,6 +43,7 @@ IsRefused o Memory = Unit {0}
 IsRefused o OutOfRange = ⊥
 IsRefused o NotMine = ⊥
 IsRefused o OtherVersion = ⊥
+IsRefused o OtherGeneration = ⊥
 IsRefused o StampFull = ⊥
 IsRefused o SpaceFull = o ≡ Err rules.SpaceFull
 IsRefused o SeqExhausted = o ≡ Err rules.SeqExhausted

@@ -76,10 +76,10 @@ fn do_command(store: &mut Store, command: &Command) -> Result<Answer, AllocError
     ensures ok { OnOk result (store.new ≡ after store.old command.now) }
     ensures err { OnErr result (store.new ≡ store.old) }
 {
-    match command {
-        Command::Noop => Ok(Answer::Lost),
-        _ => Ok(Answer::Told(store.apply(command)?)),
+    if command.is_noop() {
+        return Ok(Answer::Lost);
     }
+    Ok(Answer::Told(store.apply(command)?))
 }
 
 /// Does what is committed in one instance on the map, or nothing. Nothing is noted to be taken back, since no command follows that could

@@ -1,8 +1,11 @@
 //! What a replica is, by its parts, and its step.
 
-ghost use Rattle.std.specs.Prelude.{◌≡◌, ◌≤◌, ℕ, None, Ok, IfOk, IfErr, IfSome, OnErr};
+ghost use Rattle.std.specs.Prelude.{◌≡◌, ◌<◌, ◌≤◌, ◌+◌, ℕ, None, Some, Ok, IfOk, IfErr, IfSome, IsErr, OnErr};
 ghost use Rattle.ep_phase.specs.Changes.{change_of, sends};
+ghost use Rattle.ep_base.specs.Instances.{instance_of};
 ghost use Rattle.ep_phase.specs.Known.{known_of};
+ghost use Rattle.ep_rules.specs.States.{free_number};
+ghost use Rattle.ep_journal.specs.Holding.{highest_for};
 ghost use Rattle.ep_rules.specs.Steps.{sent_from};
 ghost use Rattle.ep_journal.specs.Events.{lacking, AreSpelled};
 ghost use Rattle.ep_journal.specs.Inputs.{outcome_at, IsWritable};
@@ -22,11 +25,11 @@ use crate::screen::{screen_frame, screen_instance, screen_request};
 use crate::step_fault::StepFault;
 use crate::taken::Taken;
 use crate::versioned::check_version;
-use ep_base::{Command, InstanceId, ReplicaId};
+use ep_base::{Command, InstanceId, ReplicaId, Version, VersionKind};
 use ep_exec::{Executed, Store};
 use ep_frame::Frame;
 use ep_phase::{Cell, Lead, next_instance};
-use ep_space::Space;
+use ep_space::{Space, SpaceFull};
 use std::alloc::{AllocError, Global};
 
 /// What a replica is: what it recorded, leads, has executed and stores.
@@ -37,6 +40,31 @@ pub struct Parts {
     pub lead: Lead,
     pub executed: Executed,
     pub store: Store,
+}
+
+/// The next instance for the command: `SpaceFull` where the least free number is above the highest that the version has for it.
+#[inline(always)]
+fn instance_for(space: &Space, me: ReplicaId, command: &Command) -> Result<InstanceId, SpaceFull>
+    ensures ok { IfOk result (λ i. (n : ℕ) × (free_number space.now.records me ≡ Some n) × (n < highest_for space.now.version command.now) × (i ≡ instance_of me (n + 1))) }
+    ensures full { IsErr result → (n : ℕ) → free_number space.now.records me ≡ Some n → highest_for space.now.version command.now ≤ n }
+{
+    let id = next_instance(space, me)?;
+    if id.number() > highest_for(space.version(), command) {
+        return Err(SpaceFull);
+    }
+    Ok(id)
+}
+
+/// The highest number of an instance in which the command is proposed.
+#[inline(always)]
+fn highest_for(version: Version, command: &Command) -> u16
+    ensures { result ≡ highest_for version command.now }
+{
+    match version.kind() {
+        VersionKind::V1 => 1000,
+        VersionKind::V2 => 2000,
+        VersionKind::V3(_) => { if command.is_seal() { 2000 } else { 1990 } }
+    }
 }
 
 impl Parts {
@@ -111,7 +139,7 @@ impl Parts {
         let Some(mark) = mark else {
             return Err(StepFault::StampFull);
         };
-        let id = next_instance(&self.space, self.me)?;
+        let id = instance_for(&self.space, self.me, command)?;
         let input = Input::Start(command);
         self.ask(alloc, id, input, Some(mark))
     }

@@ -56,7 +56,7 @@ pub(crate) fn screen_instance(cluster: Size, instance: InstanceId) -> Result<(),
 fn may_propose(client: u32, request: u32, command: &Command) -> bool
     ensures { (n : ℕ) (seen : ℕ) → result ≡ is_within n (Propose client request command.now seen) }
 {
-    !matches!(command, Command::Noop) && 0 < client && 0 < request
+    !command.is_noop() && 0 < client && 0 < request
 }
 
 fn leader_within(count: u8, instance: InstanceId) -> bool

@@ -19,6 +19,9 @@ pub enum StepFault {
     /// The frame is of another version than the replica.
     #[error("E14 bad frame")]
     OtherVersion,
+    /// The frame is of the replica's version, and of another generation.
+    #[error("E14 bad frame")]
+    OtherGeneration,
     /// The version doesn't have the command or the instance's number, a replica's number is not below the cluster's size, a no-op is
     /// proposed, or a client or a request is 0.
     #[error("E3 out of range")]
@@ -29,7 +32,8 @@ pub enum StepFault {
     /// The entry's stamp or number would pass its limit.
     #[error("E15 stamp full")]
     StampFull,
-    /// The replica has a record of each instance that it leads: 1,000 in version 1, 2,000 in version 2.
+    /// The replica has a record of each instance that it leads and that is for the command: 1,000 in version 1, 2,000 in version 2, and in
+    /// version 3 2,000 for a seal and 1,990 for any other command.
     #[error("E4 space full")]
     SpaceFull,
     /// The sequence number would pass 1,000,000.

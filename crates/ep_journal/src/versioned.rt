@@ -8,8 +8,8 @@ use crate::event::Event;
 use crate::step_fault::StepFault;
 use ep_base::{InstanceId, Version};
 
-/// Whether a replica of this version has what the event speaks of: `OtherVersion` for a frame of another version, `OutOfRange` for a
-/// command or an instance's number that the version lacks.
+/// Whether a replica of this version has what the event speaks of: `OtherVersion` for a frame of another version, `OtherGeneration` for one of
+/// its version and another generation, `OutOfRange` for a command or an instance's number that the version lacks.
 pub(crate) fn check_version(version: Version, event: &Event) -> Result<(), StepFault>
     ensures ok { OnOk result (lacking version event.now ≡ None) }
     ensures err { IfErr result (λ fault. lacking version event.now ≡ Some fault) }
@@ -39,10 +39,13 @@ fn check_spelled(spelled: Version, version: Version) -> Result<(), StepFault>
     ensures ok { OnOk result (spelled_in spelled version ≡ None) }
     ensures err { IfErr result (λ fault. spelled_in spelled version ≡ Some fault) }
 {
-    match (spelled, version) {
-        (Version::V1, Version::V1) | (Version::V2, Version::V2) => Ok(()),
-        (Version::V1, Version::V2) | (Version::V2, Version::V1) => Err(StepFault::OtherVersion),
+    if spelled.number() != version.number() {
+        return Err(StepFault::OtherVersion);
     }
+    if spelled.generation() != version.generation() {
+        return Err(StepFault::OtherGeneration);
+    }
+    Ok(())
 }
 
 fn check_numbered(version: Version, instance: InstanceId) -> Result<(), StepFault>

@@ -4,6 +4,7 @@ use Rattle.ep_audit.specs.Audited.{IsAudited}
 use Rattle.ep_bundle.specs.Bytes.{bundle_bytes}
 use Rattle.ep_host.specs.Finishing.{IsFinished}
 use Rattle.ep_journal.specs.Entries.{journals_of}
+use Rattle.ep_journal.specs.Openings.{opens}
 use Rattle.ep_report.specs.Refusals.{fault_of}
 use Rattle.ep_report.specs.declared.audit_fault.AuditFault.{AuditFault}
 use Rattle.ep_rules.specs.Audits.{IsFault}
@@ -21,7 +22,6 @@ use Rattle.ep_main.specs.declared.status.Status.{Status}
 use Rattle.ep_main.specs.declared.host.Host.{Host}
 use Rattle.ep_main.specs.declared.host.Host.TheVariants.{Lock, Ring}
 use Rattle.ep_main.specs.declared.status.Status.TheVariants.{Accepted, AuditRefused, Refused, OutOfMemory, Failed}
-use Rattle.ep_rules.specs.OneMap.{opened, empty}
 
 pub says_as : (a b : Emit) (ran : Ran) (status : Status) (text : List ℕ) → a ≡ b → SaysOfRun a ran status text → SaysOfRun b ran status text
 says_as a b ran status text is says = subst (λ e. SaysOfRun e ran status text) is says
@@ -29,18 +29,18 @@ says_as a b ran status text is says = subst (λ e. SaysOfRun e ran status text) 
 -- the verdict that it has is the audit's
 pub accepted_in :
     (ran : Ran) (v : Verdict) → ran.finished.verdict ≡ Ok v → IsFinished ran.receipts.items ran.finished →
-    IsAudited ran.finished.journals.faults (journals_of ran.finished.journals) ran.receipts.items v
+    IsAudited (opens ran.finished.journals.opening) ran.finished.journals.faults (journals_of ran.finished.journals) ran.receipts.items v
 accepted_in ran v is finished =
-    subst (λ (r : Result Verdict AuditFault). MatchResult r (λ v. IsAudited ran.finished.journals.faults (journals_of ran.finished.journals) ran.receipts.items v)
-    (λ fault. IsFault (opened empty) ran.finished.journals.faults (journals_of ran.finished.journals) ran.receipts.items (fault_of fault))) is finished
+    subst (λ (r : Result Verdict AuditFault). MatchResult r (λ v. IsAudited (opens ran.finished.journals.opening) ran.finished.journals.faults (journals_of ran.finished.journals) ran.receipts.items v)
+    (λ fault. IsFault (opens ran.finished.journals.opening) ran.finished.journals.faults (journals_of ran.finished.journals) ran.receipts.items (fault_of fault))) is finished
 
 -- the fault that it has is the first one
 pub refused_in :
     (ran : Ran) (e : AuditFault) → ran.finished.verdict ≡ Err e → IsFinished ran.receipts.items ran.finished →
-    IsFault (opened empty) ran.finished.journals.faults (journals_of ran.finished.journals) ran.receipts.items (fault_of e)
+    IsFault (opens ran.finished.journals.opening) ran.finished.journals.faults (journals_of ran.finished.journals) ran.receipts.items (fault_of e)
 refused_in ran e is finished =
-    subst (λ (r : Result Verdict AuditFault). MatchResult r (λ v. IsAudited ran.finished.journals.faults (journals_of ran.finished.journals) ran.receipts.items v)
-    (λ fault. IsFault (opened empty) ran.finished.journals.faults (journals_of ran.finished.journals) ran.receipts.items (fault_of fault))) is finished
+    subst (λ (r : Result Verdict AuditFault). MatchResult r (λ v. IsAudited (opens ran.finished.journals.opening) ran.finished.journals.faults (journals_of ran.finished.journals) ran.receipts.items v)
+    (λ fault. IsFault (opens ran.finished.journals.opening) ran.finished.journals.faults (journals_of ran.finished.journals) ran.receipts.items (fault_of fault))) is finished
 
 pub bundled_in :
     (ran : Ran) (v : Verdict) (text : List ℕ) → ran.finished.verdict ≡ Ok v → IsFinished ran.receipts.items ran.finished →

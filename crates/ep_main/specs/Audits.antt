@@ -4,6 +4,7 @@ use Rattle.ep_bundle.specs.Bytes.{bundle_bytes}
 use Rattle.ep_bundle.specs.Journals.{ReadsBundle}
 use Rattle.ep_bundle.specs.Reading.{Left}
 use Rattle.ep_journal.specs.Entries.{Collected, journals_of}
+use Rattle.ep_journal.specs.Openings.{opens}
 use Rattle.ep_rules.specs.Audits.{Fault, IsFault}
 use Rattle.ep_rules.specs.declared.receipt.Receipt.{Receipt}
 use Rattle.ep_report.specs.Reports.{text_of, accepted_lines, run_lines, refusal_lines}
@@ -15,14 +16,13 @@ use Rattle.ep_main.specs.declared.asked.Emit.{Emit}
 use Rattle.ep_main.specs.declared.asked.Emit.TheVariants.{Report, Bundle}
 use Rattle.ep_main.specs.declared.status.Status.{Status}
 use Rattle.ep_main.specs.declared.status.Status.TheVariants.{Accepted, AuditRefused, Refused, OutOfMemory, Failed}
-use Rattle.ep_rules.specs.OneMap.{opened, empty}
 
 -- the audit accepts, and the text is this of its verdict; or it refuses, and the text is that of the first fault
 abbrev pub Judges : Collected → List Receipt → (Verdict → List ℕ) → (Fault → List ℕ) → Status → List ℕ → Type 0
 Judges journals receipts accepted refused Accepted text =
-    (verdict : Verdict) × IsAudited journals.faults (journals_of journals) receipts verdict × (text ≡ accepted verdict)
+    (verdict : Verdict) × IsAudited (opens journals.opening) journals.faults (journals_of journals) receipts verdict × (text ≡ accepted verdict)
 Judges journals receipts accepted refused AuditRefused text =
-    (fault : Fault) × IsFault (opened empty) journals.faults (journals_of journals) receipts fault × (text ≡ refused fault)
+    (fault : Fault) × IsFault (opens journals.opening) journals.faults (journals_of journals) receipts fault × (text ≡ refused fault)
 Judges journals receipts accepted refused Refused text = ⊥
 Judges journals receipts accepted refused OutOfMemory text = ⊥
 Judges journals receipts accepted refused Failed text = ⊥

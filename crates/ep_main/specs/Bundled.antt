@@ -2,12 +2,12 @@
 use Rattle.std.specs.Prelude.{◌≡◌, ℕ, List, Ok}
 use Rattle.ep_bundle.specs.Bytes.{bundle_bytes}
 use Rattle.ep_journal.specs.Entries.{journals_of}
+use Rattle.ep_journal.specs.Openings.{opens}
 use Rattle.ep_rules.specs.Audits.{IsAccepted}
 use Rattle.ep_script.specs.Plan.{Plan, script_of}
 use Rattle.ep_replay.specs.Outcome.{IsReplay}
 use Rattle.ep_replay.specs.declared.replayed.Replayed.{Replayed}
 use Rattle.ep_main.specs.Outputs.{Output, Wrote}
-use Rattle.ep_rules.specs.OneMap.{opened, empty}
 
 -- The bytes are a script, and this is what the protocol plays of it.
 pub record IsPlayed (zs : List ℕ) (played : Replayed) : Type 0 where
@@ -19,5 +19,5 @@ pub record IsPlayed (zs : List ℕ) (played : Replayed) : Type 0 where
 pub record IsBundled (zs : List ℕ) (out : Output) : Type 0 where
   pub played : Replayed
   pub replay : IsPlayed zs played
-  pub accepted : IsAccepted (opened empty) played.journals.faults (journals_of played.journals) played.receipts.items
+  pub accepted : IsAccepted (opens played.journals.opening) played.journals.faults (journals_of played.journals) played.receipts.items
   pub wrote : Wrote out (bundle_bytes played.journals played.receipts.items)

@@ -1,6 +1,7 @@
 -- The report of a script.
 use Rattle.std.specs.Prelude.{◌≡◌, ℕ, List, ◌++◌}
 use Rattle.ep_journal.specs.Entries.{journals_of}
+use Rattle.ep_journal.specs.Openings.{opens}
 use Rattle.ep_report.specs.Reports.{text_of, accepted_lines, refused_lines}
 use Rattle.ep_script.specs.Plan.{Plan}
 use Rattle.ep_verdict.specs.declared.verdict.Verdict.{Verdict}
@@ -11,7 +12,7 @@ use Rattle.ep_replay.specs.declared.replayed.Replayed.{Replayed}
 -- The audit accepts what the run left, and the text is the audit's verdict, the receipts, and the lines that were refused.
 pub record IsReportOf (played : Replayed) (text : List ℕ) : Type 0 where
   pub verdict : Verdict
-  pub audited : IsAudited played.journals.faults (journals_of played.journals) played.receipts.items verdict
+  pub audited : IsAudited (opens played.journals.opening) played.journals.faults (journals_of played.journals) played.receipts.items verdict
   pub printed : text ≡ text_of (accepted_lines verdict.committed.items verdict.history.items played.receipts.items ++ refused_lines played.refused.items)
 
 -- The text is the report of what the protocol plays of the script.

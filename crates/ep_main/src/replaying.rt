@@ -3,14 +3,15 @@
 ghost use Rattle.std.specs.Prelude.{◌≡◌, ◌<◌, ◌^◌, ℕ, List, Some, length, IfOk, IfErr};
 ghost use Rattle.ep_base.specs.Devices.{FailsAsTold};
 ghost use Rattle.ep_bundle.specs.Bytes.{bundle_bytes};
+ghost use Rattle.ep_bundle.specs.Writing.{HasBundles};
 ghost use Rattle.ep_main.specs.Faults.{is_read, is_write};
 ghost use Rattle.ep_main.specs.Outputs.{output};
 ghost use Rattle.ep_main.specs.Reported.{IsReportOf};
 ghost use Rattle.ep_journal.specs.Entries.{journals_of};
+ghost use Rattle.ep_journal.specs.Openings.{opens};
 ghost use Rattle.ep_rules.specs.Audits.{IsAccepted};
 ghost use Rattle.ep_main.specs.Runs.{Plays, Leaves, IsVerdict};
 ghost use Rattle.ep_main.specs.declared.fault.Fault.TheVariants.{Memory};
-ghost use Rattle.ep_rules.specs.OneMap.{opened, empty};
 
 use crate::fault::Fault;
 use crate::gathering::gather_bundle;
@@ -67,7 +68,8 @@ pub(crate) fn emit_bundle<S: Source, W: Sink>(
 
 /// The bytes of the bundle of what a script's run left.
 fn bundle_of(alloc: Global, played: &Replayed) -> Result<Vec<u8>, Fault>
-    requires { length played.now.receipts.items < 2 ^ 32 }
+    requires early { HasBundles played.now.journals.version }
+    requires receipts { length played.now.receipts.items < 2 ^ 32 }
     ensures value { IfOk result (λ bytes. bytes.items ≡ bundle_bytes played.now.journals played.now.receipts.items) }
     ensures memory { IfErr result (λ e. e ≡ Memory) }
 {
@@ -76,7 +78,7 @@ fn bundle_of(alloc: Global, played: &Replayed) -> Result<Vec<u8>, Fault>
 
 /// The report of what a script's run left, which the audit accepts.
 fn report_of(alloc: Global, played: &Replayed) -> Result<Vec<u8>, Fault>
-    requires { IsAccepted (opened empty) played.now.journals.faults (journals_of played.now.journals) played.now.receipts.items }
+    requires { IsAccepted (opens played.now.journals.opening) played.now.journals.faults (journals_of played.now.journals) played.now.receipts.items }
     ensures value { IfOk result (λ text. IsReportOf played.now text.items) }
     ensures memory { IfErr result (λ e. e ≡ Memory) }
 {

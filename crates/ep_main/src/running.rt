@@ -2,7 +2,9 @@
 
 ghost use Rattle.std.specs.Prelude.{◌≡◌, ◌<◌, ◌^◌, ℕ, List, Some, length, IfOk, IfErr, IsOk};
 ghost use Rattle.ep_base.specs.Devices.{FailsAsTold};
+ghost use Rattle.ep_base.specs.declared.version_kind.VersionKind.TheVariants.{V2};
 ghost use Rattle.ep_bundle.specs.Bytes.{bundle_bytes};
+ghost use Rattle.ep_bundle.specs.Writing.{HasBundles};
 ghost use Rattle.ep_host.specs.Finishing.{IsFinished};
 ghost use Rattle.ep_main.specs.Audits.{SaysOfRun};
 ghost use Rattle.ep_main.specs.Faults.{is_read, is_write};
@@ -61,6 +63,7 @@ fn run_on_host<R: Threads + Wait + Sync>(
     script: &RunScript,
 ) -> Result<Ran, RunFault>
     ensures finished { IfOk result (λ r. IsFinished r.receipts.items r.finished) }
+    ensures version { IfOk result (λ r. r.finished.journals.version ≡ V2) }
     ensures promised { IfOk result (Promises options.now.host options.now.turns script.now.sections) }
 {
     let limits = options.limits();
@@ -72,7 +75,8 @@ fn run_on_host<R: Threads + Wait + Sync>(
 
 /// What is printed of a run, and the status by what the audit says of it.
 fn judge_run(alloc: Global, emit: Emit, ran: &Ran) -> Result<Judged, Fault>
-    requires { IsFinished ran.now.receipts.items ran.now.finished }
+    requires early { HasBundles ran.now.finished.journals.version }
+    requires finished { IsFinished ran.now.receipts.items ran.now.finished }
     ensures value { IfOk result (λ j. SaysOfRun emit ran.now j.status j.text.items) }
     ensures accepted { IsOk ran.now.finished.verdict → IfOk result (λ j. j.status ≡ Accepted) }
     ensures memory { IfErr result (λ e. e ≡ Memory) }
@@ -117,7 +121,8 @@ fn judge_reported(alloc: Global, ran: &Ran) -> Result<Judged, Fault>
 
 /// The bundle of a run, whatever the audit says of it.
 fn judge_bundled(alloc: Global, ran: &Ran) -> Result<Judged, Fault>
-    requires { IsFinished ran.now.receipts.items ran.now.finished }
+    requires early { HasBundles ran.now.finished.journals.version }
+    requires finished { IsFinished ran.now.receipts.items ran.now.finished }
     ensures value { IfOk result (λ j. SaysOfRun Bundle ran.now j.status j.text.items) }
     ensures accepted { IsOk ran.now.finished.verdict → IfOk result (λ j. j.status ≡ Accepted) }
     ensures memory { IfErr result (λ e. e ≡ Memory) }
@@ -137,6 +142,7 @@ fn judge_bundled(alloc: Global, ran: &Ran) -> Result<Judged, Fault>
 
 /// The bytes of the bundle of what a run left.
 fn bundle_of(alloc: Global, ran: &Ran) -> Result<Vec<u8>, Fault>
+    requires { HasBundles ran.now.finished.journals.version }
     ensures value { IfOk result (λ bytes. bytes.items ≡ bundle_bytes ran.now.finished.journals ran.now.receipts.items) }
     ensures memory { IfErr result (λ e. e ≡ Memory) }
 {

@@ -27,7 +27,7 @@ use Rattle.ep_matching.specs.Claims.{is_proposed, is_earlier, proposal_of, is_kn
 use Rattle.ep_matching.specs.Lookups.{entry_at, proposed, is_this, proposal_in, is_request, has_answer, has_done}
 use Rattle.ep_matching.proofs.Handled.{passes, outer, inner, fails, or_none, or_some}
 use Rattle.ep_matching.proofs.Shown.{shown_at, shown_from, in_shown, shown_in, runs_of, numbered_of, entry_from, entry_parts}
-use Rattle.ep_rules.specs.OneMap.{opened, empty}
+use Rattle.ep_journal.specs.Openings.{opens}
 
 both : (p q : Bool) → p && q ≡ true → (p ≡ true) × (q ≡ true)
 both true true is = (refl, refl)
@@ -121,32 +121,32 @@ module _ (c : Collected) (h : AreJournals c) (some : 0 < c.faults) where
   -- the entry proposes i for this client and request
   record Asks (i client request : ℕ) (e : Entry) : Type 0 where
     pub asks : is_request client request e.event ≡ true
-    pub proposes : Proposes (opened empty) c.faults (leader_of i) (journals_of c (leader_of i)) i client request
+    pub proposes : Proposes (opens c.opening) c.faults (leader_of i) (journals_of c (leader_of i)) i client request
     pub is : proposes.proposal ≡ entry_of e
 
   proposer : (i client request : ℕ) (e : Entry) → proposal_of c i ≡ Some e → is_request client request e.event ≡ true → Asks i client request e
   proposer i client request e is asks =
       let l : ℕ = leader_of i in
       let t = found (entries_at c l) i e is in
-      let p = (proposals_tell_lem (opened empty) c.faults l (journals_of c l) some ((runs_of c h).local l).1 i client request).1 (entry_of e) (shown_in (entries_at c l) e t.there) (tells (entry_of e) e.event e.frames i client request refl refl t.names asks) in
+      let p = (proposals_tell_lem (opens c.opening) c.faults l (journals_of c l) some ((runs_of c h).local l).1 i client request).1 (entry_of e) (shown_in (entries_at c l) e t.there) (tells (entry_of e) e.event e.frames i client request refl refl t.names asks) in
       record { asks = asks; proposes = p.0; is = p.1 }
 
   -- the one proposal is what the search finds
-  proposal_is : (i client request : ℕ) (p : Proposes (opened empty) c.faults (leader_of i) (journals_of c (leader_of i)) i client request) → (o : Option Entry) → proposal_of c i ≡ o → (e : Entry) × (o ≡ Some e) × (is_request client request e.event ≡ true) × (p.proposal ≡ entry_of e)
+  proposal_is : (i client request : ℕ) (p : Proposes (opens c.opening) c.faults (leader_of i) (journals_of c (leader_of i)) i client request) → (o : Option Entry) → proposal_of c i ≡ o → (e : Entry) × (o ≡ Some e) × (is_request client request e.event ≡ true) × (p.proposal ≡ entry_of e)
   proposal_is i client request p None is =
       let l : ℕ = leader_of i in
-      let law = proposals_tell_lem (opened empty) c.faults l (journals_of c l) some ((runs_of c h).local l).1 i client request in
+      let law = proposals_tell_lem (opens c.opening) c.faults l (journals_of c l) some ((runs_of c h).local l).1 i client request in
       let t = in_shown (entries_at c l) p.proposal (in_middle p.before p.proposal p.rest (journals_of c l) p.split) in
       let u = told (entry_of t.0) t.0.event t.0.frames i client request refl refl (subst (λ z. TellsOf z i client request) (sym t.2) (law.0 p)) in
       absurd (none_found (entries_at c l) i is t.0 t.1 u.0)
   proposal_is i client request p (Some e) is =
       let l : ℕ = leader_of i in
       let steps = ((runs_of c h).local l).1 in
-      let law = proposals_tell_lem (opened empty) c.faults l (journals_of c l) some steps i client request in
+      let law = proposals_tell_lem (opens c.opening) c.faults l (journals_of c l) some steps i client request in
       let t = found (entries_at c l) i e is in
       let a = asked e.event e.frames i t.names in
       let q = proposer i a.0 a.1 e is a.2 in
-      let same : p.proposal ≡ entry_of e = one_proposal_lem (opened empty) c.faults l (journals_of c l) steps i client request a.0 a.1 p q.proposes ∙ q.is in
+      let same : p.proposal ≡ entry_of e = one_proposal_lem (opens c.opening) c.faults l (journals_of c l) steps i client request a.0 a.1 p q.proposes ∙ q.is in
       let u = told (entry_of e) e.event e.frames i client request refl refl (subst (λ z. TellsOf z i client request) same (law.0 p)) in
       (e, refl, u.1, same)
 
@@ -201,7 +201,7 @@ module _ (c : Collected) (h : AreJournals c) (some : 0 < c.faults) where
   record Knows (t : Receipt) : Type 0 where
     pub entry : Entry
     pub found : proposal_of c t.instance ≡ Some entry
-    pub known : IsKnown (opened empty) c.faults (journals_of c) t
+    pub known : IsKnown (opens c.opening) c.faults (journals_of c) t
     pub is : known.proposed.proposal ≡ entry_of entry
 
   knows : (t : Receipt) → is_known c t ≡ true → Knows t
@@ -211,31 +211,31 @@ module _ (c : Collected) (h : AreJournals c) (some : 0 < c.faults) where
       let p = proposer c h some t.instance t.client t.request e.0 e.1 e.2 in
       record { entry = e.0; found = e.1; known = record { proposed = p.proposes; executed = executed c h t.replica t.entry t.stamp t.instance t.answer b.1 }; is = p.is }
 
-  known : (t : Receipt) → IsKnown (opened empty) c.faults (journals_of c) t → is_known c t ≡ true
+  known : (t : Receipt) → IsKnown (opens c.opening) c.faults (journals_of c) t → is_known c t ≡ true
   known t k =
       let p = proposal_is c h some t.instance t.client t.request k.proposed (proposal_of c t.instance) refl in
       let q : is_proposed (proposal_of c t.instance) t.client t.request ≡ true = subst (λ o. is_proposed o t.client t.request ≡ true) (sym p.1) p.2 in
       and_both (is_proposed (proposal_of c t.instance) t.client t.request) (has_done (entry_at (entries_at c t.replica) t.entry) t.stamp t.instance t.answer) q
       (has_executed c h t.replica t.entry t.stamp t.instance t.answer k.executed)
 
-  agrees : (place : ℕ) (t : Receipt) → receipt_fault c place t ≡ None → Agrees (opened empty) c.faults (journals_of c) t
+  agrees : (place : ℕ) (t : Receipt) → receipt_fault c place t ≡ None → Agrees (opens c.opening) c.faults (journals_of c) t
   agrees place t none =
       let b = passes (is_known c t) (is_earlier t.seen (proposal_of c t.instance)) (AuditFault.CallerOrder place) (AuditFault.UnknownReceipt place) none in
       let k = knows t b.0 in
       let lt : t.seen < k.entry.stamp = ltb-true t.seen k.entry.stamp (subst (λ o. is_earlier t.seen o ≡ true) k.found b.1) in
       record { known = k.known; later = subst (λ (z : rules.Entry). t.seen < z.stamp) (sym k.is) lt }
 
-  earlier : (t : Receipt) → Agrees (opened empty) c.faults (journals_of c) t → is_earlier t.seen (proposal_of c t.instance) ≡ true
+  earlier : (t : Receipt) → Agrees (opens c.opening) c.faults (journals_of c) t → is_earlier t.seen (proposal_of c t.instance) ≡ true
   earlier t a =
       let p = proposal_is c h some t.instance t.client t.request a.known.proposed (proposal_of c t.instance) refl in
       let lt : t.seen < p.0.stamp = subst (λ (z : rules.Entry). t.seen < z.stamp) p.3 a.later in
       subst (λ o. is_earlier t.seen o ≡ true) (sym p.1) (lt-ltb t.seen p.0.stamp lt)
 
-  receipt_wrong : (receipts : List Receipt) (place : ℕ) (t : Receipt) → IsFirstReceipt (opened empty) c.faults (journals_of c) receipts place t → (x : AuditFault) → receipt_fault c place t ≡ Some x → IsFault (opened empty) c.faults (journals_of c) receipts (fault_of x)
+  receipt_wrong : (receipts : List Receipt) (place : ℕ) (t : Receipt) → IsFirstReceipt (opens c.opening) c.faults (journals_of c) receipts place t → (x : AuditFault) → receipt_fault c place t ≡ Some x → IsFault (opens c.opening) c.faults (journals_of c) receipts (fault_of x)
   receipt_wrong receipts place t first x is =
       elim (fails (is_known c t) (is_earlier t.seen (proposal_of c t.instance)) (AuditFault.CallerOrder place) (AuditFault.UnknownReceipt place) x is) [
-        | outer isnt same ↦ subst (λ y. IsFault (opened empty) c.faults (journals_of c) receipts (fault_of y)) same (unknown place t first (λ k. false≢true (sym isnt ∙ known t k)))
-        | inner passed isnt same ↦ subst (λ y. IsFault (opened empty) c.faults (journals_of c) receipts (fault_of y)) same (order place t first (knows t passed).known (λ a. false≢true (sym isnt ∙ earlier t a)))
+        | outer isnt same ↦ subst (λ y. IsFault (opens c.opening) c.faults (journals_of c) receipts (fault_of y)) same (unknown place t first (λ k. false≢true (sym isnt ∙ known t k)))
+        | inner passed isnt same ↦ subst (λ y. IsFault (opens c.opening) c.faults (journals_of c) receipts (fault_of y)) same (order place t first (knows t passed).known (λ a. false≢true (sym isnt ∙ earlier t a)))
       ]
 
 -- All receipts.
@@ -278,10 +278,10 @@ some_of c place (t ∷ ts) x some = elim (or_some (receipt_fault c place t) (fir
   | inr is ↦ first_more c place t ts x is.0 (some_of c (suc place) ts x is.1)
 ]
 
-accepted : (c : Collected) (receipts : List Receipt) → AreJournals c → 0 < c.faults → IsMatched (journals_of c) → first_of c 1 receipts ≡ None → IsAccepted (opened empty) c.faults (journals_of c) receipts
+accepted : (c : Collected) (receipts : List Receipt) → AreJournals c → 0 < c.faults → IsMatched (journals_of c) → first_of c 1 receipts ≡ None → IsAccepted (opens c.opening) c.faults (journals_of c) receipts
 accepted c receipts h some matched none = record { matched = matched; agree = λ t there. let n = none_of c 1 receipts none t there in agrees c h some n.0 t n.1 }
 
-claimed_wrong : (c : Collected) (receipts : List Receipt) (x : AuditFault) → AreJournals c → 0 < c.faults → IsMatched (journals_of c) → first_of c 1 receipts ≡ Some x → IsFault (opened empty) c.faults (journals_of c) receipts (fault_of x)
+claimed_wrong : (c : Collected) (receipts : List Receipt) (x : AuditFault) → AreJournals c → 0 < c.faults → IsMatched (journals_of c) → first_of c 1 receipts ≡ Some x → IsFault (opens c.opening) c.faults (journals_of c) receipts (fault_of x)
 claimed_wrong c receipts x h some matched is =
     let t = some_of c 1 receipts x is in
     receipt_wrong c h some receipts t.at t.receipt
@@ -296,11 +296,11 @@ claimed_wrong c receipts x h some matched is =
     x t.fault
 
 -- where no receipt has a fault, all is accepted
-pub accepted_if : (c : Collected) (receipts : List Receipt) → AreJournals c → 0 < c.faults → IsMatched (journals_of c) → (o : Option AuditFault) → o ≡ first_of c 1 receipts → IfNone o (IsAccepted (opened empty) c.faults (journals_of c) receipts)
+pub accepted_if : (c : Collected) (receipts : List Receipt) → AreJournals c → 0 < c.faults → IsMatched (journals_of c) → (o : Option AuditFault) → o ≡ first_of c 1 receipts → IfNone o (IsAccepted (opens c.opening) c.faults (journals_of c) receipts)
 accepted_if c receipts h some matched None is = accepted c receipts h some matched (sym is)
 accepted_if c receipts h some matched (Some x) is = tt
 
 -- the first fault is one of the rule book's
-pub wrong_if : (c : Collected) (receipts : List Receipt) → AreJournals c → 0 < c.faults → IsMatched (journals_of c) → (o : Option AuditFault) → o ≡ first_of c 1 receipts → IfSome o (λ x. IsFault (opened empty) c.faults (journals_of c) receipts (fault_of x))
+pub wrong_if : (c : Collected) (receipts : List Receipt) → AreJournals c → 0 < c.faults → IsMatched (journals_of c) → (o : Option AuditFault) → o ≡ first_of c 1 receipts → IfSome o (λ x. IsFault (opens c.opening) c.faults (journals_of c) receipts (fault_of x))
 wrong_if c receipts h some matched None is = tt
 wrong_if c receipts h some matched (Some x) is = claimed_wrong c receipts x h some matched (sym is)

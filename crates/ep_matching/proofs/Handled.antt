@@ -1,5 +1,5 @@
 -- The first fault of handled frames is the rule book's.
-use Rattle.std.proofs.Common.{◌≡◌, ℕ, zero, suc, ◌<◌, ◌⊎◌, inl, inr, Bool, true, false, cond, ltb, Option, Some, None, List, [], ◌∷◌, ◌++◌, refl, sym, ap, subst, ◌∙◌, arith}
+use Rattle.std.proofs.Common.{◌≡◌, ℕ, zero, suc, ◌<◌, ◌⊎◌, inl, inr, Bool, true, false, cond, ltb, Option, Some, None, is_none, List, [], ◌∷◌, ◌++◌, refl, sym, ap, subst, ◌∙◌, arith}
 use Rattle.std.proofs.lemmas.Bool.{cases_lt, ltb-true, lt-ltb, false≢true}
 use Rattle.ep_base.specs.Attributes.{same_list}
 use Rattle.ep_base.specs.Quorums.{size}
@@ -23,7 +23,7 @@ use Rattle.ep_matching.specs.Handlings.{frame_fault, event_fault, entry_fault, o
 use Rattle.ep_matching.specs.Lookups.{sent_there}
 use Rattle.ep_matching.proofs.Shown.{shown_append, in_shown, readable_in, readable_of, handled_in, versioned_in}
 use Rattle.ep_matching.proofs.Sending.{origin_there, no_origin, was_sent, sent_is}
-use Rattle.ep_rules.specs.OneMap.{opened, empty}
+use Rattle.ep_journal.specs.Openings.{opens}
 
 -- Two tests, one in the other.
 
@@ -49,6 +49,15 @@ pub or_some : (a b : Option AuditFault) (x : AuditFault) → or_else a b ≡ Som
 or_some None b x is = inr (refl, is)
 or_some (Some y) b x is = inl is
 
+-- one replica more, whose entries are looked at where no fault is found yet
+pub next_looked : (c : Collected) (n : ℕ) (old new : Option AuditFault) → old ≡ first_below c n → is_none old ≡ true → new ≡ first_in c n (entries_at c n) → new ≡ first_below c (suc n)
+next_looked c n None new is none made = made ∙ ap (λ o. or_else o (first_in c n (entries_at c n))) is
+next_looked c n (Some x) new is none made = absurd (cc)
+
+pub next_kept : (c : Collected) (n : ℕ) (old new : Option AuditFault) → old ≡ first_below c n → is_none old ≡ false → new ≡ old → new ≡ first_below c (suc n)
+next_kept c n None new is some made = absurd (cc)
+next_kept c n (Some x) new is some made = made ∙ ap (λ o. or_else o (first_in c n (entries_at c n))) is
+
 -- One entry.
 
 frame_fine : (c : Collected) (r n stamp : ℕ) (b : List ℕ) → AreJournals c → (o : Option (List ℕ)) → sent_there c b ≡ o → frame_fault r n stamp b o ≡ None → WasSent (journals_of c) (frame_at b) × ((origin_at b).stamp < stamp)
@@ -73,21 +82,21 @@ entry_fine c r e h none m is = event_fine c r e.number e.stamp e.event h none m 
 
 module _ (f : ℕ) (c : Collected) (receipts : List Receipt) (h : AreJournals c) where
   frame_wrong : (r : ℕ) (e : Entry) (b : List ℕ) → IsFrame b → version_at b ≡ c.version → IsFirstHandling (journals_of c) r (entry_of e) (frame_at b) → (x : AuditFault) (o : Option (List ℕ)) → sent_there c b ≡ o →
-      frame_fault r e.number e.stamp b o ≡ Some x → IsFault (opened empty) f (journals_of c) receipts (fault_of x)
+      frame_fault r e.number e.stamp b o ≡ Some x → IsFault (opens c.opening) f (journals_of c) receipts (fault_of x)
   frame_wrong r e b frame version first x None is some =
       let s : Some (AuditFault.UnsentFrame r e.number) ≡ Some x = some in
       let same : AuditFault.UnsentFrame r e.number ≡ x = cc in
-      subst (λ y. IsFault (opened empty) f (journals_of c) receipts (fault_of y)) same (unsent r (entry_of e) (frame_at b) first (no_origin c b h is))
+      subst (λ y. IsFault (opens c.opening) f (journals_of c) receipts (fault_of y)) same (unsent r (entry_of e) (frame_at b) first (no_origin c b h is))
   frame_wrong r e b frame version first x (Some sent) is some =
       elim (fails (same_list sent b) (ltb (origin_at b).stamp e.stamp) (AuditFault.StampOrder r e.number) (AuditFault.ChangedFrame r e.number) x some) [
-        | outer isnt same ↦ subst (λ y. IsFault (opened empty) f (journals_of c) receipts (fault_of y)) same
+        | outer isnt same ↦ subst (λ y. IsFault (opens c.opening) f (journals_of c) receipts (fault_of y)) same
             (changed r (entry_of e) (frame_at b) first (origin_there c b sent h is) (λ w. false≢true (sym isnt ∙ (Decides-same_list sent b).1 (sent_is c b sent h frame version is w))))
-        | inner passed isnt same ↦ subst (λ y. IsFault (opened empty) f (journals_of c) receipts (fault_of y)) same
+        | inner passed isnt same ↦ subst (λ y. IsFault (opens c.opening) f (journals_of c) receipts (fault_of y)) same
             (early r (entry_of e) (frame_at b) first (was_sent c b h (is ∙ ap Some ((Decides-same_list sent b).0 passed))) (λ lt. false≢true (sym isnt ∙ lt-ltb (origin_at b).stamp e.stamp lt)))
       ]
 
   event_wrong : (r : ℕ) (e : Entry) (event : Event) → IsReadable event → lacking c.version event ≡ None → ((m : Frame) → event_of event ≡ Handles m → IsFirstHandling (journals_of c) r (entry_of e) m) → (x : AuditFault) →
-      event_fault c r e.number e.stamp event ≡ Some x → IsFault (opened empty) f (journals_of c) receipts (fault_of x)
+      event_fault c r e.number e.stamp event ≡ Some x → IsFault (opens c.opening) f (journals_of c) receipts (fault_of x)
   event_wrong r e (Propose client request command seen) frame lacks first x some = let s : None ≡ Some x = some in absurd (cc)
   event_wrong r e (Handle b) frame lacks first x some = frame_wrong r e b frame (handled_in c.version b lacks) (first (frame_at b) refl) x (sent_there c b) refl some
   event_wrong r e (GiveUp i) frame lacks first x some = let s : None ≡ Some x = some in absurd (cc)
@@ -173,7 +182,7 @@ in_middle [] e ys = inl refl
 in_middle (x ∷ xs) e ys = inr (in_middle xs e ys)
 
 -- the first fault is one of the rule book's
-pub handled_wrong : (f : ℕ) (c : Collected) (receipts : List Receipt) (n : ℕ) (x : AuditFault) → AreJournals c → first_below c n ≡ Some x → IsFault (opened empty) f (journals_of c) receipts (fault_of x)
+pub handled_wrong : (f : ℕ) (c : Collected) (receipts : List Receipt) (n : ℕ) (x : AuditFault) → AreJournals c → first_below c n ≡ Some x → IsFault (opens c.opening) f (journals_of c) receipts (fault_of x)
 handled_wrong f c receipts n x h some =
     let t = some_below c n x some in
     let u = some_in c t.replica (entries_at c t.replica) x t.fault in

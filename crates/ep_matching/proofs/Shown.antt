@@ -1,23 +1,24 @@
 -- Entries and frames of the code, and those that the rule book sees, at the same places.
-use Rattle.std.proofs.Common.{◌≡◌, ℕ, zero, suc, ◌+◌, inl, inr, Option, Some, None, List, [], ◌∷◌, ◌++◌, slice_get, refl, sym, ap, subst, arith}
-use Rattle.std.proofs.lemmas.Bool.{cases_lt}
+use Rattle.std.proofs.Common.{◌≡◌, ℕ, zero, suc, ◌+◌, inl, inr, Bool, true, false, cond, eqb, Option, Some, None, List, [], ◌∷◌, ◌++◌, slice_get, refl, sym, ap, subst, arith}
+use Rattle.std.proofs.lemmas.Bool.{cases_lt, eqb-true}
 use Rattle.ep_base.specs.Quorums.{size}
 use Rattle.ep_base.specs.declared.version.Version.{Version}
-use Rattle.ep_base.specs.declared.version_kind.VersionKind.TheVariants.{V1, V2}
+use Rattle.ep_base.specs.declared.version_kind.VersionKind.TheVariants.{V1, V2, V3}
 use Rattle.ep_frame.specs.Meaning.{version_at}
 use Rattle.ep_frame.specs.Spelling.{IsFrame}
 use Rattle.ep_journal.specs.Entries.{Collected, entry_of, entries_of, entries_at, journals_of, frames_at, AreFrames, AreReadable, AreFramesIn, IsEntryIn, AreEntriesIn, AreJournals}
 use Rattle.ep_journal.specs.Events.{event_of, frame_at, IsReadable, spelled_in, lacking}
 use Rattle.ep_journal.specs.declared.entry.Entry.{Entry}
 use Rattle.ep_journal.specs.declared.event.Event.TheVariants.{Handle}
-use Rattle.ep_journal.specs.declared.step_fault.StepFault.TheVariants.{OtherVersion}
+use Rattle.ep_journal.specs.declared.step_fault.StepFault.{StepFault}
+use Rattle.ep_journal.specs.declared.step_fault.StepFault.TheVariants.{OtherGeneration}
 use Rattle.ep_rules.specs.Journals as rules
 use Rattle.ep_rules.specs.Journals.{AreLocalRuns, AreNumbered}
 use Rattle.ep_rules.specs.States.{State, fresh_state}
 use Rattle.ep_rules.specs.Steps.{Frame, leaves}
 use Rattle.ep_rules.specs.Worlds.{In}
 use Rattle.ep_matching.specs.Lookups.{entry_at, frame_in}
-use Rattle.ep_rules.specs.OneMap.{opened, empty}
+use Rattle.ep_journal.specs.Openings.{opens}
 
 -- Entries.
 
@@ -90,11 +91,20 @@ frame_of (x ∷ bs) (suc k) b h is = frame_of bs k b h.1 is
 pub handled_in : (v : Version) (b : List ℕ) → lacking v (Handle b) ≡ None → version_at b ≡ v
 handled_in v b none = go (version_at b) v none
   where
+    said : (t : Bool) (fault : StepFault) → cond {A = Option StepFault} t None (Some fault) ≡ None → t ≡ true
+    said true fault is = refl
+    said false fault is = absurd (cc)
+
     go : (w u : Version) → spelled_in w u ≡ None → w ≡ u
     go V1 V1 is = refl
-    go V1 V2 is = let s : Some OtherVersion ≡ None = is in absurd (cc)
-    go V2 V1 is = let s : Some OtherVersion ≡ None = is in absurd (cc)
+    go V1 V2 is = absurd (cc)
+    go V1 (V3 h) is = absurd (cc)
+    go V2 V1 is = absurd (cc)
     go V2 V2 is = refl
+    go V2 (V3 h) is = absurd (cc)
+    go (V3 g) V1 is = absurd (cc)
+    go (V3 g) V2 is = absurd (cc)
+    go (V3 g) (V3 h) is = ap V3 (eqb-true g h (said (eqb g h) OtherGeneration is))
 
 pub frame_in_version : (v : Version) (bs : List (List ℕ)) (k : ℕ) (b : List ℕ) → AreFramesIn v bs → slice_get bs k ≡ Some b → version_at b ≡ v
 frame_in_version v [] k b h is = absurd (cc)
@@ -115,7 +125,7 @@ at_in (x ∷ es) (suc k) e is = inr (at_in es k e is)
 
 pub versioned_in : (c : Collected) → AreJournals c → (r : ℕ) (e : Entry) → In e (entries_at c r) → IsEntryIn c.version e
 versioned_in c h r e there = elim (cases_lt r (size c.faults)) [
-  | inl lt ↦ versioned_from c.version c.faults r (fresh_state (opened empty)) (entries_at c r) e (h.journal r lt).versioned there
+  | inl lt ↦ versioned_from c.version c.faults r (fresh_state (opens c.opening)) (entries_at c r) e (h.journal r lt).versioned there
   | inr le ↦ (let nobody : In e [] = subst (λ es. In e es) (h.others r le) there in absurd nobody)
 ]
 
@@ -128,11 +138,11 @@ readable_of c h r = elim (cases_lt r (size c.faults)) [
   | inr le ↦ subst (λ es. AreReadable es) (sym (h.others r le)) tt
 ]
 
-pub runs_of : (c : Collected) → AreJournals c → AreLocalRuns (opened empty) c.faults (journals_of c)
+pub runs_of : (c : Collected) → AreJournals c → AreLocalRuns (opens c.opening) c.faults (journals_of c)
 runs_of c h = record {
   local = λ r. elim (cases_lt r (size c.faults)) [
     | inl lt ↦ (h.journal r lt).run
-    | inr le ↦ subst (λ (es : List Entry). rules.IsLocalRun (opened empty) c.faults r (entries_of es)) (sym (h.others r le)) (tt, tt)
+    | inr le ↦ subst (λ (es : List Entry). rules.IsLocalRun (opens c.opening) c.faults r (entries_of es)) (sym (h.others r le)) (tt, tt)
   ];
   others = λ r le. ap entries_of (h.others r le);
 }

@@ -4,7 +4,7 @@ ghost use Rattle.std.specs.Prelude.{IfNone, IfOk, IfSome};
 ghost use Rattle.ep_journal.specs.Entries.{journals_of};
 ghost use Rattle.ep_report.specs.Refusals.{fault_of};
 ghost use Rattle.ep_rules.specs.Audits.{IsAccepted, IsFault};
-ghost use Rattle.ep_rules.specs.OneMap.{opened, empty};
+ghost use Rattle.ep_journal.specs.Openings.{opens};
 
 use crate::claims::first_claim;
 use crate::handlings::first_handling;
@@ -21,8 +21,8 @@ pub fn first_fault(
     journals: &Journals,
     receipts: &[Receipt],
 ) -> Result<Option<AuditFault>, AllocError>
-    ensures accepted { IfOk result (λ found. IfNone found (IsAccepted (opened empty) journals.now.faults (journals_of journals.now) receipts.now)) }
-    ensures fault { IfOk result (λ found. IfSome found (λ fault. IsFault (opened empty) journals.now.faults (journals_of journals.now) receipts.now (fault_of fault))) }
+    ensures accepted { IfOk result (λ found. IfNone found (IsAccepted (opens journals.now.opening) journals.now.faults (journals_of journals.now) receipts.now)) }
+    ensures fault { IfOk result (λ found. IfSome found (λ fault. IsFault (opens journals.now.opening) journals.now.faults (journals_of journals.now) receipts.now (fault_of fault))) }
 {
     journals.are_journals();
     let count = journals.size().count();

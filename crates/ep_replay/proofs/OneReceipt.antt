@@ -25,7 +25,7 @@ use Rattle.ep_rules.proofs.Places.{Once, once-append, once_filter, has_cons, has
 use Rattle.ep_replica.specs.Receipts.{own_proposal, proposal_of, receipt_of, receipts_for, receipts_of}
 use Rattle.ep_replica.specs.declared.proposal.Proposal.{Proposal}
 use Rattle.ep_replay.specs.Told.{instances_of}
-use Rattle.ep_rules.specs.OneMap.{opened, empty}
+use Rattle.ep_rules.specs.OneMap.{Store, opened, empty}
 
 -- Lists.
 
@@ -130,12 +130,12 @@ module _ (f : ℕ) (old new : Journals) (ts : List Receipt) (r : ℕ) (e : Entry
 -- There are at most as many receipts as instances.
 
 -- what the journals' replicas propose is an instance
-proposed_instance : (f : ℕ) (journal : Journals) (i client request : ℕ) → f ≤ 3 → AreLocalRuns (opened empty) f journal → Proposes (opened empty) f (leader_of i) (journal (leader_of i)) i client request → IsInstance i
-proposed_instance f journal i client request small local p =
+proposed_instance : (base : Store) (f : ℕ) (journal : Journals) (i client request : ℕ) → f ≤ 3 → AreLocalRuns base f journal → Proposes base f (leader_of i) (journal (leader_of i)) i client request → IsInstance i
+proposed_instance base f journal i client request small local p =
     let me : ℕ = leader_of i in
     let stands : In p.proposal (journal me) = subst (λ es. In p.proposal es) p.split (in_right p.proposal p.before (p.proposal ∷ p.rest) (inl refl)) in
-    let low : me < size f = in_journal (opened empty) f journal me p.proposal local stands in
-    let number : p.number < highest_number = (free_found (left f me (fresh_state (opened empty)) p.before).records me p.number p.free).0 in
+    let low : me < size f = in_journal base f journal me p.proposal local stands in
+    let number : p.number < highest_number = (free_found (left f me (fresh_state base) p.before).records me p.number p.free).0 in
     let is : instance_of me (p.number + 1) ≡ i = p.instance in
     (omega arith, omega arith, omega arith)
 
@@ -150,8 +150,8 @@ count_told : (ts : List Receipt) → length (instances_of ts) ≡ length ts
 count_told [] = refl
 count_told (t ∷ ts) = ap suc (count_told ts)
 
-pub few_receipts : (f : ℕ) (journal : Journals) (ts : List Receipt) → f ≤ 3 → AreLocalRuns (opened empty) f journal → IsAccepted (opened empty) f journal ts → Once (instances_of ts) → length ts ≤ most_deps
-few_receipts f journal ts small local accepted once =
-    let few = few_instances (instances_of ts) once (are_instances ts (λ t h. (let k = (accepted.agree t h).known in proposed_instance f journal t.instance t.client t.request small local k.proposed))) in
+pub few_receipts : (base : Store) (f : ℕ) (journal : Journals) (ts : List Receipt) → f ≤ 3 → AreLocalRuns base f journal → IsAccepted base f journal ts → Once (instances_of ts) → length ts ≤ most_deps
+few_receipts base f journal ts small local accepted once =
+    let few = few_instances (instances_of ts) once (are_instances ts (λ t h. (let k = (accepted.agree t h).known in proposed_instance base f journal t.instance t.client t.request small local k.proposed))) in
     let count = count_told ts in
     omega arith

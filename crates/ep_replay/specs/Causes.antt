@@ -10,6 +10,7 @@ abbrev pub cause_of_step : StepFault → Cause
 cause_of_step step.Memory = named.Memory
 cause_of_step step.OutOfRange = named.OutOfRange
 cause_of_step step.OtherVersion = named.BadFrame
+cause_of_step step.OtherGeneration = named.BadFrame
 cause_of_step step.NotMine = named.NotMine
 cause_of_step step.StampFull = named.StampFull
 cause_of_step step.SpaceFull = named.SpaceFull

@@ -18,6 +18,7 @@ pub fn step_cause(fault: StepFault) -> Cause
         StepFault::Memory => Cause::Memory,
         StepFault::OutOfRange => Cause::OutOfRange,
         StepFault::OtherVersion => Cause::BadFrame,
+        StepFault::OtherGeneration => Cause::BadFrame,
         StepFault::NotMine => Cause::NotMine,
         StepFault::StampFull => Cause::StampFull,
         StepFault::SpaceFull => Cause::SpaceFull,

@@ -1,10 +1,12 @@
 //! Replays of scripts.
 
 ghost use Rattle.std.specs.Prelude.{◌≡◌, ℕ, ◌≤◌, ◌++◌, List, [], false, length, OnOk, IfOk};
+ghost use Rattle.ep_base.specs.declared.version_kind.VersionKind.TheVariants.{V2};
 ghost use Rattle.ep_rules.specs.Audits.{IsAccepted};
 ghost use Rattle.ep_rules.specs.Counts.{AreOnce};
 ghost use Rattle.ep_rules.specs.declared.receipt.Receipt.{Receipt as Told};
 ghost use Rattle.ep_journal.specs.Entries.{entry_of, journals_of};
+ghost use Rattle.ep_journal.specs.Openings.{opens};
 ghost use Rattle.ep_replica.specs.Receipts.{receipts_of};
 ghost use Rattle.ep_world.specs.Played.{Played, collected, journals_in};
 ghost use Rattle.ep_world.specs.Playing.{Happens};
@@ -13,7 +15,6 @@ ghost use Rattle.ep_replay.specs.Outcome.{IsReplay};
 ghost use Rattle.ep_replay.specs.Replays.{was_sent};
 ghost use Rattle.ep_replay.specs.Tables.{AreCounted, AreOwn};
 ghost use Rattle.ep_replay.specs.Told.{instances_of};
-ghost use Rattle.ep_rules.specs.OneMap.{opened, empty};
 
 use crate::causes::list;
 use crate::clients::Clients;
@@ -287,7 +288,7 @@ impl Player {
         ensures journals { IfOk result (λ d. d.journals ≡ collected self.world) }
         ensures receipts { IfOk result (λ d. d.receipts.items ≡ self.receipts.items) }
         ensures refused { IfOk result (λ d. d.refused.items ≡ self.refused.items) }
-        ensures accepted { IfOk result (λ d. AreOwn self.world self.receipts.items → IsAccepted (opened empty) d.journals.faults (journals_of d.journals) d.receipts.items) }
+        ensures accepted { IfOk result (λ d. AreOwn self.world self.receipts.items → IsAccepted (opens d.journals.opening) d.journals.faults (journals_of d.journals) d.receipts.items) }
     {
         self.world.journals_are_accepted();
         let Player {
@@ -315,7 +316,8 @@ impl Player {
 /// each instance, so at most 14,000 in all. The audit accepts what a replay leaves.
 pub fn replay(alloc: Global, script: &Script) -> Result<Replayed, AllocError>
     ensures value { IfOk result (λ d. IsReplay script.now d) }
-    ensures accepted { IfOk result (λ d. IsAccepted (opened empty) d.journals.faults (journals_of d.journals) d.receipts.items) }
+    ensures version { IfOk result (λ d. d.journals.version ≡ V2) }
+    ensures accepted { IfOk result (λ d. IsAccepted (opens d.journals.opening) d.journals.faults (journals_of d.journals) d.receipts.items) }
     ensures once { IfOk result (λ d. AreOnce (instances_of d.receipts.items)) }
     ensures few { IfOk result (λ d. length d.receipts.items ≤ 14000) }
 {

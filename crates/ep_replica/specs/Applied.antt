@@ -6,6 +6,7 @@ use Rattle.ep_rules.specs.Journals.{IsEntry, AreMarked, last_stamp, heard}
 use Rattle.ep_journal.specs.Entries.{entry_of, entries_of, AreFrames, IsEntryIn}
 use Rattle.ep_journal.specs.Events.{event_of, IsReadable}
 use Rattle.ep_journal.specs.Leaving.{state_left}
+use Rattle.ep_journal.specs.Openings.{no_opening}
 use Rattle.ep_journal.specs.Standing.{IsRefused}
 use Rattle.ep_journal.specs.declared.entry.Entry.{Entry}
 use Rattle.ep_journal.specs.declared.event.Event.{Event as Happening}
@@ -34,7 +35,7 @@ pub record Applied (k : Kept) (taken : Happening) (e : Entry) (k' : Kept) : Type
   pub event : e.event ≡ taken
   pub number : e.number ≡ length k.entries + 1
   pub stamp : e.stamp ≡ next_stamp k.entries taken
-  pub step : IsEntry k.faults k.me (state_left k.faults k.me k.entries) (entry_of e)
+  pub step : IsEntry k.faults k.me (state_left no_opening k.faults k.me k.entries) (entry_of e)
   pub marked : AreMarked (entry_of e) 0 (entry_of e).out
   pub readable : IsReadable e.event
   pub frames : AreFrames e.frames

@@ -1,9 +1,10 @@
--- A replica: its journal, which is of version 2, and the state that this leaves.
+-- A replica: its journal, which is of version 2 and opens with nothing, and the state that this leaves.
 use Rattle.std.specs.Prelude.{ℕ, List, refl}
 use Rattle.std.specs.Coded.{Coded, code_by, coded×, coded_ℕ, coded_list}
 use Rattle.ep_base.specs.declared.version_kind.VersionKind.TheVariants.{V2}
 use Rattle.ep_journal.specs.Entries.{Log}
 use Rattle.ep_journal.specs.Leaving as journals
+use Rattle.ep_journal.specs.Openings.{no_opening}
 use Rattle.ep_journal.specs.Standing.{Standing}
 use Rattle.ep_journal.specs.contracts.entry.Entry as entry_facts
 use Rattle.ep_journal.specs.declared.entry.Entry.{Entry}
@@ -21,7 +22,7 @@ kept_code =
 
 -- what the replica knows, has executed and stores
 abbrev pub standing : Kept → Standing
-standing k = journals.standing (record { version = V2; faults = k.faults; me = k.me; entries = k.entries })
+standing k = journals.standing (record { version = V2; faults = k.faults; me = k.me; opening = no_opening; entries = k.entries })
 
 -- the replica whose journal it is
 abbrev pub kept_of : Log → Kept

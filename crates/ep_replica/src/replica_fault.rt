@@ -55,6 +55,7 @@ impl From<StepFault> for ReplicaFault {
         match fault {
             StepFault::Memory => ReplicaFault::Memory,
             StepFault::OtherVersion => ReplicaFault::BadFrame(FrameFault::Version),
+            StepFault::OtherGeneration => ReplicaFault::BadFrame(FrameFault::Generation),
             StepFault::OutOfRange => ReplicaFault::OutOfRange,
             StepFault::NotMine => ReplicaFault::NotMine,
             StepFault::StampFull => ReplicaFault::StampFull,

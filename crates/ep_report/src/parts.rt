@@ -2,10 +2,12 @@
 
 ghost use Rattle.std.specs.Prelude.{◌≡◌, ◌<◌, ◌≤◌, ◌+◌, ◌++◌, OnOk, decimal};
 ghost use Rattle.std.specs.Option.{option_copied};
+ghost use Rattle.ep_base.specs.Commands.{Put, Swap, Cas, Opaque};
+ghost use Rattle.ep_base.specs.Views.{touched};
 ghost use Rattle.ep_report.specs.Parts.{instance_text, deps_text, more_deps, option_text, request_text, second_key_text, command_text, reply_text, answer_text};
 ghost use Rattle.ep_script.specs.Word.{word_of};
 
-use ep_base::{Answer, Command, Deps, Footprint, InstanceId, Key, KeyPair, Reply, Value};
+use ep_base::{Answer, Command, CommandView, Deps, InstanceId, Reply, Touching};
 use ep_script::push_word;
 use itoa::Buffer;
 use std::alloc::AllocError;
@@ -96,41 +98,41 @@ fn push_more_deps(text: &mut Vec<u8>, deps: &[InstanceId]) -> Result<(), AllocEr
 pub fn push_command(text: &mut Vec<u8>, command: &Command) -> Result<(), AllocError>
     ensures { OnOk result (text.new.items ≡ text.old.items ++ command_text command.now) }
 {
-    match command {
-        Command::Noop => text.extend_from_slice(b"noop"),
-        Command::Get(key) => push_spelled(text, b"get ", key.as_slice()),
-        Command::Put(key, value) => push_put(text, key.as_slice(), value.as_slice()),
-        Command::Del(key) => push_spelled(text, b"del ", key.as_slice()),
-        Command::Swap(keys) => push_swap(text, keys),
-        Command::Cas { key, expected, new } => push_cas(text, key, expected, new),
-        Command::Seal(value) => push_spelled(text, b"seal ", value.as_slice()),
-        Command::Opaque(own, body) => push_opaque(text, own, body),
+    match command.view() {
+        CommandView::Noop => text.extend_from_slice(b"noop"),
+        CommandView::Get(key) => push_spelled(text, b"get ", key),
+        CommandView::Put(key, value) => push_put(text, key, value),
+        CommandView::Del(key) => push_spelled(text, b"del ", key),
+        CommandView::Swap(first, second) => push_swap(text, first, second),
+        CommandView::Cas(key, expected, new) => push_cas(text, key, expected, new),
+        CommandView::Seal(value) => push_spelled(text, b"seal ", value),
+        CommandView::Opaque(own, body) => push_opaque(text, &own, body),
     }
 }
 
 fn push_put(text: &mut Vec<u8>, key: &[u8], value: &[u8]) -> Result<(), AllocError>
-    ensures { OnOk result (text.new.items ≡ text.old.items ++ command_text (Command.Put key.now value.now)) }
+    ensures { OnOk result (text.new.items ≡ text.old.items ++ command_text (Put key.now value.now)) }
 {
     push_spelled(text, b"put ", key)?;
     push_spelled(text, b" ", value)
 }
 
-fn push_swap(text: &mut Vec<u8>, keys: &KeyPair) -> Result<(), AllocError>
-    ensures { OnOk result (text.new.items ≡ text.old.items ++ command_text (Command.Swap keys.now)) }
+fn push_swap(text: &mut Vec<u8>, first: &[u8], second: &[u8]) -> Result<(), AllocError>
+    ensures { OnOk result (text.new.items ≡ text.old.items ++ command_text (Swap (record { first = first.now; second = second.now }))) }
 {
-    push_spelled(text, b"swap ", keys.first().as_slice())?;
-    push_spelled(text, b" ", keys.second().as_slice())
+    push_spelled(text, b"swap ", first)?;
+    push_spelled(text, b" ", second)
 }
 
 fn push_cas(
     text: &mut Vec<u8>,
-    key: &Key,
-    expected: &Option<Value>,
-    new: &Option<Value>,
+    key: &[u8],
+    expected: Option<&[u8]>,
+    new: Option<&[u8]>,
 ) -> Result<(), AllocError>
-    ensures { OnOk result (text.new.items ≡ text.old.items ++ command_text (Command.Cas key.now expected.now new.now)) }
+    ensures { OnOk result (text.new.items ≡ text.old.items ++ command_text (Cas key.now (option_copied expected.entry) (option_copied new.entry))) }
 {
-    push_spelled(text, b"cas ", key.as_slice())?;
+    push_spelled(text, b"cas ", key)?;
     text.push(b' ')?;
     push_option(text, expected)?;
     text.push(b' ')?;
@@ -138,22 +140,22 @@ fn push_cas(
 }
 
 // Appends a value, or that there is none.
-fn push_option(text: &mut Vec<u8>, value: &Option<Value>) -> Result<(), AllocError>
-    ensures { OnOk result (text.new.items ≡ text.old.items ++ option_text value.now) }
+fn push_option(text: &mut Vec<u8>, value: Option<&[u8]>) -> Result<(), AllocError>
+    ensures { OnOk result (text.new.items ≡ text.old.items ++ option_text (option_copied value.entry)) }
 {
     match value {
         None => text.extend_from_slice(b"%!"),
-        Some(value) => push_word(text, value.as_slice()),
+        Some(value) => push_word(text, value),
     }
 }
 
-fn push_opaque(text: &mut Vec<u8>, own: &Footprint, body: &Value) -> Result<(), AllocError>
-    ensures { OnOk result (text.new.items ≡ text.old.items ++ command_text (Command.Opaque own.now body.now)) }
+fn push_opaque(text: &mut Vec<u8>, own: &Touching<'_>, body: &[u8]) -> Result<(), AllocError>
+    ensures { OnOk result (text.new.items ≡ text.old.items ++ command_text (Opaque (touched own.now) body.now)) }
 {
-    push_request(text, own.only_reads())?;
-    push_word(text, own.first().as_slice())?;
-    push_second_key(text, own.second())?;
-    push_spelled(text, b" ", body.as_slice())
+    push_request(text, own.reads)?;
+    push_word(text, own.first)?;
+    push_second_key(text, own.second)?;
+    push_spelled(text, b" ", body)
 }
 
 // Appends how a machine outside is asked.
@@ -168,12 +170,12 @@ fn push_request(text: &mut Vec<u8>, only_reads: bool) -> Result<(), AllocError>
 }
 
 // Appends a blank and the second key, where there is one.
-fn push_second_key(text: &mut Vec<u8>, key: Option<&Key>) -> Result<(), AllocError>
+fn push_second_key(text: &mut Vec<u8>, key: Option<&[u8]>) -> Result<(), AllocError>
     ensures { OnOk result (text.new.items ≡ text.old.items ++ second_key_text (option_copied key.entry)) }
 {
     match key {
         None => Ok(()),
-        Some(key) => push_spelled(text, b" ", key.as_slice()),
+        Some(key) => push_spelled(text, b" ", key),
     }
 }
 

@@ -5,7 +5,6 @@ use Rattle.std.specs.List.{slice_split}
 use Rattle.std.specs.Option.{option_map_or}
 use Rattle.ep_base.specs.Attributes.{same_list}
 use Rattle.ep_base.specs.Instances.{instance_of, highest_number}
-use Rattle.ep_base.specs.TwoKeys.{TwoKeys}
 use Rattle.ep_base.specs.Commands.{Command, Get, Put, Del, Swap}
 use Rattle.ep_script.specs.Word.{bytes_of}
 use Rattle.ep_script.specs.Parts.{number_of}
@@ -58,7 +57,7 @@ instance_parts n (r ∷ i ∷ w ∷ more) = None
 abbrev pub parts_of : List ℕ → List (List ℕ)
 parts_of w = slice_split (λ b. b == 46) w
 
--- bytes that can be a key, and a value
+-- bytes that can be a key, and a script's value
 abbrev pub key_of : List ℕ → Option (List ℕ)
 key_of k = if nat_le 1 (length k) && nat_le (length k) 255 then Some k else None
 
@@ -91,15 +90,15 @@ put_of (k ∷ []) = None
 put_of (k ∷ v ∷ []) = option_and_then (λ key. option_map (λ value. Put key value) (value_word v)) (key_word k)
 put_of (k ∷ v ∷ w ∷ more) = None
 
--- keys that differ
-abbrev pub pair_of : List ℕ → List ℕ → Option TwoKeys
-pair_of k l = if same_list k l then None else Some (record { first = k; second = l })
+-- the swap of keys that differ
+abbrev pub swap_with : List ℕ → List ℕ → Option Command
+swap_with k l = if same_list k l then None else Some (Swap (record { first = k; second = l }))
 
 -- `swap K K`
 abbrev pub swap_of : List (List ℕ) → Option Command
 swap_of [] = None
 swap_of (k ∷ []) = None
-swap_of (k ∷ l ∷ []) = option_and_then (λ first. option_and_then (λ second. option_map (λ keys. Swap keys) (pair_of first second)) (key_word l)) (key_word k)
+swap_of (k ∷ l ∷ []) = option_and_then (λ first. option_and_then (swap_with first) (key_word l)) (key_word k)
 swap_of (k ∷ l ∷ w ∷ more) = None
 
 abbrev pub command_of : List (List ℕ) → Option Command

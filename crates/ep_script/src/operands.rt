@@ -4,16 +4,19 @@ ghost use Rattle.std.specs.Prelude.{◌≡◌, ◌≤◌, IfOk, IfSome, map};
 ghost use Rattle.ep_base.specs.Quorums.{size as size_with};
 ghost use Rattle.ep_base.specs.Instances.{instance_of, highest_number};
 ghost use Rattle.ep_script.specs.Parts.{words_of};
-ghost use Rattle.ep_script.specs.Grammar.{number_in as number_between, count_of, replica_of, instance_parts, parts_of, key_of, value_of, key_word, value_word, key_only, get_of, put_of, del_of, pair_of, swap_of, command_of, place_of};
+ghost use Rattle.ep_script.specs.Grammar.{number_in as number_between, count_of, replica_of, instance_parts, parts_of, key_of, value_of, key_word, value_word, key_only, get_of, put_of, del_of, swap_with, swap_of, command_of, place_of};
 
 use crate::numbers::{number, number_in};
 use crate::word::{read_word, spells_itself};
 use crate::words::{has_dot, is_word, next_word, split_dot};
-use ep_base::{Command, CommandFault, InstanceId, Key, KeyPair, ReplicaId, Size, Value};
+use ep_base::{Command, CommandFault, InstanceId, Key, ReplicaId, Size, Value};
 use std::alloc::{AllocError, Global};
 
 /// The highest number of an instance.
 const HIGHEST_NUMBER: u64 = 2000;
+
+/// The most bytes of a value. The formats have longer ones.
+const LONGEST_VALUE: usize = 1024;
 
 /// A number from 1 to 4,294,967,295: a client, a message or a place.
 pub(crate) fn count(word: &[u8]) -> Option<u32>
@@ -128,9 +131,12 @@ fn read_value(alloc: Global, word: &[u8]) -> Result<Option<Value>, AllocError>
 fn value(alloc: Global, bytes: &[u8]) -> Result<Option<Value>, AllocError>
     ensures { IfOk result (λ v. v ≡ value_of bytes.now) }
 {
+    if bytes.len() > LONGEST_VALUE {
+        return Ok(None);
+    }
     match Value::new(alloc, bytes) {
         Ok(value) => Ok(Some(value)),
-        Err(CommandFault::OutOfRange) => Ok(None),
+        Err(CommandFault::OutOfRange) => unreachable!(),
         Err(CommandFault::Memory) => Err(AllocError),
     }
 }
@@ -153,7 +159,11 @@ fn get(alloc: Global, words: &[u8]) -> Result<Option<Command>, AllocError>
     let Some(key) = one_key(alloc, words)? else {
         return Ok(None);
     };
-    Ok(Some(Command::Get(key)))
+    match Command::get(alloc, key.as_slice()) {
+        Ok(command) => Ok(Some(command)),
+        Err(CommandFault::OutOfRange) => unreachable!(),
+        Err(CommandFault::Memory) => Err(AllocError),
+    }
 }
 
 fn del(alloc: Global, words: &[u8]) -> Result<Option<Command>, AllocError>
@@ -162,7 +172,11 @@ fn del(alloc: Global, words: &[u8]) -> Result<Option<Command>, AllocError>
     let Some(key) = one_key(alloc, words)? else {
         return Ok(None);
     };
-    Ok(Some(Command::Del(key)))
+    match Command::del(alloc, key.as_slice()) {
+        Ok(command) => Ok(Some(command)),
+        Err(CommandFault::OutOfRange) => unreachable!(),
+        Err(CommandFault::Memory) => Err(AllocError),
+    }
 }
 
 fn put(alloc: Global, words: &[u8]) -> Result<Option<Command>, AllocError>
@@ -183,7 +197,11 @@ fn put(alloc: Global, words: &[u8]) -> Result<Option<Command>, AllocError>
     let Some(value) = read_value(alloc, second)? else {
         return Ok(None);
     };
-    Ok(Some(Command::Put(key, value)))
+    match Command::put(alloc, key.as_slice(), value.as_slice()) {
+        Ok(command) => Ok(Some(command)),
+        Err(CommandFault::OutOfRange) => unreachable!(),
+        Err(CommandFault::Memory) => Err(AllocError),
+    }
 }
 
 fn swap(alloc: Global, words: &[u8]) -> Result<Option<Command>, AllocError>
@@ -204,21 +222,18 @@ fn swap(alloc: Global, words: &[u8]) -> Result<Option<Command>, AllocError>
     let Some(second) = read_key(alloc, second)? else {
         return Ok(None);
     };
-    let Some(keys) = pair(alloc, &first, &second)? else {
-        return Ok(None);
-    };
-    Ok(Some(Command::Swap(keys)))
+    swapped(alloc, &first, &second)
 }
 
-// Both keys; none where they are one.
-fn pair(alloc: Global, first: &Key, second: &Key) -> Result<Option<KeyPair>, AllocError>
-    ensures { IfOk result (λ p. p ≡ pair_of first.now second.now) }
+// The swap of both keys; none where they are one.
+fn swapped(alloc: Global, first: &Key, second: &Key) -> Result<Option<Command>, AllocError>
+    ensures { IfOk result (λ c. c ≡ swap_with first.now second.now) }
 {
     if first.is_same(second) {
         return Ok(None);
     }
-    match KeyPair::new(alloc, first.as_slice(), second.as_slice()) {
-        Ok(keys) => Ok(Some(keys)),
+    match Command::swap(alloc, first.as_slice(), second.as_slice()) {
+        Ok(command) => Ok(Some(command)),
         Err(CommandFault::OutOfRange) => unreachable!(),
         Err(CommandFault::Memory) => Err(AllocError),
     }

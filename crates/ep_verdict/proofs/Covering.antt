@@ -11,32 +11,33 @@ use Rattle.ep_rules.specs.Verdicts.{or_else, instances_of, committed_by, agreed_
 use Rattle.ep_rules.specs.Worlds.{In}
 use Rattle.ep_rules.proofs.Merged.{in_left, in_right, in_split}
 use Rattle.ep_journal.specs.Entries.{Log, Collected, entries_of, entries_at, journals_of}
+use Rattle.ep_journal.specs.Openings.{opens}
 use Rattle.ep_journal.specs.Leaving.{standing, IsNamed}
 use Rattle.ep_verdict.specs.Tables.{and_row, Covers}
-use Rattle.ep_rules.specs.OneMap.{opened, empty}
+use Rattle.ep_rules.specs.OneMap.{Store}
 
 -- The first that commits.
 
-first_found : (n f : ℕ) (journal : Journals) (i : ℕ) (x : Decree) → n < size f → agreed_below (opened empty) n f journal i ≡ None → committed_by (opened empty) f journal n i ≡ Some x → agreed (opened empty) f journal i ≡ Some x
-first_found n f journal i x lt none here = still (size f) (omega arith)
+first_found : (base : Store) (n f : ℕ) (journal : Journals) (i : ℕ) (x : Decree) → n < size f → agreed_below base n f journal i ≡ None → committed_by base f journal n i ≡ Some x → agreed base f journal i ≡ Some x
+first_found base n f journal i x lt none here = still (size f) (omega arith)
   where
-    at : agreed_below (opened empty) (suc n) f journal i ≡ Some x
-    at = ap (λ z. or_else z (committed_by (opened empty) f journal n i)) none ∙ here
+    at : agreed_below base (suc n) f journal i ≡ Some x
+    at = ap (λ z. or_else z (committed_by base f journal n i)) none ∙ here
 
-    still : (k : ℕ) → suc n ≤ k → agreed_below (opened empty) k f journal i ≡ Some x
+    still : (k : ℕ) → suc n ≤ k → agreed_below base k f journal i ≡ Some x
     still zero le = absurd (omega arith)
     still (suc k) le = elim (cases_lt n k) [
-      | inl less ↦ ap (λ z. or_else z (committed_by (opened empty) f journal k i)) (still k (omega arith))
-      | inr ge ↦ (let same : suc n ≡ suc k = omega arith in subst (λ m. agreed_below (opened empty) m f journal i ≡ Some x) same at)
+      | inl less ↦ ap (λ z. or_else z (committed_by base f journal k i)) (still k (omega arith))
+      | inr ge ↦ (let same : suc n ≡ suc k = omega arith in subst (λ m. agreed_below base m f journal i ≡ Some x) same at)
     ]
 
 -- what the journal of n commits is agreed on where none before it commits there
-pub found_here : (c : Collected) (n r : ℕ) (l : Log) (i : ℕ) (x : Decree) → (r < size c.faults) × (l.version ≡ c.version) × (l.faults ≡ c.faults) × (l.me ≡ r) × (l.entries ≡ entries_at c r) → r ≡ n → agreed_below (opened empty) n c.faults (journals_of c) i ≡ None
-    → Some x ≡ committed_in (standing l).state.records i → Some x ≡ agreed (opened empty) c.faults (journals_of c) i
-found_here c n r l i x is at none e = sym (first_found n c.faults (journals_of c) i x (subst (λ m. m < size c.faults) at is.0) none (subst (λ m. committed_by (opened empty) c.faults (journals_of c) m i ≡ Some x) at (sym (e ∙ here))))
+pub found_here : (c : Collected) (n r : ℕ) (l : Log) (i : ℕ) (x : Decree) → (r < size c.faults) × (l.version ≡ c.version) × (l.faults ≡ c.faults) × (l.me ≡ r) × (l.opening ≡ c.opening) × (l.entries ≡ entries_at c r) → r ≡ n → agreed_below (opens c.opening) n c.faults (journals_of c) i ≡ None
+    → Some x ≡ committed_in (standing l).state.records i → Some x ≡ agreed (opens c.opening) c.faults (journals_of c) i
+found_here c n r l i x is at none e = sym (first_found (opens c.opening) n c.faults (journals_of c) i x (subst (λ m. m < size c.faults) at is.0) none (subst (λ m. committed_by (opens c.opening) c.faults (journals_of c) m i ≡ Some x) at (sym (e ∙ here))))
   where
-    here : committed_in (standing l).state.records i ≡ committed_by (opened empty) c.faults (journals_of c) r i
-    here = λ t. committed_in (left (is.2 t) (is.3 t) (fresh_state (opened empty)) (entries_of (is.4 t))).records i
+    here : committed_in (standing l).state.records i ≡ committed_by (opens c.opening) c.faults (journals_of c) r i
+    here = λ t. committed_in (left (is.2 t) (is.3 t) (fresh_state (opens (is.4 t))) (entries_of (is.5 t))).records i
 
 -- Rows in rising order.
 
@@ -114,8 +115,8 @@ covers_leader f leader agreed table named h =
     not_between : (leader i : ℕ) → instance_of leader 2001 ≤ i → i < instance_of (leader + 1) 1 → 1 ≤ number_of i → number_of i ≤ 2000 → ⊥
     not_between leader i ge lt low high = omega arith
 
-pub covers_all : (f : ℕ) (journal : Journals) (table : List (ℕ × Decree)) → ((i : ℕ) (x : Decree) → agreed (opened empty) f journal i ≡ Some x → IsNamed f i) → Covers (agreed (opened empty) f journal) (instance_of (size f) 1) table → IsTable (opened empty) f journal table
-covers_all f journal table named h = record {
+pub covers_all : (base : Store) (f : ℕ) (journal : Journals) (table : List (ℕ × Decree)) → ((i : ℕ) (x : Decree) → agreed base f journal i ≡ Some x → IsNamed f i) → Covers (agreed base f journal) (instance_of (size f) 1) table → IsTable base f journal table
+covers_all base f journal table named h = record {
   rises = h.rises;
   holds = λ i x. ((λ k. ((h.below i x).0 k).1), (λ e. (h.below i x).1 (let n = (named i x e).0 in omega arith, e)));
 }

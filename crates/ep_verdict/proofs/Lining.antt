@@ -17,7 +17,7 @@ use Rattle.ep_rules.specs.Graph.{Graph}
 use Rattle.ep_rules.specs.History.{is_new, nothing}
 use Rattle.ep_rules.specs.Journals.{Entry, Journals, Scheduled, of, IsSchedule, AreLocalRuns, acts_of}
 use Rattle.ep_rules.specs.Merging.{Merges}
-use Rattle.ep_rules.specs.OneMap.{Store, empty, replies, after, opened}
+use Rattle.ep_rules.specs.OneMap.{Store, replies, after}
 use Rattle.ep_rules.specs.States.{command_of, attrs_of}
 use Rattle.ep_rules.specs.Steps.{order_of}
 use Rattle.ep_rules.specs.Verdicts.{agreed, command_at, merged_of, history_of, IsReply}
@@ -31,6 +31,7 @@ use Rattle.ep_rules.proofs.JournalsReplies.{merged_same, locals, each_reply_lem}
 use Rattle.ep_rules.proofs.Merged.{in_at, at_in}
 use Rattle.ep_rules.proofs.Places.{has_or, has_left, has_right, has_split, has_filter, filter_has, has_cons, has_tail, same_refl, place_cons, place_head, Once, once_filter}
 use Rattle.ep_journal.specs.Entries.{Collected, entry_of, entries_of, entries_at, journals_of}
+use Rattle.ep_journal.specs.Openings.{opens}
 use Rattle.ep_journal.specs.declared.entry.Entry.{Entry as Written}
 use Rattle.ep_verdict.specs.Lines.{told_by, line_at, line_of, lines_of, lines_in}
 use Rattle.ep_verdict.specs.Verdicts.{places_of, instances_in, commands_in, replies_in, IsHistory}
@@ -119,7 +120,7 @@ in_of a (b ∷ s) (inr h) = go (eqb b.replica a.replica) (in_of a s h)
     go true k = inr k
     go false k = k
 
-pub stands_at : (c : Collected) (s : List Scheduled) (k : ℕ) (a : Scheduled) → AreLocalRuns (opened empty) c.faults (journals_of c) → IsSchedule (journals_of c) s → slice_get s k ≡ Some a → StandsAt c a
+pub stands_at : (c : Collected) (s : List Scheduled) (k : ℕ) (a : Scheduled) → AreLocalRuns (opens c.opening) c.faults (journals_of c) → IsSchedule (journals_of c) s → slice_get s k ≡ Some a → StandsAt c a
 stands_at c s k a runs h at =
     let there : In a.entry (journals_of c a.replica) = subst (In a.entry) (h.0 a.replica) (in_of a s (at_in s k a at)) in
     let p = in_at (journals_of c a.replica) a.entry there in
@@ -151,7 +152,7 @@ none_written [] k e h at = cc
 none_written (w ∷ ws) k e h at = cc
 
 -- a replica of no journal has no entry
-pub none_there : (c : Collected) (r k : ℕ) (e : Written) → AreLocalRuns (opened empty) c.faults (journals_of c) → size c.faults ≤ r → slice_get (entries_at c r) k ≡ Some e → ⊥
+pub none_there : (c : Collected) (r k : ℕ) (e : Written) → AreLocalRuns (opens c.opening) c.faults (journals_of c) → size c.faults ≤ r → slice_get (entries_at c r) k ≡ Some e → ⊥
 none_there c r k e runs le at = none_written (entries_at c r) k e (runs.others r le) at
 
 -- one more is seen
@@ -217,7 +218,7 @@ slice_here [] k p lt e = absurd (omega arith)
 slice_here (x ∷ xs) zero p lt e = ap Some (sym e)
 slice_here (x ∷ xs) (suc k) p lt e = slice_here xs k p (omega arith) e
 
-pub looked : (c : Collected) (s : List Scheduled) (k : ℕ) (p : ℕ × ℕ) (xs : List (ℕ × ℕ)) (o : Option (Bor Written)) → AreLocalRuns (opened empty) c.faults (journals_of c) → IsSchedule (journals_of c) s → xs ≡ places_of s → k < length xs → p ≡ get_or xs k p →
+pub looked : (c : Collected) (s : List Scheduled) (k : ℕ) (p : ℕ × ℕ) (xs : List (ℕ × ℕ)) (o : Option (Bor Written)) → AreLocalRuns (opens c.opening) c.faults (journals_of c) → IsSchedule (journals_of c) s → xs ≡ places_of s → k < length xs → p ≡ get_or xs k p →
     ((n : ℕ) (e : Written) → p.1 ≡ n + 1 → slice_get (entries_at c p.0) n ≡ Some e → option_copied o ≡ Some e) → Looked c s k o
 looked c s k p xs o runs h is lt e lookup =
     let a = place_at s k p (subst (λ z. slice_get z k ≡ Some p) is (slice_here xs k p lt e)) in
@@ -331,18 +332,18 @@ module _ (g : ℕ → Option Decree) where
 
   -- replies
 
-  module _ (h : List ℕ) where
+  module _ (base : Store) (h : List ℕ) where
     abbrev here : ℕ → Reply
-    here i = get_or (replies (opened empty) (map said h)) (place h i) Absent
+    here i = get_or (replies base (map said h)) (place h i) Absent
 
     abbrev SaysReplies : List Happening → Type 0
     SaysReplies lines = replies_in lines ≡ map here (instances_in lines)
 
-    line_replies : (i : ℕ) (x : Answer) (o : Option Decree) → g i ≡ o → IsReply (opened empty) said h i x → SaysReplies (line_at i x o)
+    line_replies : (i : ℕ) (x : Answer) (o : Option Decree) → g i ≡ o → IsReply base said h i x → SaysReplies (line_at i x o)
     line_replies i x None e k = refl
     line_replies i x (Some d) e k = go (is_noop d.command) refl k
       where
-        go : (b : Bool) → is_noop d.command ≡ b → IsReply (opened empty) said h i x → SaysReplies (cond b [] (record { instance = i; command = d.command; reply = told_by x } ∷ []))
+        go : (b : Bool) → is_noop d.command ≡ b → IsReply base said h i x → SaysReplies (cond b [] (record { instance = i; command = d.command; reply = told_by x } ∷ []))
         go true q t = refl
         go false q (inl lost) = absurd (false≢true (sym q ∙ ap (λ o. is_noop (command_of o)) (sym e) ∙ lost.0))
         go false q (inr told) = ap (λ a. told_by a ∷ []) told.1
@@ -351,19 +352,19 @@ module _ (g : ℕ → Option Decree) where
     replies_append xs ys a b =
         replies_both xs ys ∙ ap (λ z. z ++ replies_in ys) a ∙ ap (λ z. map here (instances_in xs) ++ z) b ∙ sym (map_both here (instances_in xs) (instances_in ys)) ∙ ap (map here) (sym (instances_both xs ys))
 
-    line_of_replies : (seen : List ℕ) (i : ℕ) (x : Answer) → IsReply (opened empty) said h i x → SaysReplies (line_of g seen i x)
+    line_of_replies : (seen : List ℕ) (i : ℕ) (x : Answer) → IsReply base said h i x → SaysReplies (line_of g seen i x)
     line_of_replies seen i x k = go (is_new seen i)
       where
         go : (b : Bool) → SaysReplies (cond b (line_at i x (g i)) [])
         go true = line_replies i x (g i) refl k
         go false = refl
 
-    lines_replies : (seen : List ℕ) (done : List (ℕ × Answer)) → ((i : ℕ) (x : Answer) → In (i, x) done → IsReply (opened empty) said h i x) → SaysReplies (lines_of g seen done)
+    lines_replies : (seen : List ℕ) (done : List (ℕ × Answer)) → ((i : ℕ) (x : Answer) → In (i, x) done → IsReply base said h i x) → SaysReplies (lines_of g seen done)
     lines_replies seen [] all = refl
     lines_replies seen (d ∷ done) all =
         replies_append (line_of g seen d.0 d.1) (lines_of g seen done) (line_of_replies seen d.0 d.1 (all d.0 d.1 (inl refl))) (lines_replies seen done (λ i x k. all i x (inr k)))
 
-    in_replies : (seen : List ℕ) (s : List Scheduled) → ((a : Scheduled) (i : ℕ) (x : Answer) → In a s → In (i, x) a.entry.done → IsReply (opened empty) said h i x) → SaysReplies (lines_in g seen s)
+    in_replies : (seen : List ℕ) (s : List Scheduled) → ((a : Scheduled) (i : ℕ) (x : Answer) → In a s → In (i, x) a.entry.done → IsReply base said h i x) → SaysReplies (lines_in g seen s)
     in_replies seen [] all = refl
     in_replies seen (a ∷ s) all =
         let new : List ℕ = seen ++ filter (is_new seen) (order_of a.entry.done) in
@@ -397,32 +398,32 @@ length_map f (x ∷ xs) = let t = length_map f xs in omega arith
 
 -- The history.
 
-once_merged : (f : ℕ) (journal : Journals) (schedule : List Scheduled) → Merges (opened empty) f journal schedule → Once (merged_of [] schedule)
-once_merged f journal schedule given =
-    let es = executions f (opening (opened empty)) (acts_of schedule) in
-    let graph : Graph = λ i. attrs_of (agreed (opened empty) f journal i) in
-    let w = all_well graph nothing [] es (start graph) (interleaved (opened empty) graph (command_at (opened empty) f journal) nothing es (locals (opened empty) f journal schedule given)).0 in
-    subst Once (merged_same f schedule (opening (opened empty)) [] (is_run (opened empty) f journal schedule given)) w.whole.once
+once_merged : (base : Store) (f : ℕ) (journal : Journals) (schedule : List Scheduled) → Merges base f journal schedule → Once (merged_of [] schedule)
+once_merged base f journal schedule given =
+    let es = executions f (opening base) (acts_of schedule) in
+    let graph : Graph = λ i. attrs_of (agreed base f journal i) in
+    let w = all_well graph nothing [] es (start graph) (interleaved base graph (command_at base f journal) nothing es (locals base f journal schedule given)).0 in
+    subst Once (merged_same f schedule (opening base) [] (is_run base f journal schedule given)) w.whole.once
 
-pub history_is : (f : ℕ) (journal : Journals) (schedule : List Scheduled) → IsHistory f journal schedule (lines_in (agreed (opened empty) f journal) [] schedule)
-history_is f journal schedule =
-    let g = agreed (opened empty) f journal in
-    let h : List ℕ = history_of (command_at (opened empty) f journal) schedule in
+pub history_is : (base : Store) (f : ℕ) (journal : Journals) (schedule : List Scheduled) → IsHistory base f journal schedule (lines_in (agreed base f journal) [] schedule)
+history_is base f journal schedule =
+    let g = agreed base f journal in
+    let h : List ℕ = history_of (command_at base f journal) schedule in
     let lines : List Happening = lines_in g [] schedule in
     let instances : instances_in lines ≡ h = in_instances g [] schedule in
-    let commands : commands_in lines ≡ map (command_at (opened empty) f journal) (instances_in lines) = in_commands g [] schedule in
+    let commands : commands_in lines ≡ map (command_at base f journal) (instances_in lines) = in_commands g [] schedule in
     record {
       instances = instances;
       commands = commands;
       told = each_told g schedule;
       replies = λ given.
-          let told : replies_in lines ≡ map (here g h) (instances_in lines) = in_replies g h [] schedule (λ a i x k m. each_reply_lem (opened empty) f journal schedule given a i x k m) in
-          let once : Once h = once_filter (real g) (merged_of [] schedule) (once_merged f journal schedule given) in
-          let all : map (here g h) h ≡ replies (opened empty) (map (said g) h) = spread h (replies (opened empty) (map (said g) h)) once (length_replies (opened empty) (map (said g) h) ∙ length_map (said g) h) in
-          told ∙ ap (map (here g h)) instances ∙ all ∙ ap (λ z. replies (opened empty) (map (said g) z)) (sym instances) ∙ ap (replies (opened empty)) (sym commands);
+          let told : replies_in lines ≡ map (here g base h) (instances_in lines) = in_replies g base h [] schedule (λ a i x k m. each_reply_lem base f journal schedule given a i x k m) in
+          let once : Once h = once_filter (real g) (merged_of [] schedule) (once_merged base f journal schedule given) in
+          let all : map (here g base h) h ≡ replies base (map (said g) h) = spread h (replies base (map (said g) h)) once (length_replies base (map (said g) h) ∙ length_map (said g) h) in
+          told ∙ ap (map (here g base h)) instances ∙ all ∙ ap (λ z. replies base (map (said g) z)) (sym instances) ∙ ap (replies base) (sym commands);
     }
 
-pub history_by : (f : ℕ) (journal : Journals) (g : ℕ → Option Decree) (schedule : List Scheduled) (lines : List Happening) → ((i : ℕ) → g i ≡ agreed (opened empty) f journal i) → lines ≡ lines_in g [] schedule → IsHistory f journal schedule lines
-history_by f journal g schedule lines same is =
-    let whole : g ≡ agreed (opened empty) f journal = (λ t i. same i t) in
-    subst (IsHistory f journal schedule) (sym (is ∙ ap (λ k. lines_in k [] schedule) whole)) (history_is f journal schedule)
+pub history_by : (base : Store) (f : ℕ) (journal : Journals) (g : ℕ → Option Decree) (schedule : List Scheduled) (lines : List Happening) → ((i : ℕ) → g i ≡ agreed base f journal i) → lines ≡ lines_in g [] schedule → IsHistory base f journal schedule lines
+history_by base f journal g schedule lines same is =
+    let whole : g ≡ agreed base f journal = (λ t i. same i t) in
+    subst (IsHistory base f journal schedule) (sym (is ∙ ap (λ k. lines_in k [] schedule) whole)) (history_is base f journal schedule)

@@ -8,10 +8,10 @@ use Rattle.ep_verdict.specs.Lines.{lines_in}
 use Rattle.ep_verdict.specs.Verdicts.{places_of, IsVerdict}
 use Rattle.ep_verdict.specs.declared.verdict.Verdict.{Verdict}
 use Rattle.ep_verdict.proofs.Lining.{history_by}
-use Rattle.ep_rules.specs.OneMap.{opened, empty}
+use Rattle.ep_rules.specs.OneMap.{Store}
 
-pub verdict_is : (f : ℕ) (journal : Journals) (v : Verdict) → AreLocalRuns (opened empty) f journal → ((s : List Scheduled) → IsSchedule journal s → v.schedule.items ≡ places_of s) → IsTable (opened empty) f journal v.committed.items
-    → ((s : List Scheduled) → IsSchedule journal s → v.history.items ≡ lines_in (agreed (opened empty) f journal) [] s) → IsVerdict f journal v
-verdict_is f journal v runs order table history =
+pub verdict_is : (base : Store) (f : ℕ) (journal : Journals) (v : Verdict) → AreLocalRuns base f journal → ((s : List Scheduled) → IsSchedule journal s → v.schedule.items ≡ places_of s) → IsTable base f journal v.committed.items
+    → ((s : List Scheduled) → IsSchedule journal s → v.history.items ≡ lines_in (agreed base f journal) [] s) → IsVerdict base f journal v
+verdict_is base f journal v runs order table history =
     let s = some_schedule_lem (size f) journal runs.others (λ r. (runs.local r).0) in
-    record { order = s.0; scheduled = s.1; schedule = order s.0 s.1; committed = table; history = history_by f journal (agreed (opened empty) f journal) s.0 v.history.items (λ i. refl) (history s.0 s.1) }
+    record { order = s.0; scheduled = s.1; schedule = order s.0 s.1; committed = table; history = history_by base f journal (agreed base f journal) s.0 v.history.items (λ i. refl) (history s.0 s.1) }

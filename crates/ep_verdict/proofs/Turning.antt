@@ -13,7 +13,7 @@ use Rattle.ep_journal.specs.declared.entry.Entry.{Entry as Written}
 use Rattle.ep_verdict.specs.Turns.{first_turn, earlier, least_turn, least_of, rests, AreFirst}
 use Rattle.ep_verdict.specs.Verdicts.{places_of}
 use Rattle.ep_verdict.specs.declared.turn.Turn.{Turn}
-use Rattle.ep_rules.specs.OneMap.{opened, empty}
+use Rattle.ep_rules.specs.OneMap.{Store}
 
 -- t is the first entry of its replica, and no first entry of a replica below n is earlier
 pub record IsLeastTurn (n : ℕ) (journal : Journals) (t : Turn) : Type 0 where
@@ -244,10 +244,10 @@ pub is_next : (n : ℕ) (journal : Journals) (o : Option Turn) → o ≡ least_t
 is_next n journal o e = subst (Tells n journal) (sym e) (least_is n journal)
 
 -- none beyond the cluster
-none_beyond : (f : ℕ) (journal : Journals) (done : List ℕ) → AreLocalRuns (opened empty) f journal → (q : ℕ) → size f ≤ q → rests journal done q ≡ []
-none_beyond f journal done runs q le = ap (drop (get_or done q 0)) (runs.others q le) ∙ drop-nil (get_or done q 0)
+none_beyond : (base : Store) (f : ℕ) (journal : Journals) (done : List ℕ) → AreLocalRuns base f journal → (q : ℕ) → size f ≤ q → rests journal done q ≡ []
+none_beyond base f journal done runs q le = ap (drop (get_or done q 0)) (runs.others q le) ∙ drop-nil (get_or done q 0)
 
-module _ (f : ℕ) (journal : Journals) (runs : AreLocalRuns (opened empty) f journal) (done : List ℕ) (long : length done ≡ size f) (t : Turn) (e : Some t ≡ least_turn (size f) (rests journal done)) where
+module _ (base : Store) (f : ℕ) (journal : Journals) (runs : AreLocalRuns base f journal) (done : List ℕ) (long : length done ≡ size f) (t : Turn) (e : Some t ≡ least_turn (size f) (rests journal done)) where
   pub turn_is : IsLeastTurn (size f) (rests journal done) t
   turn_is = is_next (size f) (rests journal done) (Some t) e
 
@@ -262,7 +262,7 @@ module _ (f : ℕ) (journal : Journals) (runs : AreLocalRuns (opened empty) f jo
 
   pub remains_next : (made : List (ℕ × ℕ)) (schedule : List Scheduled) → Remains journal done made schedule → Remains journal (set done t.replica t.number) (made ++ ((t.replica, t.number) ∷ [])) schedule
   remains_next made schedule m =
-      let b = next_is (size f) (rests journal done) (rests journal (set done t.replica t.number)) t turn_is (none_beyond f journal done runs) turn_goes m.rest m.scheduled in
+      let b = next_is (size f) (rests journal done) (rests journal (set done t.replica t.number)) t turn_is (none_beyond base f journal done runs) turn_goes m.rest m.scheduled in
       record {
         rest = b.rest;
         scheduled = b.scheduled;
@@ -276,10 +276,10 @@ remains_first f journal done schedule zeros h = record {
   whole = refl;
 }
 
-pub remains_all : (f : ℕ) (journal : Journals) (done : List ℕ) (made : List (ℕ × ℕ)) (schedule : List Scheduled) → AreLocalRuns (opened empty) f journal → None ≡ least_turn (size f) (rests journal done) → Remains journal done made schedule → made ≡ places_of schedule
-remains_all f journal done made schedule runs e m =
+pub remains_all : (base : Store) (f : ℕ) (journal : Journals) (done : List ℕ) (made : List (ℕ × ℕ)) (schedule : List Scheduled) → AreLocalRuns base f journal → None ≡ least_turn (size f) (rests journal done) → Remains journal done made schedule → made ≡ places_of schedule
+remains_all base f journal done made schedule runs e m =
     let none = is_next (size f) (rests journal done) None e in
-    let all : (q : ℕ) → rests journal done q ≡ [] = λ q. elim (cases_lt q (size f)) [ inl lt ↦ none q lt | inr ge ↦ none_beyond f journal done runs q ge ] in
+    let all : (q : ℕ) → rests journal done q ≡ [] = λ q. elim (cases_lt q (size f)) [ inl lt ↦ none q lt | inr ge ↦ none_beyond base f journal done runs q ge ] in
     sym (append-nil made) ∙ ap (λ s. made ++ places_of s) (sym (none_left (rests journal done) all m.rest m.scheduled)) ∙ m.whole
 
 abbrev pub zeros : ℕ → List ℕ

@@ -5,11 +5,11 @@ use Rattle.ep_base.specs.declared.decree.Decree.{Decree}
 use Rattle.ep_rules.specs.Verdicts.{agreed, instances_of}
 use Rattle.ep_rules.specs.Worlds.{In}
 use Rattle.ep_journal.specs.Entries.{Collected, journals_of}
-use Rattle.ep_rules.specs.OneMap.{opened, empty}
+use Rattle.ep_journal.specs.Openings.{opens}
 
 -- what the journals commit in an instance
 abbrev pub agreed_in : Collected → ℕ → Option Decree
-agreed_in c = agreed (opened empty) c.faults (journals_of c)
+agreed_in c = agreed (opens c.opening) c.faults (journals_of c)
 
 -- the table, with what is agreed on in i, if something is
 abbrev pub and_row : List (ℕ × Decree) → ℕ → Option Decree → List (ℕ × Decree)

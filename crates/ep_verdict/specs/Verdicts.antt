@@ -6,7 +6,7 @@ use Rattle.ep_base.specs.declared.reply.Answer.{Answer}
 use Rattle.ep_base.specs.declared.reply.Reply.{Reply}
 use Rattle.ep_rules.specs.Journals.{Journals, Scheduled, IsSchedule}
 use Rattle.ep_rules.specs.Merging.{Merges}
-use Rattle.ep_rules.specs.OneMap.{empty, replies, opened}
+use Rattle.ep_rules.specs.OneMap.{Store, replies}
 use Rattle.ep_rules.specs.Steps.{order_of}
 use Rattle.ep_rules.specs.Verdicts.{command_at, history_of, IsTable}
 use Rattle.ep_rules.specs.Worlds.{In}
@@ -40,18 +40,18 @@ pub record AnswersFirst (schedule : List Scheduled) (i : ℕ) (answer : Answer) 
   pub new : (a : Scheduled) → In a before → ¬ Has (order_of a.entry.done) i
   pub done : In (i, answer) first.entry.done
 
--- the history of a schedule: each command once, at its first execution, no-ops left out, with the reply that this told; these are the replies of one map
--- where the journals match
-pub record IsHistory (f : ℕ) (journal : Journals) (schedule : List Scheduled) (lines : List Happening) : Type 0 where
-  pub instances : instances_in lines ≡ history_of (command_at (opened empty) f journal) schedule
-  pub commands : commands_in lines ≡ map (command_at (opened empty) f journal) (instances_in lines)
+-- the history of a schedule: each command once, at its first execution, no-ops left out, with the reply that this told; these are the replies of one map, from
+-- base on, where the journals match
+pub record IsHistory (base : Store) (f : ℕ) (journal : Journals) (schedule : List Scheduled) (lines : List Happening) : Type 0 where
+  pub instances : instances_in lines ≡ history_of (command_at base f journal) schedule
+  pub commands : commands_in lines ≡ map (command_at base f journal) (instances_in lines)
   pub told : (h : Happening) → In h lines → (answer : Answer) × AnswersFirst schedule h.instance answer × (told_by answer ≡ h.reply)
-  pub replies : Merges (opened empty) f journal schedule → replies_in lines ≡ replies (opened empty) (commands_in lines)
+  pub replies : Merges base f journal schedule → replies_in lines ≡ replies base (commands_in lines)
 
--- the schedule of the journals, all that they commit, and their history
-pub record IsVerdict (f : ℕ) (journal : Journals) (verdict : Verdict) : Type 0 where
+-- the schedule of the journals of replicas that open with the map base, all that they commit, and their history
+pub record IsVerdict (base : Store) (f : ℕ) (journal : Journals) (verdict : Verdict) : Type 0 where
   pub order : List Scheduled
   pub scheduled : IsSchedule journal order
   pub schedule : verdict.schedule.items ≡ places_of order
-  pub committed : IsTable (opened empty) f journal verdict.committed.items
-  pub history : IsHistory f journal order verdict.history.items
+  pub committed : IsTable base f journal verdict.committed.items
+  pub history : IsHistory base f journal order verdict.history.items

@@ -11,7 +11,7 @@ ghost use Rattle.ep_verdict.specs.Tables.{agreed_in};
 ghost use Rattle.ep_verdict.specs.Verdicts.{places_of};
 
 use crate::table::agreed;
-use ep_base::{Answer, Command, Decree, InstanceId, ReplicaId, Reply};
+use ep_base::{Answer, Decree, InstanceId, ReplicaId, Reply};
 use ep_exec::Executed;
 use ep_journal::{Entry, Journals};
 use ep_report::Happening;
@@ -51,7 +51,7 @@ fn add_line(
 ) -> Result<(), AllocError>
     ensures { OnOk result (lines.new.items ≡ lines.old.items ++ line_at instance answer.now (Some decree.now)) }
 {
-    if matches!(decree.command, Command::Noop) {
+    if decree.command.is_noop() {
         return Ok(());
     }
     let command = decree.command.copy(alloc)?;

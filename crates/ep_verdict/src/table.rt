@@ -5,7 +5,7 @@ ghost use Rattle.ep_base.specs.Instances.{instance_of};
 ghost use Rattle.ep_rules.specs.Verdicts.{IsTable};
 ghost use Rattle.ep_journal.specs.Entries.{journals_of};
 ghost use Rattle.ep_verdict.specs.Tables.{agreed_in, and_row, Covers};
-ghost use Rattle.ep_rules.specs.OneMap.{opened, empty};
+ghost use Rattle.ep_journal.specs.Openings.{opens};
 
 use ep_base::{Decree, InstanceId, ReplicaId};
 use ep_journal::Journals;
@@ -61,7 +61,7 @@ pub(crate) fn table_of(
     alloc: Global,
     journals: &Journals,
 ) -> Result<Vec<(InstanceId, Decree)>, AllocError>
-    ensures { IfOk result (λ v. IsTable (opened empty) journals.now.faults (journals_of journals.now) v.items) }
+    ensures { IfOk result (λ v. IsTable (opens journals.now.opening) journals.now.faults (journals_of journals.now) v.items) }
 {
     journals.commit_in_range();
     let mut table = Vec::new(alloc);

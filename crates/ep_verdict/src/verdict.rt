@@ -2,6 +2,7 @@
 
 ghost use Rattle.std.specs.Prelude.{IfOk};
 ghost use Rattle.ep_journal.specs.Entries.{journals_of};
+ghost use Rattle.ep_journal.specs.Openings.{opens};
 ghost use Rattle.ep_verdict.specs.Verdicts.{IsVerdict};
 
 use crate::history::history_of;
@@ -26,10 +27,10 @@ pub struct Verdict {
 impl Verdict {
     /// What the journals say; where several commit in an instance, what the least of these replicas commits.
     ///
-    /// Each reply is what the instance's first execution told: one map's reply to the history where the journals match,
+    /// Each reply is what the instance's first execution told: one map's reply to the history, from the journals' opening on, where the journals match,
     /// which an audit finds out.
     pub fn of(alloc: Global, journals: &Journals) -> Result<Verdict, AllocError>
-        ensures { IfOk result (λ v. IsVerdict journals.now.faults (journals_of journals.now) v) }
+        ensures { IfOk result (λ v. IsVerdict (opens journals.now.opening) journals.now.faults (journals_of journals.now) v) }
     {
         journals.are_local_runs();
         let schedule = schedule(alloc, journals)?;

@@ -43,7 +43,7 @@ fn is_on_key(key: &Option<Key>, command: &Command) -> bool
 {
     match key {
         None => true,
-        Some(key) => command.names(key),
+        Some(key) => command.names(key.as_slice()),
     }
 }
 

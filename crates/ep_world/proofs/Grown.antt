@@ -18,6 +18,7 @@ use Rattle.ep_journal.specs.declared.event.Event.{Event as Happening}
 use Rattle.ep_replica.specs.Applied.{Applied}
 use Rattle.ep_replica.specs.Kept.{Kept}
 use Rattle.ep_journal.proofs.Growing.{entries_grow}
+use Rattle.ep_journal.specs.Openings.{no_opening}
 use Rattle.ep_replica.proofs.Growing.{journal_grows, clock_grows}
 use Rattle.ep_world.specs.Played.{Played, collected, journals_in, entries_in, replica_in, steps_of, places_of, Shows, IsWorld}
 use Rattle.ep_world.specs.Playing.{with_entry, grown}
@@ -88,9 +89,10 @@ shows_more w these r taken e k lt there h a among = record {
 journals_more : (w : Played) (r : ℕ) (taken : Happening) (e : Entry) (k : Kept) → r < size w.faults → r < length w.entries → AreJournals (collected w) → Applied (replica_in w r) taken e k → AreJournals (collected (grown w r e))
 journals_more w r taken e k lt there h a = record {
   count = with_length w.entries r e ∙ h.count;
+  opens = h.opens;
   journal = λ q less. elim (cases_eq r q) [
-    | inl is ↦ subst (λ z. IsJournal V2 w.faults z (entries_in (grown w r e) z)) is (subst (λ (es : List Entry). IsJournal V2 w.faults r es) (sym (mine w r e there)) (journal_grows (replica_in w r) taken e k (h.journal r lt) a))
-    | inr ne ↦ subst (λ (es : List Entry). IsJournal V2 w.faults q es) (sym (with_other w.entries r q e ne)) (h.journal q less)
+    | inl is ↦ subst (λ z. IsJournal V2 no_opening w.faults z (entries_in (grown w r e) z)) is (subst (λ (es : List Entry). IsJournal V2 no_opening w.faults r es) (sym (mine w r e there)) (journal_grows (replica_in w r) taken e k (h.journal r lt) a))
+    | inr ne ↦ subst (λ (es : List Entry). IsJournal V2 no_opening w.faults q es) (sym (with_other w.entries r q e ne)) (h.journal q less)
   ];
   others = λ q ge. with_other w.entries r q e (λ is. omega arith) ∙ h.others q ge;
 }

@@ -8,6 +8,7 @@ use Rattle.ep_journal.specs.Entries.{Log, entries_of, IsJournal, AreInOrder, all
 use Rattle.ep_journal.specs.declared.entry.Entry.{Entry}
 use Rattle.ep_replica.specs.Kept.{Kept}
 use Rattle.ep_journal.proofs.InOrder.{named}
+use Rattle.ep_journal.specs.Openings.{Opening, no_opening, OpensIn}
 use Rattle.ep_world.specs.Played.{collected, replica_in, numbered, frame_of, IsWorld}
 use Rattle.ep_world.specs.Playing.{with_entry}
 use Rattle.ep_world.specs.Replicas.{all_kept, AreReplicas, world_of, AreTheirs}
@@ -124,7 +125,7 @@ pub new_world : (f : ℕ) (ks : List Kept) (steps : List (ℕ × ℕ)) (messages
 new_world f ks steps messages h none no_steps no_messages = record {
   schedule = [];
   shows = record { journals = λ r. ap entries_of (sym (none r)); steps = no_steps; messages = no_messages; played = tt };
-  journals = record { count = count_all ks ∙ as_many f ks h; journal = λ r lt. subst (λ (es : List Entry). IsJournal V2 f r es) (sym (none r)) (record { run = (tt, tt); readable = tt; versioned = tt }); others = λ r ge. none r };
+  journals = record { count = count_all ks ∙ as_many f ks h; opens = refl; journal = λ r lt. subst (λ (es : List Entry). IsJournal V2 no_opening f r es) (sym (none r)) (record { run = (tt, tt); above = tt; readable = tt; versioned = tt }); others = λ r ge. none r };
   clocked = λ r. subst (λ (es : List Entry). AreClocked 0 (entries_of es)) (sym (none r)) tt;
 }
 
@@ -133,36 +134,36 @@ same_world f ks js steps other_steps messages others is h = subst IsWorld (λ i.
 
 -- The journals of the replicas.
 
-pub theirs_more : (ks : List Kept) (ls more : List Log) (k : Kept) (l : Log) → more ≡ ls ++ l ∷ [] → l.version ≡ V2 → l.faults ≡ k.faults → l.me ≡ k.me → l.entries ≡ k.entries → IsJournal l.version l.faults l.me l.entries → AreTheirs ks ls → AreTheirs (ks ++ k ∷ []) more
-theirs_more ks ls more k l is version faults me entries run h = subst (λ (xs : List Log). AreTheirs (ks ++ k ∷ []) xs) (sym is) (go ks ls h)
+pub theirs_more : (ks : List Kept) (ls more : List Log) (k : Kept) (l : Log) → more ≡ ls ++ l ∷ [] → l.version ≡ V2 → l.faults ≡ k.faults → l.me ≡ k.me → l.opening ≡ no_opening → l.entries ≡ k.entries → IsJournal l.version l.opening l.faults l.me l.entries → AreTheirs ks ls → AreTheirs (ks ++ k ∷ []) more
+theirs_more ks ls more k l is version faults me opening entries run h = subst (λ (xs : List Log). AreTheirs (ks ++ k ∷ []) xs) (sym is) (go ks ls h)
   where
     go : (ks : List Kept) (ls : List Log) → AreTheirs ks ls → AreTheirs (ks ++ k ∷ []) (ls ++ l ∷ [])
-    go [] [] h = (version, faults, me, entries, run, tt)
+    go [] [] h = (version, faults, me, opening, entries, run, tt)
     go [] (x ∷ ls) h = absurd h
     go (x ∷ ks) [] h = absurd h
-    go (x ∷ ks) (y ∷ ls) h = (h.0, h.1, h.2, h.3, h.4, go ks ls h.5)
+    go (x ∷ ks) (y ∷ ls) h = (h.0, h.1, h.2, h.3, h.4, h.5, go ks ls h.6)
 
 theirs_entries : (ks : List Kept) (ls : List Log) → AreTheirs ks ls → all_entries ls ≡ all_kept ks
 theirs_entries [] [] h = refl
 theirs_entries [] (l ∷ ls) h = absurd h
 theirs_entries (k ∷ ks) [] h = absurd h
-theirs_entries (k ∷ ks) (l ∷ ls) h = λ i. h.3 i ∷ theirs_entries ks ls h.5 i
+theirs_entries (k ∷ ks) (l ∷ ls) h = λ i. h.4 i ∷ theirs_entries ks ls h.6 i
 
-theirs_in_order : (f r : ℕ) (ks : List Kept) (ls : List Log) → AreReplicas f r ks → AreTheirs ks ls → AreInOrder V2 f r ls
+theirs_in_order : (f r : ℕ) (ks : List Kept) (ls : List Log) → AreReplicas f r ks → AreTheirs ks ls → AreInOrder V2 no_opening f r ls
 theirs_in_order f r [] [] all h = all
 theirs_in_order f r [] (l ∷ ls) all h = absurd h
 theirs_in_order f r (k ∷ ks) [] all h = absurd h
-theirs_in_order f r (k ∷ ks) (l ∷ ls) all h = (named V2 f r l h.0 (h.1 ∙ all.0) h.4 (h.2 ∙ all.1), theirs_in_order f (suc r) ks ls all.2 h.5)
+theirs_in_order f r (k ∷ ks) (l ∷ ls) all h = (named V2 no_opening f r l h.0 h.3 (h.1 ∙ all.0) (subst (λ (v : Version). OpensIn v l.opening) (sym h.0) h.3) h.5 (h.2 ∙ all.1), theirs_in_order f (suc r) ks ls all.2 h.6)
 
-pub in_order : (f : ℕ) (ks : List Kept) (ls : List Log) → AreReplicas f 0 ks → AreTheirs ks ls → (v : Version) × (n : ℕ) × AreInOrder v n 0 ls
-in_order f ks ls all h = (V2, f, theirs_in_order f 0 ks ls all h)
+pub in_order : (f : ℕ) (ks : List Kept) (ls : List Log) → AreReplicas f 0 ks → AreTheirs ks ls → (v : Version) × (o : Opening) × (n : ℕ) × AreInOrder v o n 0 ls
+in_order f ks ls all h = (V2, no_opening, f, theirs_in_order f 0 ks ls all h)
 
--- they tell the version and the cluster
-same_named : (f n : ℕ) (v : Version) (ks : List Kept) (ls : List Log) → AreReplicas f 0 ks → AreTheirs ks ls → AreInOrder v n 0 ls → (v ≡ V2) × (n ≡ f)
-same_named f n v [] [] all h o = let a : 0 ≡ size f = all in absurd (omega arith)
-same_named f n v [] (l ∷ ls) all h o = absurd h
-same_named f n v (k ∷ ks) [] all h o = absurd h
-same_named f n v (k ∷ ks) (l ∷ ls) all h o = (sym o.0.version ∙ h.0, sym o.0.faults ∙ h.1 ∙ all.0)
+-- they tell the version, the opening and the cluster
+same_named : (f n : ℕ) (v : Version) (p : Opening) (ks : List Kept) (ls : List Log) → AreReplicas f 0 ks → AreTheirs ks ls → AreInOrder v p n 0 ls → (v ≡ V2) × (p ≡ no_opening) × (n ≡ f)
+same_named f n v p [] [] all h o = let a : 0 ≡ size f = all in absurd (omega arith)
+same_named f n v p [] (l ∷ ls) all h o = absurd h
+same_named f n v p (k ∷ ks) [] all h o = absurd h
+same_named f n v p (k ∷ ks) (l ∷ ls) all h o = (sym o.0.version ∙ h.0, sym o.0.opening ∙ h.3, sym o.0.faults ∙ h.1 ∙ all.0)
 
-pub collects : (f : ℕ) (ks : List Kept) (steps : List (ℕ × ℕ)) (messages : List Place) (ls : List Log) (j : Collected) → AreReplicas f 0 ks → AreTheirs ks ls → AreInOrder j.version j.faults 0 ls → j.entries ≡ all_entries ls → j ≡ collected (world_of f ks steps messages)
-collects f ks steps messages ls j all h o is = let same = same_named f j.faults j.version ks ls all h o in λ i. record { version = same.0 i; faults = same.1 i; entries = (is ∙ theirs_entries ks ls h) i }
+pub collects : (f : ℕ) (ks : List Kept) (steps : List (ℕ × ℕ)) (messages : List Place) (ls : List Log) (j : Collected) → AreReplicas f 0 ks → AreTheirs ks ls → AreInOrder j.version j.opening j.faults 0 ls → j.entries ≡ all_entries ls → j ≡ collected (world_of f ks steps messages)
+collects f ks steps messages ls j all h o is = let same = same_named f j.faults j.version j.opening ks ls all h o in λ i. record { version = same.0 i; faults = same.2 i; opening = same.1 i; entries = (is ∙ theirs_entries ks ls h) i }

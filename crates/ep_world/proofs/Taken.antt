@@ -8,6 +8,7 @@ use Rattle.ep_journal.specs.declared.entry.Entry.{Entry}
 use Rattle.ep_journal.specs.declared.event.Event.{Event as Happening}
 use Rattle.ep_journal.specs.declared.step_fault.StepFault.{StepFault}
 use Rattle.ep_journal.specs.Leaving.{state_left}
+use Rattle.ep_journal.specs.Openings.{no_opening}
 use Rattle.ep_replica.specs.Applied.{Applied, IsDeclined}
 use Rattle.ep_replica.specs.Kept.{Kept}
 use Rattle.ep_world.specs.Played.{Played, replica_in, places_of, IsWorld}
@@ -55,7 +56,7 @@ some_entries k k' j event p same =
     omega arith
 
 pub few_last : (f r : ℕ) (ks : List Kept) (k k' : Kept) (event : Happening) (e : Entry) → Here f r ks k → Applied k event e k' → length e.frames ≤ size f + 1
-few_last f r ks k k' event e h a = subst (λ n. length e.frames ≤ size n + 1) h.faults (few_frames k.faults k.me (state_left k.faults k.me k.entries) e a.step)
+few_last f r ks k k' event e h a = subst (λ n. length e.frames ≤ size n + 1) h.faults (few_frames k.faults k.me (state_left no_opening k.faults k.me k.entries) e a.step)
 
 pub still_replicas : (f r : ℕ) (ks : List Kept) (k k' : Kept) (event : Happening) (e : Entry) → AreReplicas f 0 ks → Here f r ks k → Applied k event e k' → AreReplicas f 0 (set ks r k')
 still_replicas f r ks k k' event e all h a =
@@ -74,7 +75,7 @@ took f r ks k k' steps more_steps messages more event e all h a stepped sent =
       me = (ap (λ (z : Kept). z.me) a.appended ∙ h.me) t;
       entries = (longer ∙ sym (ap (λ (es : List (List Entry)). get_or es r []) entries ∙ with_same (all_kept ks) r e less)) t;
     }) in
-    let places : more ≡ messages ++ places_of (frames_at e.frames) = sent ∙ ap (λ (ps : List Place). messages ++ ps) (sym (places_are k.faults k.me (state_left k.faults k.me k.entries) e a.step a.marked ∙ ap (λ q. places_up_to q e.number (length e.frames)) h.me)) in
+    let places : more ≡ messages ++ places_of (frames_at e.frames) = sent ∙ ap (λ (ps : List Place). messages ++ ps) (sym (places_are k.faults k.me (state_left no_opening k.faults k.me k.entries) e a.step a.marked ∙ ap (λ q. places_up_to q e.number (length e.frames)) h.me)) in
     record {
       entry = e;
       there = h.below;

@@ -10,6 +10,7 @@ use Rattle.ep_rules.specs.Worlds.{opening, IsRun, ends}
 use Rattle.ep_journal.specs.Entries.{Collected, entries_at, journals_of, AreJournals}
 use Rattle.ep_journal.specs.contracts.entry.Entry as entry_facts
 use Rattle.ep_journal.specs.declared.entry.Entry.{Entry}
+use Rattle.ep_journal.specs.Openings.{no_opening}
 use Rattle.ep_replica.specs.Kept.{Kept}
 use Rattle.ep_world.specs.contracts.place.Place as place_facts
 use Rattle.ep_world.specs.declared.place.Place.{Place}
@@ -30,9 +31,9 @@ played_code =
     code_by (ℕ × (List (List Entry) × (List (ℕ × ℕ) × List Place))) (coded× coded_ℕ (coded× (coded_list (coded_list entry_facts.the_row.coded)) (coded× (coded_list (coded× coded_ℕ coded_ℕ)) (coded_list place_facts.the_row.coded))))
     (λ w. (w.faults, (w.entries, (w.steps, w.messages)))) (λ p. record { faults = p.0; entries = p.1.0; steps = p.1.1.0; messages = p.1.1.1 }) (λ _. refl)
 
--- the journals, which are of version 2
+-- the journals, which are of version 2 and open with nothing
 abbrev pub collected : Played → Collected
-collected w = record { version = V2; faults = w.faults; entries = w.entries }
+collected w = record { version = V2; faults = w.faults; opening = no_opening; entries = w.entries }
 
 -- the same as the rule book sees them
 abbrev pub journals_in : Played → rules.Journals

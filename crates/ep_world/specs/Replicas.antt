@@ -7,6 +7,7 @@ use Rattle.ep_journal.specs.declared.entry.Entry.{Entry}
 use Rattle.ep_journal.specs.declared.event.Event.{Event as Happening}
 use Rattle.ep_journal.specs.declared.step_fault.StepFault.{StepFault}
 use Rattle.ep_journal.specs.declared.step_fault.StepFault.TheVariants.{Memory, OutOfRange}
+use Rattle.ep_journal.specs.Openings.{no_opening}
 use Rattle.ep_replica.specs.Applied.{Applied, IsDeclined}
 use Rattle.ep_replica.specs.Kept.{Kept}
 use Rattle.ep_world.specs.Played.{Played, replica_in}
@@ -27,12 +28,12 @@ AreReplicas f r (k ∷ ks) = (k.faults ≡ f) × (k.me ≡ r) × AreReplicas f (
 abbrev pub world_of : ℕ → List Kept → List (ℕ × ℕ) → List Place → Played
 world_of f ks steps messages = record { faults = f; entries = all_kept ks; steps = steps; messages = messages }
 
--- the journals are those of the replicas, of version 2
+-- the journals are those of the replicas, of version 2, and open with nothing
 abbrev pub AreTheirs : List Kept → List Log → Type 0
 AreTheirs [] [] = Unit {0}
 AreTheirs [] (l ∷ ls) = ⊥
 AreTheirs (k ∷ ks) [] = ⊥
-AreTheirs (k ∷ ks) (l ∷ ls) = (l.version ≡ V2) × (l.faults ≡ k.faults) × (l.me ≡ k.me) × (l.entries ≡ k.entries) × IsJournal l.version l.faults l.me l.entries × AreTheirs ks ls
+AreTheirs (k ∷ ks) (l ∷ ls) = (l.version ≡ V2) × (l.faults ≡ k.faults) × (l.me ≡ k.me) × (l.opening ≡ no_opening) × (l.entries ≡ k.entries) × IsJournal l.version l.opening l.faults l.me l.entries × AreTheirs ks ls
 
 -- the first n places of an entry's frames
 abbrev pub places_up_to : ℕ → ℕ → ℕ → List Place

@@ -5,6 +5,7 @@ ghost use Rattle.ep_base.specs.Quorums.{size};
 ghost use Rattle.ep_base.specs.declared.version_kind.VersionKind.TheVariants.{V2};
 ghost use Rattle.ep_frame.specs.Meaning.{origin_at};
 ghost use Rattle.ep_journal.specs.Entries.{IsJournal};
+ghost use Rattle.ep_journal.specs.Openings.{no_opening};
 ghost use Rattle.ep_world.specs.Played.{numbered, frame_of};
 ghost use Rattle.ep_world.specs.Replicas.{all_kept, AreReplicas, AreTheirs};
 
@@ -102,8 +103,9 @@ fn journal_of(replica: Replica) -> Journal
     ensures version { result.version ≡ V2 }
     ensures faults { result.faults ≡ replica.faults }
     ensures me { result.me ≡ replica.me }
+    ensures opening { result.opening ≡ no_opening }
     ensures entries { result.entries ≡ replica.entries }
-    ensures run { IsJournal result.version result.faults result.me result.entries }
+    ensures run { IsJournal result.version result.opening result.faults result.me result.entries }
 {
     let journal = replica.into_journal();
     // Nothing is done with the entries: that they are a local run is known by asking for them.

@@ -256,7 +256,7 @@ impl World {
         let _size = self.size;
     }
 
-    /// The journals alone, which are of version 2.
+    /// The journals alone, which are of version 2 and open with nothing.
     pub fn into_journals(self, alloc: Global) -> Result<Journals, AllocError>
         ensures { IfOk result (λ j. j ≡ collected self) }
     {

@@ -11,8 +11,9 @@ fn after_a_restart_local_reads_tell_what_others_have_proposed() {
     let value = |number: usize| Reply::Bulk(Some(format!("value-{number}").into_bytes()));
     let stores = start();
     for number in 0..30 {
-        let told = stores[number % 3].ask(&format!("SET key-{number} value-{number}"));
-        assert_eq!(told, Reply::Simple("OK".into()));
+        // (where a peer is lost for a while it is asked again: the value is the same)
+        let line = format!("SET key-{number} value-{number}");
+        wait("a majority", || stores[number % 3].ask(&line) == Reply::Simple("OK".into()));
     }
     // Nothing is read before the restart, so that nothing is executed but by who proposed it; but all is committed everywhere.
     stores.iter().for_each(|store| wait("all commits", || store.info("instances_open") == "0"));

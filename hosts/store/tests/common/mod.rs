@@ -12,7 +12,9 @@ use store::client::{Client, Reply};
 /// A node that has no entry on the disk, and tells so: the answer to the first request, a sync of 5 bytes.
 pub const SYNCED: &str =
     "#!/bin/sh\nhead -c 5 >/dev/null; printf 'EPLG\\002\\003\\000' > \"$7\"; printf '\\0\\0\\0\\5\\6\\0\\0\\0\\0'\n";
-const PATIENCE: Duration = Duration::from_secs(20);
+/// How long a test waits, and a store has a client wait: other work may leave them little of the processors.
+const PATIENCE: Duration = Duration::from_secs(120);
+const STORE_PATIENCE: &str = "60";
 
 /// A node of this script.
 pub fn script(folder: &Path, script: &str) -> PathBuf {
@@ -52,7 +54,7 @@ impl Places {
     pub fn command(&self, replica: usize, node: &Path) -> Command {
         let mut command = Command::new(env!("CARGO_BIN_EXE_store"));
         command.args(["--replica", &replica.to_string(), "--peers", &self.peers.join(",")]);
-        command.args(["--listen", &self.clients[replica], "--patience", "3"]);
+        command.args(["--listen", &self.clients[replica], "--patience", STORE_PATIENCE]);
         let directory = self.folder.join(replica.to_string());
         if !directory.join("log").exists() {
             command.arg("--new");

@@ -7,11 +7,11 @@ use Rattle.ep_collect.proofs.checking.other_place.Goals as goal
 pub loop-place-preserved : goal.loop-place-preserved
 loop-place-preserved c =
     let less : c.loop-place.place < length c.args.journals.now = search rules in
-    let member : IsMember c.args.version c.args.cluster c.index-journals-place.result = search rules in
-    All-more (IsMember c.args.version c.args.cluster) c.args.journals.now c.loop-place.place c.index-journals-place.result less c.loop-place.invariant
-    (subst (IsMember c.args.version c.args.cluster) c.index-journals-place.is member)
+    let member : IsMember c.args.version c.args.opening.now c.args.cluster c.index-journals-place.result = search rules in
+    All-more (IsMember c.args.version c.args.opening.now c.args.cluster) c.args.journals.now c.loop-place.place c.index-journals-place.result less c.loop-place.invariant
+    (subst (IsMember c.args.version c.args.opening.now c.args.cluster) c.index-journals-place.is member)
 
 pub returns : goal.returns
 returns c =
     let all : length c.args.journals.now ≤ c.loop-place.place = search rules in
-    All-same (IsMember c.args.version c.args.cluster) _ _ (sym (take_all _ c.args.journals.now all)) c.loop-place.invariant
+    All-same (IsMember c.args.version c.args.opening.now c.args.cluster) _ _ (sym (take_all _ c.args.journals.now all)) c.loop-place.invariant

@@ -3,4 +3,4 @@ use Rattle.ep_collect.specs.Clusters.{IsMember}
 use Rattle.ep_collect.proofs.checking.other_place.Given as goal
 
 abbrev pub invariant-loop-place : goal.invariant-loop-place
-invariant-loop-place l = All (IsMember l.version l.cluster) (take l.place l.journals)
+invariant-loop-place l = All (IsMember l.version l.opening l.cluster) (take l.place l.journals)

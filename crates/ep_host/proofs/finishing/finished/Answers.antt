@@ -8,7 +8,7 @@ use Rattle.ep_host.proofs.finishing.finished.Goals as goal
 pub returns-in-Ok-clause-size : goal.returns-in-Ok-clause-size
 returns-in-Ok-clause-size c =
     let v = c.in-Ok.journals.version in let f = c.in-Ok.journals.faults in
-    let all : 0 + length c.args.journals.items ≡ size f = counted v f 0 c.args.journals.items c.in-Ok.ensures.of_one in
+    let all : 0 + length c.args.journals.items ≡ size f = counted v c.in-Ok.journals.opening f 0 c.args.journals.items c.in-Ok.ensures.of_one in
     let length : vec_len c.args.journals ≡ length c.args.journals.items = c.args.journals.ok.0 in
     let same : size f ≡ vec_len c.args.journals = omega arith in
     IfOk-weaker c.audited.result (λ x. x.journals.faults ≡ f) (λ x. size x.journals.faults ≡ vec_len c.args.journals) (λ x faults. ap size faults ∙ same) c.audited.ensures.size
@@ -16,5 +16,5 @@ returns-in-Ok-clause-size c =
 pub returns-in-Ok-clause-version : goal.returns-in-Ok-clause-version
 returns-in-Ok-clause-version c =
     let v = c.in-Ok.journals.version in
-    let is : v ≡ V2 = version_is v c.in-Ok.journals.faults c.args.journals.items c.in-Ok.ensures.of_one c.requires in
+    let is : v ≡ V2 = version_is v c.in-Ok.journals.opening c.in-Ok.journals.faults c.args.journals.items c.in-Ok.ensures.of_one c.requires in
     IfOk-weaker c.audited.result (λ x. x.journals.version ≡ v) (λ x. x.journals.version ≡ V2) (λ x version. version ∙ is) c.audited.ensures.version

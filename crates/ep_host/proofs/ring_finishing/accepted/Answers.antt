@@ -6,10 +6,11 @@ use Rattle.ep_report.specs.Refusals.{fault_of}
 use Rattle.ep_rules.specs.Audits.{IsFault}
 use Rattle.ep_rules.proofs.OneFault.{faults_are_first_lem}
 use Rattle.ep_host.proofs.ring_finishing.accepted.Goals as goal
-use Rattle.ep_rules.specs.OneMap.{opened, empty}
+use Rattle.ep_journal.specs.Openings.{opens}
+use Rattle.ep_rules.specs.OneMap.{Store}
 
 pub unreachable-requires : goal.unreachable-requires
 unreachable-requires c =
-    let f = c.args.journals.now.faults in let J = journals_of c.args.journals.now in let receipts = c.args.receipts.now in
-    let fault : IsFault (opened empty) f J receipts (fault_of c.in-Err-Fault.field-0-0) = subst (λ (e : Refusal). IsRefused f J receipts e) c.in-Err-Fault.field-0-is c.in-Err-Fault.ensures.refused in
-    absurd ((faults_are_first_lem (opened empty) f J receipts).none c.requires (fault_of c.in-Err-Fault.field-0-0) fault)
+    let base : Store = opens c.args.journals.now.opening in let f = c.args.journals.now.faults in let J = journals_of c.args.journals.now in let receipts = c.args.receipts.now in
+    let fault : IsFault base f J receipts (fault_of c.in-Err-Fault.field-0-0) = subst (λ (e : Refusal). IsRefused base f J receipts e) c.in-Err-Fault.field-0-is c.in-Err-Fault.ensures.refused in
+    absurd ((faults_are_first_lem base f J receipts).none c.requires (fault_of c.in-Err-Fault.field-0-0) fault)

@@ -2,6 +2,7 @@ use Rattle.std.proofs.Common.{rules, ◌≡◌, ◌∙◌, List, All, ap, subst}
 use Rattle.std.proofs.lemmas.List.{with_items_is}
 use Rattle.ep_base.specs.declared.version_kind.VersionKind.TheVariants.{V2}
 use Rattle.ep_journal.specs.Entries.{AreInOrder, all_entries}
+use Rattle.ep_journal.specs.Openings.{no_opening}
 use Rattle.ep_host.specs.Host.{Looked, Knows, AllSent, AllBegin, AllFrom}
 use Rattle.ep_host.specs.Node.{Node}
 use Rattle.ep_host.specs.Pointwise.{Each}
@@ -17,7 +18,7 @@ unwrap-journals-requires c =
     let know : All Knows nodes = subst (λ (l : List Node). All Knows l) value c.taken_was_sent.ensures.knows in
     let looked : Each Looked nodes after = subst (λ (l : List Node). Each Looked l after) value c.taken_was_sent.ensures.looked in
     let logs = c.in_ok-journals.ensures ∙ ap (λ (l : List Node). logs_of (replicas_in l)) is in
-    c.new.ensures.in_order.1 (V2, c.requires.0, end_in_order c.requires.0 nodes after c.in_ok-journals.journals.items c.requires.1 know looked logs)
+    c.new.ensures.in_order.1 (V2, no_opening, c.requires.0, end_in_order c.requires.0 nodes after c.in_ok-journals.journals.items c.requires.1 know looked logs)
 
 pub accepted-requires : goal.accepted-requires
 accepted-requires c =
@@ -31,7 +32,7 @@ accepted-requires c =
     let j = c.unwrap-journals.result in let ls = c.in_ok-journals.journals.items in
     let logs = c.in_ok-journals.ensures ∙ ap (λ (l : List Node). logs_of (replicas_in l)) is in
     let receipts = c.deref-2.ensures.value ∙ c.in_ok-receipts.ensures ∙ ap (λ (l : List Node). their_receipts (replicas_in l)) (c.deref.ensures.value ∙ is) in
-    let order : AreInOrder j.version j.faults 0 ls = search rules in
+    let order : AreInOrder j.version j.opening j.faults 0 ls = search rules in
     let entries : j.entries ≡ all_entries ls = search rules in
     end_accepted f nodes j c.deref-2.result.now host know sent (is_end f nodes after j ls c.deref-2.result.now host looked logs order entries receipts)
 
@@ -44,7 +45,7 @@ returns-clause-verdict c = λ f host.
     let j = c.unwrap-journals.result in let ls = c.in_ok-journals.journals.items in
     let logs = c.in_ok-journals.ensures ∙ ap (λ (l : List Node). logs_of (replicas_in l)) is in
     let receipts = c.deref-2.ensures.value ∙ c.in_ok-receipts.ensures ∙ ap (λ (l : List Node). their_receipts (replicas_in l)) (c.deref.ensures.value ∙ is) in
-    let order : AreInOrder j.version j.faults 0 ls = search rules in
+    let order : AreInOrder j.version j.opening j.faults 0 ls = search rules in
     let entries : j.entries ≡ all_entries ls = search rules in
     end_audited f nodes j c.deref-2.result.now (is_end f nodes after j ls c.deref-2.result.now host looked logs order entries receipts) c.accepted.result c.accepted.ensures
 

@@ -2,6 +2,7 @@ use Rattle.std.proofs.Common.{rules, ◌≡◌, ◌<◌, ◌-◌, ℕ, length, g
 use Rattle.ep_base.specs.declared.version_kind.VersionKind.TheVariants.{V2}
 use Rattle.ep_journal.specs.Entries.{IsJournal}
 use Rattle.ep_journal.specs.declared.entry.Entry.{Entry}
+use Rattle.ep_journal.specs.Openings.{no_opening}
 use Rattle.ep_rules.specs.States.{fresh_state}
 use Rattle.ep_host.specs.HostFrames.{AreHostFrames}
 use Rattle.ep_host.proofs.Versioned.{entries_each}
@@ -11,7 +12,7 @@ use Rattle.ep_rules.specs.OneMap.{opened, empty}
 pub copied-requires : goal.copied-requires
 copied-requires c =
     let k = c.args.replica.now in
-    let run : IsJournal V2 k.faults k.me k.entries = search rules in
+    let run : IsJournal V2 no_opening k.faults k.me k.entries = search rules in
     let last : ℕ = length k.entries - 1 in
     let e : Entry = get_or k.entries last c.in-Some.entry.now in
     let is : c.as_slice.result.now ≡ e.frames = search rules in

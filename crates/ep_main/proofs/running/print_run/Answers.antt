@@ -3,8 +3,8 @@ use Rattle.ep_main.proofs.Flags.{run_verdict, script_read, script_not_written}
 use Rattle.ep_main.proofs.Verdicts.{runs_to, says_as}
 use Rattle.ep_main.proofs.running.print_run.Goals as goal
 
-pub judge_run-requires : goal.judge_run-requires
-judge_run-requires g c = c.in_ok-ran.ensures.finished
+pub judge_run-requires-clause-finished : goal.judge_run-requires-clause-finished
+judge_run-requires-clause-finished g c = c.in_ok-ran.ensures.finished
 
 pub returns-in_err-script-clause-read : goal.returns-in_err-script-clause-read
 returns-in_err-script-clause-read g c = script_read c.in_err-script.field-0.0 _ _ _ c.from_residual.ensures.1 c.in_err-script.ensures.failed

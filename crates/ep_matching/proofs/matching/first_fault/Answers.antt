@@ -9,7 +9,7 @@ use Rattle.ep_matching.specs.Handlings.{first_below}
 use Rattle.ep_matching.proofs.Handled.{matched, handled_wrong}
 use Rattle.ep_matching.proofs.Claimed.{accepted_if, wrong_if}
 use Rattle.ep_matching.proofs.matching.first_fault.Goals as goal
-use Rattle.ep_rules.specs.OneMap.{opened, empty}
+use Rattle.ep_journal.specs.Openings.{opens}
 
 pub returns-in-Some-clause-fault : goal.returns-in-Some-clause-fault
 returns-in-Some-clause-fault c =
@@ -21,7 +21,7 @@ returns-in-None-clause-accepted c =
     let three : 3 ≤ size j.faults = subst (λ n. 3 ≤ n) (c.count-count.ensures.value ∙ ap size c.size.ensures) c.count-count.ensures.in_range.0 in
     let some : 0 < j.faults = omega arith in
     let none : first_below j (size j.faults) ≡ None = subst (λ n. first_below j n ≡ None) (c.count-count.ensures.value ∙ ap size c.size.ensures) (sym c.in-None.ensures) in
-    IfOk-weaker c.first_claim.result (λ found. found ≡ first_of j 1 c.args.receipts.now) (λ found. IfNone found (IsAccepted (opened empty) j.faults (journals_of j) c.args.receipts.now))
+    IfOk-weaker c.first_claim.result (λ found. found ≡ first_of j 1 c.args.receipts.now) (λ found. IfNone found (IsAccepted (opens j.opening) j.faults (journals_of j) c.args.receipts.now))
     (λ found is. accepted_if j c.args.receipts.now c.are_journals.ensures some (matched j c.are_journals.ensures none) found is) c.first_claim.ensures
 
 pub returns-in-None-clause-fault : goal.returns-in-None-clause-fault
@@ -30,5 +30,5 @@ returns-in-None-clause-fault c =
     let three : 3 ≤ size j.faults = subst (λ n. 3 ≤ n) (c.count-count.ensures.value ∙ ap size c.size.ensures) c.count-count.ensures.in_range.0 in
     let some : 0 < j.faults = omega arith in
     let none : first_below j (size j.faults) ≡ None = subst (λ n. first_below j n ≡ None) (c.count-count.ensures.value ∙ ap size c.size.ensures) (sym c.in-None.ensures) in
-    IfOk-weaker c.first_claim.result (λ found. found ≡ first_of j 1 c.args.receipts.now) (λ found. IfSome found (λ fault. IsFault (opened empty) j.faults (journals_of j) c.args.receipts.now (fault_of fault)))
+    IfOk-weaker c.first_claim.result (λ found. found ≡ first_of j 1 c.args.receipts.now) (λ found. IfSome found (λ fault. IsFault (opens j.opening) j.faults (journals_of j) c.args.receipts.now (fault_of fault)))
     (λ found is. wrong_if j c.args.receipts.now c.are_journals.ensures some (matched j c.are_journals.ensures none) found is) c.first_claim.ensures

@@ -1,5 +1,6 @@
 use Rattle.std.proofs.Common.{◌≤◌, ◌∙◌, ℕ, List, [], subst}
 use Rattle.ep_journal.specs.Entries.{journals_of}
+use Rattle.ep_journal.specs.Openings.{opens}
 use Rattle.ep_rules.proofs.OnceDone.{as_once}
 use Rattle.ep_script.specs.declared.line.Line.{Line}
 use Rattle.ep_replay.specs.Replays.{IsOpening, PlayAll}
@@ -24,5 +25,5 @@ returns-clause-once c = as_once (instances_of c.in_ok-left.left.receipts.items) 
 
 pub returns-clause-few : goal.returns-clause-few
 returns-clause-few c =
-    few_receipts c.in_ok-left.left.journals.faults (journals_of c.in_ok-left.left.journals) c.in_ok-left.left.receipts.items (subst (λ n. n ≤ 3) (c.faults-faults.ensures.value ∙ c.size-2.ensures) c.faults-faults.ensures.in_range.1) c.are_local_runs.ensures (returns-clause-accepted c)
+    few_receipts (opens c.in_ok-left.left.journals.opening) c.in_ok-left.left.journals.faults (journals_of c.in_ok-left.left.journals) c.in_ok-left.left.receipts.items (subst (λ n. n ≤ 3) (c.faults-faults.ensures.value ∙ c.size-2.ensures) c.faults-faults.ensures.in_range.1) c.are_local_runs.ensures (returns-clause-accepted c)
     (replay_once c.args.script.now c.in_ok-left.left (returns-clause-value c))

@@ -10,6 +10,6 @@ returns-in_default c = λ k e n at. absurd (none_there c.args.journals.now c.arg
 pub returns : goal.returns
 returns c = λ k e n at.
     let es : List Written = c.entries.result.now in
-    let same : es ≡ entries_at c.args.journals.now c.args.replica = c.entries.ensures.entries ∙ c.in-Some.ensures.some.4 in
+    let same : es ≡ entries_at c.args.journals.now c.args.replica = c.entries.ensures.entries ∙ c.in-Some.ensures.some.5 in
     let here : slice_get es k ≡ Some e = subst (λ ws. slice_get ws k ≡ Some e) (sym same) at in
     entry_got es c.args.number (c.args.number - 1) k c.get-2.result e n refl here c.get-2.ensures.lookup.0 c.get-2.ensures.lookup.1

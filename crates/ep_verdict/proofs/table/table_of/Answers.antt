@@ -3,6 +3,7 @@ use Rattle.ep_base.specs.Instances.{instance_of}
 use Rattle.ep_base.specs.Quorums.{size}
 use Rattle.ep_base.specs.declared.decree.Decree.{Decree}
 use Rattle.ep_journal.specs.Entries.{journals_of}
+use Rattle.ep_journal.specs.Openings.{opens}
 use Rattle.ep_verdict.specs.Tables.{agreed_in, Covers}
 use Rattle.ep_verdict.proofs.Covering.{covers_none, covers_leader, covers_all}
 use Rattle.ep_verdict.proofs.table.table_of.Goals as goal
@@ -26,4 +27,4 @@ returns c =
     let f : ℕ = c.args.journals.now.faults in
     let g : ℕ → Option Decree = agreed_in c.args.journals.now in
     let at : c.loop-leader.leader ≡ size f = omega (arith, ap size c.size.ensures, c.loop-leader-test.false, c.loop-leader.auto.leader-end, c.count-leader-end.ensures.value) in
-    covers_all f (journals_of c.args.journals.now) c.loop-leader.table.items c.commit_in_range.ensures (subst (λ n. Covers g (instance_of n 1) c.loop-leader.table.items) at c.loop-leader.invariant)
+    covers_all (opens c.args.journals.now.opening) f (journals_of c.args.journals.now) c.loop-leader.table.items c.commit_in_range.ensures (subst (λ n. Covers g (instance_of n 1) c.loop-leader.table.items) at c.loop-leader.invariant)

@@ -14,7 +14,7 @@ written-requires c =
     (V2, sender_at b, origin_at b, message_at b, upgraded b c.in_ok-bytes-in-V1.bytes c.view-view.ensures.spelled is (c.in_ok-bytes-in-V1.ensures ∙ ap in_version_2 c.as_slice.ensures))
 
 pub returns-in_ok-bytes-in-V1-clause-upgraded : goal.returns-in_ok-bytes-in-V1-clause-upgraded
-returns-in_ok-bytes-in-V1-clause-upgraded c = λ early.
+returns-in_ok-bytes-in-V1-clause-upgraded c =
     let b = c.args.self.now in
     let is : version_at b ≡ V1 = sym (c.in-V1.ensures.value ∙ c.version.ensures ∙ ap version_at c.view-view.ensures.value) in
     upgraded b c.written.result c.view-view.ensures.spelled is (c.written.ensures ∙ c.in_ok-bytes-in-V1.ensures ∙ ap in_version_2 c.as_slice.ensures)

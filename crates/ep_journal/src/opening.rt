@@ -1,0 +1,86 @@
+//! What the replicas of a generation open with.
+
+ghost use Rattle.std.specs.Prelude.{◌≡◌, ◌≤◌, ◌↔◌, IsTrue, IsOk, IfOk};
+ghost use Rattle.ep_journal.specs.Openings.{no_opening};
+
+use ep_base::OutOfRange;
+use ep_exec::Contents;
+use std::alloc::{AllocError, Global};
+use std::marker::Model;
+
+/// What the replicas of a generation open with: a map, and the stamp that their clocks go on from, from 0 to 281,474,976,710,655.
+#[derive(Drop)]
+pub struct Opening {
+    contents: Contents,
+    since: u64,
+}
+
+impl Model for Opening {
+    ghost use Rattle.std.specs.Prelude.{◌≤◌};
+    ghost use Rattle.ep_journal.specs.Openings as openings;
+    ghost use Rattle.ep_journal.specs.Openings.{opening_code};
+
+    ghost Value = { openings.Opening };
+
+    ghost coded = { opening_code };
+
+    ghost view = { λ o. record { contents = o.contents; since = o.since } };
+
+    ghost invariant = { λ o. o.since ≤ 281474976710655 };
+}
+
+impl Opening {
+    /// What a life begins with: no key has a value, and clocks begin at 0. Versions 1 and 2 know no other.
+    pub fn none(alloc: Global) -> Opening
+        ensures { result ≡ no_opening }
+    {
+        Opening {
+            contents: Contents::new(alloc),
+            since: 0,
+        }
+    }
+
+    /// This map, with clocks that go on from this stamp; `OutOfRange` where the stamp is above 281,474,976,710,655.
+    pub fn new(contents: Contents, since: u64) -> Result<Opening, OutOfRange>
+        ensures in_range { IsOk result ↔ (since ≤ 281474976710655) }
+        ensures value { IfOk result (λ o. o ≡ record { contents = contents; since = since }) }
+    {
+        if since > 281_474_976_710_655 {
+            return Err(OutOfRange);
+        }
+        Ok(Opening { contents, since })
+    }
+
+    /// What the keys have.
+    pub fn contents(&self) -> &Contents
+        ensures { result.now ≡ self.now.contents }
+    {
+        &self.contents
+    }
+
+    /// The stamp that the clocks go on from.
+    pub fn since(&self) -> u64
+        ensures value { result ≡ self.now.since }
+        ensures in_range { result ≤ 281474976710655 }
+    {
+        self.since
+    }
+
+    /// The same again.
+    pub fn copy(&self, alloc: Global) -> Result<Opening, AllocError>
+        ensures { IfOk result (λ o. o ≡ self.now) }
+    {
+        let contents = self.contents.copy(alloc)?;
+        Ok(Opening {
+            contents,
+            since: self.since,
+        })
+    }
+
+    /// Whether both are one.
+    pub fn is_same(&self, other: &Opening) -> bool
+        ensures { IsTrue result ↔ (self.now ≡ other.now) }
+    {
+        self.since == other.since && self.contents.is_same(&other.contents)
+    }
+}
