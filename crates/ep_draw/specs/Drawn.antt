@@ -11,7 +11,7 @@ use Rattle.ep_words.specs.Kept.{keeps}
 use Rattle.ep_words.specs.declared.part.Part.{Part}
 use Rattle.ep_svg.specs.Escaping.{escaped}
 use Rattle.ep_draw.specs.Layout.{column, row}
-use Rattle.ep_draw.specs.Ranges.{ranges_text}
+use Rattle.ep_draw.specs.Ranges.{first_left, ranges_text}
 use Rattle.ep_svg.specs.Shapes.{attribute, shapes_text, arrows_text}
 use Rattle.ep_draw.specs.declared.style.TheConstants.{KEY, STYLE}
 use Rattle.ep_draw.specs.declared.draw_fault.DrawFault.{DrawFault}
@@ -111,13 +111,19 @@ pub record IsDrawn (c : Collected) (part : Part) (svg : List ℕ) : Type 0 where
   pub few : length rows ≤ 2000
   pub file : IsFile c rows svg
 
--- the part keeps so many entries, more than 2,000, and these lines say what there is, and which stamps can be drawn
+-- the same part, but with this as its greatest stamp
+abbrev pub up_to : ℕ → Part → Part
+up_to stamp part = record { instance = part.instance; about = part.about; replica = part.replica; from = part.from; to = stamp }
+
+-- the part keeps so many entries, more than 2,000, and these lines say what there is, and which stamps can be drawn: up to the stamp that they name,
+-- the part keeps 2,000 of all entries at most
 pub record IsTooMany (c : Collected) (part : Part) (count : ℕ) (lines : List ℕ) : Type 0 where
   pub rows : List (ℕ × ℕ)
   pub are_kept : AreKept c part rows
   pub so_many : length rows ≡ count
   pub many : 2000 < count
   pub told : lines ≡ ranges_text c rows
+  pub example : (stamp : ℕ) → first_left c rows ≡ suc stamp → length (kept c (up_to stamp part) are_kept.all) ≤ 2000
 
 -- what is said of these rows, which are too many
 abbrev pub IsCrowd : Collected → List (ℕ × ℕ) → DrawFault → Type 0

@@ -1,5 +1,5 @@
 -- What there is to draw, where it is too much.
-use Rattle.std.specs.Prelude.{ℕ, zero, suc, ◌-◌, length, List, [], ◌∷◌, ◌++◌, Option, Some, None, codes, decimal, slice_get}
+use Rattle.std.specs.Prelude.{ℕ, zero, suc, ◌-◌, cond, eqb, length, List, [], ◌∷◌, ◌++◌, Option, Some, None, codes, decimal, slice_get}
 use Rattle.ep_base.specs.Quorums.{size}
 use Rattle.ep_frame.specs.Meaning.{instance_at}
 use Rattle.ep_journal.specs.Entries.{Collected, entries_at}
@@ -67,10 +67,14 @@ abbrev pub stamp_at : Collected → Option (ℕ × ℕ) → ℕ
 stamp_at c None = 0
 stamp_at c (Some p) = stamp_of (entry_at (entries_at c p.0) p.1)
 
--- which stamps keep no more of these rows than are drawn: those below the stamp of the first row that is too many
-abbrev pub hint_text : Collected → List (ℕ × ℕ) → List ℕ
-hint_text c rows = codes "for example, --to " ++ decimal (stamp_at c (slice_get rows 2000) - 1) ++ codes " keeps 2000 of these events at most\n"
+-- that the stamps below this one keep no more than are drawn, if there are any below it
+abbrev pub example_text : ℕ → List ℕ
+example_text stamp = cond (eqb stamp 0) [] (codes "for example, --to " ++ decimal (stamp - 1) ++ codes " keeps 2000 of these events at most\n")
+
+-- the stamp of the first of these rows that is too many
+abbrev pub first_left : Collected → List (ℕ × ℕ) → ℕ
+first_left c rows = stamp_at c (slice_get rows 2000)
 
 -- what there is of each replica, and which stamps of these rows can be drawn
 abbrev pub ranges_text : Collected → List (ℕ × ℕ) → List ℕ
-ranges_text c rows = replicas_text c (size c.faults) ++ hint_text c rows
+ranges_text c rows = replicas_text c (size c.faults) ++ example_text (first_left c rows)

@@ -192,6 +192,7 @@ fn draw_kept(
     ensures refused { IfErr result (λ fault. IsRefused journals.now part.now fault) }
 {
     let _part = part;
+    journals.are_local_runs();
     if rows.len() > MOST {
         return Err(too_many(alloc, journals, rows));
     }

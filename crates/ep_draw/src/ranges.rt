@@ -4,7 +4,7 @@ ghost use Rattle.std.specs.Prelude.{◌≡◌, ◌≤◌, ◌++◌, None, IfOk, 
 ghost use Rattle.ep_base.specs.Quorums.{size};
 ghost use Rattle.ep_journal.specs.Entries.{AreJournals, entries_at};
 ghost use Rattle.ep_view.specs.Lookups.{entry_at};
-ghost use Rattle.ep_draw.specs.Ranges.{last_stamp, first_of, taken, last_taken, count_text, stamps_text, instances_text, range_text, replica_text, replicas_text, stamp_of, stamp_at, hint_text, ranges_text};
+ghost use Rattle.ep_draw.specs.Ranges.{last_stamp, first_of, taken, last_taken, count_text, stamps_text, instances_text, range_text, replica_text, replicas_text, stamp_of, stamp_at, example_text, ranges_text};
 
 use ep_base::{InstanceId, ReplicaId};
 use ep_frame::Frame;
@@ -156,16 +156,13 @@ fn stamp_at(journals: &Journals, rows: &[(ReplicaId, u32)], row: usize) -> u64
     }
 }
 
-// Appends which stamps keep no more of these rows than are drawn.
-fn push_hint(
-    text: &mut Vec<u8>,
-    journals: &Journals,
-    rows: &[(ReplicaId, u32)],
-) -> Result<(), AllocError>
-    requires { AreJournals journals.now }
-    ensures { OnOk result (text.new.items ≡ text.old.items ++ hint_text journals.now rows.now) }
+// Appends that the stamps below this one can be drawn, if there are any below it.
+fn push_example(text: &mut Vec<u8>, stamp: u64) -> Result<(), AllocError>
+    ensures { OnOk result (text.new.items ≡ text.old.items ++ example_text stamp) }
 {
-    let stamp = stamp_at(journals, rows, 2000);
+    if stamp == 0 {
+        return Ok(());
+    }
     text.extend_from_slice(b"for example, --to ")?;
     push_number(text, stamp.saturating_sub(1))?;
     text.extend_from_slice(b" keeps 2000 of these events at most\n")
@@ -182,6 +179,6 @@ pub(crate) fn ranges(
     journals.are_journals();
     let mut text = Vec::new(alloc);
     push_replicas(&mut text, journals)?;
-    push_hint(&mut text, journals, rows)?;
+    push_example(&mut text, stamp_at(journals, rows, 2000))?;
     Ok(text)
 }

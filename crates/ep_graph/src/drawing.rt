@@ -8,7 +8,7 @@ use crate::graph_fault::GraphFault;
 use crate::layers::Layers;
 use crate::plan::Plan;
 use crate::reach::Reach;
-use crate::rects::{FIRST, GAP, LANE, LANES, LINE, Place, place_boxes};
+use crate::rects::{EDGE, FIRST, GAP, LANE, LINE, Place, place_boxes};
 use crate::style::STYLE;
 use ep_journal::Journals;
 use ep_report::push_number;
@@ -19,7 +19,7 @@ use std::alloc::{AllocError, Global};
 /// How many instances a graph shows.
 const MOST: usize = 2000;
 /// How wide a graph is at least.
-const WIDTH: u64 = 940;
+const WIDTH: u64 = 860;
 
 /// What is drawn.
 #[derive(Drop)]
@@ -41,7 +41,7 @@ fn add_words(
 
 fn add_plain(shapes: &mut Vec<Shape>, y: u64, words: &[u8]) -> Result<(), AllocError> {
     let words = Vec::from_slice(*shapes.allocator(), words)?;
-    add_words(shapes, Look::Plain, Point { x: 24, y }, words)
+    add_words(shapes, Look::Plain, Point { x: EDGE, y }, words)
 }
 
 fn title_of(alloc: Global, count: usize) -> Result<Vec<u8>, AllocError> {
@@ -59,20 +59,20 @@ fn title_of(alloc: Global, count: usize) -> Result<Vec<u8>, AllocError> {
 // Says what the picture is.
 fn add_heading(shapes: &mut Vec<Shape>, count: usize) -> Result<(), AllocError> {
     let title = title_of(*shapes.allocator(), count)?;
-    add_words(shapes, Look::Title, Point { x: 24, y: 28 }, title)?;
+    add_words(shapes, Look::Title, Point { x: EDGE, y: 26 }, title)?;
     add_plain(
         shapes,
-        50,
+        45,
         b"Execution goes from the top down. An arrow points to what an instance depends on; an arrow that others imply is left out.",
     )?;
     add_plain(
         shapes,
-        67,
+        60,
         b"Instances in one box depend on each other, and are executed in this order: by seq, and then by instance.",
     )?;
     add_plain(
         shapes,
-        84,
+        75,
         b"A dashed box is an instance that isn't committed: what points to it can't be executed yet.",
     )
 }
@@ -130,34 +130,55 @@ fn add_way(shapes: &mut Vec<Shape>, from: Point, to: Place, lane: u64) -> Result
     add_piece(shapes, Look::Needs, below, end)
 }
 
-// Draws an arrow from a box to another one above it. It runs between rows and beside boxes, and so through none.
+// Draws an arrow from a box to another one above it, where it passes rows in this one of the lanes. It runs between rows and beside boxes, and so
+// through none.
 fn add_arrow(
     shapes: &mut Vec<Shape>,
     from: Place,
     to: Place,
-    count: usize,
+    place: u64,
 ) -> Result<(), AllocError> {
     let start = above(from);
     if from.top().y != start.y {
         add_piece(shapes, Look::Life, from.top(), start)?;
     }
-    if from.layer <= to.layer.saturating_add(1) {
+    if !passes(from, to) {
         return add_piece(shapes, Look::Needs, start, to.bottom());
     }
-    let place = (count as u64) % LANES;
     let lane = from.lane.saturating_add(LANE.saturating_mul(place));
     add_way(shapes, start, to, lane)
 }
 
+/// Whether an arrow between them passes a row of boxes.
+fn passes(from: Place, to: Place) -> bool {
+    from.layer > to.layer.saturating_add(1)
+}
+
+/// The lane of the next arrow that passes a row of this box's part: one after the other, and then again from the first one.
+fn next_lane(taken: &mut [u64], from: Place) -> u64 {
+    let Some(next) = taken.get_mut(from.part) else {
+        return 0;
+    };
+    let lane = *next % from.lanes.max(1);
+    *next = lane.saturating_add(1);
+    lane
+}
+
 fn add_arrows(
     shapes: &mut Vec<Shape>,
-    edges: &[(usize, usize)],
+    plan: &Plan<'_>,
     places: &[Place],
 ) -> Result<(), AllocError> {
-    for (count, (from, to)) in edges.iter().enumerate() {
+    let mut taken = vec![in *shapes.allocator(); 0; plan.layers.layers.len()]?;
+    for (from, to) in &plan.layers.edges {
         if let Some(from) = place_of(places, *from) {
             if let Some(to) = place_of(places, *to) {
-                add_arrow(shapes, from, to, count)?;
+                let lane = if passes(from, to) {
+                    next_lane(&mut taken, from)
+                } else {
+                    0
+                };
+                add_arrow(shapes, from, to, lane)?;
             }
         }
     }
@@ -189,7 +210,7 @@ fn add_lines(
         let words = plan.shown(*shapes.allocator(), *node, members.len())?;
         let down = LINE.saturating_mul(line as u64).saturating_add(FIRST);
         let at = Point {
-            x: corner.x.saturating_add(7),
+            x: corner.x.saturating_add(5),
             y: corner.y.saturating_add(down),
         };
         add_words(shapes, Look::Plain, at, words)?;
@@ -227,12 +248,11 @@ fn add_all_lines(
     Ok(())
 }
 
-// How wide the boxes reach.
+// How wide the boxes and lanes reach.
 fn width_of(places: &[Place]) -> u64 {
     let mut width = WIDTH;
     for place in places {
-        let right = place.at.x.saturating_add(place.extent.x);
-        width = right.saturating_add(24).max(width);
+        width = place.right().saturating_add(EDGE).max(width);
     }
     width
 }
@@ -240,7 +260,7 @@ fn width_of(places: &[Place]) -> u64 {
 fn add_graph(shapes: &mut Vec<Shape>, plan: &Plan<'_>, places: &[Place]) -> Result<(), AllocError> {
     add_heading(shapes, plan.committed.len())?;
     add_boxes(shapes, plan, places)?;
-    add_arrows(shapes, &plan.layers.edges, places)?;
+    add_arrows(shapes, plan, places)?;
     add_all_lines(shapes, plan, places)
 }
 

@@ -5,21 +5,25 @@ use ep_svg::Point;
 use std::alloc::{AllocError, Global};
 
 /// How high a line in a box is.
-pub(crate) const LINE: u64 = 16;
+pub(crate) const LINE: u64 = 14;
 /// How far below a box's upper edge its first line stands.
-pub(crate) const FIRST: u64 = 16;
+pub(crate) const FIRST: u64 = 13;
 /// How far apart rows of boxes are.
 pub(crate) const GAP: u64 = 14;
 /// How far apart the lanes are in which arrows pass boxes.
 pub(crate) const LANE: u64 = 7;
-/// How many lanes a part has that has any.
-pub(crate) const LANES: u64 = 10;
-/// The x up to which parts stand side by side.
-const RIGHT: u64 = 1376;
-/// The x at which parts begin.
-const LEFT: u64 = 24;
+/// How many lanes a part has at most.
+const LANES: u64 = 10;
+/// How far from the picture's edges all stands.
+pub(crate) const EDGE: u64 = 16;
+/// The x up to which parts stand side by side: a screen's width of 1,600, without the edge.
+const RIGHT: u64 = 1584;
+/// How far apart boxes side by side are, and lanes from boxes.
+const BESIDE: u64 = 6;
+/// How far apart parts side by side are.
+const BETWEEN: u64 = 9;
 /// The y of the first band of parts.
-const TOP: u64 = 104;
+const TOP: u64 = 88;
 
 /// The box of a component, which is named by its first node.
 #[derive(Clone, Copy)]
@@ -34,6 +38,10 @@ pub(crate) struct Place {
     pub row: u64,
     /// The x of the first lane beside its part.
     pub lane: u64,
+    /// How many lanes there are.
+    pub lanes: u64,
+    /// The first node of its part.
+    pub part: usize,
 }
 
 impl Place {
@@ -53,8 +61,19 @@ impl Place {
         }
     }
 
-    /// The same box, with its part so far to the right and down, and so wide.
-    fn moved(self, by: Point, width: u64) -> Place {
+    /// The x of its right edge, or of its part's last lane.
+    pub fn right(self) -> u64 {
+        let edge = self.at.x.saturating_add(self.extent.x);
+        let lanes = LANE.saturating_mul(self.lanes);
+        if lanes == 0 {
+            edge
+        } else {
+            self.lane.saturating_add(lanes).max(edge)
+        }
+    }
+
+    /// The same box, with its part so far to the right and down.
+    fn moved(self, by: Point, part: Part) -> Place {
         Place {
             first: self.first,
             layer: self.layer,
@@ -64,14 +83,16 @@ impl Place {
             },
             extent: self.extent,
             row: self.row.saturating_add(by.y),
-            lane: by.x.saturating_add(width).saturating_add(8),
+            lane: by.x.saturating_add(part.extent.x).saturating_add(BESIDE),
+            lanes: part.lanes,
+            part: part.first,
         }
     }
 }
 
 /// How high a box of so many lines is.
 fn height_for(lines: usize) -> u64 {
-    LINE.saturating_mul(lines as u64).saturating_add(8)
+    LINE.saturating_mul(lines as u64).saturating_add(5)
 }
 
 /// How wide and how high the box of these nodes is.
@@ -81,7 +102,7 @@ fn extent_of(alloc: Global, plan: &Plan<'_>, members: &[usize]) -> Result<Point,
         most = plan.shown(alloc, *node, members.len())?.len().max(most);
     }
     Ok(Point {
-        x: (most as u64).saturating_mul(29) / 4 + 14,
+        x: (most as u64).saturating_mul(20) / 3 + 10,
         y: height_for(members.len()),
     })
 }
@@ -155,8 +176,10 @@ fn place_rows(
             extent,
             row: 0,
             lane: 0,
+            lanes: 0,
+            part: 0,
         })?;
-        x = x.saturating_add(extent.x).saturating_add(8);
+        x = x.saturating_add(extent.x).saturating_add(BESIDE);
     }
     Ok(())
 }
@@ -215,16 +238,41 @@ fn layer_of(plan: &Plan<'_>, node: usize) -> usize {
     }
 }
 
-/// Whether an arrow of the part passes a row of boxes.
-fn has_lanes(plan: &Plan<'_>, parts: &[usize], part: usize) -> bool {
+/// How many lanes a part needs: one for each of its arrows that pass a row of boxes, and 10 at most.
+fn lanes_of(plan: &Plan<'_>, parts: &[usize], part: usize) -> u64 {
+    let mut lanes = 0u64;
     for (from, to) in &plan.layers.edges {
         if parts.get(*from) == Some(&part)
             && layer_of(plan, *from) > layer_of(plan, *to).saturating_add(1)
         {
-            return true;
+            lanes = lanes.saturating_add(1).min(LANES);
         }
     }
-    false
+    lanes
+}
+
+/// A part of the graph that hangs together.
+#[derive(Clone, Copy)]
+struct Part {
+    first: usize,
+    /// How wide its boxes are together, and how high.
+    extent: Point,
+    lanes: u64,
+}
+
+impl Part {
+    /// How wide and how high it is with its lanes.
+    fn whole(self) -> Point {
+        let beside = if self.lanes == 0 {
+            0
+        } else {
+            LANE.saturating_mul(self.lanes).saturating_add(BESIDE)
+        };
+        Point {
+            x: self.extent.x.saturating_add(beside),
+            y: self.extent.y,
+        }
+    }
 }
 
 /// Where the next part goes: in a band of parts side by side.
@@ -238,11 +286,11 @@ struct Band {
 impl Band {
     /// Here, or in the next band where this one has no room for a part that is so wide.
     fn fitted(self, width: u64) -> Band {
-        if self.at.x > LEFT && self.at.x.saturating_add(width) > RIGHT {
+        if self.at.x > EDGE && self.at.x.saturating_add(width) > RIGHT {
             Band {
                 at: Point {
-                    x: LEFT,
-                    y: self.bottom.saturating_add(24),
+                    x: EDGE,
+                    y: self.bottom.saturating_add(EDGE),
                 },
                 bottom: self.bottom,
             }
@@ -255,7 +303,7 @@ impl Band {
     fn after(self, extent: Point) -> Band {
         Band {
             at: Point {
-                x: self.at.x.saturating_add(extent.x).saturating_add(8),
+                x: self.at.x.saturating_add(extent.x).saturating_add(BETWEEN),
                 y: self.at.y,
             },
             bottom: self.at.y.saturating_add(extent.y).max(self.bottom),
@@ -268,23 +316,27 @@ fn place_part(
     alloc: Global,
     plan: &Plan<'_>,
     parts: &[usize],
-    part: usize,
+    first: usize,
     places: &mut Vec<Place>,
-) -> Result<Point, AllocError> {
+) -> Result<Part, AllocError> {
     let from = places.len();
-    let components = components_of(alloc, plan, parts, part)?;
+    let components = components_of(alloc, plan, parts, first)?;
     place_rows(alloc, plan, &components, places)?;
     let height = stack_rows(places, from);
-    Ok(Point {
-        x: width_from(places, from),
-        y: height,
+    Ok(Part {
+        first,
+        extent: Point {
+            x: width_from(places, from),
+            y: height,
+        },
+        lanes: lanes_of(plan, parts, first),
     })
 }
 
-// Moves the boxes from this place on, which are all of a part that is so wide.
-fn move_from(places: &mut [Place], from: usize, by: Point, width: u64) {
+// Moves the boxes from this place on, which are all of the part.
+fn move_from(places: &mut [Place], from: usize, by: Point, part: Part) {
     for at in from..places.len() {
-        places[at] = places[at].moved(by, width);
+        places[at] = places[at].moved(by, part);
     }
 }
 
@@ -296,26 +348,18 @@ pub(crate) fn place_boxes(
 ) -> Result<u64, AllocError> {
     let parts = parts_of(alloc, plan)?;
     let mut band = Band {
-        at: Point { x: LEFT, y: TOP },
+        at: Point { x: EDGE, y: TOP },
         bottom: TOP,
     };
-    for part in 0..parts.len() {
-        if parts.get(part) == Some(&part) {
+    for first in 0..parts.len() {
+        if parts.get(first) == Some(&first) {
             let from = places.len();
-            let extent = place_part(alloc, plan, &parts, part, places)?;
-            let beside = if has_lanes(plan, &parts, part) {
-                LANE.saturating_mul(LANES).saturating_add(8)
-            } else {
-                0
-            };
-            let whole = Point {
-                x: extent.x.saturating_add(beside),
-                y: extent.y,
-            };
+            let part = place_part(alloc, plan, &parts, first, places)?;
+            let whole = part.whole();
             band = band.fitted(whole.x);
-            move_from(places, from, band.at, extent.x);
+            move_from(places, from, band.at, part);
             band = band.after(whole);
         }
     }
-    Ok(band.bottom.saturating_add(24))
+    Ok(band.bottom.saturating_add(EDGE))
 }

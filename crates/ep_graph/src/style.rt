@@ -5,7 +5,7 @@ pub(crate) const STYLE: &[u8] = b">
 <title>Dependency graph</title>
 <style>
 svg{max-width:100%;height:auto}
-text{font:12px ui-monospace,'DejaVu Sans Mono',Menlo,Consolas,monospace;fill:#222;white-space:pre;paint-order:stroke;stroke:#fff;stroke-opacity:.7;stroke-width:3px;stroke-linejoin:round}
+text{font:11px ui-monospace,'DejaVu Sans Mono',Menlo,Consolas,monospace;fill:#222;white-space:pre;paint-order:stroke;stroke:#fff;stroke-opacity:.7;stroke-width:3px;stroke-linejoin:round}
 .title{font-size:16px;font-weight:bold}
 rect{fill:#fff;stroke:#222;stroke-width:1.5}
 .together{fill:#eef4fb;stroke-width:3}
@@ -13,6 +13,6 @@ rect{fill:#fff;stroke:#222;stroke-width:1.5}
 .life{stroke:#555;stroke-width:1.5}
 .needs{stroke:#555;stroke-width:1.5;marker-end:url(#head)}
 </style>
-<defs><marker id='head' markerUnits='userSpaceOnUse' markerWidth='12' markerHeight='10' refX='11' refY='5' orient='auto'><path d='M0 0L11 5L0 10z' fill='#555'/></marker></defs>
+<defs><marker id='head' markerUnits='userSpaceOnUse' markerWidth='9' markerHeight='8' refX='8' refY='4' orient='auto'><path d='M0 0L8 4L0 8z' fill='#555'/></marker></defs>
 <path d='M0 0H100000V100000H0z' fill='#fff'/>
 ";

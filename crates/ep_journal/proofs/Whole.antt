@@ -341,7 +341,7 @@ said false fault e = absurd (cc)
 numbered : (v : Version) (i : ℕ) → numbered_in v i ≡ None → number_of i ≤ highest_in v
 numbered v i e = leb-true (number_of i) (highest_in v) (said (leb (number_of i) (highest_in v)) OutOfRange e)
 
-same_version : (v w : Version) → spelled_in v w ≡ None → v ≡ w
+pub same_version : (v w : Version) → spelled_in v w ≡ None → v ≡ w
 same_version V1 V1 e = refl
 same_version V1 V2 e = absurd (cc)
 same_version V1 (V3 h) e = absurd (cc)

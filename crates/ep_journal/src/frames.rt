@@ -15,7 +15,7 @@ ghost use Rattle.ep_journal.specs.Events.{AreSpelled};
 ghost use Rattle.ep_base.specs.declared.message.Message.{Message};
 ghost use Rattle.ep_journal.specs.Inputs.{receives};
 ghost use Rattle.ep_journal.specs.Several.{to_each};
-ghost use Rattle.ep_journal.specs.Upgrading.{AreUpgradedFrames};
+ghost use Rattle.ep_journal.specs.Upgrading.{AreEarlyFrames, IsEarlyFrame, AreUpgradedFrames};
 
 use crate::chosen::Chosen;
 use crate::mark::Mark;
@@ -73,6 +73,7 @@ impl Frames {
 
     /// Spells the frames in version 2.
     pub(crate) fn upgrade(&mut self, alloc: Global) -> Result<(), AllocError>
+        requires early { AreEarlyFrames self.old }
         ensures { OnOk result (AreUpgradedFrames self.old self.new) }
     {
         upgrade_each(alloc, &mut self.items)
@@ -81,6 +82,7 @@ impl Frames {
 
 /// Spells the frame in version 2.
 pub(crate) fn upgrade(alloc: Global, frame: &mut Frame) -> Result<(), AllocError>
+    requires early { IsEarlyFrame frame.old }
     ensures { OnOk result (IsUpgradedFrame frame.old frame.new) }
 {
     *frame = frame.upgraded(alloc)?;
@@ -89,6 +91,7 @@ pub(crate) fn upgrade(alloc: Global, frame: &mut Frame) -> Result<(), AllocError
 
 /// Spells each frame in version 2.
 fn upgrade_each(alloc: Global, frames: &mut [Frame]) -> Result<(), AllocError>
+    requires early { AreEarlyFrames frames.old }
     ensures { OnOk result (AreUpgradedFrames frames.old frames.new) }
 {
     for frame in frames.iter_mut() {

@@ -3,7 +3,7 @@ use Rattle.std.proofs.Common.{◌≡◌, ℕ, suc, zero, ◌<◌, ◌≤◌, ◌
 use Rattle.ep_base.specs.Instances.{highest_number}
 use Rattle.ep_base.specs.Versions.{highest_in}
 use Rattle.ep_base.specs.declared.version.Version.{Version}
-use Rattle.ep_base.specs.declared.version_kind.VersionKind.TheVariants.{V1, V2}
+use Rattle.ep_base.specs.declared.version_kind.VersionKind.TheVariants.{V1, V2, V3}
 use Rattle.ep_rules.specs.Counting.{least, or_this}
 use Rattle.ep_rules.specs.Maps.{Map}
 use Rattle.ep_rules.specs.States.{is_free, free_number}
@@ -47,3 +47,4 @@ least_none p (suc k) h = ap (or_this k (p k)) (least_none p k (λ n low. h n (om
 pub highest_low : (v : Version) → highest_in v ≤ 2000
 highest_low V1 = omega arith
 highest_low V2 = omega arith
+highest_low (V3 g) = omega arith

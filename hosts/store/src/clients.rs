@@ -248,7 +248,7 @@ mod tests {
     use std::sync::mpsc::sync_channel;
 
     /// What a connection makes of these answers to its proposals, one after the other, and what it proposed: the
-    /// requests and the stamps that it had seen. After the last answer nothing is told.
+    /// requests and the stamps that it had seen. Where there are none it waits in vain, and not for long.
     fn execute(answers: Vec<Told>) -> (Result<protocol::Reply, String>, Vec<(u32, u64)>) {
         let (events, asked) = sync_channel(8);
         static PLACE: AtomicUsize = AtomicUsize::new(0);
@@ -256,7 +256,7 @@ mod tests {
         let folder = std::env::temp_dir().join(format!("store-clients-{}-{place}", std::process::id()));
         std::fs::create_dir_all(&folder).unwrap();
         let numbers = Mutex::new(Numbers::new(&folder, 0));
-        let patience = Duration::from_millis(200);
+        let patience = if answers.is_empty() { Duration::from_millis(200) } else { Duration::from_secs(60) };
         let shared = Shared { events, numbers, patience, connections: AtomicUsize::new(0) };
         let driver = thread::spawn(move || {
             let mut answers = answers.into_iter();

@@ -12,7 +12,7 @@ use store::client::{Client, Reply};
 /// A node that has no entry on the disk, and tells so: the answer to the first request, a sync of 5 bytes.
 pub const SYNCED: &str =
     "#!/bin/sh\nhead -c 5 >/dev/null; printf 'EPLG\\002\\003\\000' > \"$7\"; printf '\\0\\0\\0\\5\\6\\0\\0\\0\\0'\n";
-/// How long a test waits, and how long a store has a client wait: long, as other work may leave them little of the processors.
+/// How long a test waits, and a store has a client wait: other work may leave them little of the processors.
 const PATIENCE: Duration = Duration::from_secs(120);
 const STORE_PATIENCE: &str = "60";
 
