@@ -145,7 +145,8 @@ fn step_code(fault: StepFault) -> u8
         StepFault::BallotsExhausted => 9,
         StepFault::NotCommitted(_) => 10,
         StepFault::NotMine => 13,
-        StepFault::OtherVersion | StepFault::OtherGeneration => 14,
+        StepFault::OtherVersion => 14,
+        StepFault::OtherGeneration => 14,
         StepFault::StampFull => 15,
     }
 }
