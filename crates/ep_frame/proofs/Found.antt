@@ -1,11 +1,11 @@
 -- A frame without a fault is the frame of the message that its parts stand for.
-use Rattle.std.proofs.Common.{◌≡◌, ℕ, zero, suc, ◌^◌, ◌≤◌, ◌<◌, Bool, true, false, cond, eqb, leb, List, [], ◌∷◌, length, Option, None, refl, sym, ap, subst, ◌∙◌, true≢false, arith}
+use Rattle.std.proofs.Common.{◌≡◌, ℕ, zero, suc, ◌^◌, ◌≤◌, ◌<◌, Bool, true, false, cond, eqb, leb, List, [], ◌∷◌, length, None, refl, sym, ap, subst, ◌∙◌, arith}
 use Rattle.std.specs.Prelude.{◌&&◌, not, Some}
 use Rattle.ep_base.specs.Ops.{op_number, first_fits, second_fits, body_fits}
 use Rattle.ep_base.specs.Parts.{Parts as CommandParts, parts_of as command_parts, command_in, command_of, are_parts, is_twice, body_said}
 use Rattle.ep_base.proofs.Partitions.{fits_from, parts_law_lem}
 use Rattle.std.specs.List.{AllByRecursion}
-use Rattle.std.proofs.lemmas.Bool.{eqb-true, leb-true, le-leb, ltb-true, eq-eqb, and_parts}
+use Rattle.std.proofs.lemmas.Bool.{eqb-true, leb-true, ltb-true, eq-eqb, and_parts}
 use Rattle.std.proofs.lemmas.List.{nil_from_length}
 use Rattle.ep_base.specs.Instances.{leader_of, number_of, IsInstance}
 use Rattle.ep_base.specs.Ballots.{counter_of, owner_of, ballot_of}

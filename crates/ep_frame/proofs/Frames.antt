@@ -1,5 +1,5 @@
 -- Bytes without a fault spell a message.
-use Rattle.std.proofs.Common.{◌≡◌, ℕ, ◌+◌, ◌*◌, ◌^◌, ◌≤◌, ◌<◌, Bool, true, false, cond, eqb, ltb, leb, List, length, take, drop, Result, Ok, Err, refl, sym, ap, ◌∙◌, true≢false, arith}
+use Rattle.std.proofs.Common.{◌≡◌, ℕ, ◌*◌, ◌^◌, ◌≤◌, ◌<◌, Bool, true, false, cond, eqb, leb, List, length, take, drop, Result, Ok, Err, refl, sym, ap, ◌∙◌, true≢false, arith}
 use Rattle.std.specs.Prelude.{not}
 use Rattle.ep_base.specs.Parts.{body_said}
 use Rattle.ep_base.specs.Versions.{version_of, highest_in}

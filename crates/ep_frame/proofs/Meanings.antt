@@ -1,5 +1,5 @@
 -- The message that the parts of a message's frame stand for is that message, so no bytes spell two.
-use Rattle.std.proofs.Common.{◌≡◌, ℕ, ◌≤◌, List, [], ◌∷◌, length, arith, Bool, true, false, cond, eqb, refl, sym, ap, ◌∙◌}
+use Rattle.std.proofs.Common.{◌≡◌, ℕ, List, Bool, true, false, cond, eqb, refl, sym, ap, ◌∙◌}
 use Rattle.std.specs.Prelude.{Some, None, Option}
 use Rattle.ep_base.specs.Ballots.{counter_of, owner_of, ballot_of}
 use Rattle.ep_base.specs.Messages.{instance_of_message}

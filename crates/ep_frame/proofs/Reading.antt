@@ -1,16 +1,15 @@
 -- What is known of the parts of a frame without a fault.
-use Rattle.std.proofs.Common.{◌≡◌, ◌≢◌, ℕ, List, ◌≤◌, true, false, cond, eqb, leb, sym, ap, ◌∙◌, arith}
-use Rattle.std.specs.Prelude.{◌||◌, ◌&&◌}
-use Rattle.ep_base.specs.Attributes.{same_list}
+use Rattle.std.proofs.Common.{◌≡◌, ℕ, ◌≤◌, true, eqb, arith}
+use Rattle.std.specs.Prelude.{◌||◌}
 use Rattle.ep_base.specs.Versions.{highest_in}
-use Rattle.std.proofs.lemmas.Bool.{eqb-true, eq-eqb, leb-true, and_parts}
+use Rattle.std.proofs.lemmas.Bool.{eqb-true, leb-true, and_parts}
 use Rattle.ep_frame.specs.declared.header.Header.{Header}
-use Rattle.ep_frame.specs.Faults.{within, op_of, are_deps, are_in, has_command, counter_allowed, replica_allowed, other_counter_allowed, other_replica_allowed}
+use Rattle.ep_frame.specs.Faults.{within, op_of, are_deps, are_in, counter_allowed, replica_allowed, other_counter_allowed, other_replica_allowed}
 use Rattle.ep_frame.specs.Ranges.{Readable}
 use Rattle.ep_frame.specs.Spelling.{Parts}
 use Rattle.ep_base.specs.Parts.{are_parts}
 use Rattle.ep_frame.specs.Meaning.{command_parts_of}
-use Rattle.ep_frame.proofs.Rows.{within-is, within-from, chosen, other_chosen, either}
+use Rattle.ep_frame.proofs.Rows.{within-is, chosen, either}
 use Rattle.ep_frame.proofs.Found.{Good, version_in, parts_there}
 use Rattle.ep_frame.proofs.Saying.{number_low, text_is}
 

@@ -9,7 +9,7 @@ use Rattle.ep_base.specs.declared.message.Message.TheVariants.{PreAccept, PreAcc
 use Rattle.ep_frame.specs.declared.origin.Origin.{Origin}
 use Rattle.ep_frame.specs.Fields.{spelled, number_at, number_bytes, start_fields, origin_fields, ballot_fields, vote_fields, body_fields, late_fields, dep_bytes}
 use Rattle.ep_frame.specs.Origins.{origin_bytes, readdressed, OriginFits, KeepsMessage}
-use Rattle.ep_frame.specs.Spelling.{Parts, Spells, parts_bytes, parts_of, spelling}
+use Rattle.ep_frame.specs.Spelling.{Parts, Spells, parts_bytes, parts_of}
 use Rattle.ep_frame.proofs.Again.{length-spelled}
 use Rattle.ep_frame.proofs.Meanings.{sender_spelled}
 

@@ -1,12 +1,12 @@
 -- One frame, written again for each of several receivers.
-use Rattle.std.proofs.Common.{◌≡◌, ◌≢◌, ℕ, suc, ◌+◌, ◌≤◌, ◌<◌, List, [], ◌∷◌, ◌++◌, length, take, drop, refl, sym, ap, subst, ◌∙◌, append_assoc, arith}
+use Rattle.std.proofs.Common.{◌≡◌, ◌≢◌, ℕ, suc, ◌+◌, ◌≤◌, ◌<◌, List, [], ◌∷◌, ◌++◌, length, take, drop, sym, ap, subst, ◌∙◌, append_assoc, arith}
 use Rattle.std.specs.Prelude.{slice_index_or}
 use Rattle.std.specs.List.{concat, AllByRecursion}
 use Rattle.std.proofs.lemmas.List.{take_at, drop_at, at_drop_more, length-append}
 use Rattle.ep_base.specs.declared.message.Message.{Message}
 use Rattle.ep_base.specs.declared.version.Version.{Version}
 use Rattle.ep_frame.specs.declared.origin.Origin.{Origin}
-use Rattle.ep_frame.specs.Origins.{readdressed, OriginFits}
+use Rattle.ep_frame.specs.Origins.{readdressed}
 use Rattle.ep_frame.specs.Rounds.{AreFramesTo, OriginsFit, readdressed_to}
 use Rattle.ep_frame.specs.Spelling.{IsFrame, Spells}
 use Rattle.ep_frame.proofs.Frames.{frame_long}

@@ -1,6 +1,6 @@
 -- What a version has room for, and so what it can say.
-use Rattle.std.proofs.Common.{◌≡◌, ◌≢◌, ℕ, zero, suc, ◌^◌, ◌≤◌, ◌<◌, Bool, true, false, cond, eqb, ltb, leb, List, [], ◌∷◌, length, refl, sym, ap, ◌∙◌, true≢false, arith}
-use Rattle.std.specs.Prelude.{not, ◌&&◌, ◌||◌}
+use Rattle.std.proofs.Common.{◌≡◌, ℕ, zero, suc, ◌^◌, ◌≤◌, ◌<◌, Bool, true, false, cond, eqb, ltb, leb, List, [], ◌∷◌, length, refl, sym, ap, ◌∙◌, true≢false, arith}
+use Rattle.std.specs.Prelude.{not, ◌||◌}
 use Rattle.std.proofs.lemmas.Bool.{eqb-true, leb-true, le-leb, le-ltb, ltb-false, and_parts, and_from}
 use Rattle.ep_base.specs.Deps.{AreInstances}
 use Rattle.ep_base.specs.Generations.{HasItsGeneration}
@@ -11,7 +11,7 @@ use Rattle.ep_base.specs.Commands.{Noop, Get, Put, Del, Swap, Cas, Seal, Opaque}
 use Rattle.ep_base.specs.declared.version.Version.{Version}
 use Rattle.ep_base.specs.declared.version_kind.VersionKind.TheVariants.{V1, V2, V3}
 use Rattle.ep_base.proofs.Versions.{deps_in_last, deps_later}
-use Rattle.ep_base.specs.Ops.{op_number, second_fits, body_fits, first_fits, is_key_len, is_comparison_len}
+use Rattle.ep_base.specs.Ops.{op_number, second_fits, body_fits, first_fits, is_key_len}
 use Rattle.ep_base.specs.Parts.{parts_of}
 use Rattle.ep_base.specs.declared.op.Op.{Op}
 use Rattle.ep_base.specs.declared.op.Op.TheVariants as op

@@ -1,13 +1,13 @@
 -- The frame of a message has no fault.
-use Rattle.std.proofs.Common.{◌≡◌, ◌≢◌, ℕ, ◌^◌, ◌≤◌, ◌<◌, Bool, true, false, cond, eqb, leb, List, [], ◌∷◌, length, drop, Option, Ok, Err, refl, sym, ap, subst, ◌∙◌, true≢false, arith}
-use Rattle.std.specs.Prelude.{◌&&◌, ◌||◌, not, Some, None}
+use Rattle.std.proofs.Common.{◌≡◌, ℕ, ◌≤◌, ◌<◌, Bool, true, false, cond, eqb, leb, List, [], ◌∷◌, length, drop, Err, refl, sym, ap, subst, ◌∙◌, true≢false, arith}
+use Rattle.std.specs.Prelude.{◌&&◌, not, Some, None}
 use Rattle.std.specs.List.{AllByRecursion}
 use Rattle.std.proofs.lemmas.Bool.{eqb-true, eq-eqb, le-leb, lt-ltb, and_from, le-ltb}
 use Rattle.ep_base.specs.Instances.{leader_of, number_of, IsInstance}
 use Rattle.ep_base.specs.Ballots.{counter_of, owner_of}
 use Rattle.ep_base.specs.Deps.{IsRising, IsBelowFirst}
 use Rattle.ep_base.specs.Generations.{HasItsGeneration}
-use Rattle.ep_base.specs.Ops.{op_number, first_fits, second_fits, body_fits}
+use Rattle.ep_base.specs.Ops.{op_number, first_fits}
 use Rattle.ep_base.specs.Parts.{parts_of as command_parts, command_in, are_parts, is_twice, body_said, IsInRange}
 use Rattle.ep_base.specs.declared.op.Op.{Op}
 use Rattle.ep_base.proofs.Partitions.{Fits, fits, parts_law_lem}
@@ -28,7 +28,7 @@ use Rattle.ep_frame.specs.declared.header.Header.{Header}
 use Rattle.ep_frame.specs.declared.origin.Origin.{Origin}
 use Rattle.ep_frame.specs.Fields.{header_at, header_len, generation_from, text_len, deps_in}
 use Rattle.ep_frame.specs.Faults.{◌>>◌, names_rows, ballot_rows, vote_rows, body_rows, late_rows, within, checked, highest_op, op_of, text_fits, are_deps, are_in, deps_allowed, has_same_keys, has_other_body, is_instance, precedes_first, version_in, header_fault_in, header_fault, rest_fault, fault_of, frame_len, deps_place}
-use Rattle.ep_frame.specs.Spelling.{Parts, parts_at, parts_of, status_code, IsBallot, IsCommand, AreAttrs, IsDecree, IsMessage, IsOrigin, Spells}
+use Rattle.ep_frame.specs.Spelling.{Parts, parts_at, parts_of, status_code, IsBallot, AreAttrs, IsDecree, IsMessage, IsOrigin, Spells}
 use Rattle.ep_frame.proofs.Rows.{AllPass, fine, all_pass, within-from, apart-from, choose, choose_other}
 use Rattle.ep_frame.proofs.Again.{PartsFit, parts_again, length-parts_bytes}
 use Rattle.ep_frame.proofs.Saying.{version_low, op_low, is_version, generation_again, IsShortIn, text_from, text_again, op_again, op_one, first_high, second_high, body_high, op_within, short_within, deps_within}

@@ -247,7 +247,7 @@ end_in_order f nodes after ls host know looked logs = subst (λ (l : List Log). 
 pub end_accepted : (f : ℕ) (nodes : List Node) (j : Collected) (receipts : List Receipt) → IsHost f nodes → All Knows nodes → AllSent nodes → IsEnd f nodes j receipts → IsAccepted (opens j.opening) j.faults (journals_of j) receipts
 end_accepted f nodes j receipts host know sent e =
     subst (λ (o : Opening). IsAccepted (opens o) j.faults (journals_of j) receipts) (sym e.opening)
-    (    subst (λ (g : ℕ). IsAccepted (opened empty) g (journals_of j) receipts) (sym e.faults)
+    (subst (λ (g : ℕ). IsAccepted (opened empty) g (journals_of j) receipts) (sym e.faults)
     (subst (λ (J : Journals). IsAccepted (opened empty) f J receipts) (sym e.journals)
     (subst (λ (l : List Receipt). IsAccepted (opened empty) f (their_journals (replicas_in nodes)) l) (sym e.told) (host_accepted f nodes (their_receipts (replicas_in nodes)) host know sent (receipts_own f nodes host know)))))
 

@@ -149,11 +149,7 @@ fn push_option(text: &mut Vec<u8>, value: Option<&[u8]>) -> Result<(), AllocErro
     }
 }
 
-fn push_opaque(
-    text: &mut Vec<u8>,
-    own: &Touching<'_>,
-    body: &[u8],
-) -> Result<(), AllocError>
+fn push_opaque(text: &mut Vec<u8>, own: &Touching<'_>, body: &[u8]) -> Result<(), AllocError>
     ensures { OnOk result (text.new.items ≡ text.old.items ++ command_text (Opaque (touched own.now) body.now)) }
 {
     push_request(text, own.reads)?;

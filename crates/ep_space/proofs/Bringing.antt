@@ -1,7 +1,10 @@
 -- What one key, or two of them, change of the runs.
-use Rattle.std.proofs.Common.{◌≡◌, ◌≢◌, ℕ, Bool, true, false, cond, not, ◌&&◌, ◌||◌, List, [], ◌∷◌, refl, sym, ap, ◌∙◌, true≢false, Result, Ok, Err, IfOk, OnOk}
+use Rattle.std.proofs.Common.{◌≡◌, ◌≢◌, ℕ, Bool, true, false, cond, not, ◌&&◌, ◌||◌, List, [], ◌∷◌, refl, sym, ap, subst, ◌∙◌, true≢false, Result, Ok, Err, IfOk, OnOk}
 use Rattle.ep_base.specs.Attributes.{same_list}
+use Rattle.ep_base.specs.Commands.{Command, Opaque}
 use Rattle.ep_base.specs.Interference.{has_key}
+use Rattle.ep_base.specs.Parts.{IsInRange, IsSecond}
+use Rattle.ep_base.specs.Touched.{Touched}
 use Rattle.ep_base.proofs.Same.{Decides-same_list}
 use Rattle.ep_space.specs.Index.{brings}
 use Rattle.ep_space.specs.Keys.{NeedsNoRoom}
@@ -119,3 +122,7 @@ both_bring f own p q k xs ys zs apart first second =
     second ∙ ap (λ b. cond b (f ys) ys) (sym (brings_one own q k))
     ∙ (λ d. cond (same_list k q && not (has_key q own)) (f (one d)) (one d))
     ∙ two_steps f own p q k xs apart
+
+-- the second key of what a command touches
+pub second_in : (c : Command) (p : Touched) (b : List ℕ) → c ≡ Opaque p b → IsInRange c → IsSecond p.first p.second
+second_in c p b is h = (subst IsInRange is h).1.0

@@ -1,6 +1,7 @@
 -- What a change of one entry of an index says of its runs.
-use Rattle.std.proofs.Common.{◌≡◌, ℕ, suc, ◌+◌, drop, arith, Bool, true, false, true≢false, cond, Some, List, [], ◌∷◌, refl, sym, ap, ◌∙◌}
+use Rattle.std.proofs.Common.{◌≡◌, ◌≤◌, eqb, ℕ, suc, ◌+◌, length, drop, arith, Bool, true, false, true≢false, cond, Some, List, [], ◌∷◌, refl, sym, ap, ◌∙◌}
 use Rattle.std.proofs.Math.Seq.{drop-cons}
+use Rattle.std.proofs.lemmas.Bool.{eqb-true}
 use Rattle.std.proofs.lemmas.Option.{slice_get_within, get_or_from_slice_get}
 use Rattle.std.specs.Cmp.Lexicographic.{nat_list_eq_equiv}
 use Rattle.std.specs.Prelude.{Vec, is_some, slice_get}
@@ -8,7 +9,8 @@ use Rattle.std.specs.Global.{Global}
 use Rattle.std.specs.Map.{lookup, set_value, KeepsOthers}
 use Rattle.ep_base.specs.Attributes.{same_list}
 use Rattle.ep_base.proofs.Same.{Decides-same_list}
-use Rattle.ep_space.specs.Index.{Entry, is_at, listed, run}
+use Rattle.ep_space.specs.declared.index.Index.{Index}
+use Rattle.ep_space.specs.Index.{Entry, is_at, listed, run, run_in}
 
 abbrev pub same : Vec ℕ Global → Vec ℕ Global → Bool
 same k l = same_list k.items l.items
@@ -24,15 +26,15 @@ other_kept old new k q keeps e = keeps (is_at q) (λ x y h. nat_list_eq_equiv.co
 
 -- a new entry
 pub run-updated : (old new : List Entry) (k : List ℕ) (v : Vec ℕ Global) → lookup (is_at k) new ≡ Some v → KeepsOthers same (is_at k) old new
-    → (q : List ℕ) → run new q ≡ cond (same_list q k) v.items (run old q)
+    → (q : List ℕ) → run_in new q ≡ cond (same_list q k) v.items (run_in old q)
 run-updated old new k v here keeps q = go (same_list q k) refl
   where
-    go : (b : Bool) → same_list q k ≡ b → run new q ≡ cond b v.items (run old q)
-    go true e = ap (λ z. run new z) ((Decides-same_list q k).0 e) ∙ ap listed here
+    go : (b : Bool) → same_list q k ≡ b → run_in new q ≡ cond b v.items (run_in old q)
+    go true e = ap (λ z. run_in new z) ((Decides-same_list q k).0 e) ∙ ap listed here
     go false e = ap listed (other_kept old new k q keeps e)
 
 -- an entry that is written
-pub run-set : (es : List Entry) (k : List ℕ) (v w : Vec ℕ Global) → lookup (is_at k) es ≡ Some v → (q : List ℕ) → run (set_value (is_at k) es w) q ≡ cond (same_list q k) w.items (run es q)
+pub run-set : (es : List Entry) (k : List ℕ) (v w : Vec ℕ Global) → lookup (is_at k) es ≡ Some v → (q : List ℕ) → run_in (set_value (is_at k) es w) q ≡ cond (same_list q k) w.items (run_in es q)
 run-set [] k v w here q = absurd (true≢false (sym (ap is_some here)))
 run-set (e ∷ es) k v w here q = go (is_at k e.0) refl here (λ h. run-set es k v w h q)
   where
@@ -44,46 +46,80 @@ run-set (e ∷ es) k v w here q = go (is_at k e.0) refl here (λ h. run-set es k
         let own : same_list q e.0.items ≡ false = turned q e.0.items ∙ sym (nat_list_eq_equiv.congr k e.0.items q h) ∙ turned k q ∙ s in
         ap (λ b. listed (cond b (Some w) (lookup (is_at q) es))) own ∙ sym (ap (λ b. listed (cond b (Some e.1) (lookup (is_at q) es))) own)
 
-    later : (b c : Bool) → same_list q e.0.items ≡ b → same_list q k ≡ c → same_list k e.0.items ≡ false → run (set_value (is_at k) es w) q ≡ cond c w.items (run es q)
+    later : (b c : Bool) → same_list q e.0.items ≡ b → same_list q k ≡ c → same_list k e.0.items ≡ false → run_in (set_value (is_at k) es w) q ≡ cond c w.items (run_in es q)
         → listed (cond b (Some e.1) (lookup (is_at q) (set_value (is_at k) es w))) ≡ cond c w.items (listed (cond b (Some e.1) (lookup (is_at q) es)))
     later true true s t h rest = absurd (true≢false (sym s ∙ nat_list_eq_equiv.congr q k e.0.items t ∙ h))
     later true false s t h rest = refl
     later false c s t h rest = rest
 
-    go : (b : Bool) → is_at k e.0 ≡ b → cond b (Some e.1) (lookup (is_at k) es) ≡ Some v → (lookup (is_at k) es ≡ Some v → run (set_value (is_at k) es w) q ≡ cond (same_list q k) w.items (run es q))
-        → run (cond b ((e.0, w) ∷ es) (e ∷ set_value (is_at k) es w)) q ≡ cond (same_list q k) w.items (run (e ∷ es) q)
+    go : (b : Bool) → is_at k e.0 ≡ b → cond b (Some e.1) (lookup (is_at k) es) ≡ Some v → (lookup (is_at k) es ≡ Some v → run_in (set_value (is_at k) es w) q ≡ cond (same_list q k) w.items (run_in es q))
+        → run_in (cond b ((e.0, w) ∷ es) (e ∷ set_value (is_at k) es w)) q ≡ cond (same_list q k) w.items (run_in (e ∷ es) q)
     go true h here rest = at_key (same_list q k) refl h
     go false h here rest = later (same_list q e.0.items) (same_list q k) refl refl h (rest here)
 
-abbrev Changes : (List ℕ → List ℕ) → List Entry → List ℕ → List Entry → Type 0
-Changes f es k fs = (q : List ℕ) → run fs q ≡ cond (same_list q k) (f (run es q)) (run es q)
+abbrev pub Changes : (List ℕ → List ℕ) → List Entry → List ℕ → List Entry → Type 0
+Changes f es k fs = (q : List ℕ) → run_in fs q ≡ cond (same_list q k) (f (run_in es q)) (run_in es q)
 
 -- where the run of one key is changed so
 pub run-changed : (f : List ℕ → List ℕ) (es fs : List Entry) (k : List ℕ) (v w : Vec ℕ Global) → lookup (is_at k) es ≡ Some v → fs ≡ set_value (is_at k) es w → w.items ≡ f v.items → Changes f es k fs
-run-changed f es fs k v w here written changed q = ap (λ gs. run gs q) written ∙ run-set es k v w here q ∙ go (same_list q k) refl
+run-changed f es fs k v w here written changed q = ap (λ gs. run_in gs q) written ∙ run-set es k v w here q ∙ go (same_list q k) refl
   where
-    go : (b : Bool) → same_list q k ≡ b → cond b w.items (run es q) ≡ cond b (f (run es q)) (run es q)
-    go true e = changed ∙ sym (ap f (ap (run es) ((Decides-same_list q k).0 e) ∙ ap listed here))
+    go : (b : Bool) → same_list q k ≡ b → cond b w.items (run_in es q) ≡ cond b (f (run_in es q)) (run_in es q)
+    go true e = changed ∙ sym (ap f (ap (run_in es) ((Decides-same_list q k).0 e) ∙ ap listed here))
     go false e = refl
 
-pub run-kept : (es fs : List Entry) (k : List ℕ) (v w : Vec ℕ Global) → lookup (is_at k) es ≡ Some v → fs ≡ set_value (is_at k) es w → w.items ≡ v.items → (q : List ℕ) → run fs q ≡ run es q
+pub run-kept : (es fs : List Entry) (k : List ℕ) (v w : Vec ℕ Global) → lookup (is_at k) es ≡ Some v → fs ≡ set_value (is_at k) es w → w.items ≡ v.items → (q : List ℕ) → run_in fs q ≡ run_in es q
 run-kept es fs k v w here written kept q = run-changed (λ xs. xs) es fs k v w here written kept q ∙ go (same_list q k)
   where
-    go : (b : Bool) → cond b (run es q) (run es q) ≡ run es q
+    go : (b : Bool) → cond b (run_in es q) (run_in es q) ≡ run_in es q
     go true = refl
     go false = refl
 
 -- the run of an entry at the front, or of the rest
-run-front : (e : Entry) (es : List Entry) (q : List ℕ) → run (e ∷ es) q ≡ cond (same_list q e.0.items) e.1.items (run es q)
+run-front : (e : Entry) (es : List Entry) (q : List ℕ) → run_in (e ∷ es) q ≡ cond (same_list q e.0.items) e.1.items (run_in es q)
 run-front e es q = go (same_list q e.0.items)
   where
-    go : (b : Bool) → listed (cond b (Some e.1) (lookup (is_at q) es)) ≡ cond b e.1.items (run es q)
+    go : (b : Bool) → listed (cond b (Some e.1) (lookup (is_at q) es)) ≡ cond b e.1.items (run_in es q)
     go true = refl
     go false = refl
 
 -- the runs from an entry on
-pub run-from : (es : List Entry) (k n : ℕ) (e : Entry) (q : List ℕ) → slice_get es k ≡ Some e → n ≡ k + 1 → run (drop k es) q ≡ cond (same_list q e.0.items) e.1.items (run (drop n es) q)
+pub run-from : (es : List Entry) (k n : ℕ) (e : Entry) (q : List ℕ) → slice_get es k ≡ Some e → n ≡ k + 1 → run_in (drop k es) q ≡ cond (same_list q e.0.items) e.1.items (run_in (drop n es) q)
 run-from es k n e q here next =
     let cons = drop-cons es k e (slice_get_within es k e here) in
     let place : suc k ≡ n = omega (arith, next) in
-    ap (λ fs. run fs q) (cons ∙ (λ d. get_or_from_slice_get es k e e here d ∷ drop (place d) es)) ∙ run-front e (drop n es) q
+    ap (λ fs. run_in fs q) (cons ∙ (λ d. get_or_from_slice_get es k e e here d ∷ drop (place d) es)) ∙ run-front e (drop n es) q
+
+-- Runs of keys, and the run of seals.
+
+-- no key is empty
+key_apart : (key : List ℕ) → 1 ≤ length key → same_list [] key ≡ false
+key_apart [] some = absurd (omega (arith, some))
+key_apart (b ∷ bs) some = refl
+
+pub run-of_some : (x : Index) (k : List ℕ) → false ≡ eqb (length k) 0 → run x k ≡ run_in x.runs.entries k
+run-of_some x [] e = absurd (true≢false (sym e))
+run-of_some x (b ∷ bs) e = refl
+
+pub some_of : (k : List ℕ) → false ≡ eqb (length k) 0 → 1 ≤ length k
+some_of [] e = absurd (true≢false (sym e))
+some_of (b ∷ bs) e = omega arith
+
+pub empty_of : (k : List ℕ) → true ≡ eqb (length k) 0 → k ≡ []
+empty_of [] e = refl
+empty_of (b ∷ bs) e = absurd (let is = eqb-true (suc (length bs)) 0 (sym e) in omega arith)
+
+-- a change of the run of a key leaves that of seals
+pub run-of_key : (f : List ℕ → List ℕ) (x y : Index) (key : List ℕ) → 1 ≤ length key → y.seals ≡ x.seals → Changes f x.runs.entries key y.runs.entries
+    → (k : List ℕ) → run y k ≡ cond (same_list k key) (f (run x k)) (run x k)
+run-of_key f x y key some seals changed [] = ap (λ v. v.items) seals ∙ ap (λ b. cond b (f x.seals.items) x.seals.items) (sym (key_apart key some))
+run-of_key f x y key some seals changed (b ∷ bs) = changed (b ∷ bs)
+
+pub run-same : (x y : Index) → y.seals.items ≡ x.seals.items → ((k : List ℕ) → run_in y.runs.entries k ≡ run_in x.runs.entries k) → (k : List ℕ) → run y k ≡ run x k
+run-same x y seals same [] = seals
+run-same x y seals same (b ∷ bs) = same (b ∷ bs)
+
+-- and the other way round
+pub run-of_seals : (f : List ℕ → List ℕ) (x y : Index) → y.seals.items ≡ f x.seals.items → y.runs ≡ x.runs → (k : List ℕ) → run y k ≡ cond (same_list k []) (f (run x k)) (run x k)
+run-of_seals f x y seals runs [] = seals
+run-of_seals f x y seals runs (b ∷ bs) = ap (λ m. run_in m.entries (b ∷ bs)) runs

@@ -235,7 +235,7 @@ pub plain_holders : (c : Command) (m : Map Record) (is : List ℕ) → holders [
 plain_holders c m is none e = subst (ArePlain c m) (sym e) (all_from (λ i. IsPlain c (get m i)) (holders_of (keys_of c) m) plain)
   where
     vote : (i : ℕ) (v : Option Vote) → (has_key [] (voted_keys v) ≡ true → ⊥) → share_key (keys_of c) (voted_keys v) ≡ true → IsPlainVote c v
-    vote i None no_seal h = tt
+    vote i None no_seal h = absurd (true≢false (sym h ∙ share_none (keys_of c)))
     vote i (Some v) no_seal h = go (is_seal v.decree.command) refl
       where
         go : (b : Bool) → is_seal v.decree.command ≡ b → (share_key (keys_of c) (keys_of v.decree.command) ≡ true) × (is_seal v.decree.command ≡ false)

@@ -15,7 +15,8 @@ use Rattle.ep_rules.specs.Maps.{Map, none, get}
 use Rattle.ep_rules.specs.States.{with_held}
 use Rattle.ep_rules.specs.declared.record.Record.{Record}
 use Rattle.ep_space.specs.Held.{Held, Places}
-use Rattle.ep_space.specs.Index.{Entry, run, with_instance, without, brings, IsKept}
+use Rattle.ep_space.specs.Index.{run, with_instance, without, brings, IsKept, StandsUnder}
+use Rattle.ep_space.specs.declared.index.Index.{Index}
 use Rattle.ep_space.specs.Keys.{voted_keys, recorded_keys, keys_at, holders}
 use Rattle.ep_space.proofs.Holders.{rising-holders, holds-key, key-holds, holders-same, holders-none}
 use Rattle.ep_space.proofs.Rising.{with-cases, with-Has, rising-with, Has-without, without-Has, without-gone, rising-without}
@@ -39,7 +40,7 @@ pub get-other : (m : Map Record) (i : ℕ) (o : Option Record) (q : ℕ) → q �
 get-other m i None q apart = map.get-remove nat_cmp_total m i q ∙ ap (λ b. cond b None (get m q)) (tied_apart q i apart)
 get-other m i (Some r) q apart = map.get-insert nat_cmp_total m i r q ∙ ap (λ b. cond b (Some r) (get m q)) (tied_apart q i apart)
 
-get-own : (m : Map Record) (i : ℕ) (o : Option Record) → get (with_held m i o) i ≡ o
+pub get-own : (m : Map Record) (i : ℕ) (o : Option Record) → get (with_held m i o) i ≡ o
 get-own m i None = map.get-remove nat_cmp_total m i i ∙ ap (λ b. cond b None (get m i)) (tied_itself i)
 get-own m i (Some r) = map.get-insert nat_cmp_total m i r i ∙ ap (λ b. cond b (Some r) (get m i)) (tied_itself i)
 
@@ -67,7 +68,7 @@ module _ (m : Map Record) (i : ℕ) (o : Option Record) where
         | inr apart ↦ key-other q apart
       ]
 
-  pub kept-written : (places : Places) (es : List Entry) → recorded_keys o ≡ keys_at m i → IsKept (record { held = m; places = places }) es → IsKept (record { held = after; places = places }) es
+  pub kept-written : (places : Places) (es : Index) → recorded_keys o ≡ keys_at m i → IsKept (record { held = m; places = places }) es → IsKept (record { held = after; places = places }) es
   kept-written places es e r = record {
     runs = λ k. r.runs k ∙ sym (holders-same k after m (key_kept e));
   }
@@ -137,15 +138,19 @@ module _ (m : Map Record) (i : ℕ) (o : Option Record) where
         | inr apart ↦ stood k q apart has
       ])
 
-  module _ (places : Places) (es : List Entry) (r : IsKept (record { held = m; places = places }) es) where
+  module _ (places : Places) (es : Index) (r : IsKept (record { held = m; places = places }) es) where
     -- with i in the runs of the keys that it gets
-    abbrev pub Entered : List Entry → Type 0
+    abbrev pub Entered : Index → Type 0
     Entered fs = (k : List ℕ) → run fs k ≡ cond (brings (keys_at m i) (recorded_keys o) k) (with_instance i (run es k)) (run es k)
 
-    entered : (fs : List Entry) → Entered fs → (k : List ℕ) → run fs k ≡ cond (brings (keys_at m i) (recorded_keys o) k) (with_instance i (holders k m)) (holders k m)
+    -- where those before are told so
+    pub entered_by : (own : List (List ℕ)) → own ≡ keys_at m i → (fs : Index) → ((k : List ℕ) → run fs k ≡ cond (brings own (recorded_keys o) k) (with_instance i (run es k)) (run es k)) → Entered fs
+    entered_by own is fs e k = e k ∙ ap (λ ks. cond (brings ks (recorded_keys o) k) (with_instance i (run es k)) (run es k)) is
+
+    entered : (fs : Index) → Entered fs → (k : List ℕ) → run fs k ≡ cond (brings (keys_at m i) (recorded_keys o) k) (with_instance i (holders k m)) (holders k m)
     entered fs e k = e k ∙ (λ d. cond (brings (keys_at m i) (recorded_keys o) k) (with_instance i (r.runs k d)) (r.runs k d))
 
-    pub rising-entered : (fs : List Entry) → Entered fs → (k : List ℕ) → IsRising (run fs k)
+    pub rising-entered : (fs : Index) → Entered fs → (k : List ℕ) → IsRising (run fs k)
     rising-entered fs e k = subst IsRising (sym (entered fs e k)) (go (has_key k (recorded_keys o)) (has_key k (keys_at m i)) refl)
       where
         go : (b a : Bool) → has_key k (keys_at m i) ≡ a → IsRising (cond (b && not a) (with_instance i (holders k m)) (holders k m))
@@ -154,14 +159,14 @@ module _ (m : Map Record) (i : ℕ) (o : Option Record) where
         go false a own = rising-holders k m
 
     -- i is still in those of its old ones
-    pub Has-entered : (fs : List Entry) → Entered fs → (k : List ℕ) → has_key k (keys_at m i) ≡ true → Has (run fs k) i
+    pub Has-entered : (fs : Index) → Entered fs → (k : List ℕ) → has_key k (keys_at m i) ≡ true → Has (run fs k) i
     Has-entered fs e k own = subst (λ xs. Has xs i) (sym (entered fs e k)) (go (brings (keys_at m i) (recorded_keys o) k))
       where
         go : (b : Bool) → Has (cond b (with_instance i (holders k m)) (holders k m)) i
         go true = with-Has i (holders k m) i (inl refl)
         go false = key-holds k m i own
 
-    pub kept-changed : (fs gs : List Entry) → Entered fs → ((k : List ℕ) → run gs k ≡ cond (brings (recorded_keys o) (keys_at m i) k) (without i (run fs k)) (run fs k))
+    pub kept-changed : (fs gs : Index) → Entered fs → ((k : List ℕ) → run gs k ≡ cond (brings (recorded_keys o) (keys_at m i) k) (without i (run fs k)) (run fs k))
         → IsKept (record { held = after; places = places }) gs
     kept-changed fs gs e left = record {
       runs = λ k. left k ∙ (λ d. cond (brings (recorded_keys o) (keys_at m i) k) (without i (entered fs e k d)) (entered fs e k d)) ∙ sym (changed k (has_key k (keys_at m i)) refl (has_key k (recorded_keys o)) refl);
@@ -185,26 +190,32 @@ without-with i xs rising none =
     (λ q has. without-Has i (with_instance i xs) q (with-Has i xs q (inr has)) (λ same. none (subst (Has xs) same has)))
 
 -- an instance without a key isn't in its run
-pub not_in_run : (t : Held Record) (es : List Entry) → IsKept t es → (k : List ℕ) (i : ℕ) → has_key k (keys_at t.held i) ≡ false → ¬ (Has (run es k) i)
+pub not_in_run : (t : Held Record) (es : Index) → IsKept t es → (k : List ℕ) (i : ℕ) → has_key k (keys_at t.held i) ≡ false → ¬ (Has (run es k) i)
 not_in_run t es r k i none has = true≢false (sym (holds-key k t.held i (subst (λ xs. Has xs i) (r.runs k) has)) ∙ none)
 
-pub rising-runs : (t : Held Record) (es : List Entry) → IsKept t es → (k : List ℕ) → IsRising (run es k)
+pub rising-runs : (t : Held Record) (es : Index) → IsKept t es → (k : List ℕ) → IsRising (run es k)
 rising-runs t es r k = subst IsRising (sym (r.runs k)) (rising-holders k t.held)
+
+pub stands-kept : (t : Held Record) (x : Index) (i : ℕ) → IsKept t x → StandsUnder i (keys_at t.held i) x
+stands-kept t x i r = record {
+  rising = rising-runs t x r;
+  alone = λ k none. not_in_run t x r k i none;
+}
 
 -- Places.
 
-pub kept-new : IsKept (record { held = none; places = set.empty }) []
-kept-new = record {
-  runs = λ k. sym (holders-none k);
+pub kept-new : (x : Index) → ((k : List ℕ) → run x k ≡ []) → IsKept (record { held = none; places = set.empty }) x
+kept-new x empty = record {
+  runs = λ k. empty k ∙ sym (holders-none k);
 }
 
 -- with a place more
-kept-reserved : (t : Held Record) (es : List Entry) (i : ℕ) → IsKept t es → IsKept (record { held = t.held; places = set.insert t.places i }) es
+kept-reserved : (t : Held Record) (es : Index) (i : ℕ) → IsKept t es → IsKept (record { held = t.held; places = set.insert t.places i }) es
 kept-reserved t es i k = record {
   runs = k.runs;
 }
 
-pub kept-at : (r : Result (Unit {0}) AllocError) (old new : Held Record) (es : List Entry) (i : ℕ) → IsKept old es
+pub kept-at : (r : Result (Unit {0}) AllocError) (old new : Held Record) (es : Index) (i : ℕ) → IsKept old es
     → OnOk r (new ≡ record { held = old.held; places = set.insert old.places i }) → OnErr r (new ≡ old) → IsKept new es
 kept-at (Ok x) old new es i k ok err = subst (λ t. IsKept t es) (sym ok) (kept-reserved old es i k)
 kept-at (Err e) old new es i k ok err = subst (λ t. IsKept t es) (sym err) k

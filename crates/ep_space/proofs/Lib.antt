@@ -13,3 +13,4 @@ pub mod Least
 pub mod Twice
 pub mod Opening
 pub mod Settling
+pub mod SeqsKept

@@ -4,9 +4,10 @@ use Rattle.std.specs.List.{AllByRecursion, insert, remove}
 use Rattle.std.specs.Prelude.{nat_lt, unwrap_or}
 use Rattle.std.proofs.lemmas.Bool.{eq-eqb, eqb-true, lt-ltb, ltb-true, le-ltb, ltb-false}
 use Rattle.std.proofs.lemmas.Option.{none-some}
-use Rattle.ep_base.specs.Deps.{IsRising, IsBelowFirst}
+use Rattle.ep_base.specs.Deps.{IsRising, IsBelowFirst, union}
 use Rattle.ep_base.specs.Places.{Has}
-use Rattle.ep_base.proofs.Members.{first_below}
+use Rattle.ep_base.proofs.Members.{first_below, same_members, union-cases, Has-union}
+use Rattle.ep_base.proofs.Union.{IsRising-union}
 use Rattle.ep_base.proofs.Places.{Has-empty, Has-cons_cases, Has-head, Has-tail}
 use Rattle.ep_space.specs.Index.{count_below, with_instance, without}
 
@@ -116,6 +117,35 @@ rising-with i (x ∷ xs) o none = go (nat_lt x i) refl (rising-with i xs o.1 (λ
         let least = ltb-false x i e in
         let apart : x ≢ i = λ same. none (Has-head x xs i same) in
         (omega (arith, least, apart), o)
+
+-- a member stands behind those that are less
+pub at_count : (i : ℕ) (xs : List ℕ) → IsRising xs → Has xs i → slice_get xs (count_below i xs) ≡ Some i
+at_count i [] o has = absurd (Has-empty i has)
+at_count i (x ∷ xs) o has =
+    elim (Has-cons_cases x xs i has) [
+      | inl same ↦
+          let here : nat_lt x i ≡ false = le-ltb x i (omega (arith, same)) in
+          ap (λ b. slice_get (x ∷ xs) (cond b (suc (count_below i xs)) 0)) here ∙ ap Some same
+      | inr t ↦
+          let here : nat_lt x i ≡ true = lt-ltb x i (first_below x xs o i t) in
+          ap (λ b. slice_get (x ∷ xs) (cond b (suc (count_below i xs)) 0)) here ∙ at_count i xs o.1 t
+    ]
+
+single : (i q : ℕ) → Has (i ∷ []) q → i ≡ q
+single i q has = elim (Has-cons_cases i [] q has) [ inl same ↦ same | inr none ↦ absurd (Has-empty q none) ]
+
+-- with one member more, the union
+pub union_there : (i : ℕ) (xs : List ℕ) → IsRising xs → Has xs i → xs ≡ union xs (i ∷ [])
+union_there i xs o has =
+    same_members xs (union xs (i ∷ [])) o (IsRising-union xs (i ∷ []) o (tt, tt))
+    (λ q h. Has-union xs (i ∷ []) q (inl h))
+    (λ q h. elim (union-cases xs (i ∷ []) q h) [ inl a ↦ a | inr b ↦ subst (Has xs) (single i q b) has ])
+
+pub union_new : (i : ℕ) (xs : List ℕ) → IsRising xs → ¬ (Has xs i) → with_instance i xs ≡ union xs (i ∷ [])
+union_new i xs o none =
+    same_members (with_instance i xs) (union xs (i ∷ [])) (rising-with i xs o none) (IsRising-union xs (i ∷ []) o (tt, tt))
+    (λ q h. Has-union xs (i ∷ []) q (elim (with-cases i xs q h) [ inl same ↦ inr (Has-head i [] q same) | inr t ↦ inl t ]))
+    (λ q h. with-Has i xs q (elim (union-cases xs (i ∷ []) q h) [ inl a ↦ inr a | inr b ↦ inl (single i q b) ]))
 
 -- A number less.
 

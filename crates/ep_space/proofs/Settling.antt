@@ -1,5 +1,5 @@
 -- A record that is taken out, committed and put back.
-use Rattle.std.proofs.Common.{◌≡◌, ◌∙◌, ℕ, Bool, true, false, cond, Option, Some, None, sym, ap, refl}
+use Rattle.std.proofs.Common.{◌≡◌, ◌∙◌, ℕ, Bool, true, false, cond, Option, Some, None, is_none, sym, ap, refl}
 use Rattle.std.specs.Cmp.{nat_cmp_total, unsigned_tied}
 use Rattle.std.proofs.lemmas.Bool.{eqb-true}
 use Rattle.std.specs.FinMap as map
@@ -43,6 +43,11 @@ keys_committed (Some v) = refl
 pub keys_settled : (o : Option Record) → recorded_keys (as_settled o) ≡ recorded_keys o
 keys_settled None = refl
 keys_settled (Some r) = keys_committed r.vote
+
+-- there is a record if there was
+pub settled_there : (o : Option Record) → is_none (as_settled o) ≡ is_none o
+settled_there None = refl
+settled_there (Some r) = refl
 
 by_vote : (m : Map Record) (i : ℕ) (r : Record) (v : Option Vote) → r.vote ≡ v → get m i ≡ Some r → insert m i (record { promised = r.promised; vote = committed_vote v }) ≡ with_entry m i (settled i r v)
 by_vote m i r None e h = ap (λ w. insert m i (record { promised = r.promised; vote = w })) (sym e) ∙ with_held-again m i (Some r) h

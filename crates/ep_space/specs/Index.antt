@@ -1,12 +1,15 @@
 -- An index by key: for each key the instances whose recorded command has it, in rising order.
-use Rattle.std.specs.Prelude.{◌≡◌, ℕ, suc, cond, not, ◌&&◌, List, [], ◌∷◌, Option, Some, None, Bool, Vec, ◌==◌, nat_lt}
+use Rattle.std.specs.Prelude.{◌≡◌, ℕ, suc, cond, not, ◌&&◌, List, [], ◌∷◌, Option, Some, None, Bool, false, Vec, ◌==◌, nat_lt}
 use Rattle.std.specs.Global.{Global}
 use Rattle.std.specs.Map.{lookup}
 use Rattle.ep_base.specs.Attributes.{same_list}
+use Rattle.ep_base.specs.Deps.{IsRising}
 use Rattle.ep_base.specs.Interference.{has_key}
+use Rattle.ep_base.specs.Places.{Has}
 use Rattle.ep_rules.specs.declared.record.Record.{Record}
 use Rattle.ep_space.specs.Held.{Held}
 use Rattle.ep_space.specs.Keys.{holders}
+use Rattle.ep_space.specs.declared.index.Index.{Index}
 
 -- a key, with its run
 abbrev pub Entry : Type 0
@@ -20,8 +23,13 @@ listed None = []
 listed (Some v) = v.items
 
 -- the run of the key k, which is empty where k has no entry
-abbrev pub run : List Entry → List ℕ → List ℕ
-run es k = listed (lookup (is_at k) es)
+abbrev pub run_in : List Entry → List ℕ → List ℕ
+run_in es k = listed (lookup (is_at k) es)
+
+-- the same of an index, where seals have the run of the empty key
+abbrev pub run : Index → List ℕ → List ℕ
+run x [] = x.seals.items
+run x (b ∷ bs) = run_in x.runs.entries (b ∷ bs)
 
 -- how many are less than i, from the front
 abbrev pub count_below : ℕ → List ℕ → ℕ
@@ -43,5 +51,10 @@ abbrev pub brings : List (List ℕ) → List (List ℕ) → List ℕ → Bool
 brings own new k = has_key k new && not (has_key k own)
 
 -- the index of a table
-pub record IsKept (t : Held Record) (es : List Entry) : Type 0 where
-  pub runs : (k : List ℕ) → run es k ≡ holders k t.held
+pub record IsKept (t : Held Record) (x : Index) : Type 0 where
+  pub runs : (k : List ℕ) → run x k ≡ holders k t.held
+
+-- the runs rise, and i stands in those of the keys `own` alone
+pub record StandsUnder (i : ℕ) (own : List (List ℕ)) (x : Index) : Type 0 where
+  pub rising : (k : List ℕ) → IsRising (run x k)
+  pub alone : (k : List ℕ) → has_key k own ≡ false → ¬ (Has (run x k) i)

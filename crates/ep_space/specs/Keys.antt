@@ -55,13 +55,13 @@ holders_of ks m = instances (those (names_one ks) (entries m))
 abbrev pub recorded : Map Record → List ℕ
 recorded m = instances (entries m)
 
--- a vote's command is no seal, and has a key of c
+-- there is a vote, whose command is no seal, and has a key of c
 abbrev pub IsPlainVote : Command → Option Vote → Type 0
-IsPlainVote c None = Unit {0}
+IsPlainVote c None = ⊥
 IsPlainVote c (Some v) = (share_key (keys_of c) (keys_of v.decree.command) ≡ true) × (is_seal v.decree.command ≡ false)
 
 abbrev pub IsPlain : Command → Option Record → Type 0
-IsPlain c None = Unit {0}
+IsPlain c None = ⊥
 IsPlain c (Some r) = IsPlainVote c r.vote
 
 -- so are those recorded at these

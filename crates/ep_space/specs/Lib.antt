@@ -2,6 +2,7 @@ pub mod Held
 pub mod Entries
 pub mod Keys
 pub mod Index
+pub mod Seqs
 pub mod Records
 pub mod Taken
 pub mod Gathering

@@ -5,13 +5,13 @@ ghost use Rattle.std.specs.Map.{lookup};
 ghost use Rattle.ep_base.specs.Attributes.{same_list};
 ghost use Rattle.ep_base.specs.Deps.{IsRising};
 ghost use Rattle.ep_base.specs.Interference.{has_key, keys_in, listed};
+ghost use Rattle.ep_base.specs.Parts.{IsSecond};
 ghost use Rattle.ep_base.specs.Views.{touched};
 ghost use Rattle.std.specs.Option.{option_copied};
 ghost use Rattle.ep_base.specs.Places.{Has};
-ghost use Rattle.ep_space.specs.Index.{is_at, run, count_below, with_instance, without, brings, IsKept};
-ghost use Rattle.ep_space.specs.Keys.{index_keys, voted_keys, recorded_keys, keys_at, NeedsNoRoom};
+ghost use Rattle.ep_space.specs.Index.{is_at, run, run_in, count_below, with_instance, without, brings, StandsUnder};
+ghost use Rattle.ep_space.specs.Keys.{index_keys, voted_keys, recorded_keys, NeedsNoRoom};
 
-use crate::table::Table;
 use ep_base::{Command, CommandView, InstanceId, Touching};
 use ep_rules::Record;
 use indexmap::IndexMap;
@@ -19,38 +19,79 @@ use std::alloc::{AllocError, Global};
 
 /// From a key to its run: the instances whose recorded command has it, in rising order of instances. A record of two keys stands in
 /// two runs. A key whose last instance was taken out stays, with an empty run.
-pub(crate) type Index = IndexMap<Vec<u8>, Vec<InstanceId>>;
+type Runs = IndexMap<Vec<u8>, Vec<InstanceId>>;
 
-/// The run of the key.
-pub(crate) fn run_of<'a>(index: &'a Index, key: &[u8]) -> &'a [InstanceId]
-    ensures { result.now ≡ run index.now.entries key.now }
+/// The instances of records by the keys of their commands. Seals, which name no key, stand apart, in rising order.
+#[derive(Drop)]
+pub(crate) struct Index {
+    runs: Runs,
+    seals: Vec<InstanceId>,
+}
+
+/// An index of no records.
+pub(crate) fn new_index(alloc: Global) -> Index
+    ensures { (k : List ℕ) → run result k ≡ [] }
 {
-    match index.get(key) {
+    Index {
+        runs: IndexMap::new(alloc),
+        seals: Vec::new(alloc),
+    }
+}
+
+/// The run of the key; of the empty one, which no command names, the seals.
+pub(crate) fn run_of<'a>(index: &'a Index, key: &[u8]) -> &'a [InstanceId]
+    ensures { result.now ≡ run index.now key.now }
+{
+    if key.is_empty() {
+        return seals_of(index);
+    }
+    run_at(&index.runs, key)
+}
+
+fn run_at<'a>(runs: &'a Runs, key: &[u8]) -> &'a [InstanceId]
+    ensures { result.now ≡ run_in runs.now.entries key.now }
+{
+    match runs.get(key) {
         None => &[],
         Some(run) => run.as_slice(),
     }
 }
 
+/// The seals.
+pub(crate) fn seals_of(index: &Index) -> &[InstanceId]
+    ensures { result.now ≡ run index.now [] }
+{
+    index.seals.as_slice()
+}
+
 /// The same runs again.
 pub(crate) fn duplicate(index: &Index, alloc: Global) -> Result<Index, AllocError>
-    ensures { IfOk result (λ same. (k : List ℕ) → run same.entries k ≡ run index.now.entries k) }
+    ensures { IfOk result (λ same. (k : List ℕ) → run same k ≡ run index.now k) }
 {
-    let mut same = IndexMap::with_capacity(alloc, index.len())?;
-    for place in (0..index.len()).rev() {
-        let (key, run) = index.get_index(place).unwrap();
+    let runs = duplicate_runs(&index.runs, alloc)?;
+    let seals = Vec::from_slice(alloc, &index.seals)?;
+    Ok(Index { runs, seals })
+}
+
+fn duplicate_runs(runs: &Runs, alloc: Global) -> Result<Runs, AllocError>
+    ensures { IfOk result (λ same. (k : List ℕ) → run_in same.entries k ≡ run_in runs.now.entries k) }
+{
+    let mut same = IndexMap::with_capacity(alloc, runs.len())?;
+    for place in (0..runs.len()).rev() {
+        let (key, run) = runs.get_index(place).unwrap();
         set_run(&mut same, key.as_slice(), run.as_slice())?;
     }
     Ok(same)
 }
 
 /// Puts this in place of the key's run.
-fn set_run(index: &mut Index, key: &[u8], instances: &[InstanceId]) -> Result<(), AllocError>
-    ensures { OnOk result ((k : List ℕ) → run index.new.entries k ≡ cond (same_list k key.now) instances.now (run index.old.entries k)) }
+fn set_run(runs: &mut Runs, key: &[u8], instances: &[InstanceId]) -> Result<(), AllocError>
+    ensures { OnOk result ((k : List ℕ) → run_in runs.new.entries k ≡ cond (same_list k key.now) instances.now (run_in runs.old.entries k)) }
 {
-    let alloc = *index.allocator();
+    let alloc = *runs.allocator();
     let key = Vec::from_slice(alloc, key)?;
     let run = Vec::from_slice(alloc, instances)?;
-    match index.insert(key, run) {
+    match runs.insert(key, run) {
         Ok(_) => Ok(()),
         Err(_) => Err(AllocError),
     }
@@ -59,120 +100,121 @@ fn set_run(index: &mut Index, key: &[u8], instances: &[InstanceId]) -> Result<()
 /// Puts the instance into the run of each key that this brings: that it has, and the instance's record hasn't. At want of memory
 /// all runs stay as they were.
 pub(crate) fn enter(
-    table: &Table<Record>,
     index: &mut Index,
     id: InstanceId,
+    there: Option<&Record>,
     value: &Option<Record>,
 ) -> Result<(), AllocError>
-    requires { IsKept table.now index.old.entries }
-    ensures ok { OnOk result ((k : List ℕ) → run index.new.entries k ≡ cond (brings (keys_at table.now.held id) (recorded_keys value.now) k) (with_instance id (run index.old.entries k)) (run index.old.entries k)) }
-    ensures err { OnErr result ((k : List ℕ) → run index.new.entries k ≡ run index.old.entries k) }
-    ensures succeeds { NeedsNoRoom (keys_at table.now.held id) (recorded_keys value.now) → IsOk result }
+    requires { StandsUnder id (recorded_keys (option_copied there)) index.old }
+    ensures ok { OnOk result ((k : List ℕ) → run index.new k ≡ cond (brings (recorded_keys (option_copied there.entry)) (recorded_keys value.now) k) (with_instance id (run index.old k)) (run index.old k)) }
+    ensures err { OnErr result ((k : List ℕ) → run index.new k ≡ run index.old k) }
+    ensures succeeds { NeedsNoRoom (recorded_keys (option_copied there.entry)) (recorded_keys value.now) → IsOk result }
 {
     match value {
         None => Ok(()),
-        Some(record) => enter_record(table, index, id, record),
+        Some(record) => enter_record(index, id, there, record),
     }
 }
 
 fn enter_record(
-    table: &Table<Record>,
     index: &mut Index,
     id: InstanceId,
+    there: Option<&Record>,
     written: &Record,
 ) -> Result<(), AllocError>
-    requires { IsKept table.now index.old.entries }
-    ensures ok { OnOk result ((k : List ℕ) → run index.new.entries k ≡ cond (brings (keys_at table.now.held id) (voted_keys written.now.vote) k) (with_instance id (run index.old.entries k)) (run index.old.entries k)) }
-    ensures err { OnErr result ((k : List ℕ) → run index.new.entries k ≡ run index.old.entries k) }
-    ensures succeeds { NeedsNoRoom (keys_at table.now.held id) (voted_keys written.now.vote) → IsOk result }
+    requires { StandsUnder id (recorded_keys (option_copied there)) index.old }
+    ensures ok { OnOk result ((k : List ℕ) → run index.new k ≡ cond (brings (recorded_keys (option_copied there.entry)) (voted_keys written.now.vote) k) (with_instance id (run index.old k)) (run index.old k)) }
+    ensures err { OnErr result ((k : List ℕ) → run index.new k ≡ run index.old k) }
+    ensures succeeds { NeedsNoRoom (recorded_keys (option_copied there.entry)) (voted_keys written.now.vote) → IsOk result }
 {
     match &written.vote {
         None => Ok(()),
-        Some(vote) => enter_command(table, index, id, &vote.decree.command),
+        Some(vote) => enter_command(index, id, there, &vote.decree.command),
     }
 }
 
 fn enter_command(
-    table: &Table<Record>,
     index: &mut Index,
     id: InstanceId,
+    there: Option<&Record>,
     command: &Command,
 ) -> Result<(), AllocError>
-    requires { IsKept table.now index.old.entries }
-    ensures ok { OnOk result ((k : List ℕ) → run index.new.entries k ≡ cond (brings (keys_at table.now.held id) (index_keys command.now) k) (with_instance id (run index.old.entries k)) (run index.old.entries k)) }
-    ensures err { OnErr result ((k : List ℕ) → run index.new.entries k ≡ run index.old.entries k) }
-    ensures succeeds { NeedsNoRoom (keys_at table.now.held id) (index_keys command.now) → IsOk result }
+    requires { StandsUnder id (recorded_keys (option_copied there)) index.old }
+    ensures ok { OnOk result ((k : List ℕ) → run index.new k ≡ cond (brings (recorded_keys (option_copied there.entry)) (index_keys command.now) k) (with_instance id (run index.old k)) (run index.old k)) }
+    ensures err { OnErr result ((k : List ℕ) → run index.new k ≡ run index.old k) }
+    ensures succeeds { NeedsNoRoom (recorded_keys (option_copied there.entry)) (index_keys command.now) → IsOk result }
 {
     match command.view() {
         CommandView::Noop => Ok(()),
         CommandView::Get(key)
         | CommandView::Put(key, _)
         | CommandView::Del(key)
-        | CommandView::Cas(key, _, _) => enter_one(table, index, id, key),
-        CommandView::Swap(first, second) => enter_two(table, index, id, first, second),
-        CommandView::Seal(_) => enter_seal(table, index, id),
-        CommandView::Opaque(own, _) => enter_touched(table, index, id, &own),
+        | CommandView::Cas(key, _, _) => enter_one(index, id, there, key),
+        CommandView::Swap(first, second) => enter_two(index, id, there, first, second),
+        CommandView::Seal(_) => enter_seal(index, id, there),
+        CommandView::Opaque(own, _) => enter_touched(index, id, there, &own),
     }
 }
 
 fn enter_one(
-    table: &Table<Record>,
     index: &mut Index,
     id: InstanceId,
+    there: Option<&Record>,
     key: &[u8],
 ) -> Result<(), AllocError>
-    requires { IsKept table.now index.old.entries }
-    ensures ok { OnOk result ((k : List ℕ) → run index.new.entries k ≡ cond (brings (keys_at table.now.held id) (key.now ∷ []) k) (with_instance id (run index.old.entries k)) (run index.old.entries k)) }
-    ensures err { OnErr result ((k : List ℕ) → run index.new.entries k ≡ run index.old.entries k) }
-    ensures succeeds { NeedsNoRoom (keys_at table.now.held id) (key.now ∷ []) → IsOk result }
+    requires { StandsUnder id (recorded_keys (option_copied there)) index.old }
+    ensures ok { OnOk result ((k : List ℕ) → run index.new k ≡ cond (brings (recorded_keys (option_copied there.entry)) (key.now ∷ []) k) (with_instance id (run index.old k)) (run index.old k)) }
+    ensures err { OnErr result ((k : List ℕ) → run index.new k ≡ run index.old k) }
+    ensures succeeds { NeedsNoRoom (recorded_keys (option_copied there.entry)) (key.now ∷ []) → IsOk result }
 {
-    let stays = is_named(table, id, key);
+    let stays = is_named(there, key);
     add_unless(index, stays, key, id)
 }
 
-fn enter_seal(table: &Table<Record>, index: &mut Index, id: InstanceId) -> Result<(), AllocError>
-    requires { IsKept table.now index.old.entries }
-    ensures ok { OnOk result ((k : List ℕ) → run index.new.entries k ≡ cond (brings (keys_at table.now.held id) ([] ∷ []) k) (with_instance id (run index.old.entries k)) (run index.old.entries k)) }
-    ensures err { OnErr result ((k : List ℕ) → run index.new.entries k ≡ run index.old.entries k) }
-    ensures succeeds { NeedsNoRoom (keys_at table.now.held id) ([] ∷ []) → IsOk result }
+fn enter_seal(index: &mut Index, id: InstanceId, there: Option<&Record>) -> Result<(), AllocError>
+    requires { StandsUnder id (recorded_keys (option_copied there)) index.old }
+    ensures ok { OnOk result ((k : List ℕ) → run index.new k ≡ cond (brings (recorded_keys (option_copied there.entry)) ([] ∷ []) k) (with_instance id (run index.old k)) (run index.old k)) }
+    ensures err { OnErr result ((k : List ℕ) → run index.new k ≡ run index.old k) }
+    ensures succeeds { NeedsNoRoom (recorded_keys (option_copied there.entry)) ([] ∷ []) → IsOk result }
 {
-    let stays = is_sealed(table, id);
+    let stays = is_sealed(there);
     add_seal_unless(index, stays, id)
 }
 
 fn enter_touched(
-    table: &Table<Record>,
     index: &mut Index,
     id: InstanceId,
+    there: Option<&Record>,
     own: &Touching<'_>,
 ) -> Result<(), AllocError>
-    requires { IsKept table.now index.old.entries }
-    ensures ok { OnOk result ((k : List ℕ) → run index.new.entries k ≡ cond (brings (keys_at table.now.held id) (keys_in (touched own.now)) k) (with_instance id (run index.old.entries k)) (run index.old.entries k)) }
-    ensures err { OnErr result ((k : List ℕ) → run index.new.entries k ≡ run index.old.entries k) }
-    ensures succeeds { NeedsNoRoom (keys_at table.now.held id) (keys_in (touched own.now)) → IsOk result }
+    requires second { IsSecond own.now.first.now (option_copied own.now.second) }
+    requires stands { StandsUnder id (recorded_keys (option_copied there)) index.old }
+    ensures ok { OnOk result ((k : List ℕ) → run index.new k ≡ cond (brings (recorded_keys (option_copied there.entry)) (keys_in (touched own.now)) k) (with_instance id (run index.old k)) (run index.old k)) }
+    ensures err { OnErr result ((k : List ℕ) → run index.new k ≡ run index.old k) }
+    ensures succeeds { NeedsNoRoom (recorded_keys (option_copied there.entry)) (keys_in (touched own.now)) → IsOk result }
 {
     match own.second {
-        None => enter_one(table, index, id, own.first),
-        Some(second) => enter_two(table, index, id, own.first, second),
+        None => enter_one(index, id, there, own.first),
+        Some(second) => enter_two(index, id, there, own.first, second),
     }
 }
 
 // Where memory is refused for the second key, the instance is taken back out of the run of the first.
 fn enter_two(
-    table: &Table<Record>,
     index: &mut Index,
     id: InstanceId,
+    there: Option<&Record>,
     first: &[u8],
     second: &[u8],
 ) -> Result<(), AllocError>
-    requires kept { IsKept table.now index.old.entries }
+    requires stands { StandsUnder id (recorded_keys (option_copied there)) index.old }
     requires apart { first.now ≢ second.now }
-    ensures ok { OnOk result ((k : List ℕ) → run index.new.entries k ≡ cond (brings (keys_at table.now.held id) (first.now ∷ second.now ∷ []) k) (with_instance id (run index.old.entries k)) (run index.old.entries k)) }
-    ensures err { OnErr result ((k : List ℕ) → run index.new.entries k ≡ run index.old.entries k) }
-    ensures succeeds { NeedsNoRoom (keys_at table.now.held id) (first.now ∷ second.now ∷ []) → IsOk result }
+    ensures ok { OnOk result ((k : List ℕ) → run index.new k ≡ cond (brings (recorded_keys (option_copied there.entry)) (first.now ∷ second.now ∷ []) k) (with_instance id (run index.old k)) (run index.old k)) }
+    ensures err { OnErr result ((k : List ℕ) → run index.new k ≡ run index.old k) }
+    ensures succeeds { NeedsNoRoom (recorded_keys (option_copied there.entry)) (first.now ∷ second.now ∷ []) → IsOk result }
 {
-    let first_stays = is_named(table, id, first);
-    let second_stays = is_named(table, id, second);
+    let first_stays = is_named(there, first);
+    let second_stays = is_named(there, second);
     add_unless(index, first_stays, first, id)?;
     match add_unless(index, second_stays, second, id) {
         Ok(()) => Ok(()),
@@ -185,25 +227,25 @@ fn enter_two(
 
 /// Takes the instance out of the run of each key that this takes away: that the instance's record has, and this hasn't.
 pub(crate) fn leave(
-    table: &Table<Record>,
     index: &mut Index,
     id: InstanceId,
+    there: Option<&Record>,
     value: &Option<Record>,
 )
-    requires rising { (k : List ℕ) → IsRising (run index.old.entries k) }
-    requires there { (k : List ℕ) → has_key k (keys_at table.now.held id) ≡ true → Has (run index.old.entries k) id }
-    ensures { (k : List ℕ) → run index.new.entries k ≡ cond (brings (recorded_keys value.now) (keys_at table.now.held id) k) (without id (run index.old.entries k)) (run index.old.entries k) }
+    requires rising { (k : List ℕ) → IsRising (run index.old k) }
+    requires has { (k : List ℕ) → has_key k (recorded_keys (option_copied there)) ≡ true → Has (run index.old k) id }
+    ensures { (k : List ℕ) → run index.new k ≡ cond (brings (recorded_keys value.now) (recorded_keys (option_copied there.entry)) k) (without id (run index.old k)) (run index.old k) }
 {
-    match table.get(id) {
+    match there {
         None => (),
         Some(record) => leave_record(index, id, record, value),
     }
 }
 
 fn leave_record(index: &mut Index, id: InstanceId, written: &Record, value: &Option<Record>)
-    requires rising { (k : List ℕ) → IsRising (run index.old.entries k) }
-    requires there { (k : List ℕ) → has_key k (voted_keys written.now.vote) ≡ true → Has (run index.old.entries k) id }
-    ensures { (k : List ℕ) → run index.new.entries k ≡ cond (brings (recorded_keys value.now) (voted_keys written.now.vote) k) (without id (run index.old.entries k)) (run index.old.entries k) }
+    requires rising { (k : List ℕ) → IsRising (run index.old k) }
+    requires there { (k : List ℕ) → has_key k (voted_keys written.now.vote) ≡ true → Has (run index.old k) id }
+    ensures { (k : List ℕ) → run index.new k ≡ cond (brings (recorded_keys value.now) (voted_keys written.now.vote) k) (without id (run index.old k)) (run index.old k) }
 {
     match &written.vote {
         None => (),
@@ -212,9 +254,9 @@ fn leave_record(index: &mut Index, id: InstanceId, written: &Record, value: &Opt
 }
 
 fn leave_command(index: &mut Index, id: InstanceId, command: &Command, value: &Option<Record>)
-    requires rising { (k : List ℕ) → IsRising (run index.old.entries k) }
-    requires there { (k : List ℕ) → has_key k (index_keys command.now) ≡ true → Has (run index.old.entries k) id }
-    ensures { (k : List ℕ) → run index.new.entries k ≡ cond (brings (recorded_keys value.now) (index_keys command.now) k) (without id (run index.old.entries k)) (run index.old.entries k) }
+    requires rising { (k : List ℕ) → IsRising (run index.old k) }
+    requires there { (k : List ℕ) → has_key k (index_keys command.now) ≡ true → Has (run index.old k) id }
+    ensures { (k : List ℕ) → run index.new k ≡ cond (brings (recorded_keys value.now) (index_keys command.now) k) (without id (run index.old k)) (run index.old k) }
 {
     match command.view() {
         CommandView::Noop => (),
@@ -229,27 +271,28 @@ fn leave_command(index: &mut Index, id: InstanceId, command: &Command, value: &O
 }
 
 fn leave_one(index: &mut Index, id: InstanceId, key: &[u8], value: &Option<Record>)
-    requires rising { IsRising (run index.old.entries key.now) }
-    requires there { Has (run index.old.entries key.now) id }
-    ensures { (k : List ℕ) → run index.new.entries k ≡ cond (brings (recorded_keys value.now) (key.now ∷ []) k) (without id (run index.old.entries k)) (run index.old.entries k) }
+    requires rising { IsRising (run index.old key.now) }
+    requires there { Has (run index.old key.now) id }
+    ensures { (k : List ℕ) → run index.new k ≡ cond (brings (recorded_keys value.now) (key.now ∷ []) k) (without id (run index.old k)) (run index.old k) }
 {
     let stays = names(value, key);
     remove_unless(index, stays, key, id)
 }
 
 fn leave_seal(index: &mut Index, id: InstanceId, value: &Option<Record>)
-    requires rising { IsRising (run index.old.entries []) }
-    requires there { Has (run index.old.entries []) id }
-    ensures { (k : List ℕ) → run index.new.entries k ≡ cond (brings (recorded_keys value.now) ([] ∷ []) k) (without id (run index.old.entries k)) (run index.old.entries k) }
+    requires rising { IsRising (run index.old []) }
+    requires there { Has (run index.old []) id }
+    ensures { (k : List ℕ) → run index.new k ≡ cond (brings (recorded_keys value.now) ([] ∷ []) k) (without id (run index.old k)) (run index.old k) }
 {
     let stays = seals(value);
     remove_seal_unless(index, stays, id)
 }
 
 fn leave_touched(index: &mut Index, id: InstanceId, own: &Touching<'_>, value: &Option<Record>)
-    requires rising { (k : List ℕ) → IsRising (run index.old.entries k) }
-    requires there { (k : List ℕ) → has_key k (keys_in (touched own.now)) ≡ true → Has (run index.old.entries k) id }
-    ensures { (k : List ℕ) → run index.new.entries k ≡ cond (brings (recorded_keys value.now) (keys_in (touched own.now)) k) (without id (run index.old.entries k)) (run index.old.entries k) }
+    requires second { IsSecond own.now.first.now (option_copied own.now.second) }
+    requires rising { (k : List ℕ) → IsRising (run index.old k) }
+    requires there { (k : List ℕ) → has_key k (keys_in (touched own.now)) ≡ true → Has (run index.old k) id }
+    ensures { (k : List ℕ) → run index.new k ≡ cond (brings (recorded_keys value.now) (keys_in (touched own.now)) k) (without id (run index.old k)) (run index.old k) }
 {
     match own.second {
         None => leave_one(index, id, own.first, value),
@@ -259,9 +302,9 @@ fn leave_touched(index: &mut Index, id: InstanceId, own: &Touching<'_>, value: &
 
 fn leave_two(index: &mut Index, id: InstanceId, first: &[u8], second: &[u8], value: &Option<Record>)
     requires apart { first.now ≢ second.now }
-    requires rising { (k : List ℕ) → IsRising (run index.old.entries k) }
-    requires there { (k : List ℕ) → has_key k (first.now ∷ second.now ∷ []) ≡ true → Has (run index.old.entries k) id }
-    ensures { (k : List ℕ) → run index.new.entries k ≡ cond (brings (recorded_keys value.now) (first.now ∷ second.now ∷ []) k) (without id (run index.old.entries k)) (run index.old.entries k) }
+    requires rising { (k : List ℕ) → IsRising (run index.old k) }
+    requires there { (k : List ℕ) → has_key k (first.now ∷ second.now ∷ []) ≡ true → Has (run index.old k) id }
+    ensures { (k : List ℕ) → run index.new k ≡ cond (brings (recorded_keys value.now) (first.now ∷ second.now ∷ []) k) (without id (run index.old k)) (run index.old k) }
 {
     leave_one(index, id, first, value);
     leave_one(index, id, second, value)
@@ -269,9 +312,9 @@ fn leave_two(index: &mut Index, id: InstanceId, first: &[u8], second: &[u8], val
 
 // Puts the instance into the key's run, unless it stays there.
 fn add_unless(index: &mut Index, stays: bool, key: &[u8], id: InstanceId) -> Result<(), AllocError>
-    requires { IsRising (run index.old.entries key.now) }
-    ensures ok { OnOk result ((k : List ℕ) → run index.new.entries k ≡ cond (same_list k key.now && not stays) (with_instance id (run index.old.entries k)) (run index.old.entries k)) }
-    ensures err { OnErr result ((k : List ℕ) → run index.new.entries k ≡ run index.old.entries k) }
+    requires { IsRising (run index.old key.now) }
+    ensures ok { OnOk result ((k : List ℕ) → run index.new k ≡ cond (same_list k key.now && not stays) (with_instance id (run index.old k)) (run index.old k)) }
+    ensures err { OnErr result ((k : List ℕ) → run index.new k ≡ run index.old k) }
     ensures succeeds { stays ≡ true → IsOk result }
 {
     if stays {
@@ -282,9 +325,9 @@ fn add_unless(index: &mut Index, stays: bool, key: &[u8], id: InstanceId) -> Res
 
 // Takes the instance out of the key's run, unless it stays there.
 fn remove_unless(index: &mut Index, stays: bool, key: &[u8], id: InstanceId)
-    requires rising { IsRising (run index.old.entries key.now) }
-    requires there { stays ≡ false → Has (run index.old.entries key.now) id }
-    ensures { (k : List ℕ) → run index.new.entries k ≡ cond (same_list k key.now && not stays) (without id (run index.old.entries k)) (run index.old.entries k) }
+    requires rising { IsRising (run index.old key.now) }
+    requires there { stays ≡ false → Has (run index.old key.now) id }
+    ensures { (k : List ℕ) → run index.new k ≡ cond (same_list k key.now && not stays) (without id (run index.old k)) (run index.old k) }
 {
     if stays {
         return;
@@ -294,66 +337,88 @@ fn remove_unless(index: &mut Index, stays: bool, key: &[u8], id: InstanceId)
 
 // The same of the run of seals.
 fn add_seal_unless(index: &mut Index, stays: bool, id: InstanceId) -> Result<(), AllocError>
-    requires { IsRising (run index.old.entries []) }
-    ensures ok { OnOk result ((k : List ℕ) → run index.new.entries k ≡ cond (same_list k [] && not stays) (with_instance id (run index.old.entries k)) (run index.old.entries k)) }
-    ensures err { OnErr result ((k : List ℕ) → run index.new.entries k ≡ run index.old.entries k) }
+    requires { IsRising (run index.old []) }
+    ensures ok { OnOk result ((k : List ℕ) → run index.new k ≡ cond (same_list k [] && not stays) (with_instance id (run index.old k)) (run index.old k)) }
+    ensures err { OnErr result ((k : List ℕ) → run index.new k ≡ run index.old k) }
     ensures succeeds { stays ≡ true → IsOk result }
 {
     if stays {
         return Ok(());
     }
-    add(index, &[], id)
+    insert(&mut index.seals, id)
 }
 
 fn remove_seal_unless(index: &mut Index, stays: bool, id: InstanceId)
-    requires rising { IsRising (run index.old.entries []) }
-    requires there { stays ≡ false → Has (run index.old.entries []) id }
-    ensures { (k : List ℕ) → run index.new.entries k ≡ cond (same_list k [] && not stays) (without id (run index.old.entries k)) (run index.old.entries k) }
+    requires rising { IsRising (run index.old []) }
+    requires there { stays ≡ false → Has (run index.old []) id }
+    ensures { (k : List ℕ) → run index.new k ≡ cond (same_list k [] && not stays) (without id (run index.old k)) (run index.old k) }
 {
     if stays {
         return;
     }
-    remove(index, &[], id)
+    take(&mut index.seals, id)
 }
 
 fn add(index: &mut Index, key: &[u8], id: InstanceId) -> Result<(), AllocError>
-    requires { IsRising (run index.old.entries key.now) }
-    ensures ok { OnOk result ((k : List ℕ) → run index.new.entries k ≡ cond (same_list k key.now) (with_instance id (run index.old.entries k)) (run index.old.entries k)) }
-    ensures err { OnErr result ((k : List ℕ) → run index.new.entries k ≡ run index.old.entries k) }
+    requires { IsRising (run index.old key.now) }
+    ensures ok { OnOk result ((k : List ℕ) → run index.new k ≡ cond (same_list k key.now) (with_instance id (run index.old k)) (run index.old k)) }
+    ensures err { OnErr result ((k : List ℕ) → run index.new k ≡ run index.old k) }
 {
-    match index.get_mut(key) {
+    if key.is_empty() {
+        return insert(&mut index.seals, id);
+    }
+    add_under(&mut index.runs, key, id)
+}
+
+fn remove(index: &mut Index, key: &[u8], id: InstanceId)
+    requires rising { IsRising (run index.old key.now) }
+    requires there { Has (run index.old key.now) id }
+    ensures { (k : List ℕ) → run index.new k ≡ cond (same_list k key.now) (without id (run index.old k)) (run index.old k) }
+{
+    if key.is_empty() {
+        return take(&mut index.seals, id);
+    }
+    remove_under(&mut index.runs, key, id)
+}
+
+fn add_under(runs: &mut Runs, key: &[u8], id: InstanceId) -> Result<(), AllocError>
+    requires { IsRising (run_in runs.old.entries key.now) }
+    ensures ok { OnOk result ((k : List ℕ) → run_in runs.new.entries k ≡ cond (same_list k key.now) (with_instance id (run_in runs.old.entries k)) (run_in runs.old.entries k)) }
+    ensures err { OnErr result ((k : List ℕ) → run_in runs.new.entries k ≡ run_in runs.old.entries k) }
+{
+    match runs.get_mut(key) {
         Some(run) => insert(run, id),
-        None => add_run(index, key, id),
+        None => add_run(runs, key, id),
     }
 }
 
-fn add_run(index: &mut Index, key: &[u8], id: InstanceId) -> Result<(), AllocError>
-    requires { lookup (is_at key.now) index.old.entries ≡ None }
-    ensures ok { OnOk result ((k : List ℕ) → run index.new.entries k ≡ cond (same_list k key.now) (id ∷ []) (run index.old.entries k)) }
-    ensures err { OnErr result ((k : List ℕ) → run index.new.entries k ≡ run index.old.entries k) }
+fn add_run(runs: &mut Runs, key: &[u8], id: InstanceId) -> Result<(), AllocError>
+    requires { lookup (is_at key.now) runs.old.entries ≡ None }
+    ensures ok { OnOk result ((k : List ℕ) → run_in runs.new.entries k ≡ cond (same_list k key.now) (id ∷ []) (run_in runs.old.entries k)) }
+    ensures err { OnErr result ((k : List ℕ) → run_in runs.new.entries k ≡ run_in runs.old.entries k) }
 {
-    let alloc = *index.allocator();
+    let alloc = *runs.allocator();
     let key = Vec::from_slice(alloc, key)?;
     let mut run = Vec::new(alloc);
     run.push(id)?;
-    match index.insert(key, run) {
+    match runs.insert(key, run) {
         Ok(_) => Ok(()),
         Err(_) => Err(AllocError),
     }
 }
 
-fn remove(index: &mut Index, key: &[u8], id: InstanceId)
-    requires rising { IsRising (run index.old.entries key.now) }
-    requires there { Has (run index.old.entries key.now) id }
-    ensures { (k : List ℕ) → run index.new.entries k ≡ cond (same_list k key.now) (without id (run index.old.entries k)) (run index.old.entries k) }
+fn remove_under(runs: &mut Runs, key: &[u8], id: InstanceId)
+    requires rising { IsRising (run_in runs.old.entries key.now) }
+    requires there { Has (run_in runs.old.entries key.now) id }
+    ensures { (k : List ℕ) → run_in runs.new.entries k ≡ cond (same_list k key.now) (without id (run_in runs.old.entries k)) (run_in runs.old.entries k) }
 {
-    match index.get_mut(key) {
+    match runs.get_mut(key) {
         Some(run) => take(run, id),
         None => unreachable!(),
     }
 }
 
-fn insert(run: &mut Vec<InstanceId>, id: InstanceId) -> Result<(), AllocError>
+pub(crate) fn insert(run: &mut Vec<InstanceId>, id: InstanceId) -> Result<(), AllocError>
     requires { IsRising run.old.items }
     ensures ok { OnOk result (run.new.items ≡ with_instance id run.old.items) }
     ensures err { OnErr result (run.new.items ≡ run.old.items) }
@@ -361,6 +426,19 @@ fn insert(run: &mut Vec<InstanceId>, id: InstanceId) -> Result<(), AllocError>
     let at = position(run.as_slice(), id);
     run.insert(at, id)?;
     Ok(())
+}
+
+// Whether the instance is one of the run's.
+pub(crate) fn is_among(run: &[InstanceId], id: InstanceId) -> bool
+    requires { IsRising run.now }
+    ensures there { result ≡ true → Has run.now id }
+    ensures absent { result ≡ false → ¬ (Has run.now id) }
+{
+    let at = position(run, id);
+    if run.len() <= at {
+        return false;
+    }
+    run[at] == id
 }
 
 fn take(run: &mut Vec<InstanceId>, id: InstanceId)
@@ -391,11 +469,11 @@ fn position(run: &[InstanceId], id: InstanceId) -> usize
     low
 }
 
-// Whether the instance's recorded command has the key.
-fn is_named(table: &Table<Record>, id: InstanceId, key: &[u8]) -> bool
-    ensures { result ≡ has_key key.now (keys_at table.now.held id) }
+// Whether the command of what is there has the key.
+fn is_named(there: Option<&Record>, key: &[u8]) -> bool
+    ensures { result ≡ has_key key.now (recorded_keys (option_copied there.entry)) }
 {
-    match table.get(id) {
+    match there {
         None => false,
         Some(record) => record_names(record, key),
     }
@@ -418,11 +496,11 @@ fn record_names(written: &Record, key: &[u8]) -> bool
     stands_under(written, key)
 }
 
-// Whether the instance's recorded command is a seal.
-fn is_sealed(table: &Table<Record>, id: InstanceId) -> bool
-    ensures { result ≡ has_key [] (keys_at table.now.held id) }
+// Whether the command of what is there is a seal.
+fn is_sealed(there: Option<&Record>) -> bool
+    ensures { result ≡ has_key [] (recorded_keys (option_copied there.entry)) }
 {
-    match table.get(id) {
+    match there {
         None => false,
         Some(record) => stands_under(record, &[]),
     }

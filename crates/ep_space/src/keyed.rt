@@ -1,6 +1,6 @@
 //! Records of instances, with an index by key.
 
-ghost use Rattle.std.specs.Prelude.{◌≡◌, ◌≤◌, ◌<◌, ℕ, false, Some, None, IsOk, IfOk, OnOk, OnErr, if◌then◌else◌};
+ghost use Rattle.std.specs.Prelude.{◌≡◌, [], ◌≤◌, ◌<◌, ℕ, false, Some, None, IsOk, IfOk, OnOk, OnErr, if◌then◌else◌};
 ghost use Rattle.std.specs.FinSet as set;
 ghost use Rattle.std.specs.Option.{option_copied};
 ghost use Rattle.ep_rules.specs.Cells.{record_or_fresh};
@@ -10,22 +10,24 @@ ghost use Rattle.ep_space.specs.Held.{HasPlace};
 ghost use Rattle.ep_space.specs.Index.{IsKept};
 ghost use Rattle.ep_space.specs.Keys.{recorded_keys, keys_at, holders, NeedsNoRoom};
 ghost use Rattle.ep_space.specs.Open.{AreRecords};
+ghost use Rattle.ep_space.specs.Seqs.{recorded_seq};
 ghost use Rattle.ep_space.specs.Settled.{as_settled, committed_vote};
 
-use crate::index::{self, Index, enter, leave, run_of};
+use crate::index::{self, Index, enter, leave, new_index, run_of, seals_of};
+use crate::seqs::{Seqs, note_seq, seq_at, seq_of, widen};
 use crate::table::Table;
 use crate::taken::note;
 use ep_base::{Ballot, InstanceId, ReplicaId, Status, Vote};
 use ep_rules::Record;
-use indexmap::IndexMap;
 use std::alloc::{AllocError, Global};
 use std::marker::Model;
 
-/// A table of records, and an index of them by key.
+/// A table of records, an index of them by key, and their sequence numbers by instance.
 #[derive(Drop)]
 pub struct Keyed {
     table: Table<Record>,
     index: Index,
+    seqs: Seqs,
     taken: [u16; 7],
 }
 
@@ -39,11 +41,12 @@ impl Model for Keyed {
     ghost coded = { held_code record_facts.the_row.coded };
 
     ghost use Rattle.ep_space.specs.Index.{IsKept};
+    ghost use Rattle.ep_space.specs.Seqs.{AreSeqs};
     ghost use Rattle.ep_space.specs.Taken.{AreTaken};
 
     ghost view = { λ k. k.table };
 
-    ghost invariant = { λ k. IsKept k.table k.index.entries × AreTaken k.table.held k.taken };
+    ghost invariant = { λ k. IsKept k.table k.index × AreSeqs k.table k.seqs.items × AreTaken k.table.held k.taken };
 }
 
 impl Keyed {
@@ -53,7 +56,8 @@ impl Keyed {
     {
         Keyed {
             table: Table::new(alloc),
-            index: IndexMap::new(alloc),
+            index: new_index(alloc),
+            seqs: Vec::new(alloc),
             taken: [0; 7],
         }
     }
@@ -64,9 +68,11 @@ impl Keyed {
     {
         let table = self.table.duplicate(alloc)?;
         let index = index::duplicate(&self.index, alloc)?;
+        let seqs = Vec::from_slice(alloc, &self.seqs)?;
         Ok(Keyed {
             table,
             index,
+            seqs,
             taken: self.taken,
         })
     }
@@ -91,6 +97,7 @@ impl Keyed {
         ensures place { OnOk result (HasPlace self.new.places id) }
         ensures err { OnErr result (self.new ≡ self.old) }
     {
+        widen(&mut self.seqs, id)?;
         self.table.reserve(id)
     }
 
@@ -107,8 +114,11 @@ impl Keyed {
         ensures err { OnErr result (self.new ≡ self.old) }
         ensures succeeds { NeedsNoRoom (keys_at self.old.held id) (recorded_keys value) → IsOk result }
     {
+        let seq = seq_of(&value);
+        let is_there = value.is_some();
         let earlier = exchange(&mut self.table, &mut self.index, id, value)?;
-        note(&mut self.taken, &self.table, id);
+        note_seq(&mut self.seqs, id, seq);
+        note(&mut self.taken, &self.table, id, is_there);
         Ok(earlier)
     }
 
@@ -129,7 +139,7 @@ impl Keyed {
         ensures { self.new ≡ record { held = insert self.old.held id (record { promised = ballot; vote = (record_or_fresh id (get self.old.held id)).vote }); places = self.old.places } }
     {
         write_promise(&mut self.table, id, ballot);
-        note(&mut self.taken, &self.table, id);
+        note(&mut self.taken, &self.table, id, true);
     }
 
     /// Commits what the record voted for, if it voted: both ballots stay. It takes no memory.
@@ -138,7 +148,6 @@ impl Keyed {
         ensures { self.new ≡ record { held = with_held self.old.held id (as_settled (get self.old.held id)); places = self.old.places } }
     {
         write_settled(&mut self.table, id);
-        note(&mut self.taken, &self.table, id);
     }
 
     /// The instances whose recorded command has the key, in rising order.
@@ -146,6 +155,20 @@ impl Keyed {
         ensures { result.now ≡ holders key.now self.now.held }
     {
         run_of(&self.index, key)
+    }
+
+    /// The instances whose recorded command is a seal, in rising order.
+    pub fn seals(&self) -> &[InstanceId]
+        ensures { result.now ≡ holders [] self.now.held }
+    {
+        seals_of(&self.index)
+    }
+
+    /// The sequence number that the instance's record votes for; 0 where it votes for none.
+    pub fn seq(&self, id: InstanceId) -> u32
+        ensures { result ≡ recorded_seq (get self.now.held id) }
+    {
+        seq_at(&self.seqs, id)
     }
 
     /// A number of the replica's first instances that all have a record.
@@ -166,15 +189,16 @@ fn exchange(
     value: Option<Record>,
 ) -> Result<Option<Record>, AllocError>
     requires place { HasPlace table.old.places id }
-    requires kept { IsKept table.old index.old.entries }
+    requires kept { IsKept table.old index.old }
     ensures old { IfOk result (λ there. there ≡ get table.old.held id) }
     ensures new { OnOk result (table.new ≡ record { held = with_held table.old.held id value; places = table.old.places }) }
     ensures err { OnErr result (table.new ≡ table.old) }
     ensures succeeds { NeedsNoRoom (keys_at table.old.held id) (recorded_keys value) → IsOk result }
-    ensures kept { IsKept table.new index.new.entries }
+    ensures kept { IsKept table.new index.new }
 {
-    enter(table, index, id, &value)?;
-    leave(table, index, id, &value);
+    let there = table.get(id);
+    enter(index, id, there, &value)?;
+    leave(index, id, there, &value);
     Ok(table.put_back(id, value))
 }
 

@@ -149,7 +149,7 @@ fn duplicate_of<V: Duplicate>(value: &Option<V>, alloc: Global) -> Result<Option
 }
 
 /// Where the list of spots tells of the instance.
-fn slot_of(id: InstanceId) -> usize
+pub(crate) fn slot_of(id: InstanceId) -> usize
     ensures value { result ≡ slot id }
     ensures small { result < 16008 }
     ensures in_range { IsInstance id }

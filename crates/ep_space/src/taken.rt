@@ -10,17 +10,20 @@ use crate::table::Table;
 use ep_base::{InstanceId, ReplicaId};
 use ep_rules::Record;
 
-/// Notes that the instance's record was written, or taken out: each number stays one of first instances that all have a record.
-pub(crate) fn note(taken: &mut [u16; 7], table: &Table<Record>, id: InstanceId)
-    requires { AreTakenBut id table.now.held taken.old }
+/// Notes that the instance's record was written, or taken out: each number stays one of first instances that all have a record. Where the
+/// record isn't of the next one, nothing is looked up.
+pub(crate) fn note(taken: &mut [u16; 7], table: &Table<Record>, id: InstanceId, is_there: bool)
+    requires but { AreTakenBut id table.now.held taken.old }
+    requires there { is_there ≡ is_some (get table.now.held id) }
     ensures { AreTaken table.now.held taken.new }
 {
     let leader = usize::from(id.replica().index());
     let known = taken[leader];
-    taken[leader] = match table.get(id) {
-        None => known.min(id.number() - 1),
-        Some(_) => advanced(table, id.replica(), known),
-    };
+    if !is_there {
+        taken[leader] = known.min(id.number() - 1);
+    } else if id.number() - 1 == known {
+        taken[leader] = advanced(table, id.replica(), id.number());
+    }
 }
 
 // A number as great or greater of first instances that all have a record.

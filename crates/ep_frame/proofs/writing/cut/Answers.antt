@@ -1,7 +1,5 @@
-use Rattle.std.proofs.Common.{◌≡◌, ℕ, ◌+◌, ◌-◌, ◌≤◌, ◌<◌, List, ◌++◌, length, take, drop, sym, subst, ◌∙◌, arith}
+use Rattle.std.proofs.Common.{◌≡◌, ℕ, ◌<◌, List, length, sym, subst, ◌∙◌, arith}
 use Rattle.std.specs.Prelude.{slice_index_or}
-use Rattle.std.specs.List.{concat}
-use Rattle.std.specs.Vec.{vec_len, vec_capacity}
 use Rattle.ep_frame.specs.Origins.{readdressed}
 use Rattle.ep_frame.specs.Rounds.{readdressed_to}
 use Rattle.ep_frame.specs.Spelling.{IsFrame}

@@ -10,33 +10,33 @@ use Rattle.ep_space.proofs.Gathering.{gathered-keys, none_of, plain_holders, uni
 use Rattle.ep_space.proofs.Holders.{rising-holders, rising-holders_of}
 use Rattle.ep_space.proofs.gathered.gathered_with_seals.Goals as goal
 
-pub gathered_run-requires-clause-rising : goal.gathered_run-requires-clause-rising
-gathered_run-requires-clause-rising c = subst IsRising (sym c.requires.holders) (rising-holders_of (keys_of c.args.command.now) c.args.records.now.held)
+pub gathered_plain-requires-clause-rising : goal.gathered_plain-requires-clause-rising
+gathered_plain-requires-clause-rising c = subst IsRising (sym c.requires.holders) (rising-holders_of (keys_of c.args.command.now) c.args.records.now.held)
 
-pub gathered_run-requires-clause-plain : goal.gathered_run-requires-clause-plain
-gathered_run-requires-clause-plain c = λ is. plain_holders c.args.command.now c.args.records.now.held c.args.run.now (sym c.key_run-seals.ensures ∙ none_of c.key_run-seals.result.now c.if-is_empty.ensures) c.requires.holders
+pub gathered_plain-requires-clause-plain : goal.gathered_plain-requires-clause-plain
+gathered_plain-requires-clause-plain c = plain_holders c.args.command.now c.args.records.now.held c.args.run.now (sym c.seals-seals.ensures ∙ none_of c.seals-seals.result.now c.if-is_empty.ensures) c.requires.holders
 
 pub returns-then-is_empty : goal.returns-then-is_empty
 returns-then-is_empty c =
     let m = c.args.records.now.held in
-    on_value c.gathered_run.result
+    on_value c.gathered_plain.result
     (λ g e. ap next_attrs e
-    ∙ ap (λ is. next_attrs (gather_all (touches c.args.command.now c.args.except) m (record { seq = 0; deps = [] }) is)) (sym (union_none c.args.run.now c.key_run-seals.result.now c.if-is_empty.ensures))
-    ∙ (λ d. next_attrs (gather_all (touches c.args.command.now c.args.except) m (record { seq = 0; deps = [] }) (union (c.requires.holders d) (c.key_run-seals.ensures d))))
+    ∙ ap (λ is. next_attrs (gather_all (touches c.args.command.now c.args.except) m (record { seq = 0; deps = [] }) is)) (sym (union_none c.args.run.now c.seals-seals.result.now c.if-is_empty.ensures))
+    ∙ (λ d. next_attrs (gather_all (touches c.args.command.now c.args.except) m (record { seq = 0; deps = [] }) (union (c.requires.holders d) (c.seals-seals.ensures d))))
     ∙ gathered-keys c.args.command.now c.args.except c.requires.no_seal m)
-    c.gathered_run.ensures
+    c.gathered_plain.ensures
 
-pub gathered_run-requires-2-clause-rising : goal.gathered_run-requires-2-clause-rising
-gathered_run-requires-2-clause-rising c =
-    subst IsRising (sym (c.as_slice.ensures.value ∙ c.in_ok-all.ensures ∙ (λ d. union (c.requires.holders d) (c.key_run-seals.ensures d))))
+pub gathered_run-requires-clause-rising : goal.gathered_run-requires-clause-rising
+gathered_run-requires-clause-rising c =
+    subst IsRising (sym (c.as_slice.ensures.value ∙ c.in_ok-all.ensures ∙ (λ d. union (c.requires.holders d) (c.seals-seals.ensures d))))
     (IsRising-union (holders_of (keys_of c.args.command.now) c.args.records.now.held) (holders [] c.args.records.now.held) (rising-holders_of (keys_of c.args.command.now) c.args.records.now.held) (rising-holders [] c.args.records.now.held))
 
 pub returns : goal.returns
 returns c =
     let m = c.args.records.now.held in
-    on_value c.gathered_run-2.result
+    on_value c.gathered_run.result
     (λ g e. ap next_attrs e
     ∙ ap (λ is. next_attrs (gather_all (touches c.args.command.now c.args.except) m (record { seq = 0; deps = [] }) is)) (c.as_slice.ensures.value ∙ c.in_ok-all.ensures)
-    ∙ (λ d. next_attrs (gather_all (touches c.args.command.now c.args.except) m (record { seq = 0; deps = [] }) (union (c.requires.holders d) (c.key_run-seals.ensures d))))
+    ∙ (λ d. next_attrs (gather_all (touches c.args.command.now c.args.except) m (record { seq = 0; deps = [] }) (union (c.requires.holders d) (c.seals-seals.ensures d))))
     ∙ gathered-keys c.args.command.now c.args.except c.requires.no_seal m)
-    c.gathered_run-2.ensures
+    c.gathered_run.ensures

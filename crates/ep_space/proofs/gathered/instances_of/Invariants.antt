@@ -1,6 +1,10 @@
 use Rattle.std.proofs.Common.{◌≡◌, [], drop}
+use Rattle.ep_base.specs.Deps.{IsRising}
 use Rattle.ep_space.specs.Gathering.{recorded_in}
 use Rattle.ep_space.proofs.gathered.instances_of.Given as goal
 
 abbrev pub invariant-loop-id : goal.invariant-loop-id
-invariant-loop-id l = recorded_in l.all.items (drop l.id-index l.entries) ≡ recorded_in [] l.entries
+invariant-loop-id l = record {
+  rest : recorded_in l.all.items (drop l.id-index l.entries) ≡ recorded_in [] l.entries;
+  rising : IsRising l.all.items;
+}

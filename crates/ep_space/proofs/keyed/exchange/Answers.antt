@@ -1,16 +1,42 @@
-use Rattle.ep_space.proofs.Kept.{kept-changed, rising-entered, Has-entered}
+use Rattle.std.proofs.Common.{◌≡◌, ◌∙◌, List, ℕ, ap, cond, sym, subst}
+use Rattle.std.specs.Option.{option_copied}
+use Rattle.ep_base.specs.Interference.{has_key}
+use Rattle.ep_space.specs.Index.{run, brings, without, StandsUnder}
+use Rattle.ep_space.specs.Keys.{recorded_keys, keys_at}
+use Rattle.ep_space.proofs.Kept.{entered_by, kept-changed, rising-entered, Has-entered, stands-kept}
 use Rattle.ep_space.proofs.keyed.exchange.Goals as goal
+
+pub enter-requires : goal.enter-requires
+enter-requires c =
+    subst (λ ks. StandsUnder c.args.id ks c.args.index.now) (sym (ap recorded_keys c.get-there.ensures)) (stands-kept c.args.table.now c.args.index.now c.args.id c.requires.kept)
 
 pub leave-requires-clause-rising : goal.leave-requires-clause-rising
 leave-requires-clause-rising c =
-    let t = c.args.table.now in rising-entered t.held c.args.id c.args.value t.places c.args.index.now.entries c.requires.kept c.enter.new.index.entries c.in_ok-enter.ensures.ok
+    let t = c.args.table.now in
+    let x = c.args.index.now in
+    let y = c.enter.new.index in
+    rising-entered t.held c.args.id c.args.value t.places x c.requires.kept y
+    (entered_by t.held c.args.id c.args.value t.places x c.requires.kept (recorded_keys (option_copied c.get-there.result)) (ap recorded_keys c.get-there.ensures) y c.in_ok-enter.ensures.ok)
 
-pub leave-requires-clause-there : goal.leave-requires-clause-there
-leave-requires-clause-there c =
-    let t = c.args.table.now in Has-entered t.held c.args.id c.args.value t.places c.args.index.now.entries c.requires.kept c.enter.new.index.entries c.in_ok-enter.ensures.ok
+pub leave-requires-clause-has : goal.leave-requires-clause-has
+leave-requires-clause-has c = λ k h.
+    let t = c.args.table.now in
+    let x = c.args.index.now in
+    let y = c.enter.new.index in
+    let own : recorded_keys (option_copied c.get-there.result) ≡ keys_at t.held c.args.id = ap recorded_keys c.get-there.ensures in
+    Has-entered t.held c.args.id c.args.value t.places x c.requires.kept y
+    (entered_by t.held c.args.id c.args.value t.places x c.requires.kept (recorded_keys (option_copied c.get-there.result)) own y c.in_ok-enter.ensures.ok)
+    k (sym (ap (has_key k) own) ∙ h)
 
 pub returns-clause-kept : goal.returns-clause-kept
 returns-clause-kept c =
     let t = c.args.table.now in
+    let x = c.args.index.now in
+    let y = c.enter.new.index in
+    let z = c.leave.new.index in
+    let ks : List (List ℕ) = recorded_keys (option_copied c.get-there.result) in
+    let own : ks ≡ keys_at t.held c.args.id = ap recorded_keys c.get-there.ensures in
     rw c.put_back.ensures.new
-    (kept-changed t.held c.args.id c.args.value t.places c.args.index.now.entries c.requires.kept c.enter.new.index.entries c.leave.new.index.entries c.in_ok-enter.ensures.ok c.leave.ensures)
+    (kept-changed t.held c.args.id c.args.value t.places x c.requires.kept y z
+    (entered_by t.held c.args.id c.args.value t.places x c.requires.kept ks own y c.in_ok-enter.ensures.ok)
+    (λ k. c.leave.ensures k ∙ ap (λ (o : List (List ℕ)). cond (brings (recorded_keys c.args.value) o k) (without c.args.id (run y k)) (run y k)) own))

@@ -4,11 +4,11 @@ use Rattle.std.specs.Prelude.{slice_get}
 use Rattle.ep_base.specs.Attributes.{same_list}
 use Rattle.ep_space.specs.Index.{Entry}
 use Rattle.ep_space.proofs.Entered.{run-from}
-use Rattle.ep_space.proofs.index.duplicate.Goals as goal
+use Rattle.ep_space.proofs.index.duplicate_runs.Goals as goal
 
 pub loop-place-preserved : goal.loop-place-preserved
 loop-place-preserved c q =
-    let es : List Entry = c.args.index.now.entries in
+    let es : List Entry = c.args.runs.now.entries in
     let k = c.loop-place.place - 1 in
     let name : Vec ℕ Global = c.unwrap.result.0.now in
     let places : Vec ℕ Global = c.unwrap.result.1.now in

@@ -1,0 +1,36 @@
+use Rattle.std.proofs.Common.{◌≡◌, ◌<◌, ◌+◌, ◌∙◌, ℕ, List, Some, sym, ap, subst, drop, ◌∷◌, ◌++◌, length, slice_index_or}
+use Rattle.std.proofs.lemmas.Option.{slice_get-get_or}
+use Rattle.ep_base.specs.Deps.{IsRising}
+use Rattle.ep_rules.specs.InterferenceSet.{touches}
+use Rattle.ep_rules.specs.Maps.{get}
+use Rattle.ep_space.specs.Gathering.{gather_all}
+use Rattle.ep_space.specs.Keys.{ArePlain}
+use Rattle.ep_space.proofs.Gathering.{drop_here, rising_front, rising_gathered}
+use Rattle.ep_space.proofs.gathered.gathered_whole.Goals as goal
+
+-- what is left at a place, where the instance there is named
+left_at : (run : List ℕ) (k : ℕ) (i : ℕ) → k < length run → i ≡ slice_index_or run k i → drop k run ≡ i ∷ drop (k + 1) run
+left_at run k i inside named = drop_here run k i (slice_get-get_or run k i inside ∙ ap Some (sym named))
+
+pub take_in-requires-clause-rising : goal.take_in-requires-clause-rising
+take_in-requires-clause-rising c =
+    let left = left_at c.args.run.now c.loop-id.id-index c.id-item.result c.loop-id-test.true c.id-item.is in
+    rising_front c.loop-id.gathered.deps c.id-item.result (drop (c.loop-id.id-index + 1) c.args.run.now) (subst (λ is. IsRising (c.loop-id.gathered.deps ++ is)) left c.loop-id.invariant.rising)
+
+pub take_in-requires-clause-plain : goal.take_in-requires-clause-plain
+take_in-requires-clause-plain c =
+    let left = left_at c.args.run.now c.loop-id.id-index c.id-item.result c.loop-id-test.true c.id-item.is in
+    (subst (ArePlain c.args.command.now c.args.records.now.held) left c.loop-id.invariant.plain).0
+
+pub loop-id-preserved : goal.loop-id-preserved
+loop-id-preserved c =
+    let t = touches c.args.command.now c.args.except in
+    let m = c.args.records.now.held in
+    let i = c.id-item.result in
+    let rest = drop (c.loop-id.id-index + 1) c.args.run.now in
+    let left = left_at c.args.run.now c.loop-id.id-index i c.loop-id-test.true c.id-item.is in
+    record {
+      rest = ap (λ g. gather_all t m g rest) c.in_ok-take_in.ensures ∙ ap (gather_all t m c.loop-id.gathered) (sym left) ∙ c.loop-id.invariant.rest;
+      plain = (subst (ArePlain c.args.command.now m) left c.loop-id.invariant.plain).1;
+      rising = subst (λ g. IsRising (g.deps ++ rest)) (sym c.in_ok-take_in.ensures) (rising_gathered t c.loop-id.gathered i (get m i) rest (subst (λ is. IsRising (c.loop-id.gathered.deps ++ is)) left c.loop-id.invariant.rising));
+    }
