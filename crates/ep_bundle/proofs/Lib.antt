@@ -10,6 +10,7 @@ pub mod Journeys
 pub mod Stepped
 pub mod Bundles
 pub mod Puts
+pub mod HavingBundles
 pub mod WrittenCommands
 pub mod WrittenStages
 pub mod WrittenParts

@@ -1,7 +1,7 @@
 -- What a drawn file is, and when there is none.
 use Rattle.std.proofs.Common.{◌≡◌, ◌≤◌, ◌<◌, ℕ, List, ◌++◌, length, subst, ap, ◌∙◌, append_assoc}
 use Rattle.ep_rules.specs.Journals.{AreLocalRuns}
-use Rattle.ep_rules.specs.OneMap.{empty, opened}
+use Rattle.ep_journal.specs.Openings.{opens}
 use Rattle.ep_journal.specs.Entries.{Collected, journals_of}
 use Rattle.ep_words.specs.declared.part.Part.{Part}
 use Rattle.ep_view.specs.Shown.{IsInOrder}
@@ -20,7 +20,7 @@ are_kept c part all rows ordered e = record { all = all; ordered = ordered; are 
 pub is_drawn : (c : Collected) (part : Part) (rows : List (ℕ × ℕ)) (svg : List ℕ) → AreKept c part rows → length rows ≤ 2000 → IsFile c rows svg → IsDrawn c part svg
 is_drawn c part rows svg k few file = record { rows = rows; are_kept = k; few = few; file = file }
 
-pub is_too_many : (c : Collected) (part : Part) (rows : List (ℕ × ℕ)) (d : DrawFault) → AreLocalRuns (opened empty) c.faults (journals_of c) → AreKept c part rows → 2000 < length rows
+pub is_too_many : (c : Collected) (part : Part) (rows : List (ℕ × ℕ)) (d : DrawFault) → AreLocalRuns (opens c.opening) c.faults (journals_of c) → AreKept c part rows → 2000 < length rows
     → IsCrowd c rows d → IsRefused c part d
 is_too_many c part rows Memory runs k many told = tt
 is_too_many c part rows (TooMany count lines) runs k many told =

@@ -1,10 +1,11 @@
 -- Of entries in the order of their stamps, those before the stamp of the one at place n are n at most.
 use Rattle.std.proofs.Common.{◌≡◌, ℕ, zero, suc, ◌≤◌, ◌+◌, Bool, true, false, cond, ◌&&◌, nat_le, Option, Some, None, List, [], ◌∷◌, length, slice_get, refl, sym, ap, subst, ◌∙◌, arith, ◌⊎◌, inl, inr}
-use Rattle.ep_rules.specs.Journals.{Scheduled, Precedes, Rises, IsSchedule, AreLocalRuns}
-use Rattle.ep_rules.specs.OneMap.{empty, opened}
+use Rattle.std.proofs.lemmas.Bool.Decides.{nat_tests}
+use Rattle.ep_rules.specs.Journals.{Entry, Scheduled, Precedes, Rises, IsSchedule, AreLocalRuns}
 use Rattle.ep_rules.specs.Worlds.{In}
 use Rattle.ep_rules.proofs.Merged.{in_at}
 use Rattle.ep_journal.specs.Entries.{Collected, entries_at, journals_of, entry_of}
+use Rattle.ep_journal.specs.Openings.{opens}
 use Rattle.ep_journal.specs.declared.entry.Entry.{Entry as Written}
 use Rattle.ep_verdict.specs.Verdicts.{places_of}
 use Rattle.ep_verdict.proofs.Lining.{StandsAt, stands_at}
@@ -30,9 +31,9 @@ late true true n x e = ap (λ (z : Bool). z && x) e
 
 inside : (a b m x : Bool) → (a && (b && (m && x))) ≡ true → m ≡ true
 inside true true true x e = refl
-inside true true false x e = absurd (cc)
-inside true false m x e = absurd (cc)
-inside false b m x e = absurd (cc)
+inside true true false x e = absurd (let wrong : false ≡ true = e in cc)
+inside true false m x e = absurd (let wrong : false ≡ true = e in cc)
+inside false b m x e = absurd (let wrong : false ≡ true = e in cc)
 
 test_le : (a b : ℕ) → nat_le a b ≡ true → a ≤ b
 test_le a b e = grind (arith, nat_tests)
@@ -42,7 +43,7 @@ above_test a b h = go (nat_le a b) refl
   where
     go : (t : Bool) → nat_le a b ≡ t → t ≡ false
     go false e = refl
-    go true e = absurd (let low = test_le a b e in omega arith)
+    go true e = absurd (let low : a ≤ b = test_le a b e in omega arith)
 
 test_from : (a b : ℕ) → a ≤ b → nat_le a b ≡ true
 test_from a b h = go (nat_le a b) refl
@@ -76,19 +77,19 @@ some_no_later part t r None high = refl
 some_no_later part t r (Some e) high = keeps_no_later part t r e high
 
 some_is_inside : (part : Part) (r : ℕ) (o : Option Written) → keeps_some part r o ≡ true → stamp_of o ≤ part.to
-some_is_inside part r None yes = absurd (cc)
+some_is_inside part r None yes = absurd (let wrong : false ≡ true = yes in cc)
 some_is_inside part r (Some e) yes = kept_is_inside part r e yes
 
 -- Places in the order of their stamps.
 
-stamp_in : Collected → ℕ × ℕ → ℕ
+abbrev stamp_in : Collected → ℕ × ℕ → ℕ
 stamp_in c p = stamp_of (entry_at (entries_at c p.0) p.1)
 
-From : Collected → ℕ → List (ℕ × ℕ) → Type 0
+abbrev From : Collected → ℕ → List (ℕ × ℕ) → Type 0
 From c s [] = Unit {0}
 From c s (p ∷ ps) = (s ≤ stamp_in c p) × From c s ps
 
-Climbs : Collected → List (ℕ × ℕ) → Type 0
+abbrev Climbs : Collected → List (ℕ × ℕ) → Type 0
 Climbs c [] = Unit {0}
 Climbs c (p ∷ ps) = From c (stamp_in c p) ps × Climbs c ps
 
@@ -107,20 +108,32 @@ step : (a b : Bool) (q p : ℕ × ℕ) (xs ys : List (ℕ × ℕ)) (n : ℕ) →
 step false false q p xs ys n less rest head at = rest n at
 step false true q p xs ys n less rest head at = absurd (let wrong : true ≡ false = less refl in cc)
 step true b q p xs ys zero less rest head at =
+    let here : Some q ≡ Some p = at in
     let same : q ≡ p = cc in
-    subst (λ (z : List (ℕ × ℕ)). length z ≤ 0) (sym (head same)) (omega arith)
-step true false q p xs ys (suc m) less rest head at = let most : length ys ≤ m = rest m at in omega arith
-step true true q p xs ys (suc m) less rest head at = let most : length ys ≤ m = rest m at in omega arith
+    let none : 0 ≤ 0 = omega arith in
+    subst (λ (z : List (ℕ × ℕ)). length z ≤ 0) (sym (head same)) none
+step true false q p xs ys (suc m) less rest head at =
+    let most : length ys ≤ m = rest m at in
+    let more : length ys ≤ suc m = omega arith in
+    more
+step true true q p xs ys (suc m) less rest head at =
+    let most : length ys ≤ m = rest m at in
+    let more : suc (length ys) ≤ suc m = omega arith in
+    more
 
-kept_one : (c : Collected) (part : Part) (p : ℕ × ℕ) (n : ℕ) (ps : List (ℕ × ℕ)) → slice_get (kept c part ps) n ≡ Some p → keeps_some part p.0 (entry_at (entries_at c p.0) p.1) ≡ true
-kept_one c part p n [] at = absurd (cc)
-kept_one c part p n (q ∷ qs) at = go (keeps_some part q.0 (entry_at (entries_at c q.0) q.1)) refl n at
+kept_one : (c : Collected) (part : Part) (p : ℕ × ℕ) (ps : List (ℕ × ℕ)) (n : ℕ) → slice_get (kept c part ps) n ≡ Some p → keeps_some part p.0 (entry_at (entries_at c p.0) p.1) ≡ true
+kept_one c part p [] n at = absurd (cc)
+kept_one c part p (q ∷ qs) n at = go (keeps_some part q.0 (entry_at (entries_at c q.0) q.1)) refl (kept_one c part p qs) n at
   where
-    go : (b : Bool) → keeps_some part q.0 (entry_at (entries_at c q.0) q.1) ≡ b → (m : ℕ) → slice_get (cond b (q ∷ kept c part qs) (kept c part qs)) m ≡ Some p
-        → keeps_some part p.0 (entry_at (entries_at c p.0) p.1) ≡ true
-    go false e m there = kept_one c part p m qs there
-    go true e zero there = let same : q ≡ p = cc in subst (λ (z : ℕ × ℕ). keeps_some part z.0 (entry_at (entries_at c z.0) z.1) ≡ true) same e
-    go true e (suc m) there = kept_one c part p m qs there
+    go : (b : Bool) → keeps_some part q.0 (entry_at (entries_at c q.0) q.1) ≡ b
+        → ((m : ℕ) → slice_get (kept c part qs) m ≡ Some p → keeps_some part p.0 (entry_at (entries_at c p.0) p.1) ≡ true) → (m : ℕ)
+        → slice_get (cond b (q ∷ kept c part qs) (kept c part qs)) m ≡ Some p → keeps_some part p.0 (entry_at (entries_at c p.0) p.1) ≡ true
+    go false e rest m there = rest m there
+    go true e rest zero there =
+        let here : Some q ≡ Some p = there in
+        let same : q ≡ p = cc in
+        subst (λ (z : ℕ × ℕ). keeps_some part z.0 (entry_at (entries_at c z.0) z.1) ≡ true) same e
+    go true e rest (suc m) there = rest m there
 
 fits : (c : Collected) (part : Part) (t : ℕ) (p : ℕ × ℕ) (all : List (ℕ × ℕ)) → t ≤ part.to → Climbs c all → stamp_in c p ≡ suc t → (n : ℕ) → slice_get (kept c part all) n ≡ Some p
     → length (kept c (up_to t part) all) ≤ n
@@ -131,18 +144,16 @@ fits c part t p (q ∷ qs) low climbs is n at =
   where
     first : q ≡ p → kept c (up_to t part) (q ∷ qs) ≡ []
     first same =
-        none_later c part t (q ∷ qs) (
-          let here : stamp_in c q ≡ suc t = ap (stamp_in c) same ∙ is in
-              (let reached : suc t ≤ stamp_in c q = omega arith in reached),
-          subst (λ (s : ℕ). From c s qs) here climbs.0,
-        )
+        let here : stamp_in c q ≡ suc t = ap (stamp_in c) same ∙ is in
+        let reached : suc t ≤ stamp_in c q = omega arith in
+        none_later c part t (q ∷ qs) (reached, subst (λ (s : ℕ). From c s qs) here climbs.0)
 
 -- The schedule's places are in that order.
 
 stamp_there : (c : Collected) (a : Scheduled) → StandsAt c a → stamp_in c (a.replica, a.entry.number) ≡ a.entry.stamp
 stamp_there c a s =
-    let next : a.entry.number ≡ suc s.place = (let n = s.number in omega arith) in
-    ap (λ (k : ℕ). stamp_in c (a.replica, k)) next ∙ ap stamp_of s.there ∙ ap (λ z. z.stamp) s.is
+    let next : a.entry.number ≡ suc s.place = (let n : a.entry.number ≡ s.place + 1 = s.number in omega arith) in
+    ap (λ (k : ℕ). stamp_in c (a.replica, k)) next ∙ ap stamp_of s.there ∙ ap (λ (z : Entry). z.stamp) s.is
 
 from_places : (c : Collected) (a : Scheduled) (s : List Scheduled) → ((b : Scheduled) → In b s → stamp_in c (b.replica, b.entry.number) ≡ b.entry.stamp)
     → ((b : Scheduled) → In b s → Precedes a b) → From c a.entry.stamp (places_of s)
@@ -152,28 +163,33 @@ from_places c a (b ∷ s) stands before =
   where
     low : Precedes a b → stamp_in c (b.replica, b.entry.number) ≡ b.entry.stamp → a.entry.stamp ≤ stamp_in c (b.replica, b.entry.number)
     low (inl less) is = omega arith
-    low (inr same) is = let e = same.0 in omega arith
+    low (inr same) is = let e : a.entry.stamp ≡ b.entry.stamp = same.0 in omega arith
 
 climbs_places : (c : Collected) (s : List Scheduled) → ((b : Scheduled) → In b s → stamp_in c (b.replica, b.entry.number) ≡ b.entry.stamp) → Rises s → Climbs c (places_of s)
 climbs_places c [] stands rises = tt
 climbs_places c (a ∷ s) stands rises =
     (subst (λ (z : ℕ). From c z (places_of s)) (sym (stands a (inl refl))) (from_places c a s (λ d i. stands d (inr i)) rises.0), climbs_places c s (λ d i. stands d (inr i)) rises.1)
 
-schedule_climbs : (c : Collected) (s : List Scheduled) → AreLocalRuns (opened empty) c.faults (journals_of c) → IsSchedule (journals_of c) s → Climbs c (places_of s)
-schedule_climbs c s runs h = climbs_places c s (λ b i. let at = in_at s b i in stamp_there c b (stands_at c s at.0 b runs h at.1)) h.1
+stands_in : (c : Collected) (s : List Scheduled) (b : Scheduled) → AreLocalRuns (opens c.opening) c.faults (journals_of c) → IsSchedule (journals_of c) s → (k : ℕ) × (slice_get s k ≡ Some b)
+    → stamp_in c (b.replica, b.entry.number) ≡ b.entry.stamp
+stands_in c s b runs h at = stamp_there c b (stands_at c s at.0 b runs h at.1)
+
+schedule_climbs : (c : Collected) (s : List Scheduled) → AreLocalRuns (opens c.opening) c.faults (journals_of c) → IsSchedule (journals_of c) s → Climbs c (places_of s)
+schedule_climbs c s runs h = climbs_places c s (λ b i. stands_in c s b runs h (in_at s b i)) h.1
 
 at_first : (c : Collected) (o : Option (ℕ × ℕ)) (t : ℕ) → stamp_at c o ≡ suc t → (p : ℕ × ℕ) × (o ≡ Some p) × (stamp_in c p ≡ suc t)
-at_first c None t e = absurd (cc)
+at_first c None t e = absurd (let wrong : 0 ≡ suc t = e in omega arith)
 at_first c (Some p) t e = (p, refl, e)
 
-pub few_enough : (c : Collected) (part : Part) (rows : List (ℕ × ℕ)) → AreLocalRuns (opened empty) c.faults (journals_of c) → (k : AreKept c part rows) → (t : ℕ) → first_left c rows ≡ suc t
-    → length (kept c (up_to t part) k.all) ≤ 2000
-few_enough c part rows runs k t e =
-    let found = at_first c (slice_get rows 2000) t e in
-    let p : ℕ × ℕ = found.0 in
-    let there : slice_get (kept c part k.all) 2000 ≡ Some p = ap (λ (z : List (ℕ × ℕ)). slice_get z 2000) (sym k.are) ∙ found.1 in
+from_first : (c : Collected) (part : Part) (rows : List (ℕ × ℕ)) → AreLocalRuns (opens c.opening) c.faults (journals_of c) → (k : AreKept c part rows) (t : ℕ) (p : ℕ × ℕ)
+    → slice_get rows 2000 ≡ Some p → stamp_in c p ≡ suc t → length (kept c (up_to t part) k.all) ≤ 2000
+from_first c part rows runs k t p at is =
+    let there : slice_get (kept c part k.all) 2000 ≡ Some p = ap (λ (z : List (ℕ × ℕ)). slice_get z 2000) (sym k.are) ∙ at in
     let climbs : Climbs c k.all = subst (Climbs c) (sym k.ordered.places) (schedule_climbs c k.ordered.order runs k.ordered.scheduled) in
-    let top : stamp_in c p ≤ part.to = some_is_inside part p.0 (entry_at (entries_at c p.0) p.1) (kept_one c part p 2000 k.all there) in
-    let is : stamp_in c p ≡ suc t = found.2 in
+    let top : stamp_in c p ≤ part.to = some_is_inside part p.0 (entry_at (entries_at c p.0) p.1) (kept_one c part p k.all 2000 there) in
     let low : t ≤ part.to = omega arith in
     fits c part t p k.all low climbs is 2000 there
+
+pub few_enough : (c : Collected) (part : Part) (rows : List (ℕ × ℕ)) → AreLocalRuns (opens c.opening) c.faults (journals_of c) → (k : AreKept c part rows) (t : ℕ) → first_left c rows ≡ suc t
+    → length (kept c (up_to t part) k.all) ≤ 2000
+few_enough c part rows runs k t e = let found = at_first c (slice_get rows 2000) t e in from_first c part rows runs k t found.0 found.1 found.2

@@ -132,6 +132,7 @@ fn meaning_of(fault: StepFault) -> &'static str {
     match fault {
         StepFault::Memory => "there is no memory",
         StepFault::OtherVersion => "the frame is of another version than the bundle",
+        StepFault::OtherGeneration => "the frame is of another generation than the bundle",
         StepFault::OutOfRange => "a replica or an instance in it isn't one of the cluster",
         StepFault::NotMine => "the frame is for another replica",
         StepFault::StampFull => "the stamp or the entry's number is past its limit",

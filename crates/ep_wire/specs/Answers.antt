@@ -9,7 +9,7 @@ use Rattle.ep_journal.specs.declared.entry.Entry.{Entry}
 use Rattle.ep_journal.specs.declared.event.Event.{Event}
 use Rattle.ep_journal.specs.declared.event.Event.TheVariants.{Propose, Handle, GiveUp, Recover, Execute}
 use Rattle.ep_journal.specs.declared.step_fault.StepFault.{StepFault}
-use Rattle.ep_journal.specs.declared.step_fault.StepFault.TheVariants.{Memory, OtherVersion, OutOfRange, NotMine, StampFull, SpaceFull, SeqExhausted, NotLeading, TooFewAnswers, AlreadyCommitted, BallotsExhausted, NotCommitted}
+use Rattle.ep_journal.specs.declared.step_fault.StepFault.TheVariants.{Memory, OtherVersion, OtherGeneration, OutOfRange, NotMine, StampFull, SpaceFull, SeqExhausted, NotLeading, TooFewAnswers, AlreadyCommitted, BallotsExhausted, NotCommitted}
 use Rattle.ep_rules.specs.declared.receipt.Receipt.{Receipt}
 use Rattle.ep_wire.specs.declared.field.Field.{Field}
 use Rattle.ep_wire.specs.declared.field.Field.TheVariants.{Kind, Client, ClientRequest, Seen, Op, KeyLength, ValueLength, Key, Value, Replica, Number, Rest}
@@ -67,6 +67,7 @@ taken_bytes body = number_bytes 4 (1 + length body) ++ number_bytes 1 1 ++ body
 abbrev pub step_code : StepFault → ℕ
 step_code Memory = 1
 step_code OtherVersion = 14
+step_code OtherGeneration = 14
 step_code OutOfRange = 3
 step_code NotMine = 13
 step_code StampFull = 15
@@ -81,6 +82,7 @@ step_code (NotCommitted i) = 10
 abbrev pub step_names : StepFault → Option ℕ
 step_names Memory = None
 step_names OtherVersion = None
+step_names OtherGeneration = None
 step_names OutOfRange = None
 step_names NotMine = None
 step_names StampFull = None

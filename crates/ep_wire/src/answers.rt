@@ -146,6 +146,7 @@ fn step_code(fault: StepFault) -> u8
         StepFault::NotCommitted(_) => 10,
         StepFault::NotMine => 13,
         StepFault::OtherVersion => 14,
+        StepFault::OtherGeneration => 14,
         StepFault::StampFull => 15,
     }
 }

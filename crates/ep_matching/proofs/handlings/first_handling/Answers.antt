@@ -1,4 +1,4 @@
-use Rattle.std.proofs.Common.{rules, ◌≡◌, ◌+◌, ℕ, suc, arith, subst, sym, ap, ◌∙◌}
+use Rattle.std.proofs.Common.{rules, ◌≡◌, ◌+◌, suc, arith, subst}
 use Rattle.ep_matching.specs.Handlings.{first_below}
 use Rattle.ep_matching.proofs.Handled.{next_looked, next_kept}
 use Rattle.ep_matching.proofs.handlings.first_handling.Goals as goal
