@@ -1,6 +1,6 @@
 -- Of entries in the order of their stamps, those before the stamp of the one at place n are n at most.
-use Rattle.std.proofs.Common.{◌≡◌, ℕ, zero, suc, ◌≤◌, ◌+◌, Bool, true, false, cond, ◌&&◌, nat_le, Option, Some, None, List, [], ◌∷◌, length, slice_get, refl, sym, ap, subst, ◌∙◌, arith, ◌⊎◌, inl, inr}
-use Rattle.std.proofs.lemmas.Bool.Decides.{nat_tests}
+use Rattle.std.proofs.Common.{◌≡◌, ℕ, zero, suc, ◌<◌, ◌≤◌, ◌+◌, Bool, true, false, cond, ◌&&◌, nat_le, Option, Some, None, List, [], ◌∷◌, length, slice_get, refl, sym, ap, subst, ◌∙◌, arith, ◌⊎◌, inl, inr}
+use Rattle.std.proofs.lemmas.Bool.{le-leb, leb-true, lt-leb}
 use Rattle.ep_rules.specs.Journals.{Entry, Scheduled, Precedes, Rises, IsSchedule, AreLocalRuns}
 use Rattle.ep_rules.specs.Worlds.{In}
 use Rattle.ep_rules.proofs.Merged.{in_at}
@@ -35,50 +35,36 @@ inside true true false x e = absurd (let wrong : false ≡ true = e in cc)
 inside true false m x e = absurd (let wrong : false ≡ true = e in cc)
 inside false b m x e = absurd (let wrong : false ≡ true = e in cc)
 
-test_le : (a b : ℕ) → nat_le a b ≡ true → a ≤ b
-test_le a b e = grind (arith, nat_tests)
-
 above_test : (a b : ℕ) → suc b ≤ a → nat_le a b ≡ false
-above_test a b h = go (nat_le a b) refl
-  where
-    go : (t : Bool) → nat_le a b ≡ t → t ≡ false
-    go false e = refl
-    go true e = absurd (let low : a ≤ b = test_le a b e in omega arith)
-
-test_from : (a b : ℕ) → a ≤ b → nat_le a b ≡ true
-test_from a b h = go (nat_le a b) refl
-  where
-    go : (t : Bool) → nat_le a b ≡ t → t ≡ true
-    go true e = refl
-    go false e = grind (arith, nat_tests)
+above_test a b h = let less : b < a = omega arith in lt-leb a b less
 
 -- what a part doesn't keep, it doesn't keep up to a lower stamp
 keeps_less : (part : Part) (t r : ℕ) (e : Written) → t ≤ part.to → keeps part r e ≡ false → keeps (up_to t part) r e ≡ false
-keeps_less part t r e low no =
+keeps_less part t r e low misses =
     both (is_of_replica part.replica r) (nat_le part.from e.stamp) (nat_le e.stamp part.to) (nat_le e.stamp t) (is_of_instance part.instance e && is_of_some part.about e)
-    (λ yes. let below : e.stamp ≤ t = test_le e.stamp t yes in test_from e.stamp part.to (omega arith)) no
+    (λ early. let below : e.stamp ≤ t = leb-true e.stamp t early in let inner : e.stamp ≤ part.to = omega arith in le-leb e.stamp part.to inner) misses
 
 keeps_no_later : (part : Part) (t r : ℕ) (e : Written) → suc t ≤ e.stamp → keeps (up_to t part) r e ≡ false
 keeps_no_later part t r e high =
     late (is_of_replica part.replica r) (nat_le part.from e.stamp) (nat_le e.stamp t) (is_of_instance part.instance e && is_of_some part.about e) (above_test e.stamp t high)
 
 kept_is_inside : (part : Part) (r : ℕ) (e : Written) → keeps part r e ≡ true → e.stamp ≤ part.to
-kept_is_inside part r e yes =
-    test_le e.stamp part.to
-    (inside (is_of_replica part.replica r) (nat_le part.from e.stamp) (nat_le e.stamp part.to) (is_of_instance part.instance e && is_of_some part.about e) yes)
+kept_is_inside part r e met =
+    leb-true e.stamp part.to
+    (inside (is_of_replica part.replica r) (nat_le part.from e.stamp) (nat_le e.stamp part.to) (is_of_instance part.instance e && is_of_some part.about e) met)
 
 -- the same, of a place that may have no entry
 some_less : (part : Part) (t r : ℕ) (o : Option Written) → t ≤ part.to → keeps_some part r o ≡ false → keeps_some (up_to t part) r o ≡ false
-some_less part t r None low no = refl
-some_less part t r (Some e) low no = keeps_less part t r e low no
+some_less part t r None low misses = refl
+some_less part t r (Some e) low misses = keeps_less part t r e low misses
 
 some_no_later : (part : Part) (t r : ℕ) (o : Option Written) → suc t ≤ stamp_of o → keeps_some (up_to t part) r o ≡ false
 some_no_later part t r None high = refl
 some_no_later part t r (Some e) high = keeps_no_later part t r e high
 
 some_is_inside : (part : Part) (r : ℕ) (o : Option Written) → keeps_some part r o ≡ true → stamp_of o ≤ part.to
-some_is_inside part r None yes = absurd (let wrong : false ≡ true = yes in cc)
-some_is_inside part r (Some e) yes = kept_is_inside part r e yes
+some_is_inside part r None met = absurd (let wrong : false ≡ true = met in cc)
+some_is_inside part r (Some e) met = kept_is_inside part r e met
 
 -- Places in the order of their stamps.
 
