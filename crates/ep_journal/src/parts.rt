@@ -44,11 +44,7 @@ pub struct Parts {
 
 /// The next instance for the command: `SpaceFull` where the least free number is above the highest that the version has for it.
 #[inline(always)]
-fn instance_for(
-    space: &Space,
-    me: ReplicaId,
-    command: &Command,
-) -> Result<InstanceId, SpaceFull>
+fn instance_for(space: &Space, me: ReplicaId, command: &Command) -> Result<InstanceId, SpaceFull>
     ensures ok { IfOk result (λ i. (n : ℕ) × (free_number space.now.records me ≡ Some n) × (n < highest_for space.now.version command.now) × (i ≡ instance_of me (n + 1))) }
     ensures full { IsErr result → (n : ℕ) → free_number space.now.records me ≡ Some n → highest_for space.now.version command.now ≤ n }
 {
@@ -67,13 +63,7 @@ fn highest_for(version: Version, command: &Command) -> u16
     match version.kind() {
         VersionKind::V1 => 1000,
         VersionKind::V2 => 2000,
-        VersionKind::V3(_) => {
-            if command.is_seal() {
-                2000
-            } else {
-                1990
-            }
-        }
+        VersionKind::V3(_) => { if command.is_seal() { 2000 } else { 1990 } }
     }
 }
 
