@@ -17,7 +17,7 @@ loop-frame-preserved c =
 pub upgrade-requires : goal.upgrade-requires
 upgrade-requires c =
     let x : List ℕ = c.frame-item.result in
-    record { early = kept_at IsEarlyFrame c.args.frames.now c.loop-frame.frame-index x c.requires.early c.loop-frame-test.true (read_at IsUpgradedFrame c.args.frames.now c.loop-frame.frames c.loop-frame.frame-index x c.loop-frame-test.true c.loop-frame.invariant c.frame-item.is) }
+    record { early = subst IsEarlyFrame c.frame-item.is (kept_at IsEarlyFrame c.args.frames.now c.loop-frame.frame-index x c.requires.early c.loop-frame-test.true (read_at IsUpgradedFrame c.args.frames.now c.loop-frame.frames c.loop-frame.frame-index x c.loop-frame-test.true c.loop-frame.invariant c.frame-item.is)) }
 
 pub returns : goal.returns
 returns c =
