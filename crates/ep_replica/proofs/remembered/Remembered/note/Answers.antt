@@ -1,6 +1,7 @@
 use Rattle.std.proofs.Common.{◌≡◌, ◌≢◌, None, rules, subst}
 use Rattle.ep_base.specs.Instances.{leader_of}
 use Rattle.ep_rules.specs.States.{committed_in}
+use Rattle.ep_journal.specs.Entries.{Log}
 use Rattle.ep_journal.specs.Leaving.{state_left}
 use Rattle.ep_journal.specs.Openings.{Opening}
 use Rattle.ep_replica.specs.Kept.{kept_of}
@@ -13,7 +14,7 @@ returns-in_default c = λ k plain g h. (let is : c.args.subject ≡ None = searc
 
 pub returns-then-is_none : goal.returns-then-is_none
 returns-then-is_none c = λ k plain g h.
-    (let j = c.args.journal.now in
+    (let j : Log = c.args.journal.now in
     let here : committed_in (state_left j.opening j.faults j.me j.entries).records c.in-Some.instance ≡ None = search rules in
     let none : committed_in (state_of (kept_of j)).records c.in-Some.instance ≡ None = subst (λ (o : Opening). committed_in (state_left o j.faults j.me j.entries).records c.in-Some.instance ≡ None) plain here in
     not_committed k (kept_of c.args.journal.now) c.args.subject c.in-Some.instance c.args.self.now.due c.args.self.now.blockers c.in-Some.is none g h)
