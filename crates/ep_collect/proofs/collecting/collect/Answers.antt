@@ -1,4 +1,4 @@
-use Rattle.std.proofs.Common.{rules, ◌≡◌, ◌<◌, ℕ, List, sym, subst, ap, ◌∙◌}
+use Rattle.std.proofs.Common.{rules, ◌≡◌, ◌<◌, ℕ, List, refl, sym, subst, ap, ◌∙◌}
 use Rattle.std.proofs.lemmas.List.{with_items_is}
 use Rattle.std.proofs.lemmas.Result.{err_from_is_err_and}
 use Rattle.std.specs.List.Sorted.{IsPermutation}
@@ -49,3 +49,11 @@ returns-clause-collects c =
     collected v o f items now c.in-Ok.journals one same order
     (subst (λ (ls : List Log). AreInOrder c.in-Ok.journals.version c.in-Ok.journals.opening c.in-Ok.journals.faults 0 ls) is c.in-Ok.ensures.of_one)
     (c.in-Ok.ensures.ok ∙ ap all_entries is) c.put_in_order.ensures.in_place
+
+pub returns-clause-exact : goal.returns-clause-exact
+returns-clause-exact c =
+    let v = c.in_ok-cluster.ensures.of_one.0 in
+    let o = c.in_ok-cluster.ensures.of_one.1 in
+    let f = c.in_ok-cluster.cluster in
+    let one : AreOfOne v o f c.args.journals.items = subst (AreOfOne v o f) c.deref.ensures.value c.in_ok-cluster.ensures.of_one.2 in
+    (λ is. (v, o, f, one), λ found. refl)
