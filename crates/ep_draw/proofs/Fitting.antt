@@ -3,12 +3,12 @@ use Rattle.std.proofs.Common.{◌≡◌, ℕ, zero, suc, ◌<◌, ◌≤◌, ◌
 use Rattle.std.proofs.lemmas.Bool.{le-leb, leb-true, lt-leb}
 use Rattle.ep_rules.specs.Journals.{Entry, Scheduled, Precedes, Rises, IsSchedule, AreLocalRuns}
 use Rattle.ep_rules.specs.Worlds.{In}
-use Rattle.ep_rules.proofs.Merged.{in_at}
-use Rattle.ep_journal.specs.Entries.{Collected, entries_at, journals_of, entry_of}
+use Rattle.ep_rules.proofs.JournalsGrow.{numbers_are_places_lem}
+use Rattle.ep_rules.proofs.Merged.{in_at, in_of}
+use Rattle.ep_journal.specs.Entries.{Collected, entries_at, entries_of, entry_of, journals_of}
 use Rattle.ep_journal.specs.Openings.{opens}
 use Rattle.ep_journal.specs.declared.entry.Entry.{Entry as Written}
 use Rattle.ep_verdict.specs.Verdicts.{places_of}
-use Rattle.ep_verdict.proofs.Lining.{StandsAt, stands_at}
 use Rattle.ep_words.specs.Kept.{is_of_replica, is_of_instance, is_of_some, keeps}
 use Rattle.ep_words.specs.declared.part.Part.{Part}
 use Rattle.ep_view.specs.Lookups.{entry_at}
@@ -136,32 +136,40 @@ fits c part t p (q ∷ qs) low climbs is n at =
 
 -- The schedule's places are in that order.
 
-stamp_there : (c : Collected) (a : Scheduled) → StandsAt c a → stamp_in c (a.replica, a.entry.number) ≡ a.entry.stamp
-stamp_there c a s =
-    let next : a.entry.number ≡ suc s.place = (let n : a.entry.number ≡ s.place + 1 = s.number in omega arith) in
-    ap (λ (k : ℕ). stamp_in c (a.replica, k)) next ∙ ap stamp_of s.there ∙ ap (λ (z : Entry). z.stamp) s.is
+stamp_there : (ws : List Written) (k : ℕ) (e : Entry) → slice_get (entries_of ws) k ≡ Some e → stamp_of (slice_get ws k) ≡ e.stamp
+stamp_there [] k e at = absurd (cc)
+stamp_there (w ∷ ws) zero e at =
+    let here : Some (entry_of w) ≡ Some e = at in
+    let same : entry_of w ≡ e = cc in
+    ap (λ (z : Entry). z.stamp) same
+stamp_there (w ∷ ws) (suc k) e at = stamp_there ws k e at
+
+stands : (c : Collected) (s : List Scheduled) (b : Scheduled) → AreLocalRuns (opens c.opening) c.faults (journals_of c) → IsSchedule (journals_of c) s → In b s
+    → stamp_in c (b.replica, b.entry.number) ≡ b.entry.stamp
+stands c s b runs h i =
+    let there : In b.entry (journals_of c b.replica) = subst (In b.entry) (h.0 b.replica) (in_of b s i) in
+    let p = in_at (journals_of c b.replica) b.entry there in
+    let n = (numbers_are_places_lem (journals_of c b.replica) (runs.local b.replica).0 p.0 b.entry).0 p.1 in
+    let next : b.entry.number ≡ suc p.0 = (let e : b.entry.number ≡ p.0 + 1 = n.1 in omega arith) in
+    ap (λ (k : ℕ). stamp_in c (b.replica, k)) next ∙ stamp_there (entries_at c b.replica) p.0 b.entry p.1
 
 from_places : (c : Collected) (a : Scheduled) (s : List Scheduled) → ((b : Scheduled) → In b s → stamp_in c (b.replica, b.entry.number) ≡ b.entry.stamp)
     → ((b : Scheduled) → In b s → Precedes a b) → From c a.entry.stamp (places_of s)
-from_places c a [] stands before = tt
-from_places c a (b ∷ s) stands before =
-    (low (before b (inl refl)) (stands b (inl refl)), from_places c a s (λ d i. stands d (inr i)) (λ d i. before d (inr i)))
+from_places c a [] are before = tt
+from_places c a (b ∷ s) are before =
+    (low (before b (inl refl)) (are b (inl refl)), from_places c a s (λ d i. are d (inr i)) (λ d i. before d (inr i)))
   where
     low : Precedes a b → stamp_in c (b.replica, b.entry.number) ≡ b.entry.stamp → a.entry.stamp ≤ stamp_in c (b.replica, b.entry.number)
     low (inl less) is = omega arith
     low (inr same) is = let e : a.entry.stamp ≡ b.entry.stamp = same.0 in omega arith
 
 climbs_places : (c : Collected) (s : List Scheduled) → ((b : Scheduled) → In b s → stamp_in c (b.replica, b.entry.number) ≡ b.entry.stamp) → Rises s → Climbs c (places_of s)
-climbs_places c [] stands rises = tt
-climbs_places c (a ∷ s) stands rises =
-    (subst (λ (z : ℕ). From c z (places_of s)) (sym (stands a (inl refl))) (from_places c a s (λ d i. stands d (inr i)) rises.0), climbs_places c s (λ d i. stands d (inr i)) rises.1)
-
-stands_in : (c : Collected) (s : List Scheduled) (b : Scheduled) → AreLocalRuns (opens c.opening) c.faults (journals_of c) → IsSchedule (journals_of c) s → (k : ℕ) × (slice_get s k ≡ Some b)
-    → stamp_in c (b.replica, b.entry.number) ≡ b.entry.stamp
-stands_in c s b runs h at = stamp_there c b (stands_at c s at.0 b runs h at.1)
+climbs_places c [] are rises = tt
+climbs_places c (a ∷ s) are rises =
+    (subst (λ (z : ℕ). From c z (places_of s)) (sym (are a (inl refl))) (from_places c a s (λ d i. are d (inr i)) rises.0), climbs_places c s (λ d i. are d (inr i)) rises.1)
 
 schedule_climbs : (c : Collected) (s : List Scheduled) → AreLocalRuns (opens c.opening) c.faults (journals_of c) → IsSchedule (journals_of c) s → Climbs c (places_of s)
-schedule_climbs c s runs h = climbs_places c s (λ b i. stands_in c s b runs h (in_at s b i)) h.1
+schedule_climbs c s runs h = climbs_places c s (λ b i. stands c s b runs h i) h.1
 
 at_first : (c : Collected) (o : Option (ℕ × ℕ)) (t : ℕ) → stamp_at c o ≡ suc t → (p : ℕ × ℕ) × (o ≡ Some p) × (stamp_in c p ≡ suc t)
 at_first c None t e = absurd (let wrong : 0 ≡ suc t = e in omega arith)

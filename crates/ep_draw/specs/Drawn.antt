@@ -125,11 +125,6 @@ pub record IsTooMany (c : Collected) (part : Part) (count : ℕ) (lines : List �
   pub told : lines ≡ ranges_text c rows
   pub example : (stamp : ℕ) → first_left c rows ≡ suc stamp → length (kept c (up_to stamp part) are_kept.all) ≤ 2000
 
--- what is said of these rows, which are too many
-abbrev pub IsCrowd : Collected → List (ℕ × ℕ) → DrawFault → Type 0
-IsCrowd c rows Memory = Unit {0}
-IsCrowd c rows (TooMany count lines) = (length rows ≡ count) × (lines.items ≡ ranges_text c rows)
-
 -- why nothing is drawn
 abbrev pub IsRefused : Collected → Part → DrawFault → Type 0
 IsRefused c part Memory = Unit {0}

@@ -1,9 +1,9 @@
 //! Space-time diagrams.
 
-ghost use Rattle.std.specs.Prelude.{◌≡◌, ◌≤◌, ◌++◌, IfOk, IfErr, OnOk, length};
+ghost use Rattle.std.specs.Prelude.{◌≡◌, ◌≤◌, ◌<◌, ◌++◌, IfOk, IfErr, OnOk, length};
 ghost use Rattle.ep_journal.specs.Entries.{AreJournals, entries_at};
 ghost use Rattle.ep_view.specs.Lookups.{entry_at};
-ghost use Rattle.ep_draw.specs.Drawn.{keeps_some, kept, measured, viewed, front, opening, body, file_text, IsFile, AreKept, IsCrowd, IsDrawn, IsRefused};
+ghost use Rattle.ep_draw.specs.Drawn.{keeps_some, kept, measured, viewed, front, opening, body, file_text, IsFile, AreKept, IsDrawn, IsRefused};
 
 use crate::dots::push_dots;
 use crate::draw_fault::DrawFault;
@@ -170,9 +170,13 @@ fn rows_of(
 }
 
 // Why these entries, which are too many, aren't drawn.
-fn too_many(alloc: Global, journals: &Journals, rows: &[(ReplicaId, u32)]) -> DrawFault
-    ensures { IsCrowd journals.now rows.now result }
+fn too_many(alloc: Global, journals: &Journals, part: &Part, rows: &[(ReplicaId, u32)]) -> DrawFault
+    requires kept { AreKept journals.now part.now rows.now }
+    requires many { 2000 < length rows.now }
+    ensures { IsRefused journals.now part.now result }
 {
+    let _part = part;
+    journals.are_local_runs();
     match ranges(alloc, journals, rows) {
         Ok(lines) => DrawFault::TooMany(rows.len(), lines),
         Err(_) => DrawFault::Memory,
@@ -180,7 +184,7 @@ fn too_many(alloc: Global, journals: &Journals, rows: &[(ReplicaId, u32)]) -> Dr
 }
 
 // Draws these entries, if they aren't too many.
-#[tactic(auto, using(crate::proofs::Drawings::is_drawn, crate::proofs::Drawings::is_too_many))]
+#[tactic(auto, using(crate::proofs::Drawings::is_drawn))]
 fn draw_kept(
     alloc: Global,
     journals: &Journals,
@@ -191,10 +195,8 @@ fn draw_kept(
     ensures drawn { IfOk result (λ svg. IsDrawn journals.now part.now svg.items) }
     ensures refused { IfErr result (λ fault. IsRefused journals.now part.now fault) }
 {
-    let _part = part;
-    journals.are_local_runs();
     if rows.len() > MOST {
-        return Err(too_many(alloc, journals, rows));
+        return Err(too_many(alloc, journals, part, rows));
     }
     match draw_rows(alloc, journals, rows) {
         Ok(text) => Ok(text),

@@ -1,6 +1,6 @@
 mod Answering
 mod Covering
-pub mod Lining
+mod Lining
 mod Saying
 mod Seen
 mod Turning
