@@ -1,6 +1,6 @@
 mod Answering
 mod Covering
-mod Lining
+pub mod Lining
 mod Saying
 mod Seen
 mod Turning
