@@ -1,5 +1,7 @@
 -- The bundle of what was upgraded.
-use Rattle.std.proofs.Common.{◌≡◌, ℕ, List, Ok, ap, sym, subst, ◌∙◌}
+use Rattle.std.proofs.Common.{◌≡◌, ◌≤◌, ℕ, List, Ok, ap, sym, subst, ◌∙◌, arith}
+use Rattle.ep_base.specs.Versions.{version_number}
+use Rattle.ep_base.specs.declared.version.Version.{Version}
 use Rattle.ep_base.specs.declared.version_kind.VersionKind.TheVariants.{V2}
 use Rattle.ep_bundle.specs.Bytes.{bundle_bytes}
 use Rattle.ep_bundle.specs.Journals.{ReadsBundle}
@@ -27,3 +29,7 @@ rewritten journals upgraded receipts kept zs text end out read upgrade stays sam
       wrote = subst (Wrote out) bytes wrote;
       same = λ version are. subst (Wrote out) (bytes ∙ ap (λ (j : Collected). bundle_bytes j receipts) (stays version) ∙ sym (canonical are)) wrote;
     }
+
+-- journals of version 2 stay as they are
+pub two_is_late : (v : Version) → v ≡ V2 → 2 ≤ version_number v
+two_is_late v is = subst (λ (z : Version). 2 ≤ version_number z) (sym is) (omega arith)

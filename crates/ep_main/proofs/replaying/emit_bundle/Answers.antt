@@ -1,7 +1,11 @@
 use Rattle.std.proofs.Common.{rules, refl, ◌<◌, ◌^◌, length}
+use Rattle.ep_bundle.proofs.HavingBundles.{two_has_bundles}
 use Rattle.ep_main.proofs.Bundling.{bundled, countable}
 use Rattle.ep_main.proofs.Flags.{script_read, script_not_written}
 use Rattle.ep_main.proofs.replaying.emit_bundle.Goals as goal
+
+pub bundle_of-requires-clause-early : goal.bundle_of-requires-clause-early
+bundle_of-requires-clause-early g c = two_has_bundles c.in_ok-played.played.journals.version c.in_ok-played.ensures.version
 
 pub bundle_of-requires-clause-receipts : goal.bundle_of-requires-clause-receipts
 bundle_of-requires-clause-receipts g c = countable c.in_ok-played.played.receipts.items c.in_ok-played.played.receipts.items refl c.in_ok-played.ensures.few

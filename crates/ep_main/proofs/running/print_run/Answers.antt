@@ -1,7 +1,11 @@
 use Rattle.std.proofs.Common.{rules}
+use Rattle.ep_bundle.proofs.HavingBundles.{two_has_bundles}
 use Rattle.ep_main.proofs.Flags.{run_verdict, script_read, script_not_written}
 use Rattle.ep_main.proofs.Verdicts.{runs_to, says_as}
 use Rattle.ep_main.proofs.running.print_run.Goals as goal
+
+pub judge_run-requires-clause-early : goal.judge_run-requires-clause-early
+judge_run-requires-clause-early g c = two_has_bundles c.in_ok-ran.ran.finished.journals.version c.in_ok-ran.ensures.version
 
 pub judge_run-requires-clause-finished : goal.judge_run-requires-clause-finished
 judge_run-requires-clause-finished g c = c.in_ok-ran.ensures.finished

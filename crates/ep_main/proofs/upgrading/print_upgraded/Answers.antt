@@ -1,8 +1,12 @@
 use Rattle.std.proofs.Common.{rules, refl}
+use Rattle.ep_bundle.proofs.HavingBundles.{two_has_bundles}
 use Rattle.ep_main.proofs.Ending.{not_read, not_upgraded}
 use Rattle.ep_main.proofs.Flags.{bundle_read, bundle_not_written}
 use Rattle.ep_main.proofs.Rewriting.{rewritten}
 use Rattle.ep_main.proofs.upgrading.print_upgraded.Goals as goal
+
+pub bundle_of-requires : goal.bundle_of-requires
+bundle_of-requires g c = two_has_bundles c.in_ok-upgraded.upgraded.journals.version c.in_ok-upgraded.ensures.journals.version
 
 pub returns-in_err-bundle-clause-rewrites : goal.returns-in_err-bundle-clause-rewrites
 returns-in_err-bundle-clause-rewrites g c zs known =
