@@ -3,3 +3,4 @@ mod Held
 mod InTurn
 mod Unread
 mod Early
+mod Unassembled
