@@ -1,6 +1,7 @@
 -- The weather of a frame, and whether a weather is one.
 use Rattle.std.proofs.Common.{◌≡◌, ℕ, ◌+◌, ◌<◌, ◌≤◌, Bool, true, false, not, eqb, ◌&&◌, List, ◌∷◌, length, get_or, take, drop, Some, None, refl, sym, ap, ◌∙◌, subst, arith, ⊎_elim}
 use Rattle.std.proofs.lemmas.List.{get_or_default, get_or-take, length-take-le, at_drop_more, at_drop_all}
+use Rattle.std.proofs.lemmas.Bool.{false≢true}
 use Rattle.std.proofs.lemmas.Bool.Decides.{eqb_tells}
 use Rattle.ep_host.specs.Weathers.{kind_at, NameOne, IsFrameIn, IsWeather}
 use Rattle.ep_host.specs.declared.weather.Weather.{Weather}
@@ -13,6 +14,9 @@ eqb_apart n m differs = ⊎_elim (λ (t : _). absurd (differs t.1)) (λ (t : _).
 
 pub same_by : (n m : ℕ) → false ≡ not (eqb n m) → n ≡ m
 same_by n m e = ⊎_elim (λ (t : _). t.1) (λ (t : _). absurd (cc)) (eqb_tells n m)
+
+pub apart_by : (n m : ℕ) → true ≡ not (eqb n m) → n ≡ m → ⊥
+apart_by n m e same = ⊎_elim (λ (t : _). false≢true (ap not (sym t.0) ∙ sym e)) (λ (t : _). t.1 same) (eqb_tells n m)
 
 -- what the rest of a list gives
 

@@ -64,6 +64,17 @@ each_sends ws b d kind me links p c e peers is low peer word h =
     here : (k : ℕ) (f : Link) → k < length links → (origin_at b).to ≡ (get_or links k f).peer → k ≡ p
     here k f below to = sym (place_peer me k) ∙ ap (place me) (sym (peers k f below)) ∙ ap (place me) (sym to) ∙ sym is
 
+-- a frame to whose receiver no link goes
+pub each_passes :
+    (ws : List Weather) (b : List ℕ) (d : Delivery) (me : ℕ) (links : List Link) (p : ℕ) → ArePeers me links → p ≡ place me (origin_at b).to →
+    ((f : Link) → p < length links → (get_or links p f).peer ≡ (origin_at b).to → ⊥) → Each (Sends ws (fate b d ∷ [])) links links
+each_passes ws b d me links p peers is other = record {
+  len = refl;
+  at = λ k f below. passes_by ws b d (get_or links k f) (λ to.
+      let here : k ≡ p = sym (place_peer me k) ∙ ap (place me) (sym (peers k f below)) ∙ ap (place me) (sym to) ∙ sym is in
+      other f (subst (λ (n : ℕ). n < length links) here below) (subst (λ (n : ℕ). (get_or links n f).peer ≡ (origin_at b).to) here (sym to)));
+}
+
 -- one frame taken
 
 pub takes_none : (place : ℕ) (a : Node) (links : List Link) → PopsAt place None a.links links → TakesAt place false a (record a { links = links })
