@@ -23,6 +23,7 @@ pub mod WrittenBundles
 pub mod WrittenRanges
 pub mod WrittenOnce
 pub mod ReadNumbers
+pub mod ReadCommands
 pub mod ReadParts
 pub mod ReadEntries
 pub mod ReadJournals
