@@ -43,11 +43,11 @@ op_gives : (v : Version) (l : Left) → AreBytes l.bytes → Gives (λ o. number
 op_gives v l h =
     whole (step (field 1 2 (highest_op v) l) (λ n m. Ok (op_of n, m)) h (field_gives 1 wide1 2 (highest_op v) l h)
     (λ n m p k.
-        let high : highest_op v ≤ 9 = op_low v in
-        let low : 2 ≤ n = p.least in
-        let most : n ≤ highest_op v = p.most in
-        let back : op_number (op_of n) ≡ n = op_found n (omega arith) (omega arith) in
-        done (op_of n) (append-nil (number_bytes 1 n) ∙ ap (λ x. number_bytes 1 x) (sym back), subst (λ x. x ≤ highest_op v) (sym back) most)))
+    let high : highest_op v ≤ 9 = op_low v in
+    let low : 2 ≤ n = p.least in
+    let most : n ≤ highest_op v = p.most in
+    let back : op_number (op_of n) ≡ n = op_found n (omega arith) (omega arith) in
+    done (op_of n) (append-nil (number_bytes 1 n) ∙ ap (λ x. number_bytes 1 x) (sym back), subst (λ x. x ≤ highest_op v) (sym back) most)))
 
 -- the lengths
 
@@ -75,13 +75,13 @@ early_gives : (v : Version) (o : Op) (k : ℕ) (l : Left) → ((s : Lengths) →
 early_gives v o k l told short h =
     whole (step (allowed 2 (early_fits o) l) (λ n m. Ok (record { op = o; first = k; second = second_in o n; body = body_in o n }, m)) h (allowed_gives 2 wide2 (early_fits o) l h)
     (λ n m p hm.
-        let e = both_true (second_fits o (second_in o n)) (leb (body_in o n) 1024 && body_fits o (body_in o n)) p in
-        let f = both_true (leb (body_in o n) 1024) (body_fits o (body_in o n)) e.1 in
-        let s : Lengths = record { op = o; first = k; second = second_in o n; body = body_in o n } in
-        done s (
-          append-nil (number_bytes 2 n) ∙ ap (λ x. number_bytes 2 x) (divided (second_fits o 0) n) ∙ told s,
-          record { op = refl; first = refl; fit = (e.0, f.1); short = short (body_in o n) (leb-true (body_in o n) 1024 f.0) },
-        )))
+    let e = both_true (second_fits o (second_in o n)) (leb (body_in o n) 1024 && body_fits o (body_in o n)) p in
+    let f = both_true (leb (body_in o n) 1024) (body_fits o (body_in o n)) e.1 in
+    let s : Lengths = record { op = o; first = k; second = second_in o n; body = body_in o n } in
+    done s (
+      append-nil (number_bytes 2 n) ∙ ap (λ x. number_bytes 2 x) (divided (second_fits o 0) n) ∙ told s,
+      record { op = refl; first = refl; fit = (e.0, f.1); short = short (body_in o n) (leb-true (body_in o n) 1024 f.0) },
+    )))
 
 other_gives : (v : Version) (o : Op) (k : ℕ) (l : Left) → AreBytes l.bytes → Gives (other_in v) (IsOther v o k) l (other_lengths v o k l)
 other_gives V1 o k l h = early_gives V1 o k l (λ s. refl) (λ n le. le) h
