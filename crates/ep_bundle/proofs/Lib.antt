@@ -27,4 +27,5 @@ pub mod ReadCommands
 pub mod ReadParts
 pub mod ReadEntries
 pub mod ReadJournals
+pub mod ReadHeaders
 pub mod ReadBundles
