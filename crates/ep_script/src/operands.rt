@@ -380,13 +380,13 @@ fn touched_both(
 ) -> Result<Option<Command>, AllocError>
     ensures { IfOk result (λ c. c ≡ opaque_with_two reads keys.0.now keys.1.now body.now) }
 {
-    let (first, second) = keys;
-    if first.is_same(second) {
+    let (one, other) = keys;
+    if one.is_same(other) {
         return Ok(None);
     }
     let own = Touching {
-        first: first.as_slice(),
-        second: Some(second.as_slice()),
+        first: one.as_slice(),
+        second: Some(other.as_slice()),
         reads,
     };
     match Command::opaque(alloc, &own, body.as_slice()) {
