@@ -132,7 +132,7 @@ impl<'a> Before<'a> {
         let [key, ..] = operands else {
             return Ok(());
         };
-        self.openings.push(Opened { key, line })?;
+        self.openings.push(Opened { key: *key, line })?;
         Ok(())
     }
 

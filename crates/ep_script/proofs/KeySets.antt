@@ -5,8 +5,8 @@ use Rattle.std.specs.Global.{Global}
 use Rattle.std.specs.Ordering.{is_eq, nat_cmp, ordering_then}
 use Rattle.std.specs.declared.cmp.Ordering.{Ordering}
 use Rattle.std.specs.Cmp.{IsEquivalence}
-use Rattle.std.specs.Cmp.Lexicographic.{slice_cmp}
-use Rattle.std.specs.List.{list_any}
+use Rattle.std.specs.Cmp.Lexicographic.{slice_cmp, on_texts_equal}
+use Rattle.std.specs.List.{list_any, IsDistinct}
 use Rattle.std.specs.BTreeSet.{BTreeSet, contains, Updates}
 use Rattle.std.proofs.lemmas.Bool.Decides.{nat_tests}
 use Rattle.std.proofs.lemmas.List.Folds.{list_any-append}
@@ -50,3 +50,14 @@ pub key_taken : {E : Type 0} (before after : BTreeSet (Vec ℕ Global)) (entries
 key_taken before after entries taken key value name r fine updates is more h =
     let adds : Updates name_cmp before after name true = if_ok (Updates name_cmp before after name true) r fine updates in
     subst (HasKeys after) (sym (more ∙ ap (λ (k : List ℕ). entries ++ (k, value) ∷ []) (sym is))) (key_more before after entries name value adds.0 h)
+
+keys_equal : IsEquivalence same_key
+keys_equal = on_texts_equal (λ (e : List ℕ × List ℕ). e.0)
+
+pub none_once : AreOnce []
+unfolding IsDistinct
+none_once = tt
+
+-- an entry more, of a key that has none
+pub once_more : (entries taken : List (List ℕ × List ℕ)) (e : List ℕ × List ℕ) → taken ≡ entries ++ e ∷ [] → has_key_of e entries ≡ false → AreOnce entries → AreOnce taken
+once_more entries taken e more new once = subst AreOnce (sym more) (IsDistinct-push keys_equal entries e once new)
