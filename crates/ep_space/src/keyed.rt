@@ -84,11 +84,14 @@ impl Keyed {
         self.table.get(id)
     }
 
-    /// The instances that have a place, each with its record, if it has one.
-    pub fn entries(&self) -> &[(InstanceId, Option<Record>)]
-        ensures { AreRecords self.now.held result.now }
-    {
-        self.table.entries()
+    /// How many instances have a place.
+    pub fn len(&self) -> usize {
+        self.table.len()
+    }
+
+    /// The instance that has the place of this index, with its record, if it has one.
+    pub fn entry(&self, index: usize) -> Option<(&InstanceId, &Option<Record>)> {
+        self.table.entry(index)
     }
 
     /// Makes a place for the instance, if it has none.

@@ -121,9 +121,9 @@ impl Space {
     pub fn next_open(&self, after: Option<InstanceId>) -> Option<InstanceId>
         ensures { IsNextOpen self.now.records after result }
     {
-        let entries = self.entries();
         let mut found = None;
-        for (id, record) in entries {
+        for index in 0..self.len() {
+            let (id, record) = self.entry(index).unwrap();
             found = least_with(self, &after, found, *id, record);
         }
         found

@@ -89,11 +89,14 @@ impl Space {
         self.table.get(id)
     }
 
-    /// The instances that have a place, each with its record, if it has one.
-    pub(crate) fn entries(&self) -> &[(InstanceId, Option<Record>)]
-        ensures { AreRecords self.now.records result.now }
-    {
-        self.table.entries()
+    /// How many instances have a place.
+    pub(crate) fn len(&self) -> usize {
+        self.table.len()
+    }
+
+    /// The instance that has the place of this index, with its record, if it has one.
+    pub(crate) fn entry(&self, index: usize) -> Option<(&InstanceId, &Option<Record>)> {
+        self.table.entry(index)
     }
 
     /// All records again.

@@ -11,21 +11,22 @@ ghost use Rattle.ep_rules.specs.Worlds.{In};
 ghost use Rattle.ep_space.specs.Held.{HasPlace};
 ghost use Rattle.ep_space.specs.Entries.{flat, same, with_place, held, slot, spot, value_at, AreSpots};
 
+use crate::place_hasher::PlaceHasher;
 use ep_base::InstanceId;
 use ep_rules::Duplicate;
+use indexmap::IndexMap;
 use std::alloc::{AllocError, Global};
+use std::hash::BuildHasherDefault;
 use std::marker::Model;
 use std::mem;
 
 /// Values of instances. An instance first gets a place, which takes memory; a value is then written there without.
-///
-/// An instance's number and leader say where `spots` tells of it: where its entry stands, counted from 1, or 0 where it has none. So a
-/// look-up compares nothing.
 #[derive(Drop)]
 pub struct Table<V> {
-    entries: Vec<(InstanceId, Option<V>)>,
-    spots: Vec<usize>,
+    entries: Entries<V>,
 }
+
+type Entries<V> = IndexMap<InstanceId, Option<V>, BuildHasherDefault<PlaceHasher>>;
 
 impl<V> Model for Table<V> {
     ghost use Rattle.std.specs.Map.{keys_of};
@@ -37,9 +38,9 @@ impl<V> Model for Table<V> {
 
     ghost use Rattle.ep_space.specs.Entries.{held, AreSpots};
 
-    ghost view = { λ t. held t.entries.items };
+    ghost view = { λ t. held t.entries.entries };
 
-    ghost invariant = { λ t. AreSpots t.spots.items (keys_of t.entries.items) };
+    ghost invariant = { λ t. IsTable t.entries.entries };
 }
 
 impl<V: Drop> Table<V> {
@@ -48,8 +49,7 @@ impl<V: Drop> Table<V> {
         ensures { result ≡ record { held = none; places = set.empty } }
     {
         Table {
-            entries: Vec::new(alloc),
-            spots: Vec::new(alloc),
+            entries: IndexMap::with_hasher(alloc, BuildHasherDefault::new()),
         }
     }
 
@@ -57,14 +57,20 @@ impl<V: Drop> Table<V> {
     pub fn get(&self, id: InstanceId) -> Option<&V>
         ensures { option_copied result ≡ get self.now.held id }
     {
-        value_at(&self.entries, spot_of(&self.spots, id))
+        match self.entries.get(&id) {
+            None => None,
+            Some(value) => value.as_ref(),
+        }
     }
 
-    /// The instances that have a place, in the order in which these were made, each with its value, if it has one.
-    pub(crate) fn entries(&self) -> &[(InstanceId, Option<V>)]
-        ensures { (i : ℕ) (x : V) → (get self.now.held i ≡ Some x → In (i, Some x) result.now) × (In (i, Some x) result.now → get self.now.held i ≡ Some x) }
-    {
-        self.entries.as_slice()
+    /// How many instances have a place.
+    pub(crate) fn len(&self) -> usize {
+        self.entries.len()
+    }
+
+    /// The instance that has the place of this index, in the order in which these were made, with its value, if it has one.
+    pub(crate) fn entry(&self, index: usize) -> Option<(&InstanceId, &Option<V>)> {
+        self.entries.get_index(index)
     }
 
     /// Makes a place for the instance, if it has none. Nothing else takes memory in the table.
@@ -73,7 +79,13 @@ impl<V: Drop> Table<V> {
         ensures place { OnOk result (HasPlace self.new.places id) }
         ensures err { OnErr result (self.new ≡ self.old) }
     {
-        add_place(&mut self.entries, &mut self.spots, id)
+        match self.entries.entry(id) {
+            Ok(entry) => {
+                let _ = entry.or_insert(None);
+                Ok(())
+            }
+            Err(_) => Err(AllocError),
+        }
     }
 
     /// Writes this value, or none, at the instance's place, and gives what was there. It takes no memory.
@@ -82,8 +94,10 @@ impl<V: Drop> Table<V> {
         ensures old { result ≡ get self.old.held id }
         ensures new { self.new ≡ record { held = with_held self.old.held id value; places = self.old.places } }
     {
-        let spot = spot_of(&self.spots, id);
-        replace(&mut self.entries, spot, id, value)
+        match self.entries.get_mut(&id) {
+            None => unreachable!(),
+            Some(there) => mem::replace(there, value),
+        }
     }
 
     /// Writes this value, or none, at the instance's place. It takes no memory.
@@ -108,7 +122,7 @@ impl<V: Drop> Table<V> {
         ensures value { result ≡ set.contains self.now.places id }
         ensures none { result ≡ false → get self.now.held id ≡ None }
     {
-        spot_of(&self.spots, id) != 0
+        self.entries.contains_key(&id)
     }
 }
 
@@ -117,25 +131,17 @@ impl<V: Duplicate> Table<V> {
     pub fn duplicate(&self, alloc: Global) -> Result<Table<V>, AllocError>
         ensures { IfOk result (λ t. t ≡ self.now) }
     {
-        let entries = duplicates(&self.entries, alloc)?;
-        let spots = Vec::from_slice(alloc, &self.spots)?;
-        Ok(Table { entries, spots })
+        let mut entries = IndexMap::with_hasher(alloc, BuildHasherDefault::new());
+        for index in 0..self.entries.len() {
+            let (id, value) = self.entries.get_index(index).unwrap();
+            let value = duplicate_of(value, alloc)?;
+            match entries.insert(*id, value) {
+                Ok(_) => (),
+                Err(_) => return Err(AllocError),
+            }
+        }
+        Ok(Table { entries })
     }
-}
-
-/// The same entries again.
-fn duplicates<V: Duplicate>(
-    entries: &[(InstanceId, Option<V>)],
-    alloc: Global,
-) -> Result<Vec<(InstanceId, Option<V>)>, AllocError>
-    ensures { IfOk result (λ same. same.items ≡ entries.now) }
-{
-    let mut same = Vec::with_capacity(alloc, entries.len())?;
-    for (id, value) in entries {
-        let value = duplicate_of(value, alloc)?;
-        same.push((*id, value))?;
-    }
-    Ok(same)
 }
 
 /// The same value again, if there is one.
@@ -155,68 +161,4 @@ pub(crate) fn slot_of(id: InstanceId) -> usize
     ensures in_range { IsInstance id }
 {
     usize::from(id.number()) * 8 + usize::from(id.replica().index())
-}
-
-/// Where the instance's entry stands, counted from 1; 0 where it has none.
-fn spot_of(spots: &[usize], id: InstanceId) -> usize
-    ensures value { result ≡ slice_index_or spots.now (slot id) 0 }
-    ensures in_range { IsInstance id }
-{
-    let slot = slot_of(id);
-    if slot < spots.len() { spots[slot] } else { 0 }
-}
-
-fn value_at<V>(entries: &[(InstanceId, Option<V>)], at: usize) -> Option<&V>
-    requires { at ≤ length entries.now }
-    ensures { option_copied result ≡ flat (value_at entries.now at) }
-{
-    if at == 0 {
-        return None;
-    }
-    entries[at - 1].1.as_ref()
-}
-
-fn add_place<V: Drop>(
-    entries: &mut Vec<(InstanceId, Option<V>)>,
-    spots: &mut Vec<usize>,
-    id: InstanceId,
-) -> Result<(), AllocError>
-    requires { AreSpots spots.old.items (keys_of entries.old.items) }
-    ensures ok { OnOk result (entries.new.items ≡ with_place entries.old.items id) }
-    ensures err { OnErr result (entries.new.items ≡ entries.old.items) }
-    ensures spots { AreSpots spots.new.items (keys_of entries.new.items) }
-{
-    if spot_of(spots, id) != 0 {
-        return Ok(());
-    }
-    widen(spots, slot_of(id))?;
-    entries.push((id, None))?;
-    spots[slot_of(id)] = entries.len();
-    Ok(())
-}
-
-/// Makes the list long enough to have this slot, by zeros.
-fn widen(spots: &mut Vec<usize>, slot: usize) -> Result<(), AllocError>
-    requires { slot < 16008 }
-    ensures slot { OnOk result (slot < length spots.new.items) }
-    ensures same { (k : ℕ) → slice_index_or spots.new.items k 0 ≡ slice_index_or spots.old.items k 0 }
-{
-    if slot < spots.len() {
-        return Ok(());
-    }
-    spots.resize(slot + 1, 0)
-}
-
-fn replace<V: Drop>(
-    entries: &mut Vec<(InstanceId, Option<V>)>,
-    at: usize,
-    id: InstanceId,
-    value: Option<V>,
-) -> Option<V>
-    requires spot { at ≡ spot id (keys_of entries.old.items) }
-    requires there { 0 < at }
-    ensures old { Some result ≡ lookup (same id) entries.old.items }
-    ensures new { entries.new.items ≡ set_value (same id) entries.old.items value }
-{
-    mem::replace(&mut entries[at - 1].1, value)
 }
