@@ -11,8 +11,8 @@ use Rattle.ep_replica.specs.Kept.{Kept}
 use Rattle.ep_rules.specs.Journals.{IsAmong, IsEntry, left, last_stamp, heard}
 use Rattle.ep_rules.specs.Journals as rules
 use Rattle.ep_rules.specs.States.{fresh_state}
-use Rattle.ep_node.specs.Calls.{CallsAreMoves, IsNode, Makes, mover}
-use Rattle.ep_node.specs.Crashes.{Cluster, no_start, IsTaken, Move, Take, HandOut, ComeBack, moved}
+use Rattle.ep_node.specs.Calls.{CallsAreMoves, IsNode, Makes}
+use Rattle.ep_node.specs.Crashes.{Cluster, no_start, IsTaken, Move, Take, HandOut, ComeBack, mover, moved}
 use Rattle.ep_node.proofs.CrashMoves.{at_same}
 use Rattle.ep_node.proofs.CrashTraces.{at_other}
 use Rattle.ep_node.proofs.Opened.{entries_of-take, length-entries_of}
