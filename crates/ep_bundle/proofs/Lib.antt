@@ -23,7 +23,9 @@ pub mod WrittenBundles
 pub mod WrittenRanges
 pub mod WrittenOnce
 pub mod ReadNumbers
+pub mod ReadCommands
 pub mod ReadParts
 pub mod ReadEntries
 pub mod ReadJournals
+pub mod ReadHeaders
 pub mod ReadBundles

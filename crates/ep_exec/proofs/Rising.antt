@@ -66,7 +66,7 @@ below_more : (x k v : List ℕ) (es : List Pair) → below_all key_cmp x es ≡ 
 below_more x k v [] h = and_true (below x k)
 below_more x k v (e ∷ es) h = ap (λ b. b && below_all key_cmp x (es ++ (k, v) ∷ [])) (and_first _ _ h) ∙ below_more x k v es (and_second _ _ h)
 
-one_more : (k v : List ℕ) (es : List Pair) → is_sorted key_cmp es ≡ true → is_sorted key_cmp (es ++ (k, v) ∷ []) ≡ ends_below k es
+pub one_more : (k v : List ℕ) (es : List Pair) → is_sorted key_cmp es ≡ true → is_sorted key_cmp (es ++ (k, v) ∷ []) ≡ ends_below k es
 one_more k v [] h = refl
 one_more k v (e ∷ []) h = and_true (below e.0 k && true) ∙ and_true (below e.0 k)
 one_more k v (e ∷ f ∷ es) h =

@@ -2,7 +2,6 @@
 
 ghost use Rattle.std.specs.Prelude.{◌≡◌, ◌<◌, ◌^◌, length, IfOk, IfErr};
 ghost use Rattle.ep_bundle.specs.Bytes.{bundle_bytes};
-ghost use Rattle.ep_bundle.specs.Writing.{HasBundles};
 ghost use Rattle.ep_main.specs.declared.fault.Fault.TheVariants.{Memory};
 
 use crate::fault::Fault;
@@ -18,7 +17,6 @@ pub(crate) fn gather_bundle(
     journals: &Journals,
     receipts: &[Receipt],
 ) -> Result<Vec<u8>, Fault>
-    requires early { HasBundles journals.now.version }
     requires receipts { length receipts.now < 2 ^ 32 }
     ensures value { IfOk result (λ bytes. bytes.items ≡ bundle_bytes journals.now receipts.now) }
     ensures memory { IfErr result (λ e. e ≡ Memory) }

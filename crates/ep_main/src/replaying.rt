@@ -3,7 +3,6 @@
 ghost use Rattle.std.specs.Prelude.{◌≡◌, ◌<◌, ◌^◌, ℕ, List, Some, length, IfOk, IfErr};
 ghost use Rattle.ep_base.specs.Devices.{FailsAsTold};
 ghost use Rattle.ep_bundle.specs.Bytes.{bundle_bytes};
-ghost use Rattle.ep_bundle.specs.Writing.{HasBundles};
 ghost use Rattle.ep_main.specs.Faults.{is_read, is_write};
 ghost use Rattle.ep_main.specs.Outputs.{output};
 ghost use Rattle.ep_main.specs.Reported.{IsReportOf};
@@ -68,7 +67,6 @@ pub(crate) fn emit_bundle<S: Source, W: Sink>(
 
 /// The bytes of the bundle of what a script's run left.
 fn bundle_of(alloc: Global, played: &Replayed) -> Result<Vec<u8>, Fault>
-    requires early { HasBundles played.now.journals.version }
     requires receipts { length played.now.receipts.items < 2 ^ 32 }
     ensures value { IfOk result (λ bytes. bytes.items ≡ bundle_bytes played.now.journals played.now.receipts.items) }
     ensures memory { IfErr result (λ e. e ≡ Memory) }

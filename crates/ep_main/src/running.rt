@@ -4,7 +4,6 @@ ghost use Rattle.std.specs.Prelude.{◌≡◌, ◌<◌, ◌^◌, ℕ, List, Some
 ghost use Rattle.ep_base.specs.Devices.{FailsAsTold};
 ghost use Rattle.ep_base.specs.declared.version_kind.VersionKind.TheVariants.{V2};
 ghost use Rattle.ep_bundle.specs.Bytes.{bundle_bytes};
-ghost use Rattle.ep_bundle.specs.Writing.{HasBundles};
 ghost use Rattle.ep_host.specs.Finishing.{IsFinished};
 ghost use Rattle.ep_main.specs.Audits.{SaysOfRun};
 ghost use Rattle.ep_main.specs.Faults.{is_read, is_write};
@@ -75,7 +74,6 @@ fn run_on_host<R: Threads + Wait + Sync>(
 
 /// What is printed of a run, and the status by what the audit says of it.
 fn judge_run(alloc: Global, emit: Emit, ran: &Ran) -> Result<Judged, Fault>
-    requires early { HasBundles ran.now.finished.journals.version }
     requires finished { IsFinished ran.now.receipts.items ran.now.finished }
     ensures value { IfOk result (λ j. SaysOfRun emit ran.now j.status j.text.items) }
     ensures accepted { IsOk ran.now.finished.verdict → IfOk result (λ j. j.status ≡ Accepted) }
@@ -121,7 +119,6 @@ fn judge_reported(alloc: Global, ran: &Ran) -> Result<Judged, Fault>
 
 /// The bundle of a run, whatever the audit says of it.
 fn judge_bundled(alloc: Global, ran: &Ran) -> Result<Judged, Fault>
-    requires early { HasBundles ran.now.finished.journals.version }
     requires finished { IsFinished ran.now.receipts.items ran.now.finished }
     ensures value { IfOk result (λ j. SaysOfRun Bundle ran.now j.status j.text.items) }
     ensures accepted { IsOk ran.now.finished.verdict → IfOk result (λ j. j.status ≡ Accepted) }
@@ -142,7 +139,6 @@ fn judge_bundled(alloc: Global, ran: &Ran) -> Result<Judged, Fault>
 
 /// The bytes of the bundle of what a run left.
 fn bundle_of(alloc: Global, ran: &Ran) -> Result<Vec<u8>, Fault>
-    requires { HasBundles ran.now.finished.journals.version }
     ensures value { IfOk result (λ bytes. bytes.items ≡ bundle_bytes ran.now.finished.journals ran.now.receipts.items) }
     ensures memory { IfErr result (λ e. e ≡ Memory) }
 {

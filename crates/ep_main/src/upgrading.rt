@@ -4,7 +4,6 @@ ghost use Rattle.std.specs.Prelude.{◌≡◌, ◌≤◌, ℕ, List, Some, IfOk,
 ghost use Rattle.ep_base.specs.Devices.{FailsAsTold};
 ghost use Rattle.ep_base.specs.declared.version_kind.VersionKind.TheVariants.{V2};
 ghost use Rattle.ep_bundle.specs.Bytes.{bundle_bytes};
-ghost use Rattle.ep_bundle.specs.Writing.{HasBundles};
 ghost use Rattle.ep_journal.specs.Upgrading.{IsUpgraded};
 ghost use Rattle.ep_main.specs.Faults.{is_read, is_write};
 ghost use Rattle.ep_main.specs.Outputs.{output};
@@ -43,7 +42,6 @@ pub(crate) fn print_upgraded<S: Source, W: Sink>(
 
 /// The bundle with its journals in version 2.
 fn upgrade(alloc: Global, bundle: Bundle) -> Result<Bundle, Fault>
-    requires { HasBundles bundle.journals.version }
     ensures journals { IfOk result (λ b. IsUpgraded bundle.journals b.journals) }
     ensures same { bundle.journals.version ≡ V2 → IfOk result (λ b. b.journals ≡ bundle.journals) }
     ensures receipts { IfOk result (λ b. b.receipts.items ≡ bundle.receipts.items) }
@@ -56,7 +54,6 @@ fn upgrade(alloc: Global, bundle: Bundle) -> Result<Bundle, Fault>
 
 /// The bytes of a bundle.
 fn bundle_of(alloc: Global, bundle: &Bundle) -> Result<Vec<u8>, Fault>
-    requires { HasBundles bundle.now.journals.version }
     ensures value { IfOk result (λ bytes. bytes.items ≡ bundle_bytes bundle.now.journals bundle.now.receipts.items) }
     ensures memory { IfErr result (λ e. e ≡ Memory) }
 {

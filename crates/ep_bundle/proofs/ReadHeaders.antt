@@ -1,0 +1,131 @@
+-- What stands before a bundle's journals: each part took its own bytes.
+use Rattle.std.proofs.Common.{◌≡◌, ℕ, zero, suc, ◌+◌, ◌/◌, ◌^◌, ◌≤◌, ◌<◌, Bool, true, false, ◌||◌, cond, eqb, List, [], ◌∷◌, ◌++◌, length, length-append, append-nil, append_assoc, Ok, Err, refl, sym, ap, ◌∙◌, subst, arith}
+use Rattle.std.proofs.lemmas.Bool.{eqb-true, eqb-false}
+use Rattle.std.specs.FinMap.{entries, from_sorted, is_sorted}
+use Rattle.std.specs.List.{flat_map}
+use Rattle.ep_base.specs.Quorums.{size}
+use Rattle.ep_base.specs.Values.{most_value}
+use Rattle.ep_base.specs.Versions.{version_number, version_of}
+use Rattle.ep_base.specs.declared.version.Version.{Version}
+use Rattle.ep_base.specs.declared.version_kind.VersionKind.TheVariants.{V1, V2, V3}
+use Rattle.ep_exec.specs.Table.{key_cmp}
+use Rattle.ep_exec.proofs.Rising.{list_is, none_is_empty, one_more}
+use Rattle.ep_frame.specs.Fields.{number_bytes}
+use Rattle.ep_frame.specs.Spelling.{AreBytes}
+use Rattle.ep_frame.proofs.BigEndian.{wide1, wide4, wide8}
+use Rattle.ep_rules.specs.OneMap.{Contents, empty}
+use Rattle.ep_bundle.specs.Bytes.{contents_bytes, edition_bytes, map_bytes, pair_bytes}
+use Rattle.ep_bundle.specs.Headers.{Pair, contents, edition, key_above, map_in, pair, pairs}
+use Rattle.ep_bundle.specs.Reading.{Left, Reading, and_then, run, field}
+use Rattle.ep_bundle.specs.declared.bundle_fault.BundleFault.TheVariants.{BadBundle}
+use Rattle.ep_bundle.proofs.ReadNumbers.{Gives, Comes, Ranges, done, step, last, other, whole, choice, refused, run_gives, field_gives}
+
+-- the edition
+
+-- a version without openings begins at 0
+abbrev pub StartsAt : Version → ℕ → Type 0
+StartsAt V1 since = since ≡ 0
+StartsAt V2 since = since ≡ 0
+StartsAt (V3 g) since = Unit {0}
+
+pub record IsEdition (n : ℕ) (e : Version × ℕ) : Type 0 where
+  pub version : version_number e.0 ≡ n
+  pub since : e.1 ≤ 281474976710655
+  pub starts : StartsAt e.0 e.1
+
+-- of version 1 or 2 nothing is told
+record IsEarly (n : ℕ) (v : Version) : Type 0 where
+  bytes : [] ≡ edition_bytes v 0
+  version : version_number v ≡ n
+  starts : StartsAt v 0
+
+early : (n : ℕ) → Ranges 1 3 n → eqb n 3 ≡ false → IsEarly n (version_of n 0)
+early n p not_three = go (eqb n 1) (eqb n 3) refl not_three
+  where
+    go : (a b : Bool) → eqb n 1 ≡ a → b ≡ false → IsEarly n (cond a V1 (cond b (V3 0) V2))
+    go true b is e = record { bytes = refl; version = sym (eqb-true n 1 is); starts = refl }
+    go false true is e = absurd (cc)
+    go false false is e =
+        let not_one = eqb-false n 1 is in
+        let other = eqb-false n 3 not_three in
+        let low : 1 ≤ n = p.least in
+        let high : n ≤ 3 = p.most in
+        record { bytes = refl; version = omega arith; starts = refl }
+
+pub edition_gives : (n : ℕ) (l : Left) → Ranges 1 3 n → AreBytes l.bytes → Gives (λ e. edition_bytes e.0 e.1) (IsEdition n) l (edition n l)
+edition_gives n l p h =
+    whole (choice (eqb n 3) (and_then (field 4 1 4294967295 l) (λ g l. and_then (field 8 0 281474976710655 l) (λ since l. Ok ((V3 g, since), l)))) (Ok ((version_of n 0, 0), l))
+    (λ is. step (field 4 1 4294967295 l) (λ g l. and_then (field 8 0 281474976710655 l) (λ since l. Ok ((V3 g, since), l))) h (field_gives 4 wide4 1 4294967295 l h)
+    (λ g l q h. step (field 8 0 281474976710655 l) (λ since l. Ok ((V3 g, since), l)) h (field_gives 8 wide8 0 281474976710655 l h)
+    (λ since l r h. done (V3 g, since) (ap (λ x. number_bytes 4 g ++ x) (append-nil (number_bytes 8 since)), record { version = sym (eqb-true n 3 is); since = r.most; starts = tt }))))
+    (λ not_three. let e = early n p not_three in done (version_of n 0, 0) (e.bytes, record { version = e.version; since = omega arith; starts = e.starts })))
+
+-- the keys
+
+abbrev Rises : List Pair → Type 0
+Rises es = is_sorted key_cmp es ≡ true
+
+-- that keys rise is asked of the keys alone
+same_key : (es : List Pair) (k v w : List ℕ) → Rises es → Rises (es ++ (k, v) ∷ []) → Rises (es ++ (k, w) ∷ [])
+same_key es k v w h e = one_more k w es h ∙ sym (one_more k v es h) ∙ e
+
+key_gives : (es : List Pair) (n : ℕ) (l : Left) → AreBytes l.bytes → Gives (λ k. k) (λ k. (length k ≡ n) × Rises (es ++ (k, []) ∷ [])) l (key_above es n l)
+key_gives es n l h =
+    whole (step (run n l) (λ k m. cond (is_sorted key_cmp (es ++ (k, []) ∷ [])) (Ok (k, m)) (Err (BadBundle l.at))) h (run_gives n l h)
+    (λ k m p hm. choice (is_sorted key_cmp (es ++ (k, []) ∷ [])) (Ok (k, m)) (Err (BadBundle l.at)) (λ e. done k (append-nil k, (p.0, e))) (λ e. refused (BadBundle l.at))))
+
+pair_spelled : (k n : ℕ) (key value : List ℕ) → length key ≡ k → length value ≡ n → number_bytes 1 k ++ (number_bytes 4 n ++ (key ++ value)) ≡ pair_bytes (key, value)
+pair_spelled k n key value ek en = (λ t. number_bytes 1 (sym ek t) ++ (number_bytes 4 (sym en t) ++ (key ++ value))) ∙ group (number_bytes 1 (length key)) (number_bytes 4 (length value)) key value
+  where
+    group : (a b c d : List ℕ) → a ++ (b ++ (c ++ d)) ≡ a ++ b ++ c ++ d
+    group a b c d = simp append_assoc
+
+pub pair_gives : (es : List Pair) (l : Left) → Rises es → AreBytes l.bytes → Gives pair_bytes (λ e. Rises (es ++ e ∷ [])) l (pair es l)
+pair_gives es l rise h =
+    whole (step (field 1 1 255 l) (λ k l. and_then (field 4 0 most_value l) (λ n l. and_then (key_above es k l) (λ key l. and_then (run n l) (λ value l. Ok ((key, value), l))))) h (field_gives 1 wide1 1 255 l h)
+    (λ k l p h. step (field 4 0 most_value l) (λ n l. and_then (key_above es k l) (λ key l. and_then (run n l) (λ value l. Ok ((key, value), l)))) h (field_gives 4 wide4 0 most_value l h)
+    (λ n l q h. step (key_above es k l) (λ key l. and_then (run n l) (λ value l. Ok ((key, value), l))) h (key_gives es k l h)
+    (λ key l r h. step (run n l) (λ value l. Ok ((key, value), l)) h (run_gives n l h)
+    (λ value l s h. done (key, value) (
+      ap (λ x. number_bytes 1 k ++ (number_bytes 4 n ++ (key ++ x))) (append-nil value) ∙ pair_spelled k n key value r.0 s.0,
+      same_key es key [] value rise r.1,
+    ))))))
+
+record Grown (n : ℕ) (es after : List Pair) (bs : List ℕ) : Type 0 where
+  items : List Pair
+  is : after ≡ es ++ items
+  count : length items ≡ n
+  rise : Rises after
+  bytes : bs ≡ flat_map pair_bytes items
+
+pairs_come : (n : ℕ) (es : List Pair) (l : Left) → Rises es → AreBytes l.bytes → Comes (Grown n es) l (pairs n es l)
+pairs_come zero es l rise h = done es (record { items = []; is = sym (append-nil es); count = refl; rise = rise; bytes = refl })
+pairs_come (suc n) es l rise h =
+    step (pair es l) (λ e m. pairs n (es ++ e ∷ []) m) h (pair_gives es l rise h)
+    (λ e m p k. other (pairs_come n (es ++ e ∷ []) m p k)
+    (λ after bs s. record { items = e ∷ s.items; is = s.is ∙ append_assoc es (e ∷ []) s.items; count = ap suc s.count; rise = s.rise; bytes = ap (λ r. pair_bytes e ++ r) s.bytes }))
+
+-- a map of n keys, spelled behind their count
+pub contents_come : (n : ℕ) (l : Left) → AreBytes l.bytes → Comes (λ m bs. (number_bytes 4 n ++ bs ≡ contents_bytes m) × (length (entries m) ≡ n)) l (contents n l)
+contents_come n l h =
+    step (pairs n [] l) (λ es m. Ok (from_sorted es, m)) h (whole_pairs n l h)
+    (λ es m p k. let same : entries (from_sorted {R = key_cmp} es) ≡ es = list_is es p.1 in done (from_sorted es) (
+      ap (λ x. number_bytes 4 n ++ x) (append-nil (flat_map pair_bytes es)) ∙ (λ t. number_bytes 4 (sym p.0 t) ++ flat_map pair_bytes es) ∙ (λ t. number_bytes 4 (length (sym same t)) ++ flat_map pair_bytes (sym same t)),
+      ap length same ∙ p.0,
+    ))
+  where
+    whole_pairs : (n : ℕ) (l : Left) → AreBytes l.bytes → Gives (λ es. flat_map pair_bytes es) (λ es. (length es ≡ n) × Rises es) l (pairs n [] l)
+    whole_pairs n l h = whole (other (pairs_come n [] l refl h) (λ after bs s. let e : s.items ≡ after = sym s.is in (s.bytes ∙ ap (λ (xs : List Pair). flat_map pair_bytes xs) e, (ap length (sym e) ∙ s.count, s.rise))))
+
+-- a version without openings opens with nothing
+abbrev pub HoldsAt : Version → Contents → Type 0
+HoldsAt V1 m = m ≡ empty
+HoldsAt V2 m = m ≡ empty
+HoldsAt (V3 g) m = Unit {0}
+
+pub map_gives : (v : Version) (l : Left) → AreBytes l.bytes → (length (entries empty) ≤ 4000000000) → Gives (map_bytes v) (λ m. (length (entries m) ≤ 4000000000) × HoldsAt v m) l (map_in v l)
+map_gives V1 l h none = whole (done empty (refl, (none, refl)))
+map_gives V2 l h none = whole (done empty (refl, (none, refl)))
+map_gives (V3 g) l h none =
+    whole (step (field 4 0 4000000000 l) contents h (field_gives 4 wide4 0 4000000000 l h)
+    (λ n m p k. other (contents_come n m k) (λ c bs s. (s.0, ((let le : n ≤ 4000000000 = p.most in let e : length (entries c) ≡ n = s.1 in omega arith), tt)))))
