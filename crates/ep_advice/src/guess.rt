@@ -41,7 +41,8 @@ fn hint_of(word: &[u8]) -> Hint {
     match word {
         b"execute" | b"deliver" | b"flush" => Hint::Of(Subcommand::Replay),
         b"section" | b"drop" | b"hold" | b"repeat" => Hint::Of(Subcommand::Run),
-        b"replicas" | b"propose" | b"giveup" | b"recover" => Hint::Both,
+        b"replicas" | b"generation" | b"since" | b"opening" => Hint::Both,
+        b"propose" | b"giveup" | b"recover" => Hint::Both,
         [b'#', ..] => Hint::Skipped,
         _ => Hint::Neither,
     }

@@ -1,7 +1,8 @@
 //! What the lines before the one at fault say that matters to it.
 
 use crate::lines::{Lines, words_of};
-use ep_script::number;
+use crate::operands::is_same;
+use ep_script::{number, read_word};
 use std::alloc::{AllocError, Global};
 
 /// A frame that a line of a weather is for, and the line.
@@ -11,12 +12,26 @@ pub(crate) struct Weather {
     pub line: u64,
 }
 
-/// What the lines before the one at fault say: how many replicas there are, in which line, and for which frames the section has a line
-/// of its weather.
+/// A key that the replicas open with, as it is spelled, and its line.
+#[derive(Clone, Copy)]
+struct Opened<'a> {
+    key: &'a [u8],
+    line: u64,
+}
+
+/// What the lines before the one at fault say: how many replicas there are, in which line, what the head says besides, and for which frames
+/// the section has a line of its weather.
 #[derive(Drop)]
-pub(crate) struct Before {
+pub(crate) struct Before<'a> {
     pub replicas: Option<u64>,
     pub line: u64,
+    /// Whether the script is of version 3: it has a line of a generation.
+    pub is_late: bool,
+    /// Whether a line behind the head has come.
+    pub is_within: bool,
+    /// The line of the stamp that the clocks go on from.
+    pub since: Option<u64>,
+    openings: Vec<Opened<'a>>,
     weather: Vec<Weather>,
 }
 
@@ -50,16 +65,20 @@ pub(crate) fn frame_of(words: &[&[u8]]) -> (u64, u64, u64) {
     )
 }
 
-impl Before {
+impl<'a> Before<'a> {
     /// What as many lines say.
     pub(crate) fn read(
         alloc: Global,
-        lines: &mut Lines<'_>,
+        lines: &mut Lines<'a>,
         count: u64,
-    ) -> Result<Before, AllocError> {
+    ) -> Result<Before<'a>, AllocError> {
         let mut before = Before {
             replicas: None,
             line: 0,
+            is_late: false,
+            is_within: false,
+            since: None,
+            openings: Vec::new(alloc),
             weather: Vec::new(alloc),
         };
         for place in 0..count {
@@ -70,7 +89,7 @@ impl Before {
         Ok(before)
     }
 
-    fn note(&mut self, alloc: Global, number: u64, line: &[u8]) -> Result<(), AllocError> {
+    fn note(&mut self, alloc: Global, number: u64, line: &'a [u8]) -> Result<(), AllocError> {
         let words = words_of(alloc, line)?;
         match words.first() {
             Some(first) if !is_comment(first) => self.note_words(alloc, number, &words),
@@ -78,14 +97,55 @@ impl Before {
         }
     }
 
-    fn note_words(&mut self, alloc: Global, line: u64, words: &[&[u8]]) -> Result<(), AllocError> {
-        let [first, ..] = words else {
+    fn note_words(
+        &mut self,
+        alloc: Global,
+        line: u64,
+        words: &[&'a [u8]],
+    ) -> Result<(), AllocError> {
+        let [first, rest @ ..] = words else {
             return Ok(());
         };
         if self.replicas.is_none() {
             self.replicas = Some(number_at(words, 1));
             self.line = line;
-        } else if *first == b"section".as_slice() {
+            return Ok(());
+        }
+        match *first {
+            b"generation" => {
+                self.is_late = true;
+                Ok(())
+            }
+            b"since" => {
+                self.since = Some(line);
+                Ok(())
+            }
+            b"opening" => self.note_opening(line, rest),
+            _ => {
+                self.is_within = true;
+                self.note_weather(alloc, line, words)
+            }
+        }
+    }
+
+    fn note_opening(&mut self, line: u64, operands: &[&'a [u8]]) -> Result<(), AllocError> {
+        let [key, ..] = operands else {
+            return Ok(());
+        };
+        self.openings.push(Opened { key: *key, line })?;
+        Ok(())
+    }
+
+    fn note_weather(
+        &mut self,
+        alloc: Global,
+        line: u64,
+        words: &[&'a [u8]],
+    ) -> Result<(), AllocError> {
+        let [first, ..] = words else {
+            return Ok(());
+        };
+        if *first == b"section".as_slice() {
             self.weather = Vec::new(alloc);
         } else if is_weather(first) {
             self.weather.push(Weather {
@@ -94,6 +154,18 @@ impl Before {
             })?;
         }
         Ok(())
+    }
+
+    /// The line of the key that the word spells, if the replicas open with it.
+    pub(crate) fn opening_of(&self, alloc: Global, word: &[u8]) -> Result<Option<u64>, AllocError> {
+        let wanted = read_word(alloc, word)?;
+        for one in &self.openings {
+            let key = read_word(alloc, one.key)?;
+            if is_same(&wanted, &key) {
+                return Ok(Some(one.line));
+            }
+        }
+        Ok(None)
     }
 
     /// The line of the section's weather for this frame.

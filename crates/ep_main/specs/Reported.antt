@@ -1,5 +1,5 @@
 -- The report of a script.
-use Rattle.std.specs.Prelude.{◌≡◌, ℕ, List, ◌++◌}
+use Rattle.std.specs.Prelude.{◌≡◌, ℕ, List, ◌++◌, None}
 use Rattle.ep_journal.specs.Entries.{journals_of}
 use Rattle.ep_journal.specs.Openings.{opens}
 use Rattle.ep_report.specs.Reports.{text_of, accepted_lines, refused_lines}
@@ -13,7 +13,7 @@ use Rattle.ep_replay.specs.declared.replayed.Replayed.{Replayed}
 pub record IsReportOf (played : Replayed) (text : List ℕ) : Type 0 where
   pub verdict : Verdict
   pub audited : IsAudited (opens played.journals.opening) played.journals.faults (journals_of played.journals) played.receipts.items verdict
-  pub printed : text ≡ text_of (accepted_lines verdict.committed.items verdict.history.items played.receipts.items ++ refused_lines played.refused.items)
+  pub printed : text ≡ text_of (accepted_lines None verdict.committed.items verdict.history.items played.receipts.items ++ refused_lines played.refused.items)
 
 -- The text is the report of what the protocol plays of the script.
 pub record IsReport (plan : Plan) (text : List ℕ) : Type 0 where

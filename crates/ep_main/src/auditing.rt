@@ -14,7 +14,7 @@ use crate::status::Status;
 use ep_audit::{Refusal, audit};
 use ep_base::{Sink, Source};
 use ep_bundle::{Bundle, read_bundle};
-use ep_report::{accepted, refusal};
+use ep_report::{Findings, accepted, refusal};
 use std::alloc::Global;
 use std::mem::forget;
 
@@ -45,12 +45,13 @@ fn judge_bundle(alloc: Global, bundle: &Bundle) -> Result<Judged, Fault>
 {
     match audit(alloc, &bundle.journals, bundle.receipts.as_slice()) {
         Ok(verdict) => {
-            let text = accepted(
-                alloc,
-                verdict.committed.as_slice(),
-                verdict.history.as_slice(),
-                bundle.receipts.as_slice(),
-            )?;
+            let found = Findings {
+                life: None,
+                committed: verdict.committed.as_slice(),
+                history: verdict.history.as_slice(),
+                receipts: bundle.receipts.as_slice(),
+            };
+            let text = accepted(alloc, &found)?;
             forget(verdict);
             Ok(Judged {
                 status: Status::Accepted,

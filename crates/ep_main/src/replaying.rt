@@ -18,7 +18,7 @@ use crate::status::Status;
 use ep_audit::{Refusal, audit};
 use ep_base::{Sink, Source};
 use ep_replay::{Replayed, replay};
-use ep_report::report;
+use ep_report::{Findings, report};
 use ep_script::read_script;
 use std::alloc::Global;
 use std::mem::forget;
@@ -82,13 +82,13 @@ fn report_of(alloc: Global, played: &Replayed) -> Result<Vec<u8>, Fault>
 {
     match audit(alloc, &played.journals, played.receipts.as_slice()) {
         Ok(verdict) => {
-            let text = report(
-                alloc,
-                verdict.committed.as_slice(),
-                verdict.history.as_slice(),
-                played.receipts.as_slice(),
-                played.refused.as_slice(),
-            )?;
+            let found = Findings {
+                life: None,
+                committed: verdict.committed.as_slice(),
+                history: verdict.history.as_slice(),
+                receipts: played.receipts.as_slice(),
+            };
+            let text = report(alloc, &found, played.refused.as_slice())?;
             forget(verdict);
             Ok(text)
         }

@@ -22,7 +22,7 @@ use crate::judged::Judged;
 use crate::run_options::RunOptions;
 use crate::status::Status;
 use ep_base::{Sink, Source};
-use ep_report::{Losses, refusal, run_report};
+use ep_report::{Findings, Losses, refusal, run_report};
 use ep_run::{Ran, RunFault, run, run_rings};
 use ep_script::{RunScript, read_run};
 use std::alloc::Global;
@@ -98,13 +98,13 @@ fn judge_reported(alloc: Global, ran: &Ran) -> Result<Judged, Fault>
                 refused: ran.refused.as_slice(),
                 lost: ran.lost,
             };
-            let text = run_report(
-                alloc,
-                verdict.committed.as_slice(),
-                verdict.history.as_slice(),
-                ran.receipts.as_slice(),
-                losses,
-            )?;
+            let found = Findings {
+                life: None,
+                committed: verdict.committed.as_slice(),
+                history: verdict.history.as_slice(),
+                receipts: ran.receipts.as_slice(),
+            };
+            let text = run_report(alloc, &found, losses)?;
             Ok(Judged {
                 status: Status::Accepted,
                 text,

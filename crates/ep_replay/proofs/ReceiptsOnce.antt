@@ -71,5 +71,5 @@ opening_sole f p o =
 
 pub replay_once : (plan : Plan) (d : Replayed) → IsReplay plan d → Once (instances_of d.receipts.items)
 replay_once plan d h =
-    let s : SoleAt h.last = all_sole h.first h.last plan.lines h.played (opening_sole plan.faults h.first h.opening) in
+    let s : SoleAt h.last = all_sole h.first h.last plan.lines h.played (opening_sole plan.head.faults h.first h.opening) in
     subst (λ (ts : List Receipt). Once (instances_of ts)) (sym h.receipts) s.once

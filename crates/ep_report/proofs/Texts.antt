@@ -19,11 +19,13 @@ text_of_append (l ∷ ls) more =
 pub longer_text : (a b : List ℕ) (ls more : List (List ℕ)) → a ≡ text_of ls → b ≡ a ++ text_of more → b ≡ text_of (ls ++ more)
 longer_text a b ls more e f = f ∙ ap (λ (t : List ℕ). t ++ text_of more) e ∙ sym (text_of_append ls more)
 
--- three parts below a first line
-pub text_of_parts : (first : List ℕ) (p q r : List (List ℕ)) (a b c d : List ℕ) →
-    a ≡ first ++ codes "\n" → b ≡ a ++ text_of p → c ≡ b ++ text_of q → d ≡ c ++ text_of r → d ≡ text_of (first ∷ p ++ q ++ r)
-text_of_parts first p q r a b c d e f g h =
-    longer_text c d (first ∷ p ++ q) r (longer_text b c (first ∷ p) q (longer_text a b (first ∷ []) p (e ∙ sym (append-nil (first ++ codes "\n"))) f) g) h
+-- five parts below a first line
+pub text_of_parts : (first : List ℕ) (p q r s t : List (List ℕ)) (a b c d e f : List ℕ) →
+    a ≡ first ++ codes "\n" → b ≡ a ++ text_of p → c ≡ b ++ text_of q → d ≡ c ++ text_of r → e ≡ d ++ text_of s → f ≡ e ++ text_of t → f ≡ text_of (first ∷ p ++ q ++ r ++ s ++ t)
+text_of_parts first p q r s t a b c d e f is1 is2 is3 is4 is5 is6 =
+    longer_text e f (first ∷ p ++ q ++ r ++ s) t
+    (longer_text d e (first ∷ p ++ q ++ r) s (longer_text c d (first ∷ p ++ q) r (longer_text b c (first ∷ p) q (longer_text a b (first ∷ []) p (is1 ∙ sym (append-nil (first ++ codes "\n"))) is2) is3) is4) is5)
+    is6
 
 -- what follows a text is of one piece
 one_piece : (o a b c d e : List ℕ) → o ++ a ++ b ++ c ++ d ++ e ≡ o ++ (a ++ b ++ c ++ d ++ e)

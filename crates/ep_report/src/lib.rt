@@ -11,7 +11,11 @@
 
 mod audit_fault;
 mod cause;
+mod closing;
+mod digest;
+mod findings;
 mod happening;
+mod life;
 mod lines;
 mod losses;
 mod parts;
@@ -19,7 +23,10 @@ mod reports;
 
 pub use audit_fault::AuditFault;
 pub use cause::Cause;
+pub use closing::Closing;
+pub use findings::Findings;
 pub use happening::Happening;
+pub use life::Life;
 pub use losses::Losses;
 pub use parts::{push_answer, push_command, push_deps, push_instance, push_number, push_reply};
 pub use reports::{accepted, refusal, report, run_report};

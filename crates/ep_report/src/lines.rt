@@ -1,13 +1,21 @@
 //! Lines of a report, each ended by a line feed.
 
-ghost use Rattle.std.specs.Prelude.{◌≡◌, ◌++◌, [], ◌∷◌, OnOk, codes, decimal};
+ghost use Rattle.std.specs.Prelude.{◌≡◌, ◌<◌, ◌^◌, ◌++◌, [], ◌∷◌, OnOk, codes, decimal, length};
+ghost use Rattle.std.specs.Option.{option_copied};
+ghost use Rattle.ep_report.specs.Contents.{contents_line};
+ghost use Rattle.ep_report.specs.Lives.{generation_line, closing_line};
 ghost use Rattle.ep_report.specs.Reports.{text_of, committed_line, history_line, receipt_line, refused_line, lost_line};
 
 use crate::cause::Cause;
+use crate::closing::Closing;
+use crate::digest::digest_of;
 use crate::happening::Happening;
+use crate::life::Life;
 use crate::parts::{push_answer, push_command, push_deps, push_instance, push_number, push_reply};
-use ep_base::{Decree, InstanceId};
+use ep_base::{Decree, InstanceId, Key, Value};
 use ep_rules::Receipt;
+use ep_script::push_word;
+use hex::encode;
 use std::alloc::{AllocError, Global};
 
 /// Appends a name and a count.
@@ -17,6 +25,57 @@ pub(crate) fn push_heading(text: &mut Vec<u8>, name: &[u8], count: usize) -> Res
     text.extend_from_slice(name)?;
     text.push(b' ')?;
     push_number(text, count as u64)?;
+    text.push(b'\n')?;
+    Ok(())
+}
+
+/// Appends the line of a generation.
+pub(crate) fn push_generation_line(text: &mut Vec<u8>, life: &Life<'_>) -> Result<(), AllocError>
+    ensures { OnOk result (text.new.items ≡ text.old.items ++ generation_line life.now ++ codes "\n") }
+{
+    text.extend_from_slice(b"generation ")?;
+    push_number(text, u64::from(life.generation().number()))?;
+    text.extend_from_slice(b" since ")?;
+    push_number(text, life.since())?;
+    text.push(b'\n')?;
+    Ok(())
+}
+
+/// Appends the line of the seal that closed the map, or that none did.
+pub(crate) fn push_closing_line(
+    text: &mut Vec<u8>,
+    closing: Option<&Closing>,
+) -> Result<(), AllocError>
+    ensures { OnOk result (text.new.items ≡ text.old.items ++ closing_line (option_copied closing.entry) ++ codes "\n") }
+{
+    let Some(closing) = closing else {
+        text.extend_from_slice(b"open\n")?;
+        return Ok(());
+    };
+    text.extend_from_slice(b"closed ")?;
+    push_instance(text, closing.instance)?;
+    text.push(b' ')?;
+    push_word(text, closing.value.as_slice())?;
+    text.extend_from_slice(b" stamp ")?;
+    push_number(text, closing.stamp.ticks())?;
+    text.push(b'\n')?;
+    Ok(())
+}
+
+/// Appends the line of what the keys have, in rising order of keys.
+pub(crate) fn push_contents_line(
+    alloc: Global,
+    text: &mut Vec<u8>,
+    contents: &[(Key, Value)],
+) -> Result<(), AllocError>
+    requires { length contents.now < 2 ^ 32 }
+    ensures { OnOk result (text.new.items ≡ text.old.items ++ contents_line contents.now ++ codes "\n") }
+{
+    text.extend_from_slice(b"contents ")?;
+    push_number(text, contents.len() as u64)?;
+    text.push(b' ')?;
+    let digits = encode(alloc, digest_of(contents).as_slice())?;
+    text.extend_from_slice(digits.as_bytes())?;
     text.push(b'\n')?;
     Ok(())
 }

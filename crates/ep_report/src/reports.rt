@@ -1,15 +1,19 @@
 //! Whole reports.
 
 ghost use Rattle.std.specs.Prelude.{◌≡◌, ◌++◌, OnOk, IfOk, codes, map};
+ghost use Rattle.std.specs.Option.{option_copied};
+ghost use Rattle.ep_report.specs.Lives.{generation_lines, closing_lines};
 ghost use Rattle.ep_report.specs.Refusals.{fault_of};
-ghost use Rattle.ep_report.specs.Reports.{text_of, counted, committed_line, history_lines, receipt_line, accepted_lines, refused_lines, run_lines, refusal_lines};
+ghost use Rattle.ep_report.specs.Reports.{text_of, counted, committed_line, history_lines, receipt_line, accepted_lines, refused_lines, replay_lines, run_lines, refusal_lines};
 
 use crate::audit_fault::AuditFault;
 use crate::cause::Cause;
+use crate::findings::Findings;
 use crate::happening::Happening;
+use crate::life::Life;
 use crate::lines::{
-    push_committed_line, push_heading, push_history_line, push_lost_line, push_receipt_line,
-    push_refused_line,
+    push_closing_line, push_committed_line, push_contents_line, push_generation_line, push_heading,
+    push_history_line, push_lost_line, push_receipt_line, push_refused_line,
 };
 use crate::losses::Losses;
 use ep_base::{Decree, InstanceId};
@@ -67,20 +71,44 @@ fn push_refused(
     Ok(())
 }
 
-/// The report of what an audit accepts: the committed instances with their decrees, the history, and the receipts, each
-/// in the order given.
-pub fn accepted(
+// Appends which generation it is, in version 3.
+fn push_generation(text: &mut Vec<u8>, life: Option<&Life<'_>>) -> Result<(), AllocError>
+    ensures { OnOk result (text.new.items ≡ text.old.items ++ text_of (generation_lines (option_copied life.entry))) }
+{
+    match life {
+        None => Ok(()),
+        Some(life) => push_generation_line(text, life),
+    }
+}
+
+// Appends the first seal and what the keys have after the history, in version 3.
+fn push_closing(
     alloc: Global,
-    committed: &[(InstanceId, Decree)],
-    history: &[Happening],
-    receipts: &[Receipt],
-) -> Result<Vec<u8>, AllocError>
-    ensures { IfOk result (λ t. t.items ≡ text_of (accepted_lines committed.now history.now receipts.now)) }
+    text: &mut Vec<u8>,
+    life: Option<&Life<'_>>,
+) -> Result<(), AllocError>
+    ensures { OnOk result (text.new.items ≡ text.old.items ++ text_of (closing_lines (option_copied life.entry))) }
+{
+    match life {
+        None => Ok(()),
+        Some(life) => {
+            push_closing_line(text, life.closing())?;
+            push_contents_line(alloc, text, life.contents())
+        }
+    }
+}
+
+/// The report of what an audit accepts: in version 3 its generation, the committed instances with their decrees, the history, in version 3 the
+/// first seal and what the keys have after the history, and the receipts.
+pub fn accepted(alloc: Global, found: &Findings<'_>) -> Result<Vec<u8>, AllocError>
+    ensures { IfOk result (λ t. t.items ≡ text_of (accepted_lines (option_copied found.now.life) found.now.committed.now found.now.history.now found.now.receipts.now)) }
 {
     let mut text = Vec::from_slice(alloc, b"verdict accepted\n")?;
-    push_committed(&mut text, committed)?;
-    push_history(&mut text, history)?;
-    push_receipts(&mut text, receipts)?;
+    push_generation(&mut text, found.life)?;
+    push_committed(&mut text, found.committed)?;
+    push_history(&mut text, found.history)?;
+    push_closing(alloc, &mut text, found.life)?;
+    push_receipts(&mut text, found.receipts)?;
     Ok(text)
 }
 
@@ -88,14 +116,12 @@ pub fn accepted(
 /// refused, each with its cause, in the order given.
 pub fn report(
     alloc: Global,
-    committed: &[(InstanceId, Decree)],
-    history: &[Happening],
-    receipts: &[Receipt],
+    found: &Findings<'_>,
     refused: &[(u32, Cause)],
 ) -> Result<Vec<u8>, AllocError>
-    ensures { IfOk result (λ t. t.items ≡ text_of (accepted_lines committed.now history.now receipts.now ++ refused_lines refused.now)) }
+    ensures { IfOk result (λ t. t.items ≡ text_of (replay_lines (option_copied found.now.life) found.now.committed.now found.now.history.now found.now.receipts.now refused.now)) }
 {
-    let mut text = accepted(alloc, committed, history, receipts)?;
+    let mut text = accepted(alloc, found)?;
     push_refused(alloc, &mut text, refused)?;
     Ok(text)
 }
@@ -104,14 +130,12 @@ pub fn report(
 /// counts the frames that were lost.
 pub fn run_report(
     alloc: Global,
-    committed: &[(InstanceId, Decree)],
-    history: &[Happening],
-    receipts: &[Receipt],
+    found: &Findings<'_>,
     losses: Losses<'_>,
 ) -> Result<Vec<u8>, AllocError>
-    ensures { IfOk result (λ t. t.items ≡ text_of (run_lines committed.now history.now receipts.now losses.entry.refused.now losses.entry.lost)) }
+    ensures { IfOk result (λ t. t.items ≡ text_of (run_lines (option_copied found.now.life) found.now.committed.now found.now.history.now found.now.receipts.now losses.entry.refused.now losses.entry.lost)) }
 {
-    let mut text = report(alloc, committed, history, receipts, losses.refused)?;
+    let mut text = report(alloc, found, losses.refused)?;
     push_lost_line(&mut text, losses.lost)?;
     Ok(text)
 }

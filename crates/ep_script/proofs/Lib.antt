@@ -4,3 +4,4 @@ pub mod Steps
 pub mod LinesFit
 pub mod FrameSets
 pub mod Splitting
+pub mod KeySets

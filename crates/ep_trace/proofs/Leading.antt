@@ -269,7 +269,7 @@ lines_played : (p q : Replay) (ls : List (ℕ × Line)) (text : List ℕ) → Te
 lines_played p q [] text h = h.0
 lines_played p q (l ∷ ls) text h = (h.0, line_played p h.0 l.0 l.1 h.1 h.3, lines_played h.0 q ls h.2 h.4)
 
-pub traced : (plan : Plan) (s s' : Tracer) (text : List ℕ) → IsOpening plan.faults (told s nothing) → Tells s nothing → s.text.items ≡ [] → Leads (λ p text q. TellsRun p plan.lines text q) s s' → text ≡ s'.text.items
+pub traced : (plan : Plan) (s s' : Tracer) (text : List ℕ) → IsOpening plan.head.faults (told s nothing) → Tells s nothing → s.text.items ≡ [] → Leads (λ p text q. TellsRun p plan.lines text q) s s' → text ≡ s'.text.items
     → IsTraced plan text
 traced plan s s' text opening t blank leads is =
     let r = leads nothing t in

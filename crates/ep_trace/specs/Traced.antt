@@ -69,6 +69,6 @@ pub record TellsRun (p : Replay) (lines : List (ℕ × Line)) (text : List ℕ) 
 pub record IsTraced (script : Plan) (text : List ℕ) : Type 0 where
   pub first : Replay
   pub last : Replay
-  pub opening : IsOpening script.faults first
+  pub opening : IsOpening script.head.faults first
   pub played : PlayAll first script.lines last
   pub told : TellsRun first script.lines text last

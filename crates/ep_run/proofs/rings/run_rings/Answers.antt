@@ -12,7 +12,7 @@ loop-section-init g c = subst (λ (f : ℕ). HasRun f c.args.limits.now.turns []
 
 pub run-requires-clause-fits : goal.run-requires-clause-fits
 run-requires-clause-fits g c = λ lifetimes lives.
-    let f = c.args.script.now.faults in
+    let f = c.args.script.now.head.faults in
     let all : List SectionPlan = c.sections-section-items.result.now in
     let s : SectionPlan = c.section-item.result in
     let fit : AllFit (size f) all = subst (λ (ss : List SectionPlan). AllFit (size f) ss) (sym (c.sections-section-items.ensures.value)) c.sections-section-items.ensures.fit in
@@ -25,11 +25,11 @@ loop-section-preserved g c =
     let i : ℕ = c.loop-section.section-index in
     let s : SectionPlan = c.section-item.result in
     let more : take (i + 1) all ≡ take i all ++ s ∷ [] = rw (add-one, take-suc all i s c.loop-section-test.true, ← c.section-item.is) refl in
-    rw more (c.in_ok-run-2.ensures.run c.args.script.now.faults (take i all) c.loop-section.invariant)
+    rw more (c.in_ok-run-2.ensures.run c.args.script.now.head.faults (take i all) c.loop-section.invariant)
 
 pub returns-clause-lines : goal.returns-clause-lines
 returns-clause-lines g c =
-    let f = c.args.script.now.faults in
+    let f = c.args.script.now.head.faults in
     let turns = c.args.limits.now.turns in
     let all : List SectionPlan = c.sections-section-items.result.now in
     let at : c.loop-section.section-index ≡ length all = omega arith in

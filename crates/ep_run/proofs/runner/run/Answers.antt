@@ -6,7 +6,7 @@ use Rattle.ep_run.proofs.runner.run.Goals as goal
 
 pub run-requires-clause-fits : goal.run-requires-clause-fits
 run-requires-clause-fits g c = λ lifetimes lives.
-    let f = c.args.script.now.faults in
+    let f = c.args.script.now.head.faults in
     let all : List SectionPlan = c.sections-section-items.result.now in
     let s : SectionPlan = c.section-item.result in
     let fit : AllFit (size f) all = subst (λ (ss : List SectionPlan). AllFit (size f) ss) (sym (c.sections-section-items.ensures.value)) c.sections-section-items.ensures.fit in
