@@ -20,6 +20,7 @@ pub mod WrittenEntries
 pub mod WrittenJournals
 pub mod WrittenHeaders
 pub mod PairLoops
+pub mod Beginning
 pub mod WrittenBundles
 pub mod WrittenRanges
 pub mod WrittenOnce
