@@ -27,6 +27,7 @@ pub use closing::Closing;
 pub use findings::Findings;
 pub use happening::Happening;
 pub use life::Life;
+pub use lines::push_contents;
 pub use losses::Losses;
 pub use parts::{push_answer, push_command, push_deps, push_instance, push_number, push_reply};
 pub use reports::{accepted, refusal, report, run_report};

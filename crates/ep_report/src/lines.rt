@@ -2,7 +2,7 @@
 
 ghost use Rattle.std.specs.Prelude.{◌≡◌, ◌<◌, ◌^◌, ◌++◌, [], ◌∷◌, OnOk, codes, decimal, length};
 ghost use Rattle.std.specs.Option.{option_copied};
-ghost use Rattle.ep_report.specs.Contents.{contents_line};
+ghost use Rattle.ep_report.specs.Contents.{contents_line, contents_text};
 ghost use Rattle.ep_report.specs.Lives.{generation_line, closing_line};
 ghost use Rattle.ep_report.specs.Reports.{text_of, committed_line, history_line, receipt_line, refused_line, lost_line};
 
@@ -62,9 +62,20 @@ pub(crate) fn push_closing_line(
     Ok(())
 }
 
+/// Appends how many keys a map has, and the SHA-256 of the map as a bundle spells it, in hexadecimal digits. These are its
+/// entries, in rising order of keys.
+pub fn push_contents(text: &mut Vec<u8>, contents: &[(Key, Value)]) -> Result<(), AllocError>
+    requires { length contents.now < 2 ^ 32 }
+    ensures { OnOk result (text.new.items ≡ text.old.items ++ contents_text contents.now) }
+{
+    push_number(text, contents.len() as u64)?;
+    text.push(b' ')?;
+    let digits = encode(*text.allocator(), digest_of(contents).as_slice())?;
+    text.extend_from_slice(digits.as_bytes())
+}
+
 /// Appends the line of what the keys have, in rising order of keys.
 pub(crate) fn push_contents_line(
-    alloc: Global,
     text: &mut Vec<u8>,
     contents: &[(Key, Value)],
 ) -> Result<(), AllocError>
@@ -72,10 +83,7 @@ pub(crate) fn push_contents_line(
     ensures { OnOk result (text.new.items ≡ text.old.items ++ contents_line contents.now ++ codes "\n") }
 {
     text.extend_from_slice(b"contents ")?;
-    push_number(text, contents.len() as u64)?;
-    text.push(b' ')?;
-    let digits = encode(alloc, digest_of(contents).as_slice())?;
-    text.extend_from_slice(digits.as_bytes())?;
+    push_contents(text, contents)?;
     text.push(b'\n')?;
     Ok(())
 }

@@ -93,7 +93,7 @@ fn push_closing(
         None => Ok(()),
         Some(life) => {
             push_closing_line(text, life.closing())?;
-            push_contents_line(alloc, text, life.contents())
+            push_contents_line(text, life.contents())
         }
     }
 }
