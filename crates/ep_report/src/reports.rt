@@ -82,11 +82,7 @@ fn push_generation(text: &mut Vec<u8>, life: Option<&Life<'_>>) -> Result<(), Al
 }
 
 // Appends the first seal and what the keys have after the history, in version 3.
-fn push_closing(
-    alloc: Global,
-    text: &mut Vec<u8>,
-    life: Option<&Life<'_>>,
-) -> Result<(), AllocError>
+fn push_closing(text: &mut Vec<u8>, life: Option<&Life<'_>>) -> Result<(), AllocError>
     ensures { OnOk result (text.new.items ≡ text.old.items ++ text_of (closing_lines (option_copied life.entry))) }
 {
     match life {
@@ -107,7 +103,7 @@ pub fn accepted(alloc: Global, found: &Findings<'_>) -> Result<Vec<u8>, AllocErr
     push_generation(&mut text, found.life)?;
     push_committed(&mut text, found.committed)?;
     push_history(&mut text, found.history)?;
-    push_closing(alloc, &mut text, found.life)?;
+    push_closing(&mut text, found.life)?;
     push_receipts(&mut text, found.receipts)?;
     Ok(text)
 }
