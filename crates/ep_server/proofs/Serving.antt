@@ -66,8 +66,8 @@ concludes_after {E = E} cut told (Err e) status a b c first second third r is q 
     let p : Puts a b first second r (told_first cut) = subst (λ (z : Option Cut). Puts a b first second r (told_first z)) is q in
     (h.0, told_after a b c first second third (told_first cut) (line_of e) r p stays h.1)
 
--- where the device is said to have failed, it has
-pub is_failure : {D : Type 0} (shown : Shown D) (device : D) (why : OpenFault) → ((cause : Cause) → why ≡ open_.Failed cause → shown.has_failed device ≡ true) → IsFailure shown why
+-- where the device is said to have failed, it has, for this reason
+pub is_failure : {D : Type 0} (shown : Shown D) (device : D) (why : OpenFault) → ((cause : Cause) → why ≡ open_.Failed cause → shown.why device ≡ Some cause) → IsFailure shown why
 is_failure shown device open_.OutOfRange h = tt
 is_failure shown device open_.Memory h = tt
 is_failure shown device (open_.Failed cause) h = (device, h cause refl)

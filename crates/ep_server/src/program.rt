@@ -29,7 +29,7 @@ pub fn serve_log<D: Device + Drop, S: Source, W: Sink, F: Sink>(
     writer: &mut W,
     fault_writer: &mut F,
 ) -> Status
-    ensures { (bytes zs : List ℕ) → D.seen device ≡ Some bytes → S.left reader.old ≡ Some zs → IsNode (record { has_failed = D.has_failed; seen = D.seen; moment = D.moment; left_since = D.left_since })
+    ensures { (bytes zs : List ℕ) → D.seen device ≡ Some bytes → S.left reader.old ≡ Some zs → IsNode (record { has_failed = D.has_failed; why = D.why; seen = D.seen; moment = D.moment; left_since = D.left_since })
         (record { begin = options.now.begin; mode = options.now.mode; faults = options.now.size; me = options.now.me }) bytes zs result
         (output (S.left reader.old) (S.left reader.new) (S.has_failed reader.old) (S.has_failed reader.new))
         (output (W.held writer.old) (W.held writer.new) (W.has_failed writer.old) (W.has_failed writer.new))
@@ -54,7 +54,7 @@ fn served<D: Device + Drop, S: Source, W: Sink>(
     mode: Mode,
 ) -> Result<(), Fault>
     requires { IsQuiet node }
-    ensures { (zs : List ℕ) → S.left reader.old ≡ Some zs → IsOver (record { has_failed = D.has_failed; seen = D.seen; moment = D.moment; left_since = D.left_since }) mode node zs result
+    ensures { (zs : List ℕ) → S.left reader.old ≡ Some zs → IsOver (record { has_failed = D.has_failed; why = D.why; seen = D.seen; moment = D.moment; left_since = D.left_since }) mode node zs result
         (output (S.left reader.old) (S.left reader.new) (S.has_failed reader.old) (S.has_failed reader.new))
         (output (W.held writer.old) (W.held writer.new) (W.has_failed writer.old) (W.has_failed writer.new)) }
 {
@@ -82,7 +82,7 @@ fn opened<D: Device + Drop>(
     ensures written { IfOk result (λ node. (bytes : List ℕ) → D.seen device ≡ Some bytes
         → (log : List ℕ) × (D.seen node.device ≡ Some log) × IsWrittenAnew options.now.begin options.now.size options.now.me bytes log) }
     ensures err { IfErr result (λ fault. ((bytes : List ℕ) → D.seen device ≡ Some bytes → IsUnopened options.now.begin options.now.size options.now.me bytes fault)
-        × IsFailure (record { has_failed = D.has_failed; seen = D.seen; moment = D.moment; left_since = D.left_since }) fault) }
+        × IsFailure (record { has_failed = D.has_failed; why = D.why; seen = D.seen; moment = D.moment; left_since = D.left_since }) fault) }
 {
     match Node::open(alloc, device, options.size, options.me, options.begin) {
         Ok(node) => Ok(node),
