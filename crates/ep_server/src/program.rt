@@ -17,6 +17,7 @@ use ep_device::Device;
 use ep_node::{Cut, Node, OpenFault};
 use ep_serve::{Mode, serve};
 use std::alloc::Global;
+use std::mem::forget;
 
 /// Serves as the node whose log the device holds, until the source is over or a fault stops it, and answers how the program
 /// ends. What was cut off the log is told by a line on the fault output before anything is answered, and what stops the node by
@@ -45,7 +46,7 @@ pub fn serve_log<D: Device + Drop, S: Source, W: Sink, F: Sink>(
     }
 }
 
-/// Serves with a node that is opened.
+/// Serves with a node that is opened. The process ends then, and its end frees the node's memory: to let it go by parts would cost an eighth of a run.
 fn served<D: Device + Drop, S: Source, W: Sink>(
     alloc: Global,
     node: Node<D>,
@@ -61,11 +62,11 @@ fn served<D: Device + Drop, S: Source, W: Sink>(
     let mut node = node;
     match serve(alloc, &mut node, reader, writer, mode) {
         Ok(()) => {
-            drop(node);
+            forget(node);
             Ok(())
         }
         Err(fault) => {
-            drop(node);
+            forget(node);
             Err(Fault::Serve(fault))
         }
     }
