@@ -6,11 +6,11 @@ use crate::layout::row_y;
 use crate::scene::Scene;
 use crate::seals::{add_marks, add_meanings};
 use crate::words::told;
-use ep_base::ReplicaId;
+use ep_base::{ReplicaId, VersionKind};
 use ep_journal::Entry;
 use ep_report::{AuditFault, push_number};
 use ep_svg::{Look, Point, Shape};
-use ep_words::push_edition;
+use ep_words::push_generation;
 use std::alloc::{AllocError, Global};
 
 /// How many bytes of a row's words are shown; the title of its dot has all.
@@ -86,15 +86,12 @@ const READING: [&[u8]; 2] = [
     b"0:2 is entry 2 of replica 0, 0:2:0 the first frame that it sent, and 0:2:1 the second. Point at a dot or an arrow to read all of it.",
 ];
 
-// The line of the journals' edition, without its end; nothing where they have none.
+// The journals' edition in words; nothing in versions 1 and 2.
 fn edition_of(alloc: Global, scene: &Scene<'_>) -> Result<Vec<u8>, AllocError> {
     let mut words = Vec::new(alloc);
-    push_edition(
-        &mut words,
-        scene.journals.version(),
-        scene.journals.opening(),
-    )?;
-    words.pop();
+    if let VersionKind::V3(generation) = scene.journals.version().kind() {
+        push_generation(&mut words, generation, scene.journals.opening())?;
+    }
     Ok(words)
 }
 

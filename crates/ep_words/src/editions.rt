@@ -8,8 +8,13 @@ use ep_journal::Opening;
 use ep_report::{push_contents, push_number};
 use std::alloc::AllocError;
 
-// Appends version 3 with its generation, and what it begins with.
-fn push_generation(text: &mut Vec<u8>, generation: u32, opening: &Opening) -> Result<(), AllocError>
+/// Appends version 3 with this generation, the stamp that its clocks went on from, and how many keys its opening has, with the digest
+/// that a report of the generation before tells of its contents.
+pub fn push_generation(
+    text: &mut Vec<u8>,
+    generation: u32,
+    opening: &Opening,
+) -> Result<(), AllocError>
     ensures { OnOk result (text.new.items ≡ text.old.items ++ edition_text generation opening.now) }
 {
     text.extend_from_slice(b"version 3 generation ")?;
@@ -20,9 +25,8 @@ fn push_generation(text: &mut Vec<u8>, generation: u32, opening: &Opening) -> Re
     push_contents(text, opening.contents().entries())
 }
 
-/// Appends the line that begins what is told of journals: of version 3 their generation, the stamp that their clocks went on from, and
-/// how many keys their opening has, with the digest that a report of the generation before tells of its contents. Of versions 1 and 2
-/// there is none, and nothing is appended.
+/// Appends the line that begins what is told of journals: of version 3 their generation and what they begin with. Of versions 1 and 2 there
+/// is none, and nothing is appended.
 pub fn push_edition(
     text: &mut Vec<u8>,
     version: Version,

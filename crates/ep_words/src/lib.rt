@@ -11,7 +11,7 @@ mod events;
 mod messages;
 mod part;
 
-pub use editions::push_edition;
+pub use editions::{push_edition, push_generation};
 pub use events::push_event;
 pub use messages::{push_ballot, push_message, push_origin};
 pub use part::Part;
