@@ -25,6 +25,8 @@ pub fn schedule(alloc: Global, journals: &Journals) -> Result<Vec<(ReplicaId, u3
         schedule,
         committed: _,
         history: _,
+        closing: _,
+        contents: _,
     } = verdict;
     Ok(schedule)
 }
