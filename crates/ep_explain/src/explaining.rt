@@ -154,11 +154,8 @@ fn headed(alloc: Global, bundle: &Bundle, verdict: &[u8]) -> Result<Vec<u8>, All
     ensures { IfOk result (λ text. text.items ≡ verdict.now ++ edition_line bundle.now.journals.version bundle.now.journals.opening) }
 {
     let mut text = Vec::from_slice(alloc, verdict)?;
-    push_edition(
-        &mut text,
-        bundle.journals.version(),
-        bundle.journals.opening(),
-    )?;
+    let journals = &bundle.journals;
+    push_edition(&mut text, journals.version(), journals.opening())?;
     Ok(text)
 }
 
