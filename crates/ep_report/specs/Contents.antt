@@ -20,5 +20,9 @@ map_bytes entries = to_be_bytes w32 (length entries) ++ entries_bytes entries
 abbrev pub digest_text : List (List ℕ × List ℕ) → List ℕ
 digest_text entries = encode_lower (sha256 (map_bytes entries))
 
+-- how many keys there are, and the digest
+abbrev pub contents_text : List (List ℕ × List ℕ) → List ℕ
+contents_text entries = decimal (length entries) ++ codes " " ++ digest_text entries
+
 abbrev pub contents_line : List (List ℕ × List ℕ) → List ℕ
-contents_line entries = codes "contents " ++ decimal (length entries) ++ codes " " ++ digest_text entries
+contents_line entries = codes "contents " ++ contents_text entries

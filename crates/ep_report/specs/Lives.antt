@@ -15,10 +15,14 @@ pub record Life : Type 0 where
 abbrev pub generation_line : Life → List ℕ
 generation_line l = codes "generation " ++ decimal l.generation ++ codes " since " ++ decimal l.since
 
--- the seal that closed the map, or that none did
+-- the seal that closed the map
+abbrev pub closed_line : Closing → List ℕ
+closed_line c = codes "closed " ++ instance_text c.instance ++ codes " " ++ word_of c.value ++ codes " stamp " ++ decimal c.stamp
+
+-- or that none did
 abbrev pub closing_line : Option Closing → List ℕ
 closing_line None = codes "open"
-closing_line (Some c) = codes "closed " ++ instance_text c.instance ++ codes " " ++ word_of c.value ++ codes " stamp " ++ decimal c.stamp
+closing_line (Some c) = closed_line c
 
 -- below the verdict
 abbrev pub generation_lines : Option Life → List (List ℕ)
@@ -29,3 +33,8 @@ generation_lines (Some l) = generation_line l ∷ []
 abbrev pub closing_lines : Option Life → List (List ℕ)
 closing_lines None = []
 closing_lines (Some l) = closing_line l.closing ∷ contents_line l.contents ∷ []
+
+-- a generation of a chain: how many instances it commits, and how many commands its history has
+abbrev pub link_line : Life → ℕ → ℕ → List ℕ
+link_line l committed history =
+    generation_line l ++ codes " committed " ++ decimal committed ++ codes " history " ++ decimal history ++ codes " " ++ closing_line l.closing ++ codes " " ++ contents_line l.contents

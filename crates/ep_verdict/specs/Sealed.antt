@@ -1,0 +1,27 @@
+-- How the first seal of a history, and the least stamp of who executes it, are found.
+use Rattle.std.specs.Prelude.{ℕ, cond, ltb, zero, suc, length, List, [], ◌∷◌, Option, Some, None}
+use Rattle.ep_base.specs.Interference.{is_seal}
+use Rattle.ep_base.specs.Places.{place}
+use Rattle.ep_report.specs.declared.happening.Happening.{Happening}
+use Rattle.ep_rules.specs.Journals.{Entry, Journals}
+use Rattle.ep_rules.specs.Steps.{order_of}
+
+-- the first line of a seal
+abbrev pub first_sealing : List Happening → Option Happening
+first_sealing [] = None
+first_sealing (h ∷ hs) = cond (is_seal h.command) (Some h) (first_sealing hs)
+
+-- the lesser stamp
+abbrev pub lesser : Option ℕ → ℕ → Option ℕ
+lesser None stamp = Some stamp
+lesser (Some best) stamp = cond (ltb stamp best) (Some stamp) (Some best)
+
+-- the best stamp so far, or a lesser one of an entry that executes i
+abbrev pub least_in : ℕ → List Entry → Option ℕ → Option ℕ
+least_in i [] best = best
+least_in i (e ∷ es) best = least_in i es (cond (ltb (place (order_of e.done) i) (length (order_of e.done))) (lesser best e.stamp) best)
+
+-- the least one of the first n journals
+abbrev pub least_below : ℕ → Journals → ℕ → Option ℕ
+least_below zero journal i = None
+least_below (suc n) journal i = least_in i (journal n) (least_below n journal i)
