@@ -89,7 +89,8 @@ pub fn audit_chain(alloc: Global, links: &[Link]) -> Result<Vec<Verdict>, ChainR
     let mut verdicts = Vec::new(alloc);
     for place in 0..links.len() {
         let verdict = next_verdict(alloc, links, &verdicts, place)?;
-        verdicts.push(verdict)?;
+        verdicts.reserve(1)?;
+        verdicts.push_reserved(verdict);
     }
     Ok(verdicts)
 }
