@@ -5,14 +5,15 @@ use Rattle.ep_journal.specs.Entries.{entry_of, entries_of}
 use Rattle.ep_journal.specs.Events.{event_of}
 use Rattle.ep_journal.specs.declared.entry.Entry.{Entry}
 use Rattle.ep_journal.specs.declared.event.Event.{Event as Happening}
+use Rattle.ep_journal.specs.Openings.{Opening, opens}
 use Rattle.ep_log.specs.Crashing.{AreFirst}
 use Rattle.ep_replica.specs.Applied.{Applied}
 use Rattle.ep_replica.specs.Kept.{Kept}
-use Rattle.ep_rules.specs.Journals.{IsAmong, IsEntry, left, last_stamp, heard}
+use Rattle.ep_rules.specs.Journals.{IsAmong, IsEntry, left, last_stamp, stamp_after, heard}
 use Rattle.ep_rules.specs.Journals as rules
 use Rattle.ep_rules.specs.States.{fresh_state}
 use Rattle.ep_node.specs.Calls.{CallsAreMoves, IsNode, Makes, mover}
-use Rattle.ep_node.specs.Crashes.{Cluster, IsTaken, Move, Take, HandOut, ComeBack, moved}
+use Rattle.ep_node.specs.Crashes.{Cluster, no_start, IsTaken, Move, Take, HandOut, ComeBack, moved}
 use Rattle.ep_node.proofs.CrashMoves.{at_same}
 use Rattle.ep_node.proofs.CrashTraces.{at_other}
 use Rattle.ep_node.proofs.Opened.{entries_of-take, length-entries_of}
@@ -26,18 +27,21 @@ module _ (f n : ℕ) (c : Cluster) (k : Kept) (h : IsNode f c k n) where
   count : length (c.journal k.me) ≡ length k.entries
   count = ap (λ (es : List rules.Entry). length es) h.journal ∙ length-entries_of k.entries
 
-  taken : (event : Happening) (e : Entry) (k' : Kept) → Applied k event e k' → IsTaken f k.me (c.journal k.me) (entry_of e)
+  taken : (event : Happening) (e : Entry) (k' : Kept) → Applied k event e k' → IsTaken no_start f k.me (c.journal k.me) (entry_of e)
   taken event e k' a = record {
     entry = subst (λ (es : List rules.Entry). IsEntry f k.me (left f k.me (fresh_state (opened empty)) es) (entry_of e)) (sym h.journal)
-        (subst (λ (g : ℕ). IsEntry g k.me (left g k.me (fresh_state (opened empty)) (entries_of k.entries)) (entry_of e)) h.faults a.step);
+        (subst (λ (g : ℕ). IsEntry g k.me (left g k.me (fresh_state (opened empty)) (entries_of k.entries)) (entry_of e)) h.faults
+        (subst (λ (o : Opening). IsEntry k.faults k.me (left k.faults k.me (fresh_state (opens o)) (entries_of k.entries)) (entry_of e)) h.opening a.step));
     number = a.number ∙ ap (λ (m : ℕ). m + 1) (sym count);
     stamp = subst (λ (es : List rules.Entry). e.stamp ≡ 1 + max (last_stamp es) (heard (event_of e.event))) (sym h.journal)
-        (subst (λ (z : Happening). e.stamp ≡ 1 + max (last_stamp (entries_of k.entries)) (heard (event_of z))) (sym a.event) a.stamp);
+        (subst (λ (z : Happening). e.stamp ≡ 1 + max (last_stamp (entries_of k.entries)) (heard (event_of z))) (sym a.event)
+        (subst (λ (o : Opening). e.stamp ≡ 1 + max (stamp_after o.since (entries_of k.entries)) (heard (event_of event))) h.opening a.stamp));
     marked = a.marked;
   }
 
   grown : (e : Entry) → IsNode f (moved c (Take k.me (entry_of e))) (record k { entries = k.entries ++ e ∷ [] }) n
   grown e = record {
+    opening = h.opening;
     faults = h.faults;
     member = h.member;
     journal = at_same k.me (c.journal k.me ++ (entry_of e ∷ [])) c.journal ∙ ap (λ (es : List rules.Entry). es ++ (entry_of e ∷ [])) h.journal ∙ sym (entries_of-push k.entries e);
@@ -53,6 +57,7 @@ module _ (f n : ℕ) (c : Cluster) (k : Kept) (h : IsNode f c k n) where
 
   syncs_lem : IsNode f c k (length k.entries)
   syncs_lem = record {
+    opening = h.opening;
     faults = h.faults;
     member = h.member;
     journal = h.journal;
@@ -64,6 +69,7 @@ module _ (f n : ℕ) (c : Cluster) (k : Kept) (h : IsNode f c k n) where
   lends_lem all = record {
     move = (h.member, record { least = (let out = h.out in omega (arith, out, all)); most = omega (arith, count) });
     node = record {
+      opening = h.opening;
       faults = h.faults;
       member = h.member;
       journal = h.journal;
@@ -84,6 +90,7 @@ module _ (f n : ℕ) (c : Cluster) (k : Kept) (h : IsNode f c k n) where
       record {
         move = (h.member, record { least = omega (arith, long, out, least); most = omega (arith, long, most, count) });
         node = record {
+          opening = h.opening;
           faults = h.faults;
           member = h.member;
           journal = at_same k.me (take (length es) (c.journal k.me)) c.journal
@@ -98,6 +105,7 @@ module _ (f n : ℕ) (c : Cluster) (k : Kept) (h : IsNode f c k n) where
 
   others_lem : (m : Move) → (mover m ≡ k.me → ⊥) → IsNode f (moved c m) k n
   others_lem (Take r e) other = record {
+    opening = h.opening;
     faults = h.faults;
     member = h.member;
     journal = at_other r k.me (c.journal r ++ (e ∷ [])) c.journal other ∙ h.journal;
@@ -105,6 +113,7 @@ module _ (f n : ℕ) (c : Cluster) (k : Kept) (h : IsNode f c k n) where
     synced = h.synced;
   }
   others_lem (HandOut r j) other = record {
+    opening = h.opening;
     faults = h.faults;
     member = h.member;
     journal = h.journal;
@@ -112,6 +121,7 @@ module _ (f n : ℕ) (c : Cluster) (k : Kept) (h : IsNode f c k n) where
     synced = h.synced;
   }
   others_lem (ComeBack r j) other = record {
+    opening = h.opening;
     faults = h.faults;
     member = h.member;
     journal = at_other r k.me (take j (c.journal r)) c.journal other ∙ h.journal;
@@ -121,7 +131,7 @@ module _ (f n : ℕ) (c : Cluster) (k : Kept) (h : IsNode f c k n) where
 
 pub calls_are_moves_lem : CallsAreMoves
 calls_are_moves_lem = record {
-  begins = λ f me member. record { faults = refl; member = member; journal = refl; out = omega arith; synced = omega arith };
+  begins = λ f me member. record { opening = refl; faults = refl; member = member; journal = refl; out = omega arith; synced = omega arith };
   takes = λ f n c k k' event e h among a. takes_lem f n c k h k' event e among a;
   syncs = λ f n c k h. syncs_lem f n c k h;
   lends = λ f c k h. lends_lem f (length k.entries) c k h refl;

@@ -7,12 +7,14 @@ use Rattle.ep_journal.specs.declared.entry.Entry.{Entry}
 use Rattle.ep_journal.specs.declared.event.Event.{Event as Happening}
 use Rattle.ep_log.specs.Crashing.{AreFirst}
 use Rattle.ep_replica.specs.Applied.{Applied}
-use Rattle.ep_replica.specs.Kept.{Kept}
+use Rattle.ep_journal.specs.Openings.{no_opening}
+use Rattle.ep_replica.specs.Kept.{Kept, begun}
 use Rattle.ep_rules.specs.Journals.{IsAmong}
-use Rattle.ep_node.specs.Crashes.{Cluster, fresh_cluster, Move, Take, HandOut, ComeBack, IsMove, moved}
+use Rattle.ep_node.specs.Crashes.{Cluster, fresh_cluster, no_start, Move, Take, HandOut, ComeBack, mover, IsMove, moved}
 
--- a node of the cluster has this replica; the first n of its entries are on the disk, and nothing was handed out of the others
+-- a node of the cluster has this replica, which opened with nothing; the first n of its entries are on the disk, and nothing was handed out of the others
 pub record IsNode (f : ℕ) (c : Cluster) (k : Kept) (n : ℕ) : Type 0 where
+  pub opening : k.opening ≡ no_opening
   pub faults : k.faults ≡ f
   pub member : k.me < size f
   pub journal : c.journal k.me ≡ entries_of k.entries
@@ -21,19 +23,13 @@ pub record IsNode (f : ℕ) (c : Cluster) (k : Kept) (n : ℕ) : Type 0 where
 
 -- it is a move of the cluster, and leaves the node so
 pub record Makes (f : ℕ) (c : Cluster) (m : Move) (k : Kept) (n : ℕ) : Type 0 where
-  pub move : IsMove f c m
+  pub move : IsMove no_start f c m
   pub node : IsNode f (moved c m) k n
-
--- the node that moves
-abbrev pub mover : Move → ℕ
-mover (Take r e) = r
-mover (HandOut r n) = r
-mover (ComeBack r n) = r
 
 -- What the calls of a node do are the moves of the laws on crashes.
 pub record CallsAreMoves : Type 0 where
   -- a new node has no entries
-  pub begins : (f me : ℕ) → me < size f → IsNode f fresh_cluster (record { faults = f; me = me; entries = [] }) 0
+  pub begins : (f me : ℕ) → me < size f → IsNode f fresh_cluster (begun f me) 0
   -- an event that was taken is a `Take` of its entry, if what it handles was handed out
   pub takes :
       (f n : ℕ) (c : Cluster) (k k' : Kept) (event : Happening) (e : Entry) → IsNode f c k n → IsAmong c.given (event_of event) → Applied k event e k' →
