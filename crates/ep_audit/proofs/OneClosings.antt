@@ -8,7 +8,7 @@ use Rattle.ep_base.specs.Interference.{is_seal}
 use Rattle.ep_base.specs.Places.{Has}
 use Rattle.ep_base.specs.Quorums.{size}
 use Rattle.ep_base.specs.declared.decree.Decree.{Decree}
-use Rattle.ep_rules.specs.Chains.{store_left, history_from}
+use Rattle.ep_rules.specs.Chains.{Closing as Closes, store_left, history_from}
 use Rattle.ep_rules.specs.Closing.{has_seal, up_to_seal, first_seal, written_by}
 use Rattle.ep_rules.specs.Journals.{Entry, left, Journals, Scheduled, acts_of}
 use Rattle.ep_rules.specs.Merging.{Merges}
@@ -198,3 +198,29 @@ closing_of_verdict base f journal v is given m e =
   where
     go : (m : Contents) → ((k : IsVerdict (opened m) f journal v) × Merges (opened m) f journal k.order) → IsOneClosing m f journal v
     go m p = one_closing m f journal p.0.order p.1 v (same_operations m f journal v p.0 p.1) p.0.closing p.0.contents
+
+-- the verdict's seal is executed, by an entry of its stamp
+pub record IsThere (m : Contents) (f : ℕ) (journal : Journals) (c : Closing) : Type 0 where
+  pub closes : Closes m f journal (λ r. [])
+  pub stamp : closes.entry.stamp ≡ c.stamp
+
+pub seal_there : (m : Contents) (f : ℕ) (journal : Journals) (v : Verdict) (is : IsVerdict (opened m) f journal v) → Merges (opened m) f journal is.order → (c : Closing) → v.closing ≡ Some c → IsThere m f journal c
+seal_there m f journal v is given c closed =
+    let h : List Operation = history_from m f is.order in
+    let same = same_operations m f journal v is given in
+    let t : IsFirstSeal journal h c = subst (λ (o : Option Closing). IsClosing journal h o) closed (subst (λ (os : List Operation). IsClosing journal os v.closing) same is.closing) in
+    let l = last_of h t.before _ t.seals t.last in
+    let x : IsExecuted journal c.instance = t.stamp.executed in
+    let command : command_at (opened m) f journal c.instance ≡ Seal c.value = sym (command_is (command_at (opened m) f journal) h _ (are_of m f journal is.order given) l.stands) in
+    record {
+      closes = record {
+        replica = x.replica;
+        entry = x.entry;
+        stands = x.stands;
+        instance = c.instance;
+        executes = x.executes;
+        seals = ap is_seal command;
+        below = λ q e k. absurd k;
+      };
+      stamp = t.stamp.is;
+    }

@@ -43,4 +43,4 @@ one_history base f journal receipts schedule m a =
 pub audited : (base : Store) (f : ℕ) (journal : Journals) (receipts : List Receipt) (v : Verdict) → 1 ≤ f → f ≤ 3 → AreLocalRuns base f journal → IsAccepted base f journal receipts → IsVerdict base f journal v → IsAudited base f journal receipts v
 audited base f journal receipts v some few local a is =
     let m : Merges base f journal is.order = record { some = omega arith; few = omega arith; local = local; matched = a.matched; scheduled = is.scheduled } in
-    record { accepted = a; verdict = is; history = subst (λ h. IsOneHistory base f journal receipts is.order h) (sym is.history.instances) (one_history base f journal receipts is.order m a); closing = closing_of_verdict base f journal v is m }
+    record { accepted = a; verdict = is; merges = m; history = subst (λ h. IsOneHistory base f journal receipts is.order h) (sym is.history.instances) (one_history base f journal receipts is.order m a); closing = closing_of_verdict base f journal v is m }

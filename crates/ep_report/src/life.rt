@@ -44,7 +44,7 @@ impl<'a> Life<'a> {
         contents: &'a Contents,
     ) -> Life<'a>
         requires { length (entries contents.now) < 2 ^ 32 }
-        ensures { result ≡ record { generation = generation; since = since; closing = option_copied closing; contents = contents.now } }
+        ensures { result ≡ record { generation = generation; since = since; closing = option_copied closing.entry; contents = contents.now } }
     {
         Life {
             generation,
