@@ -1,2 +1,4 @@
 pub mod Audited
+pub mod Chained
+pub mod Differences
 pub mod Upgraded

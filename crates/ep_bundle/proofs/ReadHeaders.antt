@@ -1,5 +1,5 @@
 -- What stands before a bundle's journals: each part took its own bytes.
-use Rattle.std.proofs.Common.{◌≡◌, ℕ, zero, suc, ◌+◌, ◌/◌, ◌^◌, ◌≤◌, ◌<◌, Bool, true, false, ◌||◌, cond, eqb, List, [], ◌∷◌, ◌++◌, length, length-append, append-nil, append_assoc, Ok, Err, refl, sym, ap, ◌∙◌, subst, arith}
+use Rattle.std.proofs.Common.{◌≡◌, ℕ, zero, suc, ◌+◌, ◌/◌, ◌^◌, ◌≤◌, ◌<◌, Bool, true, false, ◌||◌, cond, eqb, List, [], ◌∷◌, ◌++◌, length, length-append, append-nil, append_assoc, Option, Some, Ok, Err, refl, sym, ap, ◌∙◌, subst, arith}
 use Rattle.std.proofs.lemmas.Bool.{eqb-true, eqb-false}
 use Rattle.std.specs.FinMap.{entries, from_sorted, is_sorted}
 use Rattle.std.specs.List.{flat_map}
@@ -9,24 +9,23 @@ use Rattle.ep_base.specs.Versions.{version_number, version_of}
 use Rattle.ep_base.specs.declared.version.Version.{Version}
 use Rattle.ep_base.specs.declared.version_kind.VersionKind.TheVariants.{V1, V2, V3}
 use Rattle.ep_exec.specs.Table.{key_cmp}
-use Rattle.ep_exec.proofs.Rising.{list_is, none_is_empty, one_more}
+use Rattle.ep_exec.proofs.Rising.{list_is, none_listed, one_more}
 use Rattle.ep_frame.specs.Fields.{number_bytes}
 use Rattle.ep_frame.specs.Spelling.{AreBytes}
 use Rattle.ep_frame.proofs.BigEndian.{wide1, wide4, wide8}
 use Rattle.ep_rules.specs.OneMap.{Contents, empty}
-use Rattle.ep_bundle.specs.Bytes.{contents_bytes, edition_bytes, map_bytes, pair_bytes}
-use Rattle.ep_bundle.specs.Headers.{Pair, contents, edition, key_above, map_in, pair, pairs}
-use Rattle.ep_bundle.specs.Reading.{Left, Reading, and_then, run, field}
+use Rattle.ep_exec.specs.Bytes.{contents_bytes, pair_bytes}
+use Rattle.ep_bundle.specs.Bytes.{edition_bytes, header_bytes, magic, map_bytes}
+use Rattle.ep_journal.specs.Openings.{Opening, OpensIn, no_opening}
+use Rattle.ep_bundle.specs.Headers.{HoldsAt, Pair, StartsAt, cluster, contents, edition, header, key_above, late_edition, map_in, pair, pairs}
+use Rattle.ep_bundle.specs.Reading.{Left, Reading, Reads, and_then, run, number, field}
+use Rattle.ep_bundle.specs.Writing.{OpeningFits}
+use Rattle.ep_bundle.specs.declared.bundle_header.BundleHeader.{BundleHeader}
 use Rattle.ep_bundle.specs.declared.bundle_fault.BundleFault.TheVariants.{BadBundle}
-use Rattle.ep_bundle.proofs.ReadNumbers.{Gives, Comes, Ranges, done, step, last, other, whole, choice, refused, run_gives, field_gives}
+use Rattle.ep_bundle.proofs.MapBytes.{pair_is, contents_are}
+use Rattle.ep_bundle.proofs.ReadNumbers.{Gives, Comes, Ranges, done, step, last, other, whole, choice, refused, run_gives, number_gives, field_gives}
 
 -- the edition
-
--- a version without openings begins at 0
-abbrev pub StartsAt : Version → ℕ → Type 0
-StartsAt V1 since = since ≡ 0
-StartsAt V2 since = since ≡ 0
-StartsAt (V3 g) since = Unit {0}
 
 pub record IsEdition (n : ℕ) (e : Version × ℕ) : Type 0 where
   pub version : version_number e.0 ≡ n
@@ -54,7 +53,7 @@ early n p not_three = go (eqb n 1) (eqb n 3) refl not_three
 
 pub edition_gives : (n : ℕ) (l : Left) → Ranges 1 3 n → AreBytes l.bytes → Gives (λ e. edition_bytes e.0 e.1) (IsEdition n) l (edition n l)
 edition_gives n l p h =
-    whole (choice (eqb n 3) (and_then (field 4 1 4294967295 l) (λ g l. and_then (field 8 0 281474976710655 l) (λ since l. Ok ((V3 g, since), l)))) (Ok ((version_of n 0, 0), l))
+    whole (choice (eqb n 3) (late_edition l) (Ok ((version_of n 0, 0), l))
     (λ is. step (field 4 1 4294967295 l) (λ g l. and_then (field 8 0 281474976710655 l) (λ since l. Ok ((V3 g, since), l))) h (field_gives 4 wide4 1 4294967295 l h)
     (λ g l q h. step (field 8 0 281474976710655 l) (λ since l. Ok ((V3 g, since), l)) h (field_gives 8 wide8 0 281474976710655 l h)
     (λ since l r h. done (V3 g, since) (ap (λ x. number_bytes 4 g ++ x) (append-nil (number_bytes 8 since)), record { version = sym (eqb-true n 3 is); since = r.most; starts = tt }))))
@@ -62,11 +61,11 @@ edition_gives n l p h =
 
 -- the keys
 
-abbrev Rises : List Pair → Type 0
+abbrev pub Rises : List Pair → Type 0
 Rises es = is_sorted key_cmp es ≡ true
 
 -- that keys rise is asked of the keys alone
-same_key : (es : List Pair) (k v w : List ℕ) → Rises es → Rises (es ++ (k, v) ∷ []) → Rises (es ++ (k, w) ∷ [])
+pub same_key : (es : List Pair) (k v w : List ℕ) → Rises es → Rises (es ++ (k, v) ∷ []) → Rises (es ++ (k, w) ∷ [])
 same_key es k v w h e = one_more k w es h ∙ sym (one_more k v es h) ∙ e
 
 key_gives : (es : List Pair) (n : ℕ) (l : Left) → AreBytes l.bytes → Gives (λ k. k) (λ k. (length k ≡ n) × Rises (es ++ (k, []) ∷ [])) l (key_above es n l)
@@ -75,7 +74,7 @@ key_gives es n l h =
     (λ k m p hm. choice (is_sorted key_cmp (es ++ (k, []) ∷ [])) (Ok (k, m)) (Err (BadBundle l.at)) (λ e. done k (append-nil k, (p.0, e))) (λ e. refused (BadBundle l.at))))
 
 pair_spelled : (k n : ℕ) (key value : List ℕ) → length key ≡ k → length value ≡ n → number_bytes 1 k ++ (number_bytes 4 n ++ (key ++ value)) ≡ pair_bytes (key, value)
-pair_spelled k n key value ek en = (λ t. number_bytes 1 (sym ek t) ++ (number_bytes 4 (sym en t) ++ (key ++ value))) ∙ group (number_bytes 1 (length key)) (number_bytes 4 (length value)) key value
+pair_spelled k n key value ek en = (λ t. number_bytes 1 (sym ek t) ++ (number_bytes 4 (sym en t) ++ (key ++ value))) ∙ group (number_bytes 1 (length key)) (number_bytes 4 (length value)) key value ∙ sym (pair_is (key, value))
   where
     group : (a b c d : List ℕ) → a ++ (b ++ (c ++ d)) ≡ a ++ b ++ c ++ d
     group a b c d = simp append_assoc
@@ -110,22 +109,85 @@ pub contents_come : (n : ℕ) (l : Left) → AreBytes l.bytes → Comes (λ m bs
 contents_come n l h =
     step (pairs n [] l) (λ es m. Ok (from_sorted es, m)) h (whole_pairs n l h)
     (λ es m p k. let same : entries (from_sorted {R = key_cmp} es) ≡ es = list_is es p.1 in done (from_sorted es) (
-      ap (λ x. number_bytes 4 n ++ x) (append-nil (flat_map pair_bytes es)) ∙ (λ t. number_bytes 4 (sym p.0 t) ++ flat_map pair_bytes es) ∙ (λ t. number_bytes 4 (length (sym same t)) ++ flat_map pair_bytes (sym same t)),
+      ap (λ x. number_bytes 4 n ++ x) (append-nil (flat_map pair_bytes es)) ∙ (λ t. number_bytes 4 (sym p.0 t) ++ flat_map pair_bytes es) ∙ (λ t. number_bytes 4 (length (sym same t)) ++ flat_map pair_bytes (sym same t))
+          ∙ sym (contents_are (from_sorted es)),
       ap length same ∙ p.0,
     ))
   where
     whole_pairs : (n : ℕ) (l : Left) → AreBytes l.bytes → Gives (λ es. flat_map pair_bytes es) (λ es. (length es ≡ n) × Rises es) l (pairs n [] l)
     whole_pairs n l h = whole (other (pairs_come n [] l refl h) (λ after bs s. let e : s.items ≡ after = sym s.is in (s.bytes ∙ ap (λ (xs : List Pair). flat_map pair_bytes xs) e, (ap length (sym e) ∙ s.count, s.rise))))
 
--- a version without openings opens with nothing
-abbrev pub HoldsAt : Version → Contents → Type 0
-HoldsAt V1 m = m ≡ empty
-HoldsAt V2 m = m ≡ empty
-HoldsAt (V3 g) m = Unit {0}
+pub none_counted : length (entries empty) ≤ 4000000000
+none_counted = let e : length (entries empty) ≡ 0 = ap length none_listed in omega arith
 
-pub map_gives : (v : Version) (l : Left) → AreBytes l.bytes → (length (entries empty) ≤ 4000000000) → Gives (map_bytes v) (λ m. (length (entries m) ≤ 4000000000) × HoldsAt v m) l (map_in v l)
-map_gives V1 l h none = whole (done empty (refl, (none, refl)))
-map_gives V2 l h none = whole (done empty (refl, (none, refl)))
-map_gives (V3 g) l h none =
+pub map_gives : (v : Version) (l : Left) → AreBytes l.bytes → Gives (map_bytes v) (λ m. (length (entries m) ≤ 4000000000) × HoldsAt v m) l (map_in v l)
+map_gives V1 l h = whole (done empty (refl, (none_counted, refl)))
+map_gives V2 l h = whole (done empty (refl, (none_counted, refl)))
+map_gives (V3 g) l h =
     whole (step (field 4 0 4000000000 l) contents h (field_gives 4 wide4 0 4000000000 l h)
     (λ n m p k. other (contents_come n m k) (λ c bs s. (s.0, ((let le : n ≤ 4000000000 = p.most in let e : length (entries c) ≡ n = s.1 in omega arith), tt)))))
+
+-- the cluster
+
+one_of_three : (n : ℕ) (three five seven : Bool) → eqb n 3 ≡ three → eqb n 5 ≡ five → eqb n 7 ≡ seven → (three || five || seven) ≡ true → n ≡ size (n / 2)
+one_of_three n true five seven a b c h = let is = eqb-true n 3 a in omega arith
+one_of_three n false true seven a b c h = let is = eqb-true n 5 b in omega arith
+one_of_three n false false true a b c h = let is = eqb-true n 7 c in omega arith
+one_of_three n false false false a b c h = absurd (cc)
+
+cluster_gives : (l : Left) → AreBytes l.bytes → Gives (λ f. number_bytes 1 (size f)) (λ f. Unit {0}) l (cluster l)
+cluster_gives l h =
+    whole (step (number 1 l) (λ n m. cond (eqb n 3 || eqb n 5 || eqb n 7) (Ok (n / 2, m)) (Err (BadBundle l.at))) h (number_gives 1 wide1 l h)
+    (λ n m p hm. choice (eqb n 3 || eqb n 5 || eqb n 7) (Ok (n / 2, m)) (Err (BadBundle l.at))
+    (λ e. done (n / 2) (append-nil (number_bytes 1 n) ∙ ap (λ k. number_bytes 1 k) (one_of_three n (eqb n 3) (eqb n 5) (eqb n 7) refl refl refl e), tt))
+    (λ e. refused (BadBundle l.at))))
+
+-- the whole header
+
+pub opens_in : (v : Version) (m : Contents) (since : ℕ) → StartsAt v since → HoldsAt v m → OpensIn v (record { contents = m; since = since })
+opens_in V1 m since at none = λ t. record { contents = none t; since = at t }
+opens_in V2 m since at none = λ t. record { contents = none t; since = at t }
+opens_in (V3 g) m since at none = tt
+
+pub record IsHeader (h : BundleHeader) : Type 0 where
+  pub receipts : h.receipts < 256 ^ 4
+  pub opens : OpensIn h.version h.opening
+  pub fits : OpeningFits h.opening
+
+header_spelled : (x n : ℕ) (v : Version) (o : Opening) (a b : ℕ) → x ≡ magic → version_number v ≡ n
+    → number_bytes 4 x ++ (number_bytes 1 n ++ (number_bytes 1 a ++ (edition_bytes v o.since ++ (number_bytes 4 b ++ (map_bytes v o.contents ++ []))))) ≡ header_bytes v o a b
+header_spelled x n v o a b ex en =
+    (λ t. number_bytes 4 (ex t) ++ (number_bytes 1 (sym en t) ++ (number_bytes 1 a ++ (edition_bytes v o.since ++ (number_bytes 4 b ++ append-nil (map_bytes v o.contents) t)))))
+    ∙ six (number_bytes 4 magic) (number_bytes 1 (version_number v)) (number_bytes 1 a) (edition_bytes v o.since) (number_bytes 4 b) (map_bytes v o.contents)
+  where
+    six : (a b c d e f : List ℕ) → a ++ (b ++ (c ++ (d ++ (e ++ f)))) ≡ a ++ b ++ c ++ d ++ e ++ f
+    six a b c d e f = simp append_assoc
+
+-- what is made of the parts
+abbrev made : Version × ℕ → ℕ → ℕ → Contents → BundleHeader
+made e f k m = record { version = e.0; cluster = f; opening = record { contents = m; since = e.1 }; receipts = k }
+
+pub header_gives : (l : Left) → AreBytes l.bytes → Gives (λ h. header_bytes h.version h.opening (size h.cluster) h.receipts) IsHeader l (header l)
+header_gives l h =
+    whole (step (field 4 magic magic l) (λ x l. and_then (field 1 1 3 l) (λ n l. and_then (cluster l) (λ f l. and_then (edition n l) (λ e l. and_then (number 4 l) (λ k l. and_then (map_in e.0 l) (λ m l. Ok (made e f k m, l))))))) h (field_gives 4 wide4 magic magic l h)
+    (λ x l p h. step (field 1 1 3 l) (λ n l. and_then (cluster l) (λ f l. and_then (edition n l) (λ e l. and_then (number 4 l) (λ k l. and_then (map_in e.0 l) (λ m l. Ok (made e f k m, l)))))) h (field_gives 1 wide1 1 3 l h)
+    (λ n l q h. step (cluster l) (λ f l. and_then (edition n l) (λ e l. and_then (number 4 l) (λ k l. and_then (map_in e.0 l) (λ m l. Ok (made e f k m, l))))) h (cluster_gives l h)
+    (λ f l r h. step (edition n l) (λ e l. and_then (number 4 l) (λ k l. and_then (map_in e.0 l) (λ m l. Ok (made e f k m, l)))) h (edition_gives n l q h)
+    (λ e l s h. step (number 4 l) (λ k l. and_then (map_in e.0 l) (λ m l. Ok (made e f k m, l))) h (number_gives 4 wide4 l h)
+    (λ k l t h. step (map_in e.0 l) (λ m l. Ok (made e f k m, l)) h (map_gives e.0 l h)
+    (λ m l u h. done (made e f k m) (
+      header_spelled x n e.0 (record { contents = m; since = e.1 }) (size f) k (same magic x p) s.version,
+      record { receipts = t; opens = opens_in e.0 m e.1 s.starts u.1; fits = (u.0, s.since) },
+    ))))))))
+  where
+    same : (n x : ℕ) → Ranges n n x → x ≡ n
+    same n x p = let a : n ≤ x = p.least in let b : x ≤ n = p.most in omega arith
+
+-- what a call makes of the edition and the map
+
+pub opens_as : (v : Version) (m : Contents) (since : ℕ) (o : Opening) → o ≡ record { contents = m; since = since } → StartsAt v since → HoldsAt v m → OpensIn v o
+opens_as v m since o is at none = subst (OpensIn v) (sym is) (opens_in v m since at none)
+
+pub header_ends : (v : Version) (f k : ℕ) (m : Contents) (since : ℕ) (o : Opening) (p : ℕ) (ys : List ℕ) (left : Option (List ℕ)) → left ≡ Some ys → o ≡ record { contents = m; since = since }
+    → Reads (Ok (made (v, since) f k m, record { at = p; bytes = ys })) (Ok (record { version = v; cluster = f; opening = o; receipts = k })) p left
+header_ends v f k m since o p ys left h is = (ys, h, ap (λ (x : Opening). Ok (record { version = v; cluster = f; opening = x; receipts = k }, record { at = p; bytes = ys })) (sym is))

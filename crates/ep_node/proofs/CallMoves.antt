@@ -13,7 +13,7 @@ use Rattle.ep_rules.specs.Journals.{IsAmong, IsEntry, left, last_stamp, stamp_af
 use Rattle.ep_rules.specs.Journals as rules
 use Rattle.ep_rules.specs.States.{fresh_state}
 use Rattle.ep_node.specs.Calls.{CallsAreMoves, IsNode, Makes, mover}
-use Rattle.ep_node.specs.Crashes.{Cluster, IsTaken, Move, Take, HandOut, ComeBack, moved}
+use Rattle.ep_node.specs.Crashes.{Cluster, no_start, IsTaken, Move, Take, HandOut, ComeBack, moved}
 use Rattle.ep_node.proofs.CrashMoves.{at_same}
 use Rattle.ep_node.proofs.CrashTraces.{at_other}
 use Rattle.ep_node.proofs.Opened.{entries_of-take, length-entries_of}
@@ -27,7 +27,7 @@ module _ (f n : ℕ) (c : Cluster) (k : Kept) (h : IsNode f c k n) where
   count : length (c.journal k.me) ≡ length k.entries
   count = ap (λ (es : List rules.Entry). length es) h.journal ∙ length-entries_of k.entries
 
-  taken : (event : Happening) (e : Entry) (k' : Kept) → Applied k event e k' → IsTaken f k.me (c.journal k.me) (entry_of e)
+  taken : (event : Happening) (e : Entry) (k' : Kept) → Applied k event e k' → IsTaken no_start f k.me (c.journal k.me) (entry_of e)
   taken event e k' a = record {
     entry = subst (λ (es : List rules.Entry). IsEntry f k.me (left f k.me (fresh_state (opened empty)) es) (entry_of e)) (sym h.journal)
         (subst (λ (g : ℕ). IsEntry g k.me (left g k.me (fresh_state (opened empty)) (entries_of k.entries)) (entry_of e)) h.faults

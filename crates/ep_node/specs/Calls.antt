@@ -10,7 +10,7 @@ use Rattle.ep_replica.specs.Applied.{Applied}
 use Rattle.ep_journal.specs.Openings.{no_opening}
 use Rattle.ep_replica.specs.Kept.{Kept, begun}
 use Rattle.ep_rules.specs.Journals.{IsAmong}
-use Rattle.ep_node.specs.Crashes.{Cluster, fresh_cluster, Move, Take, HandOut, ComeBack, IsMove, moved}
+use Rattle.ep_node.specs.Crashes.{Cluster, fresh_cluster, no_start, Move, Take, HandOut, ComeBack, mover, IsMove, moved}
 
 -- a node of the cluster has this replica, which opened with nothing; the first n of its entries are on the disk, and nothing was handed out of the others
 pub record IsNode (f : ℕ) (c : Cluster) (k : Kept) (n : ℕ) : Type 0 where
@@ -23,14 +23,8 @@ pub record IsNode (f : ℕ) (c : Cluster) (k : Kept) (n : ℕ) : Type 0 where
 
 -- it is a move of the cluster, and leaves the node so
 pub record Makes (f : ℕ) (c : Cluster) (m : Move) (k : Kept) (n : ℕ) : Type 0 where
-  pub move : IsMove f c m
+  pub move : IsMove no_start f c m
   pub node : IsNode f (moved c m) k n
-
--- the node that moves
-abbrev pub mover : Move → ℕ
-mover (Take r e) = r
-mover (HandOut r n) = r
-mover (ComeBack r n) = r
 
 -- What the calls of a node do are the moves of the laws on crashes.
 pub record CallsAreMoves : Type 0 where
