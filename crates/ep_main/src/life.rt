@@ -1,6 +1,6 @@
 //! What a report of version 3 has besides.
 
-ghost use Rattle.std.specs.Prelude.{◌≡◌, ◌<◌, ◌≤◌, ◌^◌, true, length, Some};
+ghost use Rattle.std.specs.Prelude.{◌≡◌, ◌<◌, ◌≤◌, ◌^◌, length};
 ghost use Rattle.std.specs.FinMap.{entries};
 ghost use Rattle.ep_main.specs.Lives.{life_in, life_with};
 
@@ -8,13 +8,6 @@ use ep_audit::Verdict;
 use ep_base::{Generation, VersionKind};
 use ep_journal::Journals;
 use ep_report::Life;
-
-/// Whether so few keys have a value after the verdict's history that a report counts them: fewer than 2^32.
-pub(crate) fn has_few_keys(verdict: &Verdict) -> bool
-    ensures { result ≡ true → length (entries verdict.now.contents) < 2 ^ 32 }
-{
-    verdict.contents.entries().len() < 4_294_967_296
-}
 
 /// The generation of which the journals are, and the verdict on them; none in versions 1 and 2.
 pub(crate) fn life_of<'a>(journals: &Journals, verdict: &'a Verdict) -> Option<Life<'a>>

@@ -71,12 +71,7 @@ fn host_of(alloc: Global, head: &Head, limits: &Limits) -> Result<LockHost, Allo
 }
 
 /// The replicas of this generation, which open as the head says.
-fn host_in(
-    alloc: Global,
-    head: &Head,
-    number: u32,
-    capacity: usize,
-) -> Result<LockHost, AllocError>
+fn host_in(alloc: Global, head: &Head, number: u32, capacity: usize) -> Result<LockHost, AllocError>
     requires number { 1 ≤ number }
     requires capacity { (1 ≤ capacity) × (capacity ≤ 4096) }
     ensures cluster { IfOk result (λ host. host.cluster ≡ head.now.faults) }
