@@ -64,7 +64,11 @@ HoldsAt V1 m = m ≡ empty
 HoldsAt V2 m = m ≡ empty
 HoldsAt (V3 g) m = Unit {0}
 
-abbrev pub header : Left → Reading BundleHeader
-header l =
-    and_then (field 4 magic magic l) (λ x l. and_then (field 1 1 3 l) (λ n l. and_then (cluster l) (λ f l. and_then (edition n l) (λ e l. and_then (number 4 l) (λ k l. and_then (map_in e.0 l)
+-- of a bundle whose version is of these numbers
+abbrev pub header_of : ℕ → ℕ → Left → Reading BundleHeader
+header_of low high l =
+    and_then (field 4 magic magic l) (λ x l. and_then (field 1 low high l) (λ n l. and_then (cluster l) (λ f l. and_then (edition n l) (λ e l. and_then (number 4 l) (λ k l. and_then (map_in e.0 l)
     (λ m l. Ok (record { version = e.0; cluster = f; opening = record { contents = m; since = e.1 }; receipts = k }, l)))))))
+
+abbrev pub header : Left → Reading BundleHeader
+header l = header_of 1 3 l

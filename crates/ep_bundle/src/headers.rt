@@ -4,7 +4,7 @@ ghost use Rattle.std.specs.Prelude.{◌≡◌, ◌≤◌, ℕ, List, Some, IfOk}
 ghost use Rattle.ep_base.specs.Devices.{FailsAsTold};
 ghost use Rattle.ep_journal.specs.Openings.{OpensIn};
 ghost use Rattle.ep_base.specs.Versions.{version_of};
-ghost use Rattle.ep_bundle.specs.Headers.{StartsAt, cluster, edition, header, late_edition};
+ghost use Rattle.ep_bundle.specs.Headers.{StartsAt, cluster, edition, header, header_of, late_edition};
 ghost use Rattle.ep_bundle.specs.Reading.{is_read_failed, Reads};
 
 use crate::bundle_fault::BundleFault;
@@ -78,8 +78,24 @@ pub fn read_header<S: Source>(
     ensures opens { IfOk result (λ h. OpensIn h.version h.opening) }
     ensures told { FailsAsTold is_read_failed result (S.has_failed source.old) (S.has_failed source.new) }
 {
+    read_header_of(alloc, source, place, 1, 3)
+}
+
+/// The same of a bundle whose version is of these numbers.
+pub(crate) fn read_header_of<S: Source>(
+    alloc: Global,
+    source: &mut S,
+    place: &mut u64,
+    low: u8,
+    high: u8,
+) -> Result<BundleHeader, BundleFault>
+    requires { (1 ≤ low) × (high ≤ 3) }
+    ensures bytes { (zs : List ℕ) → S.left source.old ≡ Some zs → Reads (header_of low high (record { at = place.old; bytes = zs })) result place.new (S.left source.new) }
+    ensures opens { IfOk result (λ h. OpensIn h.version h.opening) }
+    ensures told { FailsAsTold is_read_failed result (S.has_failed source.old) (S.has_failed source.new) }
+{
     field_u32(source, place, 0x4550_4a42, 0x4550_4a42)?;
-    let number = field_u8(source, place, 1, 3)?;
+    let number = field_u8(source, place, low, high)?;
     let cluster = read_cluster(source, place)?;
     let edition = read_edition(source, place, number)?;
     let (version, since) = edition;

@@ -6,7 +6,7 @@ ghost use Rattle.ep_graph.specs.Graphs.{measured, viewed, front, opening, IsGrap
 
 use crate::graph_fault::GraphFault;
 use crate::layers::Layers;
-use crate::plan::Plan;
+use crate::plan::{Plan, closed_in};
 use crate::reach::Reach;
 use crate::rects::{EDGE, FIRST, GAP, LANE, LINE, Place, place_boxes};
 use crate::style::STYLE;
@@ -199,21 +199,52 @@ fn look_of(plan: &Plan<'_>, members: &[usize]) -> Look {
     }
 }
 
+/// How far the mark of a seal stands within its box.
+const INSET: u64 = 2;
+
+// Draws the mark of a seal behind its line, at this height of its box.
+fn add_seal(shapes: &mut Vec<Shape>, place: Place, down: u64) -> Result<(), AllocError> {
+    shapes.push(Shape::Rect {
+        look: Look::Seal,
+        at: Point {
+            x: place.at.x.saturating_add(INSET),
+            y: place.at.y.saturating_add(down).saturating_add(INSET),
+        },
+        extent: Point {
+            x: place.extent.x.saturating_sub(2 * INSET),
+            y: LINE.saturating_add(1),
+        },
+    })?;
+    Ok(())
+}
+
+/// How the line of a node looks.
+fn line_look(plan: &Plan<'_>, node: usize) -> Look {
+    if plan.closed.has(node) {
+        Look::Closed
+    } else {
+        Look::Plain
+    }
+}
+
 // Writes the lines of a box.
 fn add_lines(
     shapes: &mut Vec<Shape>,
     plan: &Plan<'_>,
     members: &[usize],
-    corner: Point,
+    place: Place,
 ) -> Result<(), AllocError> {
     for (line, node) in members.iter().enumerate() {
+        let down = LINE.saturating_mul(line as u64);
+        if plan.is_seal(*node) {
+            add_seal(shapes, place, down)?;
+        }
         let words = plan.shown(*shapes.allocator(), *node, members.len())?;
-        let down = LINE.saturating_mul(line as u64).saturating_add(FIRST);
         let at = Point {
-            x: corner.x.saturating_add(5),
-            y: corner.y.saturating_add(down),
+            x: place.at.x.saturating_add(5),
+            y: place.at.y.saturating_add(down).saturating_add(FIRST),
         };
-        add_words(shapes, Look::Plain, at, words)?;
+        add_words(shapes, line_look(plan, *node), at, words)?;
     }
     Ok(())
 }
@@ -243,7 +274,7 @@ fn add_all_lines(
 ) -> Result<(), AllocError> {
     for place in places {
         let members = plan.members(*shapes.allocator(), place.first)?;
-        add_lines(shapes, plan, &members, place.at)?;
+        add_lines(shapes, plan, &members, *place)?;
     }
     Ok(())
 }
@@ -264,11 +295,75 @@ fn add_graph(shapes: &mut Vec<Shape>, plan: &Plan<'_>, places: &[Place]) -> Resu
     add_all_lines(shapes, plan, places)
 }
 
+/// How high the key's line is.
+const KEY: u64 = 22;
+
+/// Whether some node is committed as a seal.
+fn has_seal(plan: &Plan<'_>) -> bool {
+    let mut has = false;
+    for node in 0..plan.reach.nodes().len() {
+        has = has || plan.is_seal(node);
+    }
+    has
+}
+
+/// Whether some node was answered `closed`.
+fn has_closed(plan: &Plan<'_>) -> bool {
+    let mut has = false;
+    for node in 0..plan.reach.nodes().len() {
+        has = has || plan.closed.has(node);
+    }
+    has
+}
+
+// Draws below the graph what the mark of a seal means.
+fn add_seal_meaning(shapes: &mut Vec<Shape>, y: u64) -> Result<(), AllocError> {
+    shapes.push(Shape::Rect {
+        look: Look::Seal,
+        at: Point {
+            x: EDGE,
+            y: y.saturating_sub(11),
+        },
+        extent: Point {
+            x: 30,
+            y: LINE.saturating_add(1),
+        },
+    })?;
+    let words = Vec::from_slice(*shapes.allocator(), b"a seal")?;
+    add_words(shapes, Look::Plain, Point { x: 54, y }, words)
+}
+
+// Draws below the graph what the line of what was answered `closed` means.
+fn add_closed_meaning(shapes: &mut Vec<Shape>, y: u64) -> Result<(), AllocError> {
+    let words = Vec::from_slice(
+        *shapes.allocator(),
+        b"-> closed: a seal stood before it, and it changed nothing",
+    )?;
+    add_words(shapes, Look::Closed, Point { x: 130, y }, words)
+}
+
+// Draws a key below the graph, which ends at this y, of the marks that occur, and answers where it ends.
+fn add_key(shapes: &mut Vec<Shape>, plan: &Plan<'_>, y: u64) -> Result<u64, AllocError> {
+    let (seal, closed) = (has_seal(plan), has_closed(plan));
+    if seal {
+        add_seal_meaning(shapes, y.saturating_add(6))?;
+    }
+    if closed {
+        add_closed_meaning(shapes, y.saturating_add(6))?;
+    }
+    if seal || closed {
+        Ok(y.saturating_add(KEY))
+    } else {
+        Ok(y)
+    }
+}
+
 fn picture_of(alloc: Global, plan: &Plan<'_>) -> Result<Picture, AllocError> {
     let mut places = Vec::new(alloc);
-    let height = place_boxes(alloc, plan, &mut places)?;
+    let bottom = place_boxes(alloc, plan, &mut places)?;
     let mut shapes = Vec::new(alloc);
     add_graph(&mut shapes, plan, &places)?;
+    let height = add_key(&mut shapes, plan, bottom)?;
     Ok(Picture {
         width: width_of(&places),
         height,
@@ -349,10 +444,12 @@ pub fn graph(alloc: Global, journals: &Journals) -> Result<Vec<u8>, GraphFault>
     let verdict = Verdict::of(alloc, journals)?;
     let reach = Reach::of(alloc, &verdict.committed, MOST)?;
     let layers = Layers::of(alloc, &reach)?;
+    let closed = closed_in(alloc, &reach, &verdict.history)?;
     let plan = Plan {
         committed: &verdict.committed,
         reach,
         layers,
+        closed,
     };
     let text = drawn(alloc, &plan)?;
     Ok(text)

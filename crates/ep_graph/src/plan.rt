@@ -1,9 +1,10 @@
 //! What is drawn of a graph.
 
 use crate::layers::Layers;
+use crate::marks::Marks;
 use crate::reach::{Reach, decree_of};
-use ep_base::{Decree, InstanceId};
-use ep_report::{push_command, push_deps, push_instance, push_number};
+use ep_base::{Decree, InstanceId, Reply};
+use ep_report::{Happening, push_command, push_deps, push_instance, push_number};
 use std::alloc::{AllocError, Global};
 
 /// How many bytes of a line in a box are shown.
@@ -15,6 +16,30 @@ pub(crate) struct Plan<'a> {
     pub committed: &'a [(InstanceId, Decree)],
     pub reach: Reach,
     pub layers: Layers,
+    /// The nodes that were answered `closed`.
+    pub closed: Marks,
+}
+
+/// The nodes that were answered `closed` in this history.
+pub(crate) fn closed_in(
+    alloc: Global,
+    reach: &Reach,
+    history: &[Happening],
+) -> Result<Marks, AllocError> {
+    let mut closed = Marks::none(alloc, reach.nodes().len())?;
+    for happening in history {
+        if matches!(happening.reply, Reply::Closed) {
+            note(&mut closed, reach, happening.instance);
+        }
+    }
+    Ok(closed)
+}
+
+/// Takes the instance's node in, if it has one.
+fn note(marks: &mut Marks, reach: &Reach, instance: InstanceId) {
+    if let Some(node) = reach.node(instance) {
+        marks.add(node);
+    }
 }
 
 impl<'a> Plan<'a> {
@@ -40,6 +65,14 @@ impl<'a> Plan<'a> {
         decree_of(self.committed, *instance)
     }
 
+    /// Whether the node is committed as a seal.
+    pub fn is_seal(&self, node: usize) -> bool {
+        match self.decree(node) {
+            Some(decree) => decree.command.is_seal(),
+            None => false,
+        }
+    }
+
     fn seq(&self, node: usize) -> u32 {
         match self.decree(node) {
             Some(decree) => decree.attrs.seq.number(),
@@ -57,7 +90,7 @@ impl<'a> Plan<'a> {
         Ok(words)
     }
 
-    /// The line of a node: its instance and its command, and its seq and what it depends on where it isn't alone.
+    /// The line of a node: its instance and its command, its seq and what it depends on where it isn't alone, and that it was answered `closed`.
     fn told(&self, alloc: Global, node: usize, whole: bool) -> Result<Vec<u8>, AllocError> {
         let mut words = Vec::new(alloc);
         let Some(instance) = self.reach.nodes().get(node) else {
@@ -67,6 +100,9 @@ impl<'a> Plan<'a> {
         match self.decree(node) {
             Some(decree) => push_decree(&mut words, decree, whole)?,
             None => words.extend_from_slice(b" isn't committed")?,
+        }
+        if self.closed.has(node) {
+            words.extend_from_slice(b" -> closed")?;
         }
         Ok(words)
     }

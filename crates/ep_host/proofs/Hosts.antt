@@ -4,6 +4,7 @@ use Rattle.std.proofs.lemmas.List.{get_or_default, get_or_append_left, get_or-ap
 use Rattle.std.proofs.lemmas.List.Elements.{Contains-append_left, All-contains}
 use Rattle.std.proofs.lemmas.Bool.{cases_lt}
 use Rattle.rtrb.specs.Ring.{sent, received, IsPair}
+use Rattle.ep_replica.specs.Kept.{start_of}
 use Rattle.ep_host.specs.Follows.{Follows}
 use Rattle.ep_host.specs.Host.{IsHost, Paired, PairedBoth, HasLink, Begins, AllBegin, Knows, AllSent}
 use Rattle.ep_host.specs.Node.{Node}
@@ -55,16 +56,17 @@ kept_pair a b a' b' q r p = let s = q.to.0 in let t = r.from.0 in
 pub record Stays (a b : Node) : Type 0 where
   pub faults : b.replica.faults ≡ a.replica.faults
   pub me : b.replica.me ≡ a.replica.me
+  pub start : start_of b.replica ≡ start_of a.replica
   pub rings : Each KeepsLink a.links b.links
 
 pub stays_after : (a b : Node) → Follows a b → Stays a b
-stays_after a b h = record { faults = h.works.faults; me = h.works.me; rings = carried_keep a.weather h.fates a.links b.links h.rings }
+stays_after a b h = record { faults = h.works.faults; me = h.works.me; start = h.works.start; rings = carried_keep a.weather h.fates a.links b.links h.rings }
 
 pub stays_self : (a : Node) → Stays a a
-stays_self a = record { faults = refl; me = refl; rings = each_self KeepsLink a.links keeps_self }
+stays_self a = record { faults = refl; me = refl; start = refl; rings = each_self KeepsLink a.links keeps_self }
 
 pub stays_assigned : (a b : Node) (task : Task) → Assigns a task b → Stays a b
-stays_assigned a b task is = subst (λ (n : Node). Stays a n) (sym is) record { faults = refl; me = refl; rings = each_self KeepsLink a.links keeps_self }
+stays_assigned a b task is = subst (λ (n : Node). Stays a n) (sym is) record { faults = refl; me = refl; start = refl; rings = each_self KeepsLink a.links keeps_self }
 
 kept_paired : (a b a' b' : Node) → Stays a a' → Stays b b' → HasLink a b.replica.me → HasLink b a.replica.me → Paired a b → Paired a' b'
 kept_paired a b a' b' la lb ha hb p = λ e. rw (la.me, lb.me) (kept_pair _ _ _ _ (la.rings.at (place a.replica.me b.replica.me) e ha.0) (lb.rings.at (place b.replica.me a.replica.me) e hb.0) (p e))
@@ -74,6 +76,7 @@ host_stays f xs ys h host = record {
   count = h.len ∙ host.count;
   faults = λ i d low. let l : i < length xs = omega (arith, h.len) in (h.at i d l).faults ∙ host.faults i d l;
   me = λ i d low. let l : i < length xs = omega (arith, h.len) in (h.at i d l).me ∙ host.me i d l;
+  start = λ i d low. let l : i < length xs = omega (arith, h.len) in let z : 0 < length xs = omega arith in (h.at i d l).start ∙ host.start i d l ∙ sym (h.at 0 d z).start;
   links = λ i d low. let l : i < length xs = omega (arith, h.len) in let n = (h.at i d l).rings.len in let m = host.links i d l in omega (arith, h.len, n, m);
   peers = λ i d low. let l : i < length xs = omega (arith, h.len) in peers_still i (get_or xs i d).links (get_or ys i d).links (h.at i d l).rings (host.peers i d l);
   paired = λ i j d less low. let l : i < length xs = omega (arith, h.len) in let m : j < length xs = omega arith in

@@ -6,7 +6,7 @@ use mathlib.Core.List.{IsPrefix}
 use Rattle.rtrb.specs.Ring.{sent, received, IsPair}
 use Rattle.ep_frame.specs.Meaning.{sender_at}
 use Rattle.ep_journal.specs.declared.entry.Entry.{Entry}
-use Rattle.ep_replica.specs.Kept.{Kept}
+use Rattle.ep_replica.specs.Kept.{Kept, start_of}
 use Rattle.ep_host.specs.Fates.{Carries}
 use Rattle.ep_host.proofs.Hosts.{Stays, host_stays, host_both}
 use Rattle.ep_host.specs.Host.{IsHost, Quiet, Looked, Paired, Begins, HasLink, PairedBoth, BeginsBoth, AllBegin, AllFrom}
@@ -79,7 +79,7 @@ quiet_keeps : (a b : Link) → Quiet a b → KeepsLink a b
 quiet_keeps a b q = q.keeps
 
 looked_stays : (a b : Node) → Looked a b → Stays a b
-looked_stays a b l = record { faults = ap (λ (n : Node). n.replica.faults) l.is; me = me_is a b l; rings = each_weaker Quiet KeepsLink quiet_keeps a.links b.links l.links }
+looked_stays a b l = record { faults = ap (λ (n : Node). n.replica.faults) l.is; me = me_is a b l; start = ap (λ (n : Node). start_of n.replica) l.is; rings = each_weaker Quiet KeepsLink quiet_keeps a.links b.links l.links }
 
 pub host_looked : (f : ℕ) (xs ys : List Node) → Each Looked xs ys → IsHost f xs → IsHost f ys
 host_looked f xs ys h host = host_stays f xs ys (each_weaker Looked Stays looked_stays xs ys h) host

@@ -1,36 +1,44 @@
--- Frames of version 2, and that no replica refuses them for their version.
-use Rattle.std.proofs.Common.{◌≡◌, ℕ, zero, suc, List, [], ◌∷◌, Some, None, inl, inr, arith, All, ap}
+-- Frames that hosts carry, and that no replica refuses those of its own version for their version or generation.
+use Rattle.std.proofs.Common.{◌≡◌, ◌≢◌, ◌≤◌, ℕ, zero, suc, cond, eqb, List, [], ◌∷◌, Option, Some, None, inl, inr, refl, sym, ap, subst, ◌∙◌, arith, All}
+use Rattle.std.proofs.lemmas.Bool.{eq-eqb}
+use Rattle.ep_base.specs.Versions.{version_number, generation_of}
 use Rattle.ep_base.specs.declared.version.Version.{Version}
-use Rattle.ep_base.specs.declared.version_kind.VersionKind.TheVariants.{V2}
 use Rattle.ep_frame.specs.Meaning.{version_at}
 use Rattle.ep_journal.specs.Entries.{AreFramesIn, AreEntriesIn}
 use Rattle.ep_journal.specs.Events.{event_of, spelled_in}
 use Rattle.ep_journal.specs.Refused.{named}
 use Rattle.ep_journal.specs.declared.entry.Entry.{Entry}
+use Rattle.ep_journal.specs.declared.step_fault.StepFault.TheVariants.{OtherVersion, OtherGeneration}
 use Rattle.ep_rules.specs.States.{State}
 use Rattle.ep_rules.specs.Steps.{leaves}
 use Rattle.ep_host.specs.HostFrames.{AreHostFrames, NoneForVersion}
 
-frames_each : (bs : List (List ℕ)) → AreFramesIn V2 bs → AreHostFrames bs
-frames_each [] h i d low = absurd (omega arith)
-frames_each (b ∷ bs) h zero d low = h.0
-frames_each (b ∷ bs) h (suc i) d low = frames_each bs h.1 i d (omega arith)
+frames_each : (v : Version) (bs : List (List ℕ)) → 2 ≤ version_number v → AreFramesIn v bs → AreHostFrames bs
+frames_each v [] known h i d low = absurd (omega arith)
+frames_each v (b ∷ bs) known h zero d low = subst (λ (w : Version). 2 ≤ version_number w) (sym h.0) known
+frames_each v (b ∷ bs) known h (suc i) d low = frames_each v bs known h.1 i d (omega arith)
 
--- each entry of a version 2 journal sends such frames
-pub entries_each : (f me : ℕ) (s : State) (es : List Entry) → AreEntriesIn V2 f me s es → All (λ (e : Entry). AreHostFrames e.frames) es
-entries_each f me s [] h i d low = absurd (omega arith)
-entries_each f me s (e ∷ es) h zero d low = frames_each e.frames h.0.frames
-entries_each f me s (e ∷ es) h (suc i) d low = entries_each f me (leaves f me s (event_of e.event) e.done) es h.2 i d (omega arith)
+-- each entry of a journal of such a version sends such frames
+pub entries_each : (v : Version) (f me : ℕ) (s : State) (es : List Entry) → 2 ≤ version_number v → AreEntriesIn v f me s es → All (λ (e : Entry). AreHostFrames e.frames) es
+entries_each v f me s [] known h i d low = absurd (omega arith)
+entries_each v f me s (e ∷ es) known h zero d low = frames_each v e.frames known h.0.frames
+entries_each v f me s (e ∷ es) known h (suc i) d low = entries_each v f me (leaves f me s (event_of e.event) e.done) es known h.2 i d (omega arith)
+
+spelled_same : (v w : Version) → v ≡ w → spelled_in v w ≡ None
+spelled_same v w is =
+    ap (λ b. cond b (cond (eqb (generation_of v) (generation_of w)) None (Some OtherGeneration)) (Some OtherVersion)) (eq-eqb (version_number v) (version_number w) (ap version_number is))
+    ∙ ap (λ b. cond b None (Some OtherGeneration)) (eq-eqb (generation_of v) (generation_of w) (ap generation_of is))
 
 pub none_for_version : NoneForVersion
-none_for_version k b fault is (inl memory) other = absurd (cc)
-none_for_version k b fault is (inr (inl h)) other =
-    let lacks : spelled_in (version_at b) V2 ≡ Some fault = h.1 in
-    let none : spelled_in (version_at b) V2 ≡ None = ap (λ (v : Version). spelled_in v V2) is in
+none_for_version k b fault is (inl memory) = ((λ other. absurd (cc)), (λ other. absurd (cc)))
+none_for_version k b fault is (inr (inl h)) =
+    let lacks : spelled_in (version_at b) k.version ≡ Some fault = h.1 in
+    let none : spelled_in (version_at b) k.version ≡ None = spelled_same (version_at b) k.version is in
     absurd (cc)
-none_for_version k b fault is (inr (inr (inl h))) other = let e = h.0 in absurd (cc)
-none_for_version k b fault is (inr (inr (inr (inl h)))) other = let e = h.0 in absurd (cc)
-none_for_version k b fault is (inr (inr (inr (inr h)))) other =
-    let tells : named fault ≡ Some h.0 = h.1.named in
-    let none : named fault ≡ None = ap named other in
-    absurd (cc)
+none_for_version k b fault is (inr (inr (inl h))) = let e = h.0 in ((λ other. absurd (cc)), (λ other. absurd (cc)))
+none_for_version k b fault is (inr (inr (inr (inl h)))) = let e = h.0 in ((λ other. absurd (cc)), (λ other. absurd (cc)))
+none_for_version k b fault is (inr (inr (inr (inr h)))) =
+    let tells : named fault ≡ Some h.0 = h.1.named in (
+      (λ other. absurd (let none : named fault ≡ None = ap named other in cc)),
+      (λ other. absurd (let none : named fault ≡ None = ap named other in cc)),
+    )

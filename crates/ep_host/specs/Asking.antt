@@ -2,12 +2,12 @@
 use Rattle.std.specs.Prelude.{◌≡◌, ℕ, ◌<◌, ◌≤◌, Bool, true, false, List, Option, Some, IfSome}
 use Rattle.ep_base.specs.Instances.{leader_of}
 use Rattle.ep_base.specs.Quorums.{size}
-use Rattle.ep_base.specs.declared.version_kind.VersionKind.TheVariants.{V2}
+use Rattle.ep_base.specs.Versions.{version_number}
 use Rattle.ep_journal.specs.Entries.{entries_of, IsJournal}
 use Rattle.ep_journal.specs.declared.entry.Entry.{Entry}
 use Rattle.ep_journal.specs.declared.event.Event.{Event}
 use Rattle.ep_journal.specs.declared.step_fault.StepFault.{StepFault}
-use Rattle.ep_journal.specs.Openings.{no_opening}
+use Rattle.ep_journal.specs.Openings.{OpensIn, opens}
 use Rattle.ep_replica.specs.Applied.{Applied, IsDeclined}
 use Rattle.ep_replica.specs.Kept.{Kept}
 use Rattle.ep_replica.specs.Pending.{Submits}
@@ -21,11 +21,12 @@ use Rattle.ep_host.specs.declared.host_fault.HostFault.TheVariants.{Memory, OutO
 use Rattle.ep_host.specs.declared.tended.Tended.{Tended}
 use Rattle.ep_host.specs.declared.turn.Turn.{Turn}
 use Rattle.ep_host.specs.declared.turn.Turn.TheVariants.{Moved, Idle}
-use Rattle.ep_rules.specs.OneMap.{opened, empty}
 
--- a replica's journal, which is of version 2
-abbrev pub IsKept : Kept → Type 0
-IsKept k = IsJournal V2 no_opening k.faults k.me k.entries
+-- a replica's journal, which is of version 2 or of a generation
+pub record IsKept (k : Kept) : Type 0 where
+  pub known : 2 ≤ version_number k.version
+  pub opens : OpensIn k.version k.opening
+  pub journal : IsJournal k.version k.opening k.faults k.me k.entries
 
 -- some replica took the event
 pub record IsTaken (event : Event) : Type 0 where
@@ -47,7 +48,7 @@ abbrev pub turn_of : Bool → Turn
 turn_of true = Moved
 turn_of false = Idle
 
--- some replica was tended, with a frame of its version or none
+-- some replica was tended, with a frame or none
 pub record IsPumped (turn : Turn) : Type 0 where
   pub old : Kept
   pub new : Kept
@@ -87,7 +88,7 @@ pub record IsOutcome (i : ℕ) (t : Receipt) : Type 0 where
   pub kept : Kept
   pub run : IsKept kept
   pub instance : t.instance ≡ i
-  pub own : IsOwn (opened empty) kept.faults kept.me (entries_of kept.entries) t
+  pub own : IsOwn (opens kept.opening) kept.faults kept.me (entries_of kept.entries) t
   pub first : outcome_of kept.me (entries_of kept.entries) i ≡ Some t
 
 -- the same, of an instance that a replica of the cluster leads

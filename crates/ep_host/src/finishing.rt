@@ -1,13 +1,13 @@
 //! The audit of a host's journals.
 
-ghost use Rattle.std.specs.Prelude.{◌≡◌, IfOk, vec_len};
+ghost use Rattle.std.specs.Prelude.{◌≡◌, true, IfOk, vec_len};
 ghost use Rattle.ep_base.specs.Quorums.{size};
-ghost use Rattle.ep_base.specs.declared.version_kind.VersionKind.TheVariants.{V2};
-ghost use Rattle.ep_host.specs.Finishing.{IsFinished, AreVersion2};
+ghost use Rattle.ep_host.specs.Finishing.{IsFinished};
 
 use crate::finished::Finished;
 use ep_audit::{Refusal, audit};
-use ep_journal::{Journal, Journals};
+use ep_base::Version;
+use ep_journal::{Journal, Journals, Opening};
 use ep_rules::Receipt;
 use std::alloc::{AllocError, Global};
 
@@ -16,6 +16,7 @@ fn audited(alloc: Global, journals: Journals, receipts: &[Receipt]) -> Result<Fi
     ensures audited { IfOk result (IsFinished receipts.now) }
     ensures size { IfOk result (λ f. f.journals.faults ≡ journals.faults) }
     ensures version { IfOk result (λ f. f.journals.version ≡ journals.version) }
+    ensures opening { IfOk result (λ f. f.journals.opening ≡ journals.opening) }
 {
     match audit(alloc, &journals, receipts) {
         Ok(verdict) => Ok(Finished {
@@ -30,19 +31,31 @@ fn audited(alloc: Global, journals: Journals, receipts: &[Receipt]) -> Result<Fi
     }
 }
 
-/// The same of version 2 journals of a cluster, one for each replica, in replica order. A host's always are these.
+/// Whether the journals are of this version, with this opening.
+fn are_of(version: Version, opening: &Opening, journals: &Journals) -> bool
+    ensures { result ≡ true → (journals.now.version ≡ version) × (journals.now.opening ≡ opening.now) }
+{
+    journals.version() == version && journals.opening().is_same(opening)
+}
+
+/// The same of journals of a cluster, one for each replica, in replica order, of this version and with this opening. A host's always are these.
 pub fn finished(
     alloc: Global,
+    version: Version,
+    opening: &Opening,
     journals: Vec<Journal>,
     receipts: &[Receipt],
 ) -> Result<Finished, AllocError>
-    requires { AreVersion2 journals.items }
     ensures audited { IfOk result (IsFinished receipts.now) }
     ensures size { IfOk result (λ f. size f.journals.faults ≡ vec_len journals) }
-    ensures version { IfOk result (λ f. f.journals.version ≡ V2) }
+    ensures version { IfOk result (λ f. f.journals.version ≡ version) }
+    ensures opening { IfOk result (λ f. f.journals.opening ≡ opening.now) }
 {
-    match Journals::new(journals) {
-        Ok(journals) => audited(alloc, journals, receipts),
-        Err(_) => Err(AllocError),
+    let Ok(journals) = Journals::new(journals) else {
+        return Err(AllocError);
+    };
+    if !are_of(version, opening, &journals) {
+        return Err(AllocError);
     }
+    audited(alloc, journals, receipts)
 }

@@ -7,7 +7,7 @@ use ep_frame::{Frame, Origin};
 use std::alloc::AllocError;
 use std::marker::Model;
 
-/// A frame of version 2. What is in a ring or an inbox, or is held, is such a frame by its type.
+/// A frame of version 2 or of a generation, as replicas are. What is in a ring or an inbox, or is held, is such a frame by its type.
 #[derive(Drop)]
 pub struct HostFrame {
     frame: Frame,
@@ -29,7 +29,7 @@ impl HostFrame {
     ghost use Rattle.ep_frame.specs.Meaning.{origin_at};
     ghost use Rattle.ep_host.specs.HostFrames.{IsHostFrame};
 
-    /// The frame, which is of version 2.
+    /// The frame.
     pub fn new(frame: Frame) -> HostFrame
         requires { IsHostFrame frame }
         ensures { result ≡ frame }
@@ -80,7 +80,7 @@ pub fn frame_in(given: Option<HostFrame>) -> Option<Frame>
     }
 }
 
-/// No replica refuses a frame of version 2 for its version: a law, which costs nothing.
+/// No replica refuses a frame of its own version for its version or generation: a law, which costs nothing.
 pub fn none_is_refused_for_its_version()
     ensures { NoneForVersion }
 {}

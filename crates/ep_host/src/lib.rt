@@ -5,7 +5,7 @@
 //! the threads left. Start with specs/Tending.antt and `tending.rt`, which say exactly what one pump does to a replica, then
 //! specs/Asking.antt, which says what a call tells, and `lock_host.rt`.
 //! A `Replica` behind a lock is what its journal leaves, by its type, whatever threads do, and an inbox holds frames of
-//! version 2 alone, by the type of its items, in one order (`ep_inbox`). No lock of a replica is held while frames are sent. Whether the journals fit
+//! versions that replicas are of, by the type of its items, in one order (`ep_inbox`). No lock of a replica is held while frames are sent. Whether the journals fit
 //! together no lock knows: `finish` asks the audit. What a replica sends and receives by is a `Sender` behind a lock of its own: the weather of its
 //! frames, an outlet for each replica of the cluster, which puts, counts and holds them, and the port to its own inbox (specs/Outboxes.antt).
 //!
@@ -13,7 +13,7 @@
 //! `section` gives each of them its turns in a thread of its own, `settle` gives turns in rounds, and `finish` audits the nodes. Start with
 //! specs/Turns.antt (one turn, exactly), specs/Turned.antt and specs/Follows.antt (turns, and what they leave) and specs/Host.antt (the nodes of one host), then
 //! `ring_node.rt`. What a node put into a ring is a frame out of an entry of its journal, and what it handled it took from one of its rings,
-//! by its type; its rings hold frames of version 2 alone. Both ends of all rings together then say that all that was handled was sent, in its order, so
+//! by its type; its rings hold frames of such versions alone. Both ends of all rings together then say that all that was handled was sent, in its order, so
 //! `finish` never finds a fault; `section` and `settle` say it of the nodes that they hand back.
 //!
 //! A node, or a replica behind its lock, may have a weather (specs/Weathers.antt): frames for a peer are counted, and those that it names are
@@ -35,6 +35,7 @@ mod host_fault;
 mod host_frame;
 mod link;
 mod lock_host;
+mod making;
 mod outlet;
 mod outlets;
 mod putting;

@@ -8,8 +8,7 @@ ghost use Rattle.ep_journal.specs.declared.event.Event.TheVariants.{Propose};
 ghost use Rattle.ep_replica.specs.Applied.{Applied};
 ghost use Rattle.ep_replica.specs.Pending.{Submits};
 ghost use Rattle.ep_replica.specs.Receipts.{outcome_of, receipts_after};
-ghost use Rattle.ep_host.specs.Asking.{AreTold, IsTaken, IsSubmitted, IsDeclinedThere, IsPumped, IsOutcome, turn_of};
-ghost use Rattle.ep_host.specs.Finishing.{AreVersion2};
+ghost use Rattle.ep_host.specs.Asking.{AreTold, IsKept, IsTaken, IsSubmitted, IsDeclinedThere, IsPumped, IsOutcome, turn_of};
 ghost use Rattle.ep_host.specs.HostFrames.{AreHostFrames};
 ghost use Rattle.ep_host.specs.Sent.{IsCopied};
 ghost use Rattle.ep_host.specs.Tending.{Tends};
@@ -19,14 +18,15 @@ use crate::finished::Finished;
 use crate::finishing::finished;
 use crate::host_fault::HostFault;
 use crate::host_frame::{HostFrame, frame_in};
+use crate::making;
 use crate::seat::{Seat, inboxes_of, send};
 use crate::sending::{Sending, sent_last};
 use crate::tended::Tended;
 use crate::tending::tend;
 use crate::turn::Turn;
 use crate::weather::{Weather, is_weather};
-use ep_base::{Command, InstanceId, ReplicaId, Size};
-use ep_journal::{Event, Journal, StepFault};
+use ep_base::{Command, Generation, InstanceId, ReplicaId, Size, Version};
+use ep_journal::{Event, Journal, Opening, StepFault};
 use ep_replica::Replica;
 use ep_rules::Receipt;
 use std::alloc::{AllocError, Global};
@@ -36,9 +36,23 @@ use std::sync::Wait;
 #[derive(Drop)]
 pub struct LockHost {
     cluster: Size,
+    /// The version of all replicas.
+    version: Version,
+    /// What all replicas opened with.
+    opening: Opening,
     seats: Vec<Seat>,
     alloc: Global,
     ghost seated: { vec_len seats ≡ size cluster },
+}
+
+/// What a replica is: a law, which costs nothing.
+fn know(replica: &Replica)
+    ensures { IsKept replica.now }
+{
+    // Nothing is done with these: that the entries are a journal, with an opening of its version, is known by asking for them.
+    let journal = replica.journal();
+    let _run = journal.entries();
+    let _opening = journal.opening();
 }
 
 /// The receipt of the instance's outcome here.
@@ -50,8 +64,7 @@ fn receipt_at(
     ensures told { IfOk result (λ o. IfSome o (IsOutcome instance)) }
     ensures exact { IfOk result (λ o. o ≡ outcome_of replica.now.me (entries_of replica.now.entries) instance) }
 {
-    // Nothing is done with the entries, here and below: that they are a journal is known by asking for them.
-    let _run = replica.journal().entries();
+    know(replica);
     match replica.outcome(instance) {
         Some(view) => Ok(Some(view.to_receipt(alloc)?)),
         None => Ok(None),
@@ -63,7 +76,7 @@ fn receipts_at(alloc: Global, replica: &Replica, entry: u32) -> Result<Vec<Recei
     ensures told { IfOk result (λ receipts. AreTold entry receipts.items) }
     ensures exact { IfOk result (λ receipts. receipts.items ≡ receipts_after replica.now.me entry (entries_of replica.now.entries)) }
 {
-    let _run = replica.journal().entries();
+    know(replica);
     replica.receipts_after(alloc, entry)
 }
 
@@ -80,7 +93,7 @@ fn submit(
     ensures exact { IfOk result (λ i. Submits replica.old (Propose client request command seen) i replica.new) }
     ensures same { OnErr result (replica.new ≡ replica.old) }
 {
-    let _run = replica.journal().entries();
+    know(replica);
     replica.submit(client, request, command, seen)
 }
 
@@ -93,7 +106,7 @@ fn direct(alloc: Global, replica: &mut Replica, event: Event) -> Result<Sending,
     ensures frames { IfOk result (λ s. (before : List Entry) (e : Entry) → replica.new.entries ≡ before ++ e ∷ [] → IsCopied e.frames s.frames.items s.lost) }
     ensures same { OnErr result (replica.new ≡ replica.old) }
 {
-    let _run = replica.journal().entries();
+    know(replica);
     replica.take(event)?;
     Ok(sent_last(alloc, replica))
 }
@@ -104,14 +117,13 @@ fn pump(alloc: Global, replica: &mut Replica, frame: Option<HostFrame>) -> Tende
     ensures exact { Tends frame replica.old replica.new result }
     ensures version { AreHostFrames result.frames.items }
 {
-    let _run = replica.journal().entries();
+    know(replica);
     tend(alloc, replica, frame_in(frame))
 }
 
-/// The journals of the replicas, which are of version 2.
+/// The journals of the replicas.
 fn journals_of(alloc: Global, seats: Vec<Seat>) -> Result<Vec<Journal>, AllocError>
-    ensures version { IfOk result (λ journals. AreVersion2 journals.items) }
-    ensures count { IfOk result (λ journals. vec_len journals ≡ vec_len seats) }
+    ensures { IfOk result (λ journals. vec_len journals ≡ vec_len seats) }
 {
     let mut journals = Vec::new(alloc);
     for seat in seats {
@@ -124,7 +136,8 @@ fn journals_of(alloc: Global, seats: Vec<Seat>) -> Result<Vec<Journal>, AllocErr
 impl LockHost {
     ghost use Rattle.std.specs.Prelude.{◌≡◌, ◌≤◌, ◌<◌, IfOk, IfErr, IfSome, OnOk};
     ghost use Rattle.ep_base.specs.Quorums.{size};
-    ghost use Rattle.ep_base.specs.declared.version_kind.VersionKind.TheVariants.{V2};
+    ghost use Rattle.ep_base.specs.declared.version_kind.VersionKind.TheVariants.{V2, V3};
+    ghost use Rattle.ep_journal.specs.Openings.{no_opening};
     ghost use Rattle.ep_journal.specs.declared.event.Event.TheVariants.{Propose};
     ghost use Rattle.ep_host.specs.Asking.{IsTaken, IsSubmitted, IsPumped, IsRefused, IsUntold, AreTold, IsOutcomeIn};
     ghost use Rattle.ep_host.specs.Finishing.{IsFinished};
@@ -133,19 +146,52 @@ impl LockHost {
     ghost use Rattle.ep_host.specs.Weathers.{IsWeather};
     ghost use Rattle.ep_host.specs.declared.host_fault.HostFault.TheVariants.{OutOfRange};
 
-    /// The replicas of a cluster of this size, before any event, each with an inbox for so many frames.
+    /// The replicas of a cluster of this size, of version 2, before any event, each with an inbox for so many frames.
     pub fn new(alloc: Global, cluster: Size, capacity: usize) -> Result<LockHost, AllocError>
         requires { (1 ≤ capacity) × (capacity ≤ 4096) }
-        ensures { IfOk result (λ host. host.cluster ≡ cluster) }
+        ensures cluster { IfOk result (λ host. host.cluster ≡ cluster) }
+        ensures version { IfOk result (λ host. host.version ≡ V2) }
+        ensures opening { IfOk result (λ host. host.opening ≡ no_opening) }
     {
         let inboxes = inboxes_of(alloc, cluster, capacity)?;
         let mut seats = Vec::new(alloc);
         for index in 0..cluster.count() {
-            let me = ReplicaId::new(index).unwrap();
-            seats.push(Seat::new(alloc, cluster, me, &inboxes)?)?;
+            let replica = making::second(alloc, cluster, index);
+            seats.push(Seat::new(alloc, replica, &inboxes)?)?;
         }
         Ok(LockHost {
             cluster,
+            version: Version::V2,
+            opening: Opening::none(alloc),
+            seats,
+            alloc,
+        })
+    }
+
+    /// The replicas of a cluster of this size, of version 3 and this generation, all with this opening, before any event, each with an inbox for so
+    /// many frames.
+    pub fn opened(
+        alloc: Global,
+        cluster: Size,
+        capacity: usize,
+        generation: Generation,
+        opening: &Opening,
+    ) -> Result<LockHost, AllocError>
+        requires { (1 ≤ capacity) × (capacity ≤ 4096) }
+        ensures cluster { IfOk result (λ host. host.cluster ≡ cluster) }
+        ensures version { IfOk result (λ host. host.version ≡ V3 generation) }
+        ensures opening { IfOk result (λ host. host.opening ≡ opening.now) }
+    {
+        let inboxes = inboxes_of(alloc, cluster, capacity)?;
+        let mut seats = Vec::new(alloc);
+        for number in 0..cluster.count() {
+            let replica = making::opened(alloc, cluster, number, generation, opening)?;
+            seats.push(Seat::new(alloc, replica, &inboxes)?)?;
+        }
+        Ok(LockHost {
+            cluster,
+            version: Version::of_generation(generation),
+            opening: opening.copy(alloc)?,
             seats,
             alloc,
         })
@@ -156,6 +202,20 @@ impl LockHost {
         ensures { result ≡ self.now.cluster }
     {
         self.cluster
+    }
+
+    /// The version of all replicas.
+    pub fn version(&self) -> Version
+        ensures { result ≡ self.now.version }
+    {
+        self.version
+    }
+
+    /// What all replicas opened with; nothing, where they are of version 2.
+    pub fn opening(&self) -> &Opening
+        ensures { result.now ≡ self.now.opening }
+    {
+        &self.opening
     }
 
     /// The seat of the replica.
@@ -291,18 +351,22 @@ impl LockHost {
         sum
     }
 
-    /// The journals that the replicas leave, which are of version 2, and what the audit says of them with these receipts. Want of memory drops the host.
+    /// The journals that the replicas leave, which are of the host's version and opening, and what the audit says of them with these receipts. Want of
+    /// memory drops the host.
     pub fn finish(self, receipts: &[Receipt]) -> Result<Finished, AllocError>
         ensures audited { IfOk result (IsFinished receipts.now) }
         ensures size { IfOk result (λ f. f.journals.faults ≡ self.cluster) }
-        ensures version { IfOk result (λ f. f.journals.version ≡ V2) }
+        ensures version { IfOk result (λ f. f.journals.version ≡ self.version) }
+        ensures opening { IfOk result (λ f. f.journals.opening ≡ self.opening) }
     {
         let LockHost {
             cluster: _,
+            version,
+            opening,
             seats,
             alloc,
         } = self;
         let journals = journals_of(alloc, seats)?;
-        finished(alloc, journals, receipts)
+        finished(alloc, version, &opening, journals, receipts)
     }
 }

@@ -8,7 +8,7 @@ ghost use Rattle.ep_host.specs.Outboxes.{IsOpen};
 use crate::host_frame::HostFrame;
 use crate::sender::Sender;
 use crate::sending::Sending;
-use ep_base::{ReplicaId, Size};
+use ep_base::Size;
 use ep_inbox::Port;
 use ep_replica::Replica;
 use std::alloc::{AllocError, Global};
@@ -25,19 +25,18 @@ pub struct Seat {
 }
 
 impl Seat {
-    /// A new replica of the cluster, of which these are the inboxes, in order.
+    /// The replica's, of whose cluster these are the inboxes, in order.
     pub fn new(
         alloc: Global,
-        cluster: Size,
-        me: ReplicaId,
+        replica: Replica,
         inboxes: &[Port<HostFrame>],
     ) -> Result<Seat, AllocError>
-        requires here { me < size cluster }
-        requires inboxes { length inboxes.now ≡ size cluster }
+        requires here { replica.me < size replica.faults }
+        requires inboxes { length inboxes.now ≡ size replica.faults }
     {
-        let sender = Sender::new(alloc, me, inboxes)?;
+        let sender = Sender::new(alloc, replica.me(), inboxes)?;
         Ok(Seat {
-            cell: Mutex::new(Replica::new(alloc, cluster, me).unwrap()),
+            cell: Mutex::new(replica),
             sender: Mutex::new(sender),
         })
     }

@@ -37,7 +37,7 @@ fn handle(alloc: Global, replica: &mut Replica, frame: Option<Frame>) -> Sending
 
 /// Handles the frame, if there is one, and then executes the next ready instance of the replica's own, if there is one.
 ///
-/// A frame that is refused is dropped, and is lost where it was refused for want of memory. The frames to be sent are of version 2.
+/// A frame that is refused is dropped, and is lost where it was refused for want of memory. The frames to be sent are such as hosts carry.
 pub fn tend(alloc: Global, replica: &mut Replica, frame: Option<Frame>) -> Tended
     ensures tends { Tends frame replica.old replica.new result }
     ensures version { AreHostFrames result.frames.items }

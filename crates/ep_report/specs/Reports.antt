@@ -5,8 +5,9 @@ use Rattle.ep_rules.specs.Audits.{Fault}
 use Rattle.ep_rules.specs.declared.receipt.Receipt.{Receipt}
 use Rattle.ep_report.specs.Lives.{Life, generation_lines, closing_lines}
 use Rattle.ep_report.specs.Parts.{instance_text, deps_text, command_text, reply_text, answer_text}
-use Rattle.ep_report.specs.Refusals.{cause_text, fault_text}
+use Rattle.ep_report.specs.Refusals.{cause_text, fault_text, chain_fault_text}
 use Rattle.ep_report.specs.declared.cause.Cause.{Cause}
+use Rattle.ep_report.specs.declared.chain_fault.ChainFault.{ChainFault}
 use Rattle.ep_report.specs.declared.happening.Happening.{Happening}
 
 -- each line ends by a line feed
@@ -69,3 +70,7 @@ run_lines life committed history receipts refused lost = replay_lines life commi
 -- the audit's refusal
 abbrev pub refusal_lines : Fault → List (List ℕ)
 refusal_lines fault = codes "verdict refused" ∷ fault_text fault ∷ []
+
+-- the audit's refusal of a chain: its first generation that has a fault, and that fault
+abbrev pub chain_refusal_lines : ℕ → ChainFault → List (List ℕ)
+chain_refusal_lines generation fault = codes "verdict refused" ∷ (codes "generation " ++ decimal generation) ∷ chain_fault_text fault ∷ []

@@ -4,18 +4,21 @@ ghost use Rattle.std.specs.Prelude.{◌≡◌, ◌++◌, OnOk, IfOk, codes, map}
 ghost use Rattle.std.specs.Option.{option_copied};
 ghost use Rattle.ep_report.specs.Lives.{generation_lines, closing_lines};
 ghost use Rattle.ep_report.specs.Refusals.{fault_of};
-ghost use Rattle.ep_report.specs.Reports.{text_of, counted, committed_line, history_lines, receipt_line, accepted_lines, refused_lines, replay_lines, run_lines, refusal_lines};
+ghost use Rattle.ep_report.specs.Reports.{text_of, counted, committed_line, history_lines, receipt_line, accepted_lines, refused_lines, replay_lines, run_lines, refusal_lines, chain_refusal_lines};
 
 use crate::audit_fault::AuditFault;
 use crate::cause::Cause;
+use crate::chain_fault::ChainFault;
 use crate::findings::Findings;
 use crate::happening::Happening;
 use crate::life::Life;
 use crate::lines::{
-    push_closing_line, push_committed_line, push_contents_line, push_generation_line, push_heading,
+    push_closing, push_committed_line, push_contents_line, push_generation, push_heading,
     push_history_line, push_lost_line, push_receipt_line, push_refused_line,
 };
+use crate::chain_fault::push_chain_fault;
 use crate::losses::Losses;
+use crate::parts::push_number;
 use ep_base::{Decree, InstanceId};
 use ep_rules::Receipt;
 use std::alloc::{AllocError, Global};
@@ -72,30 +75,29 @@ fn push_refused(
 }
 
 // Appends which generation it is, in version 3.
-fn push_generation(text: &mut Vec<u8>, life: Option<&Life<'_>>) -> Result<(), AllocError>
+fn push_generation_lines(text: &mut Vec<u8>, life: Option<&Life<'_>>) -> Result<(), AllocError>
     ensures { OnOk result (text.new.items ≡ text.old.items ++ text_of (generation_lines (option_copied life.entry))) }
 {
-    match life {
-        None => Ok(()),
-        Some(life) => push_generation_line(text, life),
-    }
+    let Some(life) = life else {
+        return Ok(());
+    };
+    push_generation(text, life)?;
+    text.push(b'\n')?;
+    Ok(())
 }
 
 // Appends the first seal and what the keys have after the history, in version 3.
-fn push_closing(
-    alloc: Global,
-    text: &mut Vec<u8>,
-    life: Option<&Life<'_>>,
-) -> Result<(), AllocError>
+fn push_closing_lines(text: &mut Vec<u8>, life: Option<&Life<'_>>) -> Result<(), AllocError>
     ensures { OnOk result (text.new.items ≡ text.old.items ++ text_of (closing_lines (option_copied life.entry))) }
 {
-    match life {
-        None => Ok(()),
-        Some(life) => {
-            push_closing_line(text, life.closing())?;
-            push_contents_line(alloc, text, life.contents())
-        }
-    }
+    let Some(life) = life else {
+        return Ok(());
+    };
+    push_closing(text, life.closing())?;
+    text.push(b'\n')?;
+    push_contents_line(text, life.contents())?;
+    text.push(b'\n')?;
+    Ok(())
 }
 
 /// The report of what an audit accepts: in version 3 its generation, the committed instances with their decrees, the history, in version 3 the
@@ -104,10 +106,10 @@ pub fn accepted(alloc: Global, found: &Findings<'_>) -> Result<Vec<u8>, AllocErr
     ensures { IfOk result (λ t. t.items ≡ text_of (accepted_lines (option_copied found.now.life) found.now.committed.now found.now.history.now found.now.receipts.now)) }
 {
     let mut text = Vec::from_slice(alloc, b"verdict accepted\n")?;
-    push_generation(&mut text, found.life)?;
+    push_generation_lines(&mut text, found.life)?;
     push_committed(&mut text, found.committed)?;
     push_history(&mut text, found.history)?;
-    push_closing(alloc, &mut text, found.life)?;
+    push_closing_lines(&mut text, found.life)?;
     push_receipts(&mut text, found.receipts)?;
     Ok(text)
 }
@@ -146,6 +148,22 @@ pub fn refusal(alloc: Global, fault: AuditFault) -> Result<Vec<u8>, AllocError>
 {
     let mut text = Vec::from_slice(alloc, b"verdict refused\n")?;
     text.extend_from_slice(fault.to_string(alloc)?.as_bytes())?;
+    text.push(b'\n')?;
+    Ok(text)
+}
+
+/// The report of what an audit refuses in a chain: the number of the first generation that has a fault, and its first fault.
+pub fn chain_refusal(
+    alloc: Global,
+    generation: u32,
+    fault: &ChainFault,
+) -> Result<Vec<u8>, AllocError>
+    ensures { IfOk result (λ t. t.items ≡ text_of (chain_refusal_lines generation fault.now)) }
+{
+    let mut text = Vec::from_slice(alloc, b"verdict refused\ngeneration ")?;
+    push_number(&mut text, u64::from(generation))?;
+    text.push(b'\n')?;
+    push_chain_fault(&mut text, fault)?;
     text.push(b'\n')?;
     Ok(text)
 }

@@ -319,7 +319,7 @@ fn opaque(alloc: Global, reads: bool, words: &[u8]) -> Result<Option<Command>, A
             if next_word(rest).is_some() {
                 return Ok(None);
             }
-            opaque_two(alloc, reads, (first, second), third)
+            opaque_two(alloc, reads, first, second, third)
         }
     }
 }
@@ -353,12 +353,12 @@ fn opaque_one(
 fn opaque_two(
     alloc: Global,
     reads: bool,
-    keys: (&[u8], &[u8]),
+    first: &[u8],
+    second: &[u8],
     body: &[u8],
 ) -> Result<Option<Command>, AllocError>
-    ensures { IfOk result (λ c. c ≡ opaque_of reads (keys.0.now ∷ keys.1.now ∷ body.now ∷ [])) }
+    ensures { IfOk result (λ c. c ≡ opaque_of reads (first.now ∷ second.now ∷ body.now ∷ [])) }
 {
-    let (first, second) = keys;
     let Some(first) = read_key(alloc, first)? else {
         return Ok(None);
     };
@@ -368,19 +368,19 @@ fn opaque_two(
     let Some(body) = read_value(alloc, body)? else {
         return Ok(None);
     };
-    touched_both(alloc, reads, (&first, &second), &body)
+    touched_both(alloc, reads, &first, &second, &body)
 }
 
 // The command on both keys; none where they are one.
 fn touched_both(
     alloc: Global,
     reads: bool,
-    keys: (&Key, &Key),
+    one: &Key,
+    other: &Key,
     body: &Value,
 ) -> Result<Option<Command>, AllocError>
-    ensures { IfOk result (λ c. c ≡ opaque_with_two reads keys.0.now keys.1.now body.now) }
+    ensures { IfOk result (λ c. c ≡ opaque_with_two reads one.now other.now body.now) }
 {
-    let (one, other) = keys;
     if one.is_same(other) {
         return Ok(None);
     }

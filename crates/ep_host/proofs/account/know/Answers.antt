@@ -6,6 +6,7 @@ use Rattle.ep_host.proofs.account.know.Goals as goal
 pub returns : goal.returns
 returns c = subst (λ (n : Node). Knows n) c.node.view_is record {
   booked = c.node.invariant.0;
+  opens = rw (← c.journal.ensures.version, ← c.journal.ensures.opening) c.opening.ensures.opens;
   journal = rw (← c.journal.ensures.version, ← c.journal.ensures.opening, ← c.journal.ensures.faults, ← c.journal.ensures.me, ← c.journal.ensures.entries) c.entries-run.ensures.run;
   clocked = rw (← c.journal.ensures.entries) c.journal.ensures.clocked;
   some = (let v = c.faults-faults.ensures.value in let r = c.faults-faults.ensures.in_range in let s = c.size.ensures in omega (arith, v, r, s));

@@ -13,5 +13,5 @@ returns c =
     (counted (codes "history") (history_lines 1 c.args.found.now.history.now))
     (closing_lines (option_copied c.args.found.now.life))
     (counted (codes "receipts") (map receipt_line c.args.found.now.receipts.now))
-    c.in_ok-text.text.items c.push_generation.new.text.items c.push_committed.new.text.items c.push_history.new.text.items c.push_closing.new.text.items c.push_receipts.new.text.items
-    c.in_ok-text.ensures.items c.in_ok-push_generation.ensures c.in_ok-push_committed.ensures c.in_ok-push_history.ensures c.in_ok-push_closing.ensures c.in_ok-push_receipts.ensures
+    c.in_ok-text.text.items c.push_generation_lines.new.text.items c.push_committed.new.text.items c.push_history.new.text.items c.push_closing_lines.new.text.items c.push_receipts.new.text.items
+    c.in_ok-text.ensures.items c.in_ok-push_generation_lines.ensures c.in_ok-push_committed.ensures c.in_ok-push_history.ensures c.in_ok-push_closing_lines.ensures c.in_ok-push_receipts.ensures
