@@ -1,6 +1,7 @@
 -- Generations, one after the other, are a chain of the rule book.
-use Rattle.std.proofs.Common.{◌≡◌, ◌≢◌, ℕ, zero, suc, ◌+◌, ◌<◌, ◌≤◌, ◌⊎◌, inl, inr, true, Option, Some, None, List, [], ◌∷◌, ◌++◌, length, slice_get, refl, sym, ap, ap₂, subst, ◌∙◌, arith}
+use Rattle.std.proofs.Common.{◌≡◌, ◌≢◌, ℕ, zero, suc, ◌+◌, ◌<◌, ◌≤◌, ◌⊎◌, inl, inr, true, IfOk, Result, Ok, Err, Option, Some, None, List, [], ◌∷◌, ◌++◌, length, slice_get, refl, sym, ap, ap₂, subst, ◌∙◌, arith}
 use Rattle.std.proofs.lemmas.Bool.{cases_lt}
+use Rattle.std.specs.Prelude.{IfErr, MatchOption}
 use Rattle.ep_base.specs.Commands.{Command, Seal}
 use Rattle.ep_base.specs.Interference.{is_seal}
 use Rattle.ep_base.specs.Quorums.{size}
@@ -22,7 +23,7 @@ use Rattle.ep_verdict.specs.Closings.{operations_in}
 use Rattle.ep_verdict.specs.Verdicts.{places_of}
 use Rattle.ep_verdict.specs.declared.verdict.Verdict.{Verdict}
 use Rattle.ep_audit.specs.Audited.{IsOneClosing}
-use Rattle.ep_audit.specs.Chained.{AreLinked, GoesOn, IsChainFault, IsChainRefused, IsChained, IsGood, IsJudged, IsReached, parted, refused, unclosed, faults_at, faults_in, journals_at, journals_in, map_in, maps_at, number_of, receipts_at, receipts_in}
+use Rattle.ep_audit.specs.Chained.{AreLinked, GoesOn, IsChainFault, IsChainRefused, IsChained, IsGood, IsJudged, IsParted, IsReached, parted, refused, unclosed, faults_at, faults_in, journals_at, journals_in, map_in, maps_at, number_of, receipts_at, receipts_in}
 use Rattle.ep_audit.specs.Following.{IsOwnFault, IsUnfollowed, IsUnfollowedBy, IsUnjudged, left_open, refused_by, parted_by}
 use Rattle.ep_audit.specs.declared.chain_refusal.ChainRefusal.{ChainRefusal}
 use Rattle.ep_audit.specs.declared.chain_refusal.ChainRefusal.TheVariants.{Memory, Fault}
@@ -164,6 +165,7 @@ module _ (links : List Link) (verdicts : List Verdict) (count : length verdicts 
   schedule g = chosen g (cases_lt g n)
 
   facts : (g : ℕ) → g < n → Facts links verdicts g (schedule g)
+  unfolding chosen judged_at
   facts g lt = go (cases_lt g n)
     where
       go : (x : (g < n) ⊎ (n ≤ g)) → Facts links verdicts g (chosen g x)
@@ -259,14 +261,19 @@ module _ (links : List Link) (vs : List Verdict) (link : Link) (place : ℕ) (li
   own_fault : (at : ℕ) (fault : ChainFault) → ((j : ℕ) (v : Verdict) → place ≡ suc j → slice_get vs j ≡ Some v → (c : Closing) × (v.closing ≡ Some c)) → at ≡ place → IsOwnFault link fault → IsChainFault links at fault
   own_fault at fault closed is own =
       let reached : IsReached links place link = record { there = there; verdicts = vs; count = count; linked = linked; closed = closed } in
-      subst (λ n. IsChainFault links n fault) (sym is) (subst (λ (f : ChainFault). IsChainFault links place f) (sym own.is) (refused link own.found reached own.fault))
+      subst (λ n. IsChainFault links n fault) (sym is) (subst (λ (f : ChainFault). IsChainFault links place f) (sym own.is) (refused link own.found reached own.refuses))
 
   pub first_refused : place ≡ 0 → (e : ChainRefusal) → IsUnjudged link place e → IsChainRefused links e
   first_refused none Memory h = tt
   first_refused none (Fault at fault) h = own_fault at fault (λ j v is s. absurd (omega arith)) h.0 h.1
 
-  pub first_judged : place ≡ 0 → (v : Verdict) → IsJudged link v → AreLinked links (vs ++ (v ∷ []))
-  first_judged none v judged = linked_more links vs link v place linked count there judged (λ p l w is a b. absurd (omega arith))
+  pub first_judged : place ≡ 0 → (r : Result Verdict ChainRefusal) → IfOk r (λ v. IsJudged link v) → IfOk r (λ v. AreLinked links (vs ++ (v ∷ [])))
+  first_judged none (Ok v) judged = linked_more links vs link v place linked count there judged (λ p l w is a b. absurd (omega arith))
+  first_judged none (Err e) judged = tt
+
+  pub first_unjudged : place ≡ 0 → (r : Result Verdict ChainRefusal) → IfErr r (λ e. IsUnjudged link place e) → IfErr r (λ e. IsChainRefused links e)
+  first_unjudged none (Ok v) h = tt
+  first_unjudged none (Err e) h = first_refused none e h
 
   module _ (p : Link) (w : Verdict) (q : ℕ) (before : place ≡ suc q) (p_there : slice_get links q ≡ Some p) (w_there : slice_get vs q ≡ Some w) where
     closed_before : (c : Closing) → w.closing ≡ Some c → (j : ℕ) (v : Verdict) → place ≡ suc j → slice_get vs j ≡ Some v → (c : Closing) × (v.closing ≡ Some c)
@@ -285,13 +292,28 @@ module _ (links : List Link) (vs : List Verdict) (link : Link) (place : ℕ) (li
         let reached : IsReached links place link = record { there = there; verdicts = vs; count = count; linked = linked; closed = closed_before c closed } in
         subst (λ n. IsChainFault links n fault) (sym is) (parted link p w c fault reached (record { place = q; is = before; link = p_there; verdict = w_there; closing = closed }) good parts)
 
-    pub next_refused : place < length links → (e : ChainRefusal) → IsUnfollowed p w link place e → IsChainRefused links e
+    next_refused : place < length links → (e : ChainRefusal) → IsUnfollowed p w link place e → IsChainRefused links e
     next_refused lt Memory h = tt
     next_refused lt (Fault at fault) h = unfollowed at fault lt h
 
-    pub next_judged : (v : Verdict) → IsJudged link v → GoesOn p w link → AreLinked links (vs ++ (v ∷ []))
-    next_judged v judged on = linked_more links vs link v place linked count there judged (λ k l x is a b.
+    pub next_unfollowed : place < length links → (r : Result Verdict ChainRefusal) → IfErr r (λ e. IsUnfollowed p w link place e) → IfErr r (λ e. IsChainRefused links e)
+    next_unfollowed lt (Ok v) h = tt
+    next_unfollowed lt (Err e) h = next_refused lt e h
+
+    pub next_judged : (r : Result Verdict ChainRefusal) → IfOk r (λ v. IsJudged link v × GoesOn p w link) → IfOk r (λ v. AreLinked links (vs ++ (v ∷ [])))
+    next_judged (Ok v) h = linked_more links vs link v place linked count there h.0 (λ k l x is a b.
         let same : q ≡ k = omega arith in
         let link_is : p ≡ l = same_there links k p l (subst (λ n. slice_get links n ≡ Some p) same p_there) a in
         let verdict_is : w ≡ x = same_there vs k w x (subst (λ n. slice_get vs n ≡ Some w) same w_there) b in
-        subst (λ (z : Verdict). GoesOn l z link) verdict_is (subst (λ (z : Link). GoesOn z w link) link_is on))
+        subst (λ (z : Verdict). GoesOn l z link) verdict_is (subst (λ (z : Link). GoesOn z w link) link_is h.1))
+    next_judged (Err e) h = tt
+
+-- Why one isn't followed.
+
+pub unjudged_unfollowed : (p : Link) (v : Verdict) (l : Link) (place : ℕ) (c : Closing) (e : ChainRefusal) → v.closing ≡ Some c → IsUnjudged l place e → IsUnfollowed p v l place e
+unjudged_unfollowed p v l place c Memory closed h = tt
+unjudged_unfollowed p v l place c (Fault at fault) closed h = refused_by c closed h.0 h.1
+
+pub parted_here : (p : Link) (v : Verdict) (l : Link) (w : Verdict) (place : ℕ) (c : Closing) (f : ChainFault) (o : Option ChainFault) → v.closing ≡ Some c → IsJudged l w → o ≡ Some f → MatchOption o (GoesOn p v l) (λ f. IsParted p v c l f) →
+    IsUnfollowedBy p v l place place f
+parted_here p v l w place c f o closed judged is m = parted_by c closed refl judged.accepted (subst (λ (o : Option ChainFault). MatchOption o (GoesOn p v l) (λ f. IsParted p v c l f)) is m)

@@ -18,7 +18,7 @@ use Rattle.ep_audit.specs.declared.link.Link.{Link}
 pub record IsOwnFault (l : Link) (fault : ChainFault) : Type 0 where
   pub found : AuditFault
   pub is : fault ≡ Audit found
-  pub fault : IsFault (opens l.journals.opening) l.journals.faults (journals_of l.journals) l.receipts.items (fault_of found)
+  pub refuses : IsFault (opens l.journals.opening) l.journals.faults (journals_of l.journals) l.receipts.items (fault_of found)
 
 -- its own audit refuses it, at this place
 abbrev pub IsUnjudged : Link → ℕ → ChainRefusal → Type 0

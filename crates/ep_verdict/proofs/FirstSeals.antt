@@ -1,7 +1,8 @@
 -- The first seal of a history's lines.
-use Rattle.std.proofs.Common.{◌≡◌, ℕ, Bool, true, false, cond, ◌||◌, inl, inr, Option, Some, None, List, [], ◌∷◌, ◌++◌, refl, sym, ap, subst, ◌∙◌}
+use Rattle.std.proofs.Common.{◌≡◌, ℕ, IfOk, Result, Ok, Err, Bool, true, false, cond, ◌||◌, inl, inr, Option, Some, None, List, [], ◌∷◌, ◌++◌, refl, sym, ap, subst, ◌∙◌}
 use Rattle.std.proofs.lemmas.Bool.{false≢true}
 use Rattle.std.specs.Option.{option_map}
+use Rattle.std.specs.declared.alloc.AllocError.{AllocError}
 use Rattle.ep_base.specs.Commands.{Command, Noop, Seal}
 use Rattle.ep_base.specs.Interference.{is_seal}
 use Rattle.ep_rules.specs.Closing.{has_seal, up_to_seal}
@@ -86,8 +87,10 @@ closing_is journal hs h t c first least is =
     } in
     subst (λ (o : Option Closing). IsClosing journal (operations_in hs) o) (sym told) seal
 
-pub open_is : (journal : Journals) (hs : List Happening) (o : Option Happening) → o ≡ first_sealing hs → o ≡ None → IsClosing journal (operations_in hs) None
-open_is journal hs o first none = no_line hs (sym first ∙ none)
+pub closing_told : (journal : Journals) (hs : List Happening) (h : Happening) (t : ℕ) (r : Result (Option Closing) AllocError) → first_sealing hs ≡ Some h → IsLeastStamp journal h.instance t → IfOk r (λ c. c ≡ closing_by h t) →
+    IfOk r (λ c. IsClosing journal (operations_in hs) c)
+closing_told journal hs h t (Ok c) first least is = closing_is journal hs h t c first least is
+closing_told journal hs h t (Err e) first least is = tt
 
 -- each line is of an instance that an entry executes
 pub line_executed : (base : Store) (f : ℕ) (journal : Journals) (lines : List Happening) → AreLocalRuns base f journal → ((s : List Scheduled) → IsSchedule journal s → lines ≡ lines_in (agreed base f journal) [] s) →
