@@ -184,8 +184,7 @@ module _ (links : List Link) (verdicts : List Verdict) (count : length verdicts 
       let b = facts (suc g) lt in
       let on = goes_at g a b in
       let s = a.closing.somebody on.closing on.closed in
-      let opening : maps_at links (suc g) ≡ a.verdict.contents = ap map_in b.there ∙ on.opening in
-      (
+      let opening : maps_at links (suc g) ≡ a.verdict.contents = ap map_in b.there ∙ on.opening in (
         s.0,
         on.closing.value,
         subst (λ (o : Option Link). store_left (map_in o) (faults_in o) (journals_in o) s.0 ≡ record { contents = maps_at links (suc g); seal = Some on.closing.value }) (sym a.there)

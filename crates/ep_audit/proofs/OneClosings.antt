@@ -171,7 +171,7 @@ module _ (m : Contents) (f : ℕ) (journal : Journals) (schedule : List Schedule
         let t = closes_left m f journal schedule given r shut in
         let after : after_commands (opened m) (commands_of h) ≡ map_of (written_by m (up_to_seal h)) (first_seal h) = seal_closes_lem m h t.0 in
         let told : v.contents ≡ written_by m (up_to_seal h) =
-            contents ∙ ap (λ cs. (after_commands (opened m) cs).contents) (commands_are_of v.history.items ∙ ap commands_of same) ∙ ap (λ (s : Store). s.contents) after
+        contents ∙ ap (λ cs. (after_commands (opened m) cs).contents) (commands_are_of v.history.items ∙ ap commands_of same) ∙ ap (λ (s : Store). s.contents) after
         in
         t.1 ∙ ap₂ (λ (n : Contents) (o : Option (List ℕ)). map_of n o) (sym told) (seal_told t.0)
 

@@ -53,7 +53,11 @@ fn lesser_of(alloc: Global, key: &Key, other: &Key) -> Result<Key, AllocError>
     ensures { IfOk result (λ k. k ≡ lesser_of key.now other.now) }
 {
     let turned = other.as_slice().cmp(key.as_slice()).is_lt();
-    if turned { other.copy(alloc) } else { key.copy(alloc) }
+    if turned {
+        other.copy(alloc)
+    } else {
+        key.copy(alloc)
+    }
 }
 
 /// The least key that has not the same in both maps; none where they are one.

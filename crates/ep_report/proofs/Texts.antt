@@ -30,15 +30,15 @@ pub link_told : (o g c cs h hs blank closing contents : List ℕ) (t1 t2 t3 t4 t
 link_told o g c cs h hs blank closing contents t1 t2 t3 t4 t5 t6 t7 t8 t9 whole is1 is2 is3 is4 is5 is6 is7 is8 is9 last =
     last
     ∙ ap (λ (t : List ℕ). t ++ codes "\n") (
-      and_more o (g ++ c ++ cs ++ h ++ hs ++ blank ++ closing ++ blank) contents t8 t9
-      (and_more o (g ++ c ++ cs ++ h ++ hs ++ blank ++ closing) blank t7 t8
-      (and_more o (g ++ c ++ cs ++ h ++ hs ++ blank) closing t6 t7
-      (and_more o (g ++ c ++ cs ++ h ++ hs) blank t5 t6
-      (and_more o (g ++ c ++ cs ++ h) hs t4 t5 (and_more o (g ++ c ++ cs) h t3 t4 (and_more o (g ++ c) cs t2 t3 (and_more o g c t1 t2 is1 is2) is3) is4) is5)
-      is6)
-      is7)
-      is8)
-      is9)
+    and_more o (g ++ c ++ cs ++ h ++ hs ++ blank ++ closing ++ blank) contents t8 t9
+    (and_more o (g ++ c ++ cs ++ h ++ hs ++ blank ++ closing) blank t7 t8
+    (and_more o (g ++ c ++ cs ++ h ++ hs ++ blank) closing t6 t7
+    (and_more o (g ++ c ++ cs ++ h ++ hs) blank t5 t6
+    (and_more o (g ++ c ++ cs ++ h) hs t4 t5 (and_more o (g ++ c ++ cs) h t3 t4 (and_more o (g ++ c) cs t2 t3 (and_more o g c t1 t2 is1 is2) is3) is4) is5)
+    is6)
+    is7)
+    is8)
+    is9)
 
 -- five parts below a first line
 pub text_of_parts : (first : List ℕ) (p q r s t : List (List ℕ)) (a b c d e f : List ℕ) →

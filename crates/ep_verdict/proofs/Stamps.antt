@@ -93,7 +93,7 @@ module _ (i : ℕ) where
   within (x ∷ es) best e (inl is) h =
       let found : is_among i x.done false ≡ true = among_has i x.done (subst (λ (z : Entry). Has (order_of z.done) i) (sym is) h) in
       let new : IsWithin (cond (is_among i x.done false) (lesser best x.stamp) best) e.stamp =
-          subst (λ b. IsWithin (cond b (lesser best x.stamp) best) e.stamp) (sym found) (subst (λ (z : Entry). IsWithin (lesser best x.stamp) z.stamp) is (lesser_new best x.stamp)) in
+      subst (λ b. IsWithin (cond b (lesser best x.stamp) best) e.stamp) (sym found) (subst (λ (z : Entry). IsWithin (lesser best x.stamp) z.stamp) is (lesser_new best x.stamp)) in
       still_within es (cond (is_among i x.done false) (lesser best x.stamp) best) e.stamp new
   within (x ∷ es) best e (inr k) h = within es (cond (is_among i x.done false) (lesser best x.stamp) best) e k h
 

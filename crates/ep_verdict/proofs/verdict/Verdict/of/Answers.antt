@@ -21,5 +21,5 @@ returns c =
     (record { schedule = c.in_ok-schedule.schedule; committed = c.in_ok-committed.committed; history = c.in_ok-history.history; closing = c.in_ok-closing.closing; contents = c.in_ok-contents.contents }) c.are_local_runs.ensures c.in_ok-schedule.ensures
     c.in_ok-committed.ensures c.in_ok-history.ensures (subst (λ (l : List Happening). IsClosing (journals_of c.args.journals.now) (operations_in l) c.in_ok-closing.closing) c.deref-2.ensures.value c.in_ok-closing.ensures)
     (c.in_ok-contents.ensures.value ∙ ap (λ (o : Opening). (after_commands (opens o) (commands_in c.deref-3.result.now)).contents) c.opening.ensures
-        ∙ ap (λ (l : List Happening). (after_commands (opens c.args.journals.now.opening) (commands_in l)).contents) c.deref-3.ensures.value)
+    ∙ ap (λ (l : List Happening). (after_commands (opens c.args.journals.now.opening) (commands_in l)).contents) c.deref-3.ensures.value)
     c.in_ok-contents.ensures.few
