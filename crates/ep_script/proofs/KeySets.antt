@@ -12,7 +12,7 @@ use Rattle.std.proofs.lemmas.Bool.Decides.{nat_tests}
 use Rattle.std.proofs.lemmas.List.Folds.{list_any-append}
 use Rattle.std.proofs.lemmas.Map.Keys.{IsDistinct-push}
 use Rattle.ep_base.specs.Attributes.{same_list}
-use Rattle.ep_script.specs.Heads.{same_key, has_key_of, AreOnce}
+use Rattle.ep_script.specs.Heads.{same_key, has_key_of, AreOnce, IsOpening}
 use Rattle.ep_script.specs.Keys.{name_cmp, HasKeys}
 
 -- two keys are one where they compare equal
@@ -57,6 +57,12 @@ keys_equal = on_texts_equal (λ (e : List ℕ × List ℕ). e.0)
 pub none_once : AreOnce []
 unfolding IsDistinct
 none_once = tt
+
+pub once_if_none : (entries : List (List ℕ × List ℕ)) → entries ≡ [] → AreOnce entries
+once_if_none entries none = subst AreOnce (sym none) none_once
+
+pub opens_with_none : (entries : List (List ℕ × List ℕ)) → entries ≡ [] → IsOpening (record { entries = entries; since = 0 })
+opens_with_none entries none = record { once = once_if_none entries none; since = omega arith }
 
 -- an entry more, of a key that has none
 pub once_more : (entries taken : List (List ℕ × List ℕ)) (e : List ℕ × List ℕ) → taken ≡ entries ++ e ∷ [] → has_key_of e entries ≡ false → AreOnce entries → AreOnce taken
