@@ -14,7 +14,7 @@ PROGRAM is ep_main as it was built; what begins with `node` or `collect` is run 
 `draw` or `trace-events`, and traces, by ep_viewer, which were built as it was. Runs of `epaxos node`, and of `collect` on its logs, are in .ci/nodes.py.
 More rows are made of the scripts and reports in docs/FORMATS.md, examples/ and .ci/scripts/ (NAME.script is played, NAME.run is run
 by both hosts, and where there is a NAME.trace or a NAME.svg, NAME.script is traced
-or drawn), and by .ci/made.py, .ci/words.py, .ci/cases.py, .ci/odd.py, .ci/faults.py and .ci/generations.py.
+or drawn), and by .ci/made.py, .ci/words.py, .ci/cases.py, .ci/odd.py, .ci/faults.py, .ci/generations.py and .ci/looks.py.
 """
 
 import gzip
@@ -221,12 +221,13 @@ def every():
     import cases
     import faults
     import generations
+    import looks
     import made
     import odd
     import words
 
     yield from stored()
-    yield from (Row(**it) for it in (*words.every(), *cases.every(), *odd.every(), *faults.every(), *generations.every()))
+    yield from (Row(**it) for it in (*words.every(), *cases.every(), *odd.every(), *faults.every(), *generations.every(), *looks.every()))
     yield from written()
     for name, script, report in (*made.every(), *cases.played(), *generations.played()):
         yield from played(name, script, report)

@@ -9,6 +9,7 @@ use Rattle.ep_base.specs.declared.reply.Answer.{Answer}
 use Rattle.ep_rules.specs.Audits.{IsAccepted, IsFault}
 use Rattle.ep_rules.specs.Chains.{store_left}
 use Rattle.ep_rules.specs.Journals.{Entry, Journals, Scheduled, IsSchedule, acts_of, left}
+use Rattle.ep_rules.specs.Merging.{Merges}
 use Rattle.ep_rules.specs.States.{fresh_state, committed_in}
 use Rattle.ep_rules.specs.Verdicts.{committed_by, command_at, history_of, IsReply, Proposes}
 use Rattle.ep_rules.specs.Worlds.{In, IsRun, opening}
@@ -63,6 +64,8 @@ pub record IsOneClosing (m : Contents) (f : ℕ) (journal : Journals) (v : Verdi
 pub record IsAudited (base : Store) (f : ℕ) (journal : Journals) (receipts : List Receipt) (v : Verdict) : Type 0 where
   pub accepted : IsAccepted base f journal receipts
   pub verdict : IsVerdict base f journal v
+  -- what the laws of runs that merge are said of
+  pub merges : Merges base f journal verdict.order
   pub history : IsOneHistory base f journal receipts verdict.order (instances_in v.history.items)
   pub closing : (m : Contents) → base ≡ opened m → IsOneClosing m f journal v
 

@@ -1,5 +1,5 @@
 -- Chains: the journals and receipts of generations, one after the other, and what then holds of them.
-use Rattle.std.specs.Prelude.{◌≡◌, ◌≢◌, ℕ, suc, ◌<◌, ◌≤◌, length, take, List, [], Option, Some, None, slice_get}
+use Rattle.std.specs.Prelude.{◌≡◌, ◌≢◌, ℕ, suc, ◌<◌, ◌≤◌, length, List, [], Option, Some, None, slice_get}
 use Rattle.ep_base.specs.Versions.{generation_of}
 use Rattle.ep_journal.specs.Entries.{journals_of}
 use Rattle.ep_journal.specs.Openings.{opens}
@@ -11,7 +11,7 @@ use Rattle.ep_report.specs.declared.closing.Closing.{Closing}
 use Rattle.ep_rules.specs.Audits.{IsAccepted, IsFault}
 use Rattle.ep_rules.specs.Chains.{IsChain, histories, Explains, ClocksGoOn}
 use Rattle.ep_rules.specs.Generations.{joined, place_in, HasIn}
-use Rattle.ep_rules.specs.Journals.{Journals, Scheduled}
+use Rattle.ep_rules.specs.Journals.{Entry, Journals, Scheduled}
 use Rattle.ep_rules.specs.OneMap.{Contents, empty}
 use Rattle.ep_rules.specs.Worlds.{In}
 use Rattle.ep_rules.specs.declared.receipt.Receipt.{Receipt}
@@ -45,30 +45,33 @@ pub record GoesOn (p : Link) (v : Verdict) (next : Link) : Type 0 where
   pub consecutive : number_of next ≡ suc (number_of p)
   pub opening : next.journals.opening.contents ≡ v.contents
   pub clocks : closing.stamp ≤ next.journals.opening.since
+  -- so each of its stamps is above that of the seal
+  pub later : (r : ℕ) (e : Entry) → In e (journals_of next.journals r) → closing.stamp < e.stamp
 
 -- the first reason why it doesn't go on from p, which c closed
 abbrev pub IsParted : Link → Verdict → Closing → Link → ChainFault → Type 0
 IsParted p v c next (Audit fault) = ⊥
 IsParted p v c next NotConsecutive = number_of next ≢ suc (number_of p)
-IsParted p v c next (OpeningDiffers key) = (number_of next ≡ suc (number_of p)) × IsLeastDifference v.contents next.journals.opening.contents key
+IsParted p v c next (OpeningDiffers key) = (number_of next ≡ suc (number_of p)) × IsLeastDifference next.journals.opening.contents v.contents key
 IsParted p v c next StampsGoBack =
     (number_of next ≡ suc (number_of p)) × (next.journals.opening.contents ≡ v.contents) × (next.journals.opening.since < c.stamp)
 IsParted p v c next NotClosed = ⊥
 
 -- Generations, one after the other.
 
--- each has its verdict, and goes on from the one before
+-- these are the verdicts of the first ones, each of which goes on from the one before
 pub record AreLinked (links : List Link) (verdicts : List Verdict) : Type 0 where
-  pub count : length verdicts ≡ length links
   pub judged : (k : ℕ) (l : Link) (v : Verdict) → slice_get links k ≡ Some l → slice_get verdicts k ≡ Some v → IsJudged l v
   pub goes_on :
-      (k : ℕ) (l next : Link) (v : Verdict) → slice_get links k ≡ Some l → slice_get verdicts k ≡ Some v → slice_get links (suc k) ≡ Some next → GoesOn l v next
+      (k : ℕ) (l next : Link) (v w : Verdict) → slice_get links k ≡ Some l → slice_get links (suc k) ≡ Some next → slice_get verdicts k ≡ Some v → slice_get verdicts (suc k) ≡ Some w →
+      GoesOn l v next
 
 -- those before the one at place k have no fault, and the last of them is closed
 pub record IsReached (links : List Link) (k : ℕ) (l : Link) : Type 0 where
   pub there : slice_get links k ≡ Some l
   pub verdicts : List Verdict
-  pub linked : AreLinked (take k links) verdicts
+  pub count : length verdicts ≡ k
+  pub linked : AreLinked links verdicts
   pub closed : (j : ℕ) (v : Verdict) → k ≡ suc j → slice_get verdicts j ≡ Some v → (c : Closing) × (v.closing ≡ Some c)
 
 -- p is just before the one at place k, with its verdict and its seal
@@ -89,7 +92,7 @@ pub data IsChainFault (links : List Link) (k : ℕ) : ChainFault → Type 0 wher
       (l p : Link) (v : Verdict) (c : Closing) (fault : ChainFault) → (reached : IsReached links k l) → IsBefore links reached.verdicts k p v c → IsGood l → IsParted p v c l fault →
       IsChainFault links k fault
   unclosed :
-      (verdicts : List Verdict) (v : Verdict) → AreLinked (take (suc k) links) verdicts → slice_get verdicts k ≡ Some v → v.closing ≡ None → suc k < length links →
+      (verdicts : List Verdict) (v : Verdict) → length verdicts ≡ suc k → AreLinked links verdicts → slice_get verdicts k ≡ Some v → v.closing ≡ None → suc k < length links →
       IsChainFault links k NotClosed
 
 -- why there are no verdicts: want of memory, or the first fault
@@ -108,8 +111,8 @@ map_in None = empty
 map_in (Some l) = l.journals.opening.contents
 
 abbrev pub journals_in : Option Link → Journals
-journals_in None r = []
-journals_in (Some l) r = journals_of l.journals r
+journals_in None = λ r. []
+journals_in (Some l) = journals_of l.journals
 
 abbrev pub receipts_in : Option Link → List Receipt
 receipts_in None = []
@@ -129,6 +132,7 @@ receipts_at links g = receipts_in (slice_get links g)
 
 -- Generations without a fault, with their verdicts.
 pub record IsChained (links : List Link) (verdicts : List Verdict) : Type 0 where
+  pub count : length verdicts ≡ length links
   pub linked : AreLinked links verdicts
   -- each one's schedule and operations are those of its verdict
   pub schedule : ℕ → List Scheduled

@@ -1,7 +1,8 @@
 //! The audit of a chain: generations, one after the other.
 
-ghost use Rattle.std.specs.Prelude.{◌≡◌, ◌<◌, ◌++◌, [], ◌∷◌, suc, length, take, IfOk, IfErr, Some, MatchOption, slice_get};
-ghost use Rattle.ep_audit.specs.Chained.{AreLinked, GoesOn, IsChained, IsChainRefused, IsGood, IsJudged, IsParted};
+ghost use Rattle.std.specs.Prelude.{◌≡◌, ◌<◌, ◌≤◌, ◌++◌, [], ◌∷◌, length, IfOk, IfErr, Some, MatchOption};
+ghost use Rattle.ep_audit.specs.Chained.{AreLinked, GoesOn, IsChained, IsChainRefused, IsJudged, IsParted};
+ghost use Rattle.ep_audit.specs.Following.{IsUnfollowed, IsUnjudged};
 
 use crate::auditing::audit;
 use crate::chain_refusal::ChainRefusal;
@@ -13,6 +14,7 @@ use ep_verdict::Verdict;
 use std::alloc::{AllocError, Global};
 
 /// Why the generation doesn't go on from the one before, which this seal closed.
+#[tactic(auto, using(crate::proofs::Linking::goes_on, crate::proofs::Linking::not_next))]
 fn parting(
     alloc: Global,
     before: &Link,
@@ -23,13 +25,14 @@ fn parting(
     requires { verdict.now.closing ≡ Some closing.now }
     ensures { IfOk result (λ fault. MatchOption fault (GoesOn before.now verdict.now link.now) (λ f. IsParted before.now verdict.now closing.now link.now f)) }
 {
+    link.journals.are_journals();
     let number = u64::from(link.journals.version().generation());
     let number_before = u64::from(before.journals.version().generation());
     if number != number_before + 1 {
         return Ok(Some(ChainFault::NotConsecutive));
     }
     let opening = link.journals.opening();
-    if let Some(key) = first_difference(alloc, &verdict.contents, opening.contents())? {
+    if let Some(key) = first_difference(alloc, opening.contents(), &verdict.contents)? {
         return Ok(Some(ChainFault::OpeningDiffers(key)));
     }
     if opening.since() < closing.stamp.ticks() {
@@ -38,8 +41,11 @@ fn parting(
     Ok(None)
 }
 
-/// The verdict of the generation's own audit, which stands at this place.
-fn judge(alloc: Global, link: &Link, place: usize) -> Result<Verdict, ChainRefusal> {
+/// The verdict of the generation's own audit.
+fn judge(alloc: Global, link: &Link, place: usize) -> Result<Verdict, ChainRefusal>
+    ensures ok { IfOk result (λ v. IsJudged link.now v) }
+    ensures refused { IfErr result (λ e. IsUnjudged link.now place e) }
+{
     match audit(alloc, &link.journals, &link.receipts) {
         Ok(verdict) => Ok(verdict),
         Err(Refusal::Memory) => Err(ChainRefusal::Memory),
@@ -47,24 +53,18 @@ fn judge(alloc: Global, link: &Link, place: usize) -> Result<Verdict, ChainRefus
     }
 }
 
-/// The verdict of the generation at this place.
-fn next_verdict(
+/// The verdict of the generation, which goes on from the one before.
+fn follow(
     alloc: Global,
-    links: &[Link],
-    verdicts: &[Verdict],
+    before: &Link,
+    verdict: &Verdict,
+    link: &Link,
     place: usize,
 ) -> Result<Verdict, ChainRefusal>
-    requires there { place < length links.now }
-    requires linked { AreLinked (take place links.now) verdicts.now }
-    ensures ok { IfOk result (λ v. AreLinked (take (suc place) links.now) (verdicts.now ++ v ∷ [])) }
-    ensures refused { IfErr result (λ e. IsChainRefused links.now e) }
+    requires { 1 ≤ place }
+    ensures ok { IfOk result (λ v. IsJudged link.now v × GoesOn before.now verdict.now link.now) }
+    ensures refused { IfErr result (λ e. IsUnfollowed before.now verdict.now link.now place e) }
 {
-    let link = &links[place];
-    if place == 0 {
-        return judge(alloc, link, place);
-    }
-    let before = &links[place - 1];
-    let verdict = &verdicts[place - 1];
     let Some(closing) = &verdict.closing else {
         return Err(ChainRefusal::Fault(place - 1, ChainFault::NotClosed));
     };
@@ -73,6 +73,26 @@ fn next_verdict(
         None => Ok(next),
         Some(fault) => Err(ChainRefusal::Fault(place, fault)),
     }
+}
+
+/// The verdict of the generation at this place, whose verdicts of those before are given.
+fn next_verdict(
+    alloc: Global,
+    links: &[Link],
+    verdicts: &[Verdict],
+    place: usize,
+) -> Result<Verdict, ChainRefusal>
+    requires there { place < length links.now }
+    requires count { length verdicts.now ≡ place }
+    requires linked { AreLinked links.now verdicts.now }
+    ensures ok { IfOk result (λ v. AreLinked links.now (verdicts.now ++ v ∷ [])) }
+    ensures refused { IfErr result (λ e. IsChainRefused links.now e) }
+{
+    let link = &links[place];
+    if place == 0 {
+        return judge(alloc, link, place);
+    }
+    follow(alloc, &links[place - 1], &verdicts[place - 1], link, place)
 }
 
 /// Audits generations, one after the other, each with its journals and receipts. Their sizes may change, and the first one may open with any opening.
@@ -89,7 +109,8 @@ pub fn audit_chain(alloc: Global, links: &[Link]) -> Result<Vec<Verdict>, ChainR
     let mut verdicts = Vec::new(alloc);
     for place in 0..links.len() {
         let verdict = next_verdict(alloc, links, &verdicts, place)?;
-        verdicts.push(verdict)?;
+        verdicts.reserve(1)?;
+        verdicts.push_reserved(verdict);
     }
     Ok(verdicts)
 }

@@ -22,7 +22,7 @@ fn is_same_at(entries: &[(Key, Value)], others: &[(Key, Value)], place: usize) -
 
 /// At how many places from the first one on both are the same.
 fn same_start(entries: &[(Key, Value)], others: &[(Key, Value)]) -> usize
-    ensures { difference (drop result entries.now) (drop result others.now) ≡ difference entries.now others.now }
+    ensures left { difference (drop result entries.now) (drop result others.now) ≡ difference entries.now others.now }
     ensures ended { is_same_at (slice_get entries.now result) (slice_get others.now result) ≡ false }
 {
     let mut place = 0usize;

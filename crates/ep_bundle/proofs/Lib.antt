@@ -19,6 +19,8 @@ pub mod WrittenCounts
 pub mod WrittenEntries
 pub mod WrittenJournals
 pub mod WrittenHeaders
+pub mod PairLoops
+pub mod Beginning
 pub mod WrittenBundles
 pub mod WrittenRanges
 pub mod WrittenOnce

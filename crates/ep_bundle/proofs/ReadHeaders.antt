@@ -1,5 +1,5 @@
 -- What stands before a bundle's journals: each part took its own bytes.
-use Rattle.std.proofs.Common.{◌≡◌, ℕ, zero, suc, ◌+◌, ◌/◌, ◌^◌, ◌≤◌, ◌<◌, Bool, true, false, ◌||◌, cond, eqb, List, [], ◌∷◌, ◌++◌, length, length-append, append-nil, append_assoc, Ok, Err, refl, sym, ap, ◌∙◌, subst, arith}
+use Rattle.std.proofs.Common.{◌≡◌, ℕ, zero, suc, ◌+◌, ◌/◌, ◌^◌, ◌≤◌, ◌<◌, Bool, true, false, ◌||◌, cond, eqb, List, [], ◌∷◌, ◌++◌, length, length-append, append-nil, append_assoc, Option, Some, Ok, Err, refl, sym, ap, ◌∙◌, subst, arith}
 use Rattle.std.proofs.lemmas.Bool.{eqb-true, eqb-false}
 use Rattle.std.specs.FinMap.{entries, from_sorted, is_sorted}
 use Rattle.std.specs.List.{flat_map}
@@ -17,8 +17,8 @@ use Rattle.ep_rules.specs.OneMap.{Contents, empty}
 use Rattle.ep_exec.specs.Bytes.{contents_bytes, pair_bytes}
 use Rattle.ep_bundle.specs.Bytes.{edition_bytes, header_bytes, magic, map_bytes}
 use Rattle.ep_journal.specs.Openings.{Opening, OpensIn, no_opening}
-use Rattle.ep_bundle.specs.Headers.{Pair, cluster, contents, edition, header, key_above, map_in, pair, pairs}
-use Rattle.ep_bundle.specs.Reading.{Left, Reading, and_then, run, number, field}
+use Rattle.ep_bundle.specs.Headers.{HoldsAt, Pair, StartsAt, cluster, contents, edition, header, key_above, late_edition, map_in, pair, pairs}
+use Rattle.ep_bundle.specs.Reading.{Left, Reading, Reads, and_then, run, number, field}
 use Rattle.ep_bundle.specs.Writing.{OpeningFits}
 use Rattle.ep_bundle.specs.declared.bundle_header.BundleHeader.{BundleHeader}
 use Rattle.ep_bundle.specs.declared.bundle_fault.BundleFault.TheVariants.{BadBundle}
@@ -26,12 +26,6 @@ use Rattle.ep_bundle.proofs.MapBytes.{pair_is, contents_are}
 use Rattle.ep_bundle.proofs.ReadNumbers.{Gives, Comes, Ranges, done, step, last, other, whole, choice, refused, run_gives, number_gives, field_gives}
 
 -- the edition
-
--- a version without openings begins at 0
-abbrev pub StartsAt : Version → ℕ → Type 0
-StartsAt V1 since = since ≡ 0
-StartsAt V2 since = since ≡ 0
-StartsAt (V3 g) since = Unit {0}
 
 pub record IsEdition (n : ℕ) (e : Version × ℕ) : Type 0 where
   pub version : version_number e.0 ≡ n
@@ -59,7 +53,7 @@ early n p not_three = go (eqb n 1) (eqb n 3) refl not_three
 
 pub edition_gives : (n : ℕ) (l : Left) → Ranges 1 3 n → AreBytes l.bytes → Gives (λ e. edition_bytes e.0 e.1) (IsEdition n) l (edition n l)
 edition_gives n l p h =
-    whole (choice (eqb n 3) (and_then (field 4 1 4294967295 l) (λ g l. and_then (field 8 0 281474976710655 l) (λ since l. Ok ((V3 g, since), l)))) (Ok ((version_of n 0, 0), l))
+    whole (choice (eqb n 3) (late_edition l) (Ok ((version_of n 0, 0), l))
     (λ is. step (field 4 1 4294967295 l) (λ g l. and_then (field 8 0 281474976710655 l) (λ since l. Ok ((V3 g, since), l))) h (field_gives 4 wide4 1 4294967295 l h)
     (λ g l q h. step (field 8 0 281474976710655 l) (λ since l. Ok ((V3 g, since), l)) h (field_gives 8 wide8 0 281474976710655 l h)
     (λ since l r h. done (V3 g, since) (ap (λ x. number_bytes 4 g ++ x) (append-nil (number_bytes 8 since)), record { version = sym (eqb-true n 3 is); since = r.most; starts = tt }))))
@@ -123,13 +117,7 @@ contents_come n l h =
     whole_pairs : (n : ℕ) (l : Left) → AreBytes l.bytes → Gives (λ es. flat_map pair_bytes es) (λ es. (length es ≡ n) × Rises es) l (pairs n [] l)
     whole_pairs n l h = whole (other (pairs_come n [] l refl h) (λ after bs s. let e : s.items ≡ after = sym s.is in (s.bytes ∙ ap (λ (xs : List Pair). flat_map pair_bytes xs) e, (ap length (sym e) ∙ s.count, s.rise))))
 
--- a version without openings opens with nothing
-abbrev pub HoldsAt : Version → Contents → Type 0
-HoldsAt V1 m = m ≡ empty
-HoldsAt V2 m = m ≡ empty
-HoldsAt (V3 g) m = Unit {0}
-
-none_counted : length (entries empty) ≤ 4000000000
+pub none_counted : length (entries empty) ≤ 4000000000
 none_counted = let e : length (entries empty) ≡ 0 = ap length none_listed in omega arith
 
 pub map_gives : (v : Version) (l : Left) → AreBytes l.bytes → Gives (map_bytes v) (λ m. (length (entries m) ≤ 4000000000) × HoldsAt v m) l (map_in v l)
@@ -194,3 +182,12 @@ header_gives l h =
   where
     same : (n x : ℕ) → Ranges n n x → x ≡ n
     same n x p = let a : n ≤ x = p.least in let b : x ≤ n = p.most in omega arith
+
+-- what a call makes of the edition and the map
+
+pub opens_as : (v : Version) (m : Contents) (since : ℕ) (o : Opening) → o ≡ record { contents = m; since = since } → StartsAt v since → HoldsAt v m → OpensIn v o
+opens_as v m since o is at none = subst (OpensIn v) (sym is) (opens_in v m since at none)
+
+pub header_ends : (v : Version) (f k : ℕ) (m : Contents) (since : ℕ) (o : Opening) (p : ℕ) (ys : List ℕ) (left : Option (List ℕ)) → left ≡ Some ys → o ≡ record { contents = m; since = since }
+    → Reads (Ok (made (v, since) f k m, record { at = p; bytes = ys })) (Ok (record { version = v; cluster = f; opening = o; receipts = k })) p left
+header_ends v f k m since o p ys left h is = (ys, h, ap (λ (x : Opening). Ok (record { version = v; cluster = f; opening = x; receipts = k }, record { at = p; bytes = ys })) (sym is))

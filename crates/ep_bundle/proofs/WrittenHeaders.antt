@@ -88,7 +88,7 @@ is_true false h = absurd h
 rising : (m : Contents) → Rises (entries m)
 rising m = is_true (is_sorted key_cmp (entries m)) (entries_sorted m)
 
-map_again : (m : Contents) → from_sorted (entries m) ≡ m
+pub map_again : (m : Contents) → from_sorted (entries m) ≡ m
 map_again m = same_entries_map (from_sorted (entries m)) m (list_is (entries m) (rising m))
 
 contents_given : (m : Contents) → All PairTyped (entries m) → Gives (contents (length (entries m))) (flat_map pair_bytes (entries m)) m

@@ -30,6 +30,7 @@ fn generation_of(number: u32) -> Generation
 
 impl BundleHeader {
     /// The journal of this replica of the cluster, of the bundle's version and opening, with no entries.
+    #[tactic(auto, using(crate::proofs::Beginning::first_begun, crate::proofs::Beginning::second_begun, crate::proofs::Beginning::third_begun))]
     pub fn journal(&self, alloc: Global, replica: ReplicaId) -> Result<Journal, AllocError>
         requires replica { replica < size self.now.cluster }
         requires opens { OpensIn self.now.version self.now.opening }

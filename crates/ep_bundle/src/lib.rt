@@ -34,7 +34,7 @@ mod receipts;
 mod write_laws;
 mod writing;
 
-pub use bundle::{Bundle, read_bundle, read_end};
+pub use bundle::{Bundle, read_bundle, read_bundle_of, read_end};
 pub use bundle_fault::BundleFault;
 pub use bundle_header::BundleHeader;
 pub use commands::read_command;
@@ -52,8 +52,9 @@ pub use read_laws::{bundles_are_canonical, entries_are_canonical, journals_are_c
 pub use receipts::read_receipt;
 pub use write_laws::{
     bundle_is_read_back, entries_are_read_back, journal_is_read_back, learn_entries, learn_entry,
+    learn_fits,
 };
 pub use writing::{
-    put_command, put_frame, put_instance, put_receipt, put_value, write_bundle, write_contents,
-    write_entry, write_journal,
+    put_command, put_entry, put_frame, put_instance, put_receipt, put_receipts, put_value,
+    write_bundle, write_contents, write_entry, write_journal,
 };

@@ -4,7 +4,7 @@ ghost use Rattle.std.specs.Prelude.{◌≡◌, ◌≤◌, ◌∷◌, ◌++◌, �
 ghost use Rattle.std.specs.FinMap.{entries as entries_in, is_sorted};
 ghost use Rattle.ep_base.specs.Devices.{FailsAsTold};
 ghost use Rattle.ep_exec.specs.Table.{key_cmp};
-ghost use Rattle.ep_bundle.specs.Headers.{contents, key_above, map_in, pair};
+ghost use Rattle.ep_bundle.specs.Headers.{HoldsAt, contents, key_above, map_in, pair};
 ghost use Rattle.ep_bundle.specs.Reading.{map_ok, is_read_failed, Reads, run};
 
 use crate::bundle_fault::BundleFault;
@@ -69,7 +69,10 @@ fn read_pair<S: Source>(
     let key = read_key(alloc, source, place, map, key_len)?;
     let value = read_value_of(alloc, source, place, value_len)?;
     // The key stands above the others, so only memory can be refused.
-    map.push(key, value).map_err(|_| BundleFault::Memory)
+    match map.push(key, value) {
+        Ok(()) => Ok(()),
+        Err(_) => Err(BundleFault::Memory),
+    }
 }
 
 /// A map of this many keys.
@@ -91,6 +94,7 @@ fn read_contents<S: Source>(
 }
 
 /// The map that a generation opens with, of at most 4,000,000,000 keys; versions 1 and 2 have none.
+#[tactic(auto, using(crate::proofs::ReadHeaders::none_counted))]
 pub(crate) fn read_map<S: Source>(
     alloc: Global,
     source: &mut S,
@@ -98,6 +102,7 @@ pub(crate) fn read_map<S: Source>(
     version: Version,
 ) -> Result<Contents, BundleFault>
     ensures bytes { (zs : List ℕ) → S.left source.old ≡ Some zs → Reads (map_in version (record { at = place.old; bytes = zs })) result place.new (S.left source.new) }
+    ensures holds { IfOk result (λ m. HoldsAt version m) }
     ensures few { IfOk result (λ m. length (entries_in m) ≤ 4000000000) }
     ensures told { FailsAsTold is_read_failed result (S.has_failed source.old) (S.has_failed source.new) }
 {

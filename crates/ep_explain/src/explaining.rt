@@ -149,6 +149,16 @@ fn explain_bundle(alloc: Global, bundle: &Bundle) -> Result<Explained, ExplainFa
     Ok(tell_verdict(alloc, bundle, &found)?)
 }
 
+/// A verdict, and under it the line of the bundle's edition.
+fn headed(alloc: Global, bundle: &Bundle, verdict: &[u8]) -> Result<Vec<u8>, AllocError>
+    ensures { IfOk result (λ text. text.items ≡ verdict.now ++ edition_line bundle.now.journals.version bundle.now.journals.opening) }
+{
+    let mut text = Vec::from_slice(alloc, verdict)?;
+    let journals = &bundle.journals;
+    push_edition(&mut text, journals.version(), journals.opening())?;
+    Ok(text)
+}
+
 /// What an audit says that finds these faults, and the reasons.
 fn tell_verdict(
     alloc: Global,
@@ -157,17 +167,14 @@ fn tell_verdict(
 ) -> Result<Explained, AllocError>
     ensures { IfOk result (λ told. IsVerdictTold (edition_line bundle.now.journals.version bundle.now.journals.opening) found.now told.finding told.text.items) }
 {
-    let journals = &bundle.journals;
     if found.is_empty() {
-        let mut text = Vec::from_slice(alloc, b"verdict accepted\n")?;
-        push_edition(&mut text, journals.version(), journals.opening())?;
+        let text = headed(alloc, bundle, b"verdict accepted\n")?;
         return Ok(Explained {
             finding: Finding::Accepted,
             text,
         });
     }
-    let mut text = Vec::from_slice(alloc, b"verdict refused\n")?;
-    push_edition(&mut text, journals.version(), journals.opening())?;
+    let mut text = headed(alloc, bundle, b"verdict refused\n")?;
     push_faults(alloc, &mut text, bundle, found)?;
     Ok(Explained {
         finding: Finding::Refused,

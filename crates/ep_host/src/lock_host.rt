@@ -184,8 +184,8 @@ impl LockHost {
     {
         let inboxes = inboxes_of(alloc, cluster, capacity)?;
         let mut seats = Vec::new(alloc);
-        for index in 0..cluster.count() {
-            let replica = making::opened(alloc, cluster, index, generation, opening)?;
+        for number in 0..cluster.count() {
+            let replica = making::opened(alloc, cluster, number, generation, opening)?;
             seats.push(Seat::new(alloc, replica, &inboxes)?)?;
         }
         Ok(LockHost {

@@ -91,8 +91,8 @@ impl RingHost {
         ensures start { IfOk result (λ nodes. All (StartsAs (V3 generation) opening.now) nodes.items) }
     {
         let mut nodes = Vec::new(alloc);
-        for index in 0..cluster.count() {
-            let replica = making::opened(alloc, cluster, index, generation, opening)?;
+        for number in 0..cluster.count() {
+            let replica = making::opened(alloc, cluster, number, generation, opening)?;
             let mut node = RingNode::new(alloc, replica);
             for place in 0..nodes.len() {
                 join_nodes(alloc, &mut nodes[place], &mut node, capacity)?;

@@ -1,7 +1,10 @@
 pub mod Audits
 pub mod Bundled
+pub mod ChainLines
+pub mod Chains
 pub mod Faults
 pub mod Hosts
+pub mod Lives
 pub mod Options
 pub mod Outputs
 pub mod Reported

@@ -10,6 +10,7 @@ ghost use Rattle.ep_main.specs.declared.fault.Fault.TheVariants.{Memory};
 
 use crate::fault::Fault;
 use crate::judged::Judged;
+use crate::life::life_of;
 use crate::status::Status;
 use ep_audit::{Refusal, audit};
 use ep_base::{Sink, Source};
@@ -45,8 +46,9 @@ fn judge_bundle(alloc: Global, bundle: &Bundle) -> Result<Judged, Fault>
 {
     match audit(alloc, &bundle.journals, bundle.receipts.as_slice()) {
         Ok(verdict) => {
+            let life = life_of(&bundle.journals, &verdict);
             let found = Findings {
-                life: None,
+                life: life.as_ref(),
                 committed: verdict.committed.as_slice(),
                 history: verdict.history.as_slice(),
                 receipts: bundle.receipts.as_slice(),

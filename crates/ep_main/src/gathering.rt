@@ -11,7 +11,7 @@ use ep_journal::Journals;
 use ep_rules::Receipt;
 use std::alloc::Global;
 
-/// The bytes of a bundle, of version 1 or 2. They are gathered first and then put in one go, as a report's are.
+/// The bytes of a bundle. They are gathered first and then put in one go, as a report's are.
 pub(crate) fn gather_bundle(
     alloc: Global,
     journals: &Journals,

@@ -2,7 +2,6 @@
 
 ghost use Rattle.std.specs.Prelude.{◌≡◌, ◌<◌, ◌^◌, ℕ, List, Some, length, IfOk, IfErr, IsOk};
 ghost use Rattle.ep_base.specs.Devices.{FailsAsTold};
-ghost use Rattle.ep_base.specs.declared.version_kind.VersionKind.TheVariants.{V2};
 ghost use Rattle.ep_bundle.specs.Bytes.{bundle_bytes};
 ghost use Rattle.ep_host.specs.Finishing.{IsFinished};
 ghost use Rattle.ep_main.specs.Audits.{SaysOfRun};
@@ -10,6 +9,7 @@ ghost use Rattle.ep_main.specs.Faults.{is_read, is_write};
 ghost use Rattle.ep_main.specs.Hosts.{Promises};
 ghost use Rattle.ep_main.specs.Outputs.{output};
 ghost use Rattle.ep_main.specs.Runs.{IsVerdict, Runs};
+ghost use Rattle.ep_run.specs.Rings.{IsBegun, begun_of};
 ghost use Rattle.ep_main.specs.declared.asked.Emit.TheVariants.{Report, Bundle};
 ghost use Rattle.ep_main.specs.declared.fault.Fault.TheVariants.{Memory};
 ghost use Rattle.ep_main.specs.declared.status.Status.TheVariants.{Accepted};
@@ -19,6 +19,7 @@ use crate::fault::Fault;
 use crate::gathering::gather_bundle;
 use crate::host::Host;
 use crate::judged::Judged;
+use crate::life::life_of;
 use crate::run_options::RunOptions;
 use crate::status::Status;
 use ep_base::{Sink, Source};
@@ -62,7 +63,7 @@ fn run_on_host<R: Threads + Wait + Sync>(
     script: &RunScript,
 ) -> Result<Ran, RunFault>
     ensures finished { IfOk result (λ r. IsFinished r.receipts.items r.finished) }
-    ensures version { IfOk result (λ r. r.finished.journals.version ≡ V2) }
+    ensures begun { IfOk result (λ r. IsBegun (begun_of script.now.head) r.finished.journals) }
     ensures promised { IfOk result (Promises options.now.host options.now.turns script.now.sections) }
 {
     let limits = options.limits();
@@ -98,8 +99,9 @@ fn judge_reported(alloc: Global, ran: &Ran) -> Result<Judged, Fault>
                 refused: ran.refused.as_slice(),
                 lost: ran.lost,
             };
+            let life = life_of(&ran.finished.journals, verdict);
             let found = Findings {
-                life: None,
+                life: life.as_ref(),
                 committed: verdict.committed.as_slice(),
                 history: verdict.history.as_slice(),
                 receipts: ran.receipts.as_slice(),

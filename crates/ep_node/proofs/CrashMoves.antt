@@ -3,14 +3,14 @@ use Rattle.std.proofs.Common.{◌≡◌, ℕ, suc, ◌≤◌, length, Bool, true
 use Rattle.std.proofs.lemmas.Bool.{eq-eqb, eqb-true}
 use Rattle.std.proofs.lemmas.List.{take-append-drop, take-take, take-append-le, length-take-le, length-append}
 use Rattle.ep_base.specs.Quorums.{size}
-use Rattle.ep_rules.specs.Journals.{Entry, AreSteps, AreNumbered, IsLocalRun, AreClocked, IsAmong}
+use Rattle.ep_rules.specs.Journals.{Entry, AreSteps, AreNumbered, IsLocalRun, stamp_after, last_stamp, AreClocked, IsAmong}
 use Rattle.ep_rules.specs.States.{State, fresh_state}
 use Rattle.ep_rules.specs.Steps.{Frame, Event, Handle, leaves}
 use Rattle.ep_rules.specs.Worlds.{In}
 use Rattle.ep_rules.proofs.JournalsGrow.{local_runs_grow_lem, clocks_grow_lem}
 use Rattle.ep_rules.proofs.Merged.{in_left, in_right, in_split}
-use Rattle.ep_node.specs.Crashes.{Cluster, fresh_cluster, Move, Take, HandOut, ComeBack, IsMove, frames_in, with_at, moved, AreMoves, cluster_after, handed_out, IsBeginning, Lasts}
-use Rattle.ep_rules.specs.OneMap.{opened, empty}
+use Rattle.ep_node.specs.Crashes.{Start, Cluster, fresh_cluster, Move, Take, HandOut, ComeBack, IsMove, frames_in, with_at, moved, AreMoves, cluster_after, handed_out, IsBeginning, Lasts}
+use Rattle.ep_rules.specs.OneMap.{opened}
 
 -- Beginnings.
 
@@ -49,16 +49,21 @@ clocked_front : (last : ℕ) (xs ys : List Entry) → AreClocked last (xs ++ ys)
 clocked_front last [] ys h = tt
 clocked_front last (x ∷ xs) ys h = (h.0, clocked_front x.stamp xs ys h.1)
 
-run_take : (f me n : ℕ) (es : List Entry) → IsLocalRun (opened empty) f me es → IsLocalRun (opened empty) f me (take n es)
-run_take f me n es h =
-    let whole : IsLocalRun (opened empty) f me (take n es ++ drop n es) = subst (IsLocalRun (opened empty) f me) (sym (take-append-drop n es)) h in
-    (numbered_front 1 0 (take n es) (drop n es) whole.0, steps_front f me (fresh_state (opened empty)) (take n es) (drop n es) whole.1)
+run_take : (start : Start) (f me n : ℕ) (es : List Entry) → IsLocalRun (opened start.map) f me es → IsLocalRun (opened start.map) f me (take n es)
+run_take start f me n es h =
+    let whole : IsLocalRun (opened start.map) f me (take n es ++ drop n es) = subst (IsLocalRun (opened start.map) f me) (sym (take-append-drop n es)) h in
+    (numbered_front 1 0 (take n es) (drop n es) whole.0, steps_front f me (fresh_state (opened start.map)) (take n es) (drop n es) whole.1)
 
 pub numbered_take : (n : ℕ) (es : List Entry) → AreNumbered 1 0 es → AreNumbered 1 0 (take n es)
 numbered_take n es h = numbered_front 1 0 (take n es) (drop n es) (subst (AreNumbered 1 0) (sym (take-append-drop n es)) h)
 
-clocked_take : (n : ℕ) (es : List Entry) → AreClocked 0 es → AreClocked 0 (take n es)
-clocked_take n es h = clocked_front 0 (take n es) (drop n es) (subst (AreClocked 0) (sym (take-append-drop n es)) h)
+clocked_take : (last n : ℕ) (es : List Entry) → AreClocked last es → AreClocked last (take n es)
+clocked_take last n es h = clocked_front last (take n es) (drop n es) (subst (AreClocked last) (sym (take-append-drop n es)) h)
+
+-- a clock that goes on from a stamp is never behind one that begins at 0
+pub stamp_least : (since : ℕ) (es : List Entry) → last_stamp es ≤ stamp_after since es
+stamp_least since [] = omega arith
+stamp_least since (e ∷ es) = omega arith
 
 -- Frames.
 
@@ -88,16 +93,16 @@ pub record IsOut (c : Cluster) (m : Frame) : Type 0 where
   pub out : In m entry.out
 
 -- what holds of a cluster, whatever crashed
-pub record Holds (f : ℕ) (c : Cluster) : Type 0 where
-  pub local : (r : ℕ) → IsLocalRun (opened empty) f r (c.journal r)
-  pub clocked : (r : ℕ) → AreClocked 0 (c.journal r)
+pub record Holds (start : Start) (f : ℕ) (c : Cluster) : Type 0 where
+  pub local : (r : ℕ) → IsLocalRun (opened start.map) f r (c.journal r)
+  pub clocked : (r : ℕ) → AreClocked (start.since r) (c.journal r)
   pub others : (r : ℕ) → size f ≤ r → c.journal r ≡ []
   pub within : (r : ℕ) → c.out r ≤ length (c.journal r)
   pub handled : (r : ℕ) (e : Entry) (m : Frame) → In e (c.journal r) → e.event ≡ Handle m → In m c.given
   pub given : (m : Frame) → In m c.given → IsOut c m
 
-pub fresh_holds : (f : ℕ) → Holds f fresh_cluster
-fresh_holds f = record {
+pub fresh_holds : (start : Start) (f : ℕ) → Holds start f fresh_cluster
+fresh_holds start f = record {
   local = λ r. (tt, tt);
   clocked = λ r. tt;
   others = λ r ge. refl;
@@ -106,9 +111,9 @@ fresh_holds f = record {
   given = λ m h. absurd h;
 }
 
-module _ (f : ℕ) (c : Cluster) (h : Holds f c) where
+module _ (start : Start) (f : ℕ) (c : Cluster) (h : Holds start f c) where
   -- A move leaves what was handed out.
-  pub handed : (m : Move) → IsMove f c m → (r : ℕ) → IsBeginning (handed_out c r) (handed_out (moved c m) r)
+  pub handed : (m : Move) → IsMove start f c m → (r : ℕ) → IsBeginning (handed_out c r) (handed_out (moved c m) r)
   handed (Take r e) k =
       at_each (λ q es. IsBeginning (take (c.out q) (c.journal q)) (take (c.out q) es)) r (c.journal r ++ (e ∷ [])) c.journal
       (begins_same (take (c.out r) (c.journal r)) (take (c.out r) (c.journal r ++ (e ∷ []))) (take-append-le (c.out r) (c.journal r) (e ∷ []) (h.within r)))
@@ -127,7 +132,7 @@ module _ (f : ℕ) (c : Cluster) (h : Holds f c) where
   given_grows (HandOut r n) = (frames_in (drop (c.out r) (take n (c.journal r))), refl)
   given_grows (ComeBack r n) = begins_refl c.given
 
-  out_still : (m : Move) → IsMove f c m → (x : Frame) → IsOut c x → IsOut (moved c m) x
+  out_still : (m : Move) → IsMove start f c m → (x : Frame) → IsOut c x → IsOut (moved c m) x
   out_still m k x o = record {
     node = o.node;
     entry = o.entry;
@@ -152,12 +157,12 @@ module _ (f : ℕ) (c : Cluster) (h : Holds f c) where
       }
 
   -- Each move keeps what holds.
-  pub move_holds : (m : Move) → IsMove f c m → Holds f (moved c m)
+  pub move_holds : (m : Move) → IsMove start f c m → Holds start f (moved c m)
   move_holds (Take r e) k =
       let new : List Entry = c.journal r ++ (e ∷ []) in
       record {
-        local = at_each (IsLocalRun (opened empty) f) r new c.journal (local_runs_grow_lem (opened empty) f r (c.journal r) e (h.local r) k.1.entry k.1.number (let s = k.1.stamp in omega arith) k.1.marked) h.local;
-        clocked = at_each (λ q es. AreClocked 0 es) r new c.journal (clocks_grow_lem 0 (c.journal r) e (h.clocked r) k.1.stamp) h.clocked;
+        local = at_each (IsLocalRun (opened start.map) f) r new c.journal (local_runs_grow_lem (opened start.map) f r (c.journal r) e (h.local r) k.1.entry k.1.number (let s = k.1.stamp in let l = stamp_least (start.since r) (c.journal r) in omega arith) k.1.marked) h.local;
+        clocked = at_each (λ q es. AreClocked (start.since q) es) r new c.journal (clocks_grow_lem (start.since r) (c.journal r) e (h.clocked r) k.1.stamp) h.clocked;
         others = at_each (λ q es. size f ≤ q → es ≡ []) r new c.journal (λ ge. absurd (let lt = k.0 in omega arith)) h.others;
         within = at_each (λ q es. c.out q ≤ length es) r new c.journal (let le = h.within r in omega (arith, length-append (c.journal r) (e ∷ []))) h.within;
         handled = at_each (λ q es. (d : Entry) (m : Frame) → In d es → d.event ≡ Handle m → In m c.given) r new c.journal (taken_handles r e k.2) h.handled;
@@ -177,8 +182,8 @@ module _ (f : ℕ) (c : Cluster) (h : Holds f c) where
   move_holds (ComeBack r n) k =
       let kept : List Entry = take n (c.journal r) in
       record {
-        local = at_each (IsLocalRun (opened empty) f) r kept c.journal (run_take f r n (c.journal r) (h.local r)) h.local;
-        clocked = at_each (λ q es. AreClocked 0 es) r kept c.journal (clocked_take n (c.journal r) (h.clocked r)) h.clocked;
+        local = at_each (IsLocalRun (opened start.map) f) r kept c.journal (run_take start f r n (c.journal r) (h.local r)) h.local;
+        clocked = at_each (λ q es. AreClocked (start.since q) es) r kept c.journal (clocked_take (start.since r) n (c.journal r) (h.clocked r)) h.clocked;
         others = at_each (λ q es. size f ≤ q → es ≡ []) r kept c.journal (λ ge. absurd (let lt = k.0 in omega arith)) h.others;
         within = at_each (λ q es. c.out q ≤ length es) r kept c.journal (let le = k.1.least in omega (arith, length-take-le n (c.journal r) k.1.most)) h.within;
         handled = at_each (λ q es. (d : Entry) (m : Frame) → In d es → d.event ≡ Handle m → In m c.given) r kept c.journal
@@ -188,33 +193,33 @@ module _ (f : ℕ) (c : Cluster) (h : Holds f c) where
 
 -- Moves.
 
-pub moves_hold : (f : ℕ) (c : Cluster) (ms : List Move) → Holds f c → AreMoves f c ms → Holds f (cluster_after c ms)
-moves_hold f c [] h k = h
-moves_hold f c (m ∷ ms) h k = moves_hold f (moved c m) ms (move_holds f c h m k.0) k.1
+pub moves_hold : (start : Start) (f : ℕ) (c : Cluster) (ms : List Move) → Holds start f c → AreMoves start f c ms → Holds start f (cluster_after c ms)
+moves_hold start f c [] h k = h
+moves_hold start f c (m ∷ ms) h k = moves_hold start f (moved c m) ms (move_holds start f c h m k.0) k.1
 
-pub moves_parts : (f : ℕ) (c : Cluster) (early late : List Move) → AreMoves f c (early ++ late) → AreMoves f c early × AreMoves f (cluster_after c early) late
-moves_parts f c [] late k = (tt, k)
-moves_parts f c (m ∷ early) late k = let t = moves_parts f (moved c m) early late k.1 in ((k.0, t.0), t.1)
+pub moves_parts : (start : Start) (f : ℕ) (c : Cluster) (early late : List Move) → AreMoves start f c (early ++ late) → AreMoves start f c early × AreMoves start f (cluster_after c early) late
+moves_parts start f c [] late k = (tt, k)
+moves_parts start f c (m ∷ early) late k = let t = moves_parts start f (moved c m) early late k.1 in ((k.0, t.0), t.1)
 
 pub after_both : (c : Cluster) (early late : List Move) → cluster_after c (early ++ late) ≡ cluster_after (cluster_after c early) late
 after_both c [] late = refl
 after_both c (m ∷ early) late = after_both (moved c m) early late
 
 -- what was handed out of is a beginning of what is handed out of later
-pub handed_on : (f : ℕ) (c : Cluster) (ms : List Move) → Holds f c → AreMoves f c ms → (r : ℕ) → IsBeginning (handed_out c r) (handed_out (cluster_after c ms) r)
-handed_on f c [] h k r = begins_refl (handed_out c r)
-handed_on f c (m ∷ ms) h k r =
-    begins_trans (handed_out c r) (handed_out (moved c m) r) (handed_out (cluster_after (moved c m) ms) r) (handed f c h m k.0 r) (handed_on f (moved c m) ms (move_holds f c h m k.0) k.1 r)
+pub handed_on : (start : Start) (f : ℕ) (c : Cluster) (ms : List Move) → Holds start f c → AreMoves start f c ms → (r : ℕ) → IsBeginning (handed_out c r) (handed_out (cluster_after c ms) r)
+handed_on start f c [] h k r = begins_refl (handed_out c r)
+handed_on start f c (m ∷ ms) h k r =
+    begins_trans (handed_out c r) (handed_out (moved c m) r) (handed_out (cluster_after (moved c m) ms) r) (handed start f c h m k.0 r) (handed_on start f (moved c m) ms (move_holds start f c h m k.0) k.1 r)
 
-pub given_on : (f : ℕ) (c : Cluster) (ms : List Move) → Holds f c → AreMoves f c ms → IsBeginning c.given (cluster_after c ms).given
-given_on f c [] h k = begins_refl c.given
-given_on f c (m ∷ ms) h k = begins_trans c.given (moved c m).given (cluster_after (moved c m) ms).given (given_grows f c h m) (given_on f (moved c m) ms (move_holds f c h m k.0) k.1)
+pub given_on : (start : Start) (f : ℕ) (c : Cluster) (ms : List Move) → Holds start f c → AreMoves start f c ms → IsBeginning c.given (cluster_after c ms).given
+given_on start f c [] h k = begins_refl c.given
+given_on start f c (m ∷ ms) h k = begins_trans c.given (moved c m).given (cluster_after (moved c m) ms).given (given_grows start f c h m) (given_on start f (moved c m) ms (move_holds start f c h m k.0) k.1)
 
-pub lasts : (f : ℕ) (c : Cluster) (ms : List Move) → Holds f c → AreMoves f c ms → Lasts c (cluster_after c ms)
-lasts f c ms h k =
+pub lasts : (start : Start) (f : ℕ) (c : Cluster) (ms : List Move) → Holds start f c → AreMoves start f c ms → Lasts c (cluster_after c ms)
+lasts start f c ms h k =
     let after : Cluster = cluster_after c ms in
     record {
-      handed = handed_on f c ms h k;
-      stands = λ r. begins_trans (handed_out c r) (handed_out after r) (after.journal r) (handed_on f c ms h k r) (take_begins (after.out r) (after.journal r));
-      given = given_on f c ms h k;
+      handed = handed_on start f c ms h k;
+      stands = λ r. begins_trans (handed_out c r) (handed_out after r) (after.journal r) (handed_on start f c ms h k r) (take_begins (after.out r) (after.journal r));
+      given = given_on start f c ms h k;
     }

@@ -12,16 +12,16 @@ use Rattle.ep_rules.proofs.JournalsGrow.{of_grows, frames_grow}
 use Rattle.ep_rules.proofs.Merged.{in_left, in_right, in_split, of_in, in_of, in_journal}
 use Rattle.ep_rules.proofs.Played.{played_is_a_run_lem}
 use Rattle.ep_rules.proofs.RunsLinear.{linearizability_holds}
-use Rattle.ep_node.specs.Crashes.{Cluster, fresh_cluster, Move, Take, HandOut, ComeBack, IsMove, frames_in, with_at, moved, AreMoves, cluster_after, kept, stand_after, standing, CrashingRunsAreLinearizable}
+use Rattle.ep_node.specs.Crashes.{Start, Cluster, fresh_cluster, Move, Take, HandOut, ComeBack, IsMove, frames_in, with_at, moved, AreMoves, cluster_after, kept, stand_after, standing, CrashingRunsAreLinearizable}
 use Rattle.ep_node.proofs.CrashMoves.{Holds, fresh_holds, move_holds, moves_hold, at_same, in_frames, in_drop, in_begins, take_begins, numbered_take}
 use Rattle.ep_node.proofs.CrashRuns.{steps_next}
 use Rattle.ep_node.proofs.CrashTraces.{at_other, out_next}
-use Rattle.ep_rules.specs.OneMap.{opened, empty}
+use Rattle.ep_rules.specs.OneMap.{opened}
 
 -- What is kept of each replica.
 
 -- the entries whose numbers are at most n
-abbrev low : ℕ → List Entry → List Entry
+abbrev pub low : ℕ → List Entry → List Entry
 low n [] = []
 low n (e ∷ es) = cond (ltb n e.number) (low n es) (e ∷ low n es)
 
@@ -30,14 +30,14 @@ low_none n m last [] h lt = refl
 low_none n m last (e ∷ es) h lt =
     ap (λ b. cond b (low n es) (e ∷ low n es)) (lt-ltb n e.number (let q = h.0 in omega arith)) ∙ low_none n (suc m) e.stamp es h.3 (omega arith)
 
-low_take : (n m j last : ℕ) (es : List Entry) → AreNumbered m last es → m + j ≡ n + 1 → low n es ≡ take j es
+pub low_take : (n m j last : ℕ) (es : List Entry) → AreNumbered m last es → m + j ≡ n + 1 → low n es ≡ take j es
 low_take n m zero last [] h is = refl
 low_take n m zero last (e ∷ es) h is = low_none n m last (e ∷ es) h (omega arith)
 low_take n m (suc j) last [] h is = refl
 low_take n m (suc j) last (e ∷ es) h is =
     ap (λ b. cond b (low n es) (e ∷ low n es)) (le-ltb n e.number (let q = h.0 in omega arith)) ∙ ap (λ l. e ∷ l) (low_take n (suc m) j e.stamp es h.3 (omega arith))
 
-kept_here : (r n : ℕ) (these : List Scheduled) → of r (kept r n these) ≡ low n (of r these)
+pub kept_here : (r n : ℕ) (these : List Scheduled) → of r (kept r n these) ≡ low n (of r these)
 kept_here r n [] = refl
 kept_here r n (a ∷ these) = go (eqb a.replica r) (ltb n a.entry.number) refl refl (kept_here r n these)
   where
@@ -49,7 +49,7 @@ kept_here r n (a ∷ these) = go (eqb a.replica r) (ltb n a.entry.number) refl r
         ∙ sym (ap (λ z. cond z (low n (of r these)) (a.entry ∷ low n (of r these))) u)
     go false t e u rec = ap (λ z. cond z (a.entry ∷ of r (kept r n these)) (of r (kept r n these))) e ∙ rec
 
-kept_other : (r n q : ℕ) (these : List Scheduled) → (r ≡ q → ⊥) → of q (kept r n these) ≡ of q these
+pub kept_other : (r n q : ℕ) (these : List Scheduled) → (r ≡ q → ⊥) → of q (kept r n these) ≡ of q these
 kept_other r n q [] ne = refl
 kept_other r n q (a ∷ these) ne = go (eqb a.replica r) (ltb n a.entry.number) refl (kept_other r n q these ne)
   where
@@ -147,7 +147,24 @@ number_within n last [] e h k = absurd k
 number_within n last (x ∷ es) e h (inl is) = subst (λ (z : Entry). z.number < n + length (x ∷ es)) is (let q = h.0 in omega arith)
 number_within n last (x ∷ es) e h (inr k) = let t = number_within (suc n) x.stamp es e h.3 k in omega arith
 
-module _ (f : ℕ) (c : Cluster) (h : Holds f c) (these : List Scheduled) (s : Stands c these) where
+-- the entries that stand after a move are the nodes'
+pub own_move : (c : Cluster) (these : List Scheduled) → ((r : ℕ) → of r these ≡ c.journal r) → ((r : ℕ) → AreNumbered 1 0 (c.journal r)) → (m : Move) (q : ℕ) → of q (stand_after m these) ≡ (moved c m).journal q
+own_move c these own numbered (Take r e) q = of_grows q these (record { replica = r; entry = e }) ∙ go (eqb r q) refl
+  where
+    go : (b : Bool) → eqb r q ≡ b → cond b (of q these ++ (e ∷ [])) (of q these) ≡ cond b (c.journal r ++ (e ∷ [])) (c.journal q)
+    go true is = ap (λ l. l ++ (e ∷ [])) (own q ∙ ap c.journal (sym (eqb-true r q is)))
+    go false is = own q
+own_move c these own numbered (HandOut r n) q = own q
+own_move c these own numbered (ComeBack r n) q = ⊎_elim here other (cases_eq r q)
+  where
+    here : r ≡ q → of q (kept r n these) ≡ with_at r (take n (c.journal r)) c.journal q
+    here is = subst (λ p. of p (kept r n these) ≡ with_at r (take n (c.journal r)) c.journal p) is
+        (kept_here r n these ∙ ap (low n) (own r) ∙ low_take n 1 n 0 (c.journal r) (numbered r) (omega arith) ∙ sym (at_same r (take n (c.journal r)) c.journal))
+
+    other : (r ≡ q → ⊥) → of q (kept r n these) ≡ with_at r (take n (c.journal r)) c.journal q
+    other ne = kept_other r n q these ne ∙ own q ∙ sym (at_other r q (take n (c.journal r)) c.journal ne)
+
+module _ (start : Start) (f : ℕ) (c : Cluster) (h : Holds start f c) (these : List Scheduled) (s : Stands c these) where
   -- what is handed out now
   handed_now : (r n : ℕ) (m : Frame) → In m (frames_in (drop (c.out r) (take n (c.journal r)))) → IsOutIn (with_at r n c.out) these m
   handed_now r n m k =
@@ -167,20 +184,16 @@ module _ (f : ℕ) (c : Cluster) (h : Holds f c) (these : List Scheduled) (s : S
   handles : (e : Entry) → IsAmong c.given e.event → (m : Frame) → e.event ≡ Handle m → IsOutIn c.out these m
   handles e among m is = s.given m (subst (λ (v : Event). IsAmong c.given v) is among)
 
-  stand_move : (m : Move) → IsMove f c m → Stands (moved c m) (stand_after m these)
+  stand_move : (m : Move) → IsMove start f c m → Stands (moved c m) (stand_after m these)
   stand_move (Take r e) k =
       let a : Scheduled = record { replica = r; entry = e } in
       record {
-        own = λ q. of_grows q these a ∙ go q (eqb r q) refl;
+        own = own_move c these s.own (λ q. (h.local q).0) (Take r e);
         sound = sound_more c.out [] these a s.sound (handles e k.2);
         given = λ m g. out_in_more c.out these (a ∷ []) m (s.given m g);
       }
-    where
-      go : (q : ℕ) (b : Bool) → eqb r q ≡ b → cond b (of q these ++ (e ∷ [])) (of q these) ≡ cond b (c.journal r ++ (e ∷ [])) (c.journal q)
-      go q true is = ap (λ l. l ++ (e ∷ [])) (s.own q ∙ ap c.journal (sym (eqb-true r q is)))
-      go q false is = s.own q
   stand_move (HandOut r n) k =
-      let later = out_next f c (HandOut r n) k in
+      let later = out_next start f c (HandOut r n) k in
       record {
         own = s.own;
         sound = sound_later c.out (with_at r n c.out) later [] these s.sound;
@@ -190,21 +203,14 @@ module _ (f : ℕ) (c : Cluster) (h : Holds f c) (these : List Scheduled) (s : S
         ];
       }
   stand_move (ComeBack r n) k = record {
-    own = λ q. ⊎_elim (here q) (other q) (cases_eq r q);
+    own = own_move c these s.own (λ q. (h.local q).0) (ComeBack r n);
     sound = sound_kept c.out r n k.1.least [] these s.sound;
     given = λ m g. out_in_kept c.out r n k.1.least these m (s.given m g);
   }
-    where
-      here : (q : ℕ) → r ≡ q → of q (kept r n these) ≡ with_at r (take n (c.journal r)) c.journal q
-      here q is = subst (λ p. of p (kept r n these) ≡ with_at r (take n (c.journal r)) c.journal p) is
-          (kept_here r n these ∙ ap (low n) (s.own r) ∙ low_take n 1 n 0 (c.journal r) (h.local r).0 (omega arith) ∙ sym (at_same r (take n (c.journal r)) c.journal))
 
-      other : (q : ℕ) → (r ≡ q → ⊥) → of q (kept r n these) ≡ with_at r (take n (c.journal r)) c.journal q
-      other q ne = kept_other r n q these ne ∙ s.own q ∙ sym (at_other r q (take n (c.journal r)) c.journal ne)
-
-stands_after : (f : ℕ) (c : Cluster) (ms : List Move) (these : List Scheduled) → Holds f c → Stands c these → AreMoves f c ms → Stands (cluster_after c ms) (standing these ms)
-stands_after f c [] these h s k = s
-stands_after f c (m ∷ ms) these h s k = stands_after f (moved c m) ms (stand_after m these) (move_holds f c h m k.0) (stand_move f c h these s m k.0) k.1
+stands_after : (start : Start) (f : ℕ) (c : Cluster) (ms : List Move) (these : List Scheduled) → Holds start f c → Stands c these → AreMoves start f c ms → Stands (cluster_after c ms) (standing these ms)
+stands_after start f c [] these h s k = s
+stands_after start f c (m ∷ ms) these h s k = stands_after start f (moved c m) ms (stand_after m these) (move_holds start f c h m k.0) (stand_move start f c h these s m k.0) k.1
 
 -- It is played.
 
@@ -234,14 +240,14 @@ plays f out before (a ∷ rest) w below steps h =
     )
 
 pub crashing_runs_are_linearizable_lem : CrashingRunsAreLinearizable
-crashing_runs_are_linearizable_lem f some few moves k =
+crashing_runs_are_linearizable_lem start f some few moves k =
     let c : Cluster = cluster_after fresh_cluster moves in
     let these : List Scheduled = standing [] moves in
-    let h : Holds f c = moves_hold f fresh_cluster moves (fresh_holds f) k in
-    let s : Stands c these = stands_after f fresh_cluster moves [] (fresh_holds f) (record { own = λ r. refl; sound = tt; given = λ m g. absurd g }) k in
-    let local : AreLocalRuns (opened empty) f c.journal = record { local = h.local; others = h.others } in
+    let h : Holds start f c = moves_hold start f fresh_cluster moves (fresh_holds start f) k in
+    let s : Stands c these = stands_after start f fresh_cluster moves [] (fresh_holds start f) (record { own = λ r. refl; sound = tt; given = λ m g. absurd g }) k in
+    let local : AreLocalRuns (opened start.map) f c.journal = record { local = h.local; others = h.others } in
     let below : (a : Scheduled) → In a these → a.replica < size f =
-    (λ a there. in_journal (opened empty) f c.journal a.replica a.entry local (subst (λ es. In a.entry es) (s.own a.replica) (in_of a these there))) in
-    let played : ArePlayed f (opening (opened empty)) [] these = plays f c.out [] these (opening (opened empty)) below (λ r. subst (λ es. AreSteps f r (fresh_state (opened empty)) es) (sym (s.own r)) (h.local r).1) s.sound in
-    let run = played_is_a_run_lem (opened empty) f these played in
-    record { own = s.own; played = played; run = run; linearizable = linearizability_holds (opened empty) f some few (acts_of these) run }
+    (λ a there. in_journal (opened start.map) f c.journal a.replica a.entry local (subst (λ es. In a.entry es) (s.own a.replica) (in_of a these there))) in
+    let played : ArePlayed f (opening (opened start.map)) [] these = plays f c.out [] these (opening (opened start.map)) below (λ r. subst (λ es. AreSteps f r (fresh_state (opened start.map)) es) (sym (s.own r)) (h.local r).1) s.sound in
+    let run = played_is_a_run_lem (opened start.map) f these played in
+    record { own = s.own; played = played; run = run; linearizable = linearizability_holds (opened start.map) f some few (acts_of these) run }

@@ -8,10 +8,10 @@ use Rattle.ep_rules.specs.Steps.{Frame, leaves}
 use Rattle.ep_rules.specs.Worlds.{World, opening}
 use Rattle.ep_rules.specs.Worlds as worlds
 use Rattle.ep_rules.proofs.JournalsGrow.{left_grows}
-use Rattle.ep_node.specs.Crashes.{IsTaken, Cluster, fresh_cluster, Take, HandOut, IsMove, frames_in, moved, PlayedRunsAreMoves}
+use Rattle.ep_node.specs.Crashes.{Start, IsTaken, Cluster, fresh_cluster, Take, HandOut, IsMove, frames_in, moved, PlayedRunsAreMoves}
 use Rattle.ep_node.proofs.CrashMoves.{at_same}
 use Rattle.ep_node.proofs.CrashTraces.{Leads, leads_on}
-use Rattle.ep_rules.specs.OneMap.{opened, empty}
+use Rattle.ep_rules.specs.OneMap.{opened}
 
 -- The entry after these, in a numbered and in a clocked journal.
 
@@ -34,14 +34,14 @@ handed_more es e =
     ∙ ap frames_in (drop_at es (e ∷ []) (length es) refl) ∙ append-nil e.out
 
 -- the world, its frames and the cluster are at one point, and these are still to be played
-record Meets (f : ℕ) (w : World) (frames : List Frame) (c : Cluster) (these : List Scheduled) : Type 0 where
-  pub states : (r : ℕ) → w.states r ≡ left f r (fresh_state (opened empty)) (c.journal r)
+record Meets (start : Start) (f : ℕ) (w : World) (frames : List Frame) (c : Cluster) (these : List Scheduled) : Type 0 where
+  pub states : (r : ℕ) → w.states r ≡ left f r (fresh_state (opened start.map)) (c.journal r)
   pub given : c.given ≡ frames
   pub out : (r : ℕ) → c.out r ≡ length (c.journal r)
   pub numbered : (r : ℕ) → AreNumbered 1 0 (c.journal r ++ of r these)
-  pub clocked : (r : ℕ) → AreClocked 0 (c.journal r ++ of r these)
+  pub clocked : (r : ℕ) → AreClocked (start.since r) (c.journal r ++ of r these)
 
-module _ (f : ℕ) (w : World) (frames : List Frame) (c : Cluster) (a : Scheduled) (these : List Scheduled) (m : Meets f w frames c (a ∷ these)) where
+module _ (start : Start) (f : ℕ) (w : World) (frames : List Frame) (c : Cluster) (a : Scheduled) (these : List Scheduled) (m : Meets start f w frames c (a ∷ these)) where
   abbrev r : ℕ
   r = a.replica
 
@@ -57,13 +57,13 @@ module _ (f : ℕ) (w : World) (frames : List Frame) (c : Cluster) (a : Schedule
   own : of r (a ∷ these) ≡ a.entry ∷ of r these
   own = ap (λ b. cond b (a.entry ∷ of r these) (of r these)) (eq-eqb r r refl)
 
-  is_taken : IsEntry f r (w.states r) a.entry → IsTaken f r es a.entry
+  is_taken : IsEntry f r (w.states r) a.entry → IsTaken start f r es a.entry
   is_taken step =
       let n = numbered_next 1 0 es a.entry (of r these) (subst (λ l. AreNumbered 1 0 (es ++ l)) own (m.numbered r)) in
       record {
         entry = subst (λ s. IsEntry f r s a.entry) (m.states r) step;
         number = (let q = n.number in omega arith);
-        stamp = clocked_next 0 es a.entry (of r these) (subst (λ l. AreClocked 0 (es ++ l)) own (m.clocked r));
+        stamp = clocked_next (start.since r) es a.entry (of r these) (subst (λ l. AreClocked (start.since r) (es ++ l)) own (m.clocked r));
         marked = n.marked;
       }
 
@@ -75,13 +75,13 @@ module _ (f : ℕ) (w : World) (frames : List Frame) (c : Cluster) (a : Schedule
       go true e = subst (λ p. c.journal p ++ (a.entry ∷ of p these) ≡ (es ++ (a.entry ∷ [])) ++ of p these) (eqb-true r q e) (sym (append_assoc es (a.entry ∷ []) (of r these)))
       go false e = refl
 
-  state_next : (q : ℕ) → (worlds.moved f w (act_of a)).states q ≡ left f q (fresh_state (opened empty)) (given.journal q)
+  state_next : (q : ℕ) → (worlds.moved f w (act_of a)).states q ≡ left f q (fresh_state (opened start.map)) (given.journal q)
   state_next q = go (eqb r q) refl
     where
-      go : (b : Bool) → eqb r q ≡ b → cond b (leaves f q (w.states q) a.entry.event a.entry.done) (w.states q) ≡ left f q (fresh_state (opened empty)) (cond b (es ++ (a.entry ∷ [])) (c.journal q))
+      go : (b : Bool) → eqb r q ≡ b → cond b (leaves f q (w.states q) a.entry.event a.entry.done) (w.states q) ≡ left f q (fresh_state (opened start.map)) (cond b (es ++ (a.entry ∷ [])) (c.journal q))
       go true e =
-          subst (λ p. leaves f p (w.states p) a.entry.event a.entry.done ≡ left f p (fresh_state (opened empty)) (es ++ (a.entry ∷ []))) (eqb-true r q e)
-          (ap (λ s. leaves f r s a.entry.event a.entry.done) (m.states r) ∙ sym (left_grows f r (fresh_state (opened empty)) es a.entry))
+          subst (λ p. leaves f p (w.states p) a.entry.event a.entry.done ≡ left f p (fresh_state (opened start.map)) (es ++ (a.entry ∷ []))) (eqb-true r q e)
+          (ap (λ s. leaves f r s a.entry.event a.entry.done) (m.states r) ∙ sym (left_grows f r (fresh_state (opened start.map)) es a.entry))
       go false e = m.states q
 
   longer : length (taken.journal r) ≡ length es + 1
@@ -101,41 +101,41 @@ module _ (f : ℕ) (w : World) (frames : List Frame) (c : Cluster) (a : Schedule
       go true = sym (length-append es (a.entry ∷ []))
       go false = m.out q
 
-  meets_next : Meets f (worlds.moved f w (act_of a)) (frames ++ a.entry.out) given these
+  meets_next : Meets start f (worlds.moved f w (act_of a)) (frames ++ a.entry.out) given these
   meets_next = record {
     states = state_next;
     given = given_next;
     out = out_next;
     numbered = λ q. subst (AreNumbered 1 0) (shifted q) (m.numbered q);
-    clocked = λ q. subst (AreClocked 0) (shifted q) (m.clocked q);
+    clocked = λ q. subst (AreClocked (start.since q)) (shifted q) (m.clocked q);
   }
 
-  hands : r < Rattle.ep_base.specs.Quorums.size f → IsMove f taken (HandOut r (length es + 1))
+  hands : r < Rattle.ep_base.specs.Quorums.size f → IsMove start f taken (HandOut r (length es + 1))
   hands below = (below, record { least = (let o = m.out r in omega arith); most = (let l = longer in omega arith) })
 
 -- moves without a crash, and the entries that they lead to
-record Makes (f : ℕ) (c : Cluster) (these : List Scheduled) : Type 0 where
+record Makes (start : Start) (f : ℕ) (c : Cluster) (these : List Scheduled) : Type 0 where
   pub last : Cluster
-  pub leads : Leads f c last
+  pub leads : Leads start f c last
   pub journal : (r : ℕ) → last.journal r ≡ c.journal r ++ of r these
 
-makes : (f : ℕ) (these : List Scheduled) (w : World) (frames : List Frame) (c : Cluster) → ArePlayed f w frames these → Meets f w frames c these → Makes f c these
-makes f [] w frames c played m = record { last = c; leads = record { moves = []; calm = tt; are = tt; ends = refl }; journal = λ r. sym (append-nil (c.journal r)) }
-makes f (a ∷ these) w frames c played m =
+makes : (start : Start) (f : ℕ) (these : List Scheduled) (w : World) (frames : List Frame) (c : Cluster) → ArePlayed f w frames these → Meets start f w frames c these → Makes start f c these
+makes start f [] w frames c played m = record { last = c; leads = record { moves = []; calm = tt; are = tt; ends = refl }; journal = λ r. sym (append-nil (c.journal r)) }
+makes start f (a ∷ these) w frames c played m =
     let first : Cluster = moved c (Take a.replica a.entry) in
     let n : ℕ = length (c.journal a.replica) + 1 in
     let next : Cluster = moved first (HandOut a.replica n) in
     let among = subst (λ fs. Rattle.ep_rules.specs.Journals.IsAmong fs a.entry.event) (sym m.given) played.0.among in
-    let rest = makes f these (worlds.moved f w (act_of a)) (frames ++ a.entry.out) next played.1 (meets_next f w frames c a these m) in
+    let rest = makes start f these (worlds.moved f w (act_of a)) (frames ++ a.entry.out) next played.1 (meets_next start f w frames c a these m) in
     record {
       last = rest.last;
-      leads = leads_on f c rest.last (Take a.replica a.entry) tt (played.0.replica, is_taken f w frames c a these m played.0.entry, among)
-          (leads_on f first rest.last (HandOut a.replica n) tt (hands f w frames c a these m played.0.replica) rest.leads);
-      journal = λ r. rest.journal r ∙ sym (shifted f w frames c a these m r);
+      leads = leads_on start f c rest.last (Take a.replica a.entry) tt (played.0.replica, is_taken start f w frames c a these m played.0.entry, among)
+          (leads_on start f first rest.last (HandOut a.replica n) tt (hands start f w frames c a these m played.0.replica) rest.leads);
+      journal = λ r. rest.journal r ∙ sym (shifted start f w frames c a these m r);
     }
 
 pub played_runs_are_moves_lem : PlayedRunsAreMoves
-played_runs_are_moves_lem f schedule played numbered clocked =
-    let start : Meets f (opening (opened empty)) [] fresh_cluster schedule = record { states = λ r. refl; given = refl; out = λ r. refl; numbered = numbered; clocked = clocked } in
-    let t = makes f schedule (opening (opened empty)) [] fresh_cluster played start in
+played_runs_are_moves_lem start f schedule played numbered clocked =
+    let here : Meets start f (opening (opened start.map)) [] fresh_cluster schedule = record { states = λ r. refl; given = refl; out = λ r. refl; numbered = numbered; clocked = clocked } in
+    let t = makes start f schedule (opening (opened start.map)) [] fresh_cluster played here in
     (t.leads.moves, t.leads.calm, t.leads.are, λ r. ap (λ (c : Cluster). c.journal r) t.leads.ends ∙ t.journal r)

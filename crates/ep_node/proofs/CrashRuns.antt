@@ -11,9 +11,9 @@ use Rattle.ep_rules.proofs.Merged.{in_left, in_right, in_messages, at_in, of_in,
 use Rattle.ep_rules.proofs.OwnReceipts.{clocked_match_lem, clocked_accepted_lem}
 use Rattle.ep_rules.proofs.Played.{frames_were_sent_lem}
 use Rattle.ep_rules.proofs.Sorted.{some_schedule_lem}
-use Rattle.ep_node.specs.Crashes.{Cluster, fresh_cluster, cluster_after, handed_out, IsOneRun, CrashingRunsAreRuns}
+use Rattle.ep_node.specs.Crashes.{Start, Cluster, fresh_cluster, cluster_after, handed_out, IsOneRun, CrashingRunsAreRuns}
 use Rattle.ep_node.proofs.CrashMoves.{Holds, fresh_holds, moves_hold, take_begins, in_begins}
-use Rattle.ep_rules.specs.OneMap.{opened, empty}
+use Rattle.ep_rules.specs.OneMap.{opened}
 
 -- What entries sent, their world has sent.
 
@@ -40,30 +40,30 @@ module _ (f : ℕ) where
 
 -- One cluster of which this holds.
 
-module _ (f : ℕ) (some : 0 < f) (few : size f ≤ 256) (c : Cluster) (h : Holds f c) where
-  local_runs : AreLocalRuns (opened empty) f c.journal
+module _ (start : Start) (f : ℕ) (some : 0 < f) (few : size f ≤ 256) (c : Cluster) (h : Holds start f c) where
+  local_runs : AreLocalRuns (opened start.map) f c.journal
   local_runs = record { local = h.local; others = h.others }
 
   given_sent : (m : Frame) → In m c.given → WasSent c.journal m
   given_sent m k =
       let o = h.given m k in
       let stands : In o.entry (c.journal o.node) = in_begins o.entry (handed_out c o.node) (c.journal o.node) (take_begins (c.out o.node) (c.journal o.node)) o.stands in
-      (frames_were_sent_lem (opened empty) f c.journal o.node o.entry m (h.local o.node) stands o.out).1
+      (frames_were_sent_lem (opened start.map) f c.journal o.node o.entry m (h.local o.node) stands o.out).1
 
   handled_sent : (r : ℕ) (e : Entry) (m : Frame) → In e (c.journal r) → e.event ≡ Handle m → WasSent c.journal m
   handled_sent r e m stands is = given_sent m (h.handled r e m stands is)
 
   matched : IsMatched c.journal
-  matched = clocked_match_lem (λ _. 0) c.journal h.clocked handled_sent
+  matched = clocked_match_lem start.since c.journal h.clocked handled_sent
 
   -- what stands in the journals, the world has sent
-  sent_in : (schedule : List Scheduled) → IsSchedule c.journal schedule → (m : Frame) → WasSent c.journal m → In m.sent (ends f (opening (opened empty)) (acts_of schedule)).sent
+  sent_in : (schedule : List Scheduled) → IsSchedule c.journal schedule → (m : Frame) → WasSent c.journal m → In m.sent (ends f (opening (opened start.map)) (acts_of schedule)).sent
   sent_in schedule is m was =
       let from = of_in m.sent.from was.entry schedule (subst (λ es. In was.entry es) (sym (is.0 m.sent.from)) was.stands) in
-      sent_of f schedule (opening (opened empty)) (λ r. subst (λ es. AreSteps f r (fresh_state (opened empty)) es) (sym (is.0 r)) (h.local r).1) from.0 m from.1
+      sent_of f schedule (opening (opened start.map)) (λ r. subst (λ es. AreSteps f r (fresh_state (opened start.map)) es) (sym (is.0 r)) (h.local r).1) from.0 m from.1
       (subst (λ (z : Entry). In m z.out) (sym from.3) (at_in was.entry.out m.place m was.frame))
 
-  pub one_run : IsOneRun f c
+  pub one_run : IsOneRun start f c
   one_run =
       let found = some_schedule_lem (size f) c.journal h.others (λ r. (h.local r).0) in
       let schedule : List Scheduled = found.0 in
@@ -71,13 +71,13 @@ module _ (f : ℕ) (some : 0 < f) (few : size f ≤ 256) (c : Cluster) (h : Hold
       record {
         schedule = schedule;
         merges = record { some = some; few = few; local = local_runs; matched = matched; scheduled = is };
-        run = merged_is_a_run_lem (opened empty) f c.journal schedule local_runs matched is;
-        states = λ r. own_entries_leave_lem (opened empty) f schedule r ∙ ap (λ es. left f r (fresh_state (opened empty)) es) (is.0 r);
+        run = merged_is_a_run_lem (opened start.map) f c.journal schedule local_runs matched is;
+        states = λ r. own_entries_leave_lem (opened start.map) f schedule r ∙ ap (λ es. left f r (fresh_state (opened start.map)) es) (is.0 r);
         within = h.within;
         given = λ m k. (given_sent m k, sent_in schedule is m (given_sent m k));
         clocked = h.clocked;
-        accepted = clocked_accepted_lem (opened empty) (λ _. 0) f c.journal h.clocked handled_sent;
+        accepted = clocked_accepted_lem (opened start.map) start.since f c.journal h.clocked handled_sent;
       }
 
 pub crashing_runs_are_runs_lem : CrashingRunsAreRuns
-crashing_runs_are_runs_lem f some few moves k = one_run f some few (cluster_after fresh_cluster moves) (moves_hold f fresh_cluster moves (fresh_holds f) k)
+crashing_runs_are_runs_lem start f some few moves k = one_run start f some few (cluster_after fresh_cluster moves) (moves_hold start f fresh_cluster moves (fresh_holds start f) k)

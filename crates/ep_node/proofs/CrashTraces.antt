@@ -4,7 +4,7 @@ use Rattle.std.proofs.lemmas.Bool.{eqb-true, ne_eqb, cases_eq, cases_lt}
 use Rattle.std.proofs.lemmas.List.{take_all, take-take, take-append-le, length-take-le, length-append}
 use Rattle.ep_rules.specs.Journals.{Entry, Journals}
 use Rattle.ep_rules.specs.Steps.{Frame}
-use Rattle.ep_node.specs.Crashes.{IsTaken, Cluster, fresh_cluster, Move, Take, HandOut, ComeBack, IsMove, frames_in, with_at, moved, AreMoves, cluster_after, IsCalm, CrashesLeaveNoTrace}
+use Rattle.ep_node.specs.Crashes.{Start, IsTaken, Cluster, fresh_cluster, Move, Take, HandOut, ComeBack, IsMove, frames_in, with_at, moved, AreMoves, cluster_after, IsCalm, CrashesLeaveNoTrace}
 use Rattle.ep_node.proofs.CrashMoves.{at_each, at_same}
 
 abbrev cluster : Journals → (ℕ → ℕ) → List Frame → Cluster
@@ -27,17 +27,17 @@ take_more : (n : ℕ) (es : List Entry) (e : Entry) → length es < n → take n
 take_more n es e lt = ap (λ l. l ++ (e ∷ [])) (take_all n es (omega arith)) ∙ sym (take_all n (es ++ (e ∷ [])) (omega (arith, length-append es (e ∷ []))))
 
 -- What is handed out of only grows.
-pub out_next : (f : ℕ) (c : Cluster) (m : Move) → IsMove f c m → (r : ℕ) → c.out r ≤ (moved c m).out r
-out_next f c (Take q e) k r = omega arith
-out_next f c (HandOut q n) k r = at_each (λ p j. c.out p ≤ j) q n c.out k.1.least (λ p. omega arith) r
-out_next f c (ComeBack q n) k r = omega arith
+pub out_next : (start : Start) (f : ℕ) (c : Cluster) (m : Move) → IsMove start f c m → (r : ℕ) → c.out r ≤ (moved c m).out r
+out_next start f c (Take q e) k r = omega arith
+out_next start f c (HandOut q n) k r = at_each (λ p j. c.out p ≤ j) q n c.out k.1.least (λ p. omega arith) r
+out_next start f c (ComeBack q n) k r = omega arith
 
-out_grows : (f : ℕ) (c : Cluster) (ms : List Move) → AreMoves f c ms → (r : ℕ) → c.out r ≤ (cluster_after c ms).out r
-out_grows f c [] k r = omega arith
-out_grows f c (m ∷ ms) k r = let now = out_next f c m k.0 r in let rest = out_grows f (moved c m) ms k.1 r in omega arith
+out_grows : (start : Start) (f : ℕ) (c : Cluster) (ms : List Move) → AreMoves start f c ms → (r : ℕ) → c.out r ≤ (cluster_after c ms).out r
+out_grows start f c [] k r = omega arith
+out_grows start f c (m ∷ ms) k r = let now = out_next start f c m k.0 r in let rest = out_grows start f (moved c m) ms k.1 r in omega arith
 
 -- A crash at r to n entries, before a move or after it.
-module _ (f r n : ℕ) (c : Cluster) where
+module _ (start : Start) (f r n : ℕ) (c : Cluster) where
   abbrev cut : Cluster → Cluster
   cut d = moved d (ComeBack r n)
 
@@ -100,10 +100,10 @@ module _ (f r n : ℕ) (c : Cluster) where
   hand_out q j le = same_cluster _ _ (with_at q j c.out) _ _ (λ p. refl) (ap (λ es. c.given ++ frames_in (drop (c.out q) es)) (take_out q j le))
 
   -- the moves after a crash
-  same_take : (q : ℕ) (e : Entry) → with_at r (take n (c.journal r)) c.journal q ≡ c.journal q → IsMove f c (Take q e) → IsMove f (cut c) (Take q e)
-  same_take q e is k = (k.0, subst (λ es. IsTaken f q es e) (sym is) k.1, k.2)
+  same_take : (q : ℕ) (e : Entry) → with_at r (take n (c.journal r)) c.journal q ≡ c.journal q → IsMove start f c (Take q e) → IsMove start f (cut c) (Take q e)
+  same_take q e is k = (k.0, subst (λ es. IsTaken start f q es e) (sym is) k.1, k.2)
 
-  same_hand : (q j : ℕ) → (r ≡ q → j ≤ n) → IsMove f c (HandOut q j) → IsMove f (cut c) (HandOut q j)
+  same_hand : (q j : ℕ) → (r ≡ q → j ≤ n) → IsMove start f c (HandOut q j) → IsMove start f (cut c) (HandOut q j)
   same_hand q j le k = (k.0, record { least = k.1.least; most = most })
     where
       most : j ≤ length (with_at r (take n (c.journal r)) c.journal q)
@@ -113,10 +113,10 @@ module _ (f r n : ℕ) (c : Cluster) where
           let m = Rattle.std.proofs.lemmas.List.length-take j (with_at r (take n (c.journal r)) c.journal q) in omega arith
 
 -- moves without a crash that lead from c to d
-pub record Leads (f : ℕ) (c d : Cluster) : Type 0 where
+pub record Leads (start : Start) (f : ℕ) (c d : Cluster) : Type 0 where
   pub moves : List Move
   pub calm : IsCalm moves
-  pub are : AreMoves f c moves
+  pub are : AreMoves start f c moves
   pub ends : cluster_after c moves ≡ d
 
 calm_and : (m : Move) (ms : List Move) → IsCalm (m ∷ []) → IsCalm ms → IsCalm (m ∷ ms)
@@ -125,46 +125,46 @@ calm_and (HandOut r n) ms a h = h
 calm_and (ComeBack r n) ms a h = a
 
 -- one move, and then the others
-pub leads_on : (f : ℕ) (c d : Cluster) (m : Move) → IsCalm (m ∷ []) → IsMove f c m → Leads f (moved c m) d → Leads f c d
-leads_on f c d m calm k l = record { moves = m ∷ l.moves; calm = calm_and m l.moves calm l.calm; are = (k, l.are); ends = l.ends }
+pub leads_on : (start : Start) (f : ℕ) (c d : Cluster) (m : Move) → IsCalm (m ∷ []) → IsMove start f c m → Leads start f (moved c m) d → Leads start f c d
+leads_on start f c d m calm k l = record { moves = m ∷ l.moves; calm = calm_and m l.moves calm l.calm; are = (k, l.are); ends = l.ends }
 
 -- A crash at r to n entries after moves can come before them, where they hand no others out: what it takes is left out of them.
-crash_first : (f r n : ℕ) (c : Cluster) (ms : List Move) → IsCalm ms → AreMoves f c ms → (cluster_after c ms).out r ≤ n →
-    Leads f (moved c (ComeBack r n)) (moved (cluster_after c ms) (ComeBack r n))
-crash_first f r n c [] calm k le = record { moves = []; calm = tt; are = tt; ends = refl }
-crash_first f r n c (ComeBack q j ∷ ms) calm k le = absurd calm
-crash_first f r n c (HandOut q j ∷ ms) calm k le =
+crash_first : (start : Start) (f r n : ℕ) (c : Cluster) (ms : List Move) → IsCalm ms → AreMoves start f c ms → (cluster_after c ms).out r ≤ n →
+    Leads start f (moved c (ComeBack r n)) (moved (cluster_after c ms) (ComeBack r n))
+crash_first start f r n c [] calm k le = record { moves = []; calm = tt; are = tt; ends = refl }
+crash_first start f r n c (ComeBack q j ∷ ms) calm k le = absurd calm
+crash_first start f r n c (HandOut q j ∷ ms) calm k le =
     let next : Cluster = moved c (HandOut q j) in
     let within : r ≡ q → j ≤ n = (λ is.
-    let grown = out_grows f next ms k.1 r in
+    let grown = out_grows start f next ms k.1 r in
     let here : with_at q j c.out r ≡ j = subst (λ p. with_at q j c.out p ≡ j) (sym is) (at_same q j c.out) in omega arith) in
-    leads_on f (moved c (ComeBack r n)) _ (HandOut q j) tt (same_hand f r n c q j within k.0)
-    (subst (λ d. Leads f d (moved (cluster_after next ms) (ComeBack r n))) (sym (hand_out f r n c q j within)) (crash_first f r n next ms calm k.1 le))
-crash_first f r n c (Take q e ∷ ms) calm k le =
+    leads_on start f (moved c (ComeBack r n)) _ (HandOut q j) tt (same_hand start f r n c q j within k.0)
+    (subst (λ d. Leads start f d (moved (cluster_after next ms) (ComeBack r n))) (sym (hand_out start f r n c q j within)) (crash_first start f r n next ms calm k.1 le))
+crash_first start f r n c (Take q e ∷ ms) calm k le =
     let next : Cluster = moved c (Take q e) in
     let last : Cluster = moved (cluster_after next ms) (ComeBack r n) in
-    let rest : Leads f (moved next (ComeBack r n)) last = crash_first f r n next ms calm k.1 le in
+    let rest : Leads start f (moved next (ComeBack r n)) last = crash_first start f r n next ms calm k.1 le in
     ⊎_elim
     (λ (is : r ≡ q). at_r q is last k.0 rest)
     (λ (ne : r ≡ q → ⊥).
-    leads_on f (moved c (ComeBack r n)) last (Take q e) tt (same_take f r n c q e (at_other r q (take n (c.journal r)) c.journal ne) k.0)
-    (subst (λ d. Leads f d last) (sym (take_other f r n c q e ne)) rest))
+    leads_on start f (moved c (ComeBack r n)) last (Take q e) tt (same_take start f r n c q e (at_other r q (take n (c.journal r)) c.journal ne) k.0)
+    (subst (λ d. Leads start f d last) (sym (take_other start f r n c q e ne)) rest))
     (cases_eq r q)
   where
-    at_r : (q : ℕ) → r ≡ q → (last : Cluster) → IsMove f c (Take q e) → Leads f (moved (moved c (Take q e)) (ComeBack r n)) last → Leads f (moved c (ComeBack r n)) last
+    at_r : (q : ℕ) → r ≡ q → (last : Cluster) → IsMove start f c (Take q e) → Leads start f (moved (moved c (Take q e)) (ComeBack r n)) last → Leads start f (moved c (ComeBack r n)) last
     at_r q is last =
-        subst (λ p. IsMove f c (Take p e) → Leads f (moved (moved c (Take p e)) (ComeBack r n)) last → Leads f (moved c (ComeBack r n)) last) is
+        subst (λ p. IsMove start f c (Take p e) → Leads start f (moved (moved c (Take p e)) (ComeBack r n)) last → Leads start f (moved c (ComeBack r n)) last) is
         (λ k rest. ⊎_elim
         (λ (lt : length (c.journal r) < n).
-        leads_on f (moved c (ComeBack r n)) last (Take r e) tt (same_take f r n c r e (at_same r (take n (c.journal r)) c.journal ∙ take_all n (c.journal r) (omega arith)) k)
-        (subst (λ d. Leads f d last) (sym (take_kept f r n c e lt)) rest))
-        (λ (ge : n ≤ length (c.journal r)). subst (λ d. Leads f d last) (sym (take_lost f r n c e ge)) rest)
+        leads_on start f (moved c (ComeBack r n)) last (Take r e) tt (same_take start f r n c r e (at_same r (take n (c.journal r)) c.journal ∙ take_all n (c.journal r) (omega arith)) k)
+        (subst (λ d. Leads start f d last) (sym (take_kept start f r n c e lt)) rest))
+        (λ (ge : n ≤ length (c.journal r)). subst (λ d. Leads start f d last) (sym (take_lost start f r n c e ge)) rest)
         (cases_lt (length (c.journal r)) n))
 
 -- one move more
-leads_more : (f : ℕ) (c d : Cluster) (ms : List Move) (m : Move) → IsCalm ms → IsCalm (m ∷ []) → AreMoves f c ms → cluster_after c ms ≡ d → IsMove f d m → Leads f c (moved d m)
-leads_more f c d [] m calm one are ends k = record { moves = m ∷ []; calm = one; are = (subst (λ (z : Cluster). IsMove f z m) (sym ends) k, tt); ends = ap (λ (z : Cluster). moved z m) ends }
-leads_more f c d (x ∷ ms) m calm one are ends k = leads_on f c (moved d m) x (calm_head x ms calm) are.0 (leads_more f (moved c x) d ms m (calm_tail x ms calm) one are.1 ends k)
+leads_more : (start : Start) (f : ℕ) (c d : Cluster) (ms : List Move) (m : Move) → IsCalm ms → IsCalm (m ∷ []) → AreMoves start f c ms → cluster_after c ms ≡ d → IsMove start f d m → Leads start f c (moved d m)
+leads_more start f c d [] m calm one are ends k = record { moves = m ∷ []; calm = one; are = (subst (λ (z : Cluster). IsMove start f z m) (sym ends) k, tt); ends = ap (λ (z : Cluster). moved z m) ends }
+leads_more start f c d (x ∷ ms) m calm one are ends k = leads_on start f c (moved d m) x (calm_head x ms calm) are.0 (leads_more start f (moved c x) d ms m (calm_tail x ms calm) one are.1 ends k)
   where
     calm_head : (x : Move) (ms : List Move) → IsCalm (x ∷ ms) → IsCalm (x ∷ [])
     calm_head (Take r e) ms h = tt
@@ -180,19 +180,19 @@ fresh_cut : (r n : ℕ) → moved fresh_cluster (ComeBack r n) ≡ fresh_cluster
 fresh_cut r n = same_cluster _ _ (λ q. 0) [] [] (at_each (λ q es. es ≡ no_entries) r (take n no_entries) (λ q. no_entries) (take_none n) (λ q. refl)) refl
 
 -- From moves without a crash, by any move.
-by_move : (f : ℕ) (c : Cluster) (m : Move) → IsMove f c m → Leads f fresh_cluster c → Leads f fresh_cluster (moved c m)
-by_move f c (Take r e) k l = leads_more f fresh_cluster c l.moves (Take r e) l.calm tt l.are l.ends k
-by_move f c (HandOut r n) k l = leads_more f fresh_cluster c l.moves (HandOut r n) l.calm tt l.are l.ends k
-by_move f c (ComeBack r n) k l =
+by_move : (start : Start) (f : ℕ) (c : Cluster) (m : Move) → IsMove start f c m → Leads start f fresh_cluster c → Leads start f fresh_cluster (moved c m)
+by_move start f c (Take r e) k l = leads_more start f fresh_cluster c l.moves (Take r e) l.calm tt l.are l.ends k
+by_move start f c (HandOut r n) k l = leads_more start f fresh_cluster c l.moves (HandOut r n) l.calm tt l.are l.ends k
+by_move start f c (ComeBack r n) k l =
     let le : (cluster_after fresh_cluster l.moves).out r ≤ n = subst (λ (z : Cluster). z.out r ≤ n) (sym l.ends) k.1.least in
-    subst (λ (z : Cluster). Leads f fresh_cluster (moved z (ComeBack r n))) l.ends
-    (subst (λ (z : Cluster). Leads f z (moved (cluster_after fresh_cluster l.moves) (ComeBack r n))) (fresh_cut r n) (crash_first f r n fresh_cluster l.moves l.calm l.are le))
+    subst (λ (z : Cluster). Leads start f fresh_cluster (moved z (ComeBack r n))) l.ends
+    (subst (λ (z : Cluster). Leads start f z (moved (cluster_after fresh_cluster l.moves) (ComeBack r n))) (fresh_cut r n) (crash_first start f r n fresh_cluster l.moves l.calm l.are le))
 
-by_moves : (f : ℕ) (c : Cluster) (ms : List Move) → AreMoves f c ms → Leads f fresh_cluster c → Leads f fresh_cluster (cluster_after c ms)
-by_moves f c [] k l = l
-by_moves f c (m ∷ ms) k l = by_moves f (moved c m) ms k.1 (by_move f c m k.0 l)
+by_moves : (start : Start) (f : ℕ) (c : Cluster) (ms : List Move) → AreMoves start f c ms → Leads start f fresh_cluster c → Leads start f fresh_cluster (cluster_after c ms)
+by_moves start f c [] k l = l
+by_moves start f c (m ∷ ms) k l = by_moves start f (moved c m) ms k.1 (by_move start f c m k.0 l)
 
 pub crashes_leave_no_trace_lem : CrashesLeaveNoTrace
-crashes_leave_no_trace_lem f moves k =
-    let l = by_moves f fresh_cluster moves k (record { moves = []; calm = tt; are = tt; ends = refl }) in
+crashes_leave_no_trace_lem start f moves k =
+    let l = by_moves start f fresh_cluster moves k (record { moves = []; calm = tt; are = tt; ends = refl }) in
     (l.moves, l.calm, l.are, l.ends)

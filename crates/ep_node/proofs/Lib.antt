@@ -4,6 +4,7 @@ pub mod CrashLasts
 pub mod CrashTraces
 pub mod CrashPlayed
 pub mod CrashOrders
+pub mod CrashLives
 pub mod CallMoves
 pub mod Growing
 mod Renewing

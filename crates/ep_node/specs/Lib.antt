@@ -1,5 +1,6 @@
 pub mod Calls
 pub mod Crashes
+pub mod CrashLives
 pub mod Nodes
 pub mod OpenFaults
 pub mod Opening

@@ -1,6 +1,7 @@
 //! Laws of nodes that crash and come back with what they had handed out: their runs are runs without a crash.
 
 ghost use Rattle.ep_node.specs.Calls.{CallsAreMoves};
+ghost use Rattle.ep_node.specs.CrashLives.{CrashingLivesAreLinearizable};
 ghost use Rattle.ep_node.specs.Crashes.{CrashesKeepAgreement, CrashesKeepReceipts, CrashesLeaveNoTrace, CrashingRunsAreLinearizable, CrashingRunsAreRuns, HandedOutStays, PlayedRunsAreMoves};
 
 /// Whatever crashed, the nodes' entries are the journals of one run without a crash, and no audit of them finds a fault.
@@ -36,6 +37,13 @@ pub fn crashes_keep_agreement()
 /// Receipts that were handed out are right at every later point: no audit finds a fault in them, and their answers are one map's replies to its history, in each caller's order.
 pub fn crashes_keep_receipts()
     ensures { CrashesKeepReceipts }
+{}
+
+/// Generations whose nodes crash and come back, open the next one with the maps of one another, lose their disks and begin again there: what stands
+/// of them, in the order in which it was done, is one life without a crash. One history of one map explains each answer of each generation, and
+/// keeps real time through all of them.
+pub fn crashing_lives_are_linearizable()
+    ensures { CrashingLivesAreLinearizable }
 {}
 
 /// What a node's calls do are the moves of these laws: an event that was taken is a `Take`, the replica that is lent a `HandOut`

@@ -1,7 +1,8 @@
 //! Nodes: replicas with their logs on devices, which crash and come back.
 //!
 //! `Node` is a replica of which nothing gets out before it is on the disk. Start with `node.rt` and specs/Nodes.antt, then
-//! `opening.rt`; what a crash may take, and what holds all the same, is in specs/Crashes.antt.
+//! `opening.rt`; what a crash may take, and what holds all the same, is in specs/Crashes.antt, and of many generations in
+//! specs/CrashLives.antt.
 #![tactic(auto)]
 
 mod begin;
@@ -20,8 +21,8 @@ mod taking;
 pub use begin::Begin;
 pub use crash_law::{
     calls_are_moves, crashes_keep_agreement, crashes_keep_receipts, crashes_leave_no_trace,
-    crashing_runs_are_linearizable, crashing_runs_are_runs, handed_out_stays,
-    played_runs_are_moves,
+    crashing_lives_are_linearizable, crashing_runs_are_linearizable, crashing_runs_are_runs,
+    handed_out_stays, played_runs_are_moves,
 };
 pub use cut::Cut;
 pub use node::Node;

@@ -1,16 +1,25 @@
 -- What a report of version 3 has besides.
-use Rattle.std.specs.Prelude.{ℕ, List, [], ◌∷◌, ◌++◌, Option, Some, None, codes, decimal}
+use Rattle.std.specs.Prelude.{ℕ, List, [], ◌∷◌, ◌++◌, Option, Some, None, codes, decimal, refl}
+use Rattle.std.specs.Coded.{Coded, code_by, coded×, coded_option, coded_ℕ}
+use Rattle.ep_exec.specs.Table.{contents_code}
 use Rattle.ep_report.specs.Contents.{contents_line}
 use Rattle.ep_report.specs.Parts.{instance_text}
+use Rattle.ep_report.specs.contracts.closing.Closing as closing_facts
 use Rattle.ep_report.specs.declared.closing.Closing.{Closing}
+use Rattle.ep_rules.specs.OneMap.{Contents}
 use Rattle.ep_script.specs.Word.{word_of}
 
--- a generation: its number, the stamp that its clocks went on from, its first seal, and what the keys have after its history, in rising order
+-- a generation: its number, the stamp that its clocks went on from, its first seal, and what the keys have after its history
 pub record Life : Type 0 where
   pub generation : ℕ
   pub since : ℕ
   pub closing : Option Closing
-  pub contents : List (List ℕ × List ℕ)
+  pub contents : Contents
+
+abbrev pub life_code : Coded Life
+life_code =
+    code_by (ℕ × (ℕ × (Option Closing × Contents))) (coded× coded_ℕ (coded× coded_ℕ (coded× (coded_option closing_facts.the_row.coded) contents_code)))
+    (λ l. (l.generation, (l.since, (l.closing, l.contents)))) (λ p. record { generation = p.0; since = p.1.0; closing = p.1.1.0; contents = p.1.1.1 }) (λ _. refl)
 
 abbrev pub generation_line : Life → List ℕ
 generation_line l = codes "generation " ++ decimal l.generation ++ codes " since " ++ decimal l.since

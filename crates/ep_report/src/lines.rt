@@ -1,6 +1,7 @@
 //! Lines of a report, each ended by a line feed.
 
 ghost use Rattle.std.specs.Prelude.{◌≡◌, ◌<◌, ◌^◌, ◌++◌, [], ◌∷◌, OnOk, codes, decimal, length};
+ghost use Rattle.std.specs.FinMap.{entries};
 ghost use Rattle.std.specs.Option.{option_copied};
 ghost use Rattle.ep_report.specs.Contents.{contents_line, contents_text};
 ghost use Rattle.ep_report.specs.Lives.{generation_line, closed_line, closing_line, link_line};
@@ -12,7 +13,8 @@ use crate::digest::digest_of;
 use crate::happening::Happening;
 use crate::life::Life;
 use crate::parts::{push_answer, push_command, push_deps, push_instance, push_number, push_reply};
-use ep_base::{Decree, InstanceId, Key, Value};
+use ep_base::{Decree, InstanceId};
+use ep_exec::Contents;
 use ep_rules::Receipt;
 use ep_script::push_word;
 use hex::encode;
@@ -61,24 +63,20 @@ fn push_closed(text: &mut Vec<u8>, closing: &Closing) -> Result<(), AllocError>
     push_number(text, closing.stamp.ticks())
 }
 
-/// Appends how many keys a map has, and the SHA-256 of the map as a bundle spells it, in hexadecimal digits. These are its
-/// entries, in rising order of keys.
-pub fn push_contents(text: &mut Vec<u8>, contents: &[(Key, Value)]) -> Result<(), AllocError>
-    requires { length contents.now < 2 ^ 32 }
+/// Appends how many keys a map has, and the SHA-256 of the map as a bundle spells it, in hexadecimal digits.
+pub fn push_contents(text: &mut Vec<u8>, contents: &Contents) -> Result<(), AllocError>
+    requires { length (entries contents.now) < 2 ^ 32 }
     ensures { OnOk result (text.new.items ≡ text.old.items ++ contents_text contents.now) }
 {
-    push_number(text, contents.len() as u64)?;
+    push_number(text, contents.entries().len() as u64)?;
     text.push(b' ')?;
     let digits = encode(*text.allocator(), digest_of(contents).as_slice())?;
     text.extend_from_slice(digits.as_bytes())
 }
 
-/// Appends what the keys have, in rising order of keys.
-pub(crate) fn push_contents_line(
-    text: &mut Vec<u8>,
-    contents: &[(Key, Value)],
-) -> Result<(), AllocError>
-    requires { length contents.now < 2 ^ 32 }
+/// Appends what the keys have.
+pub(crate) fn push_contents_line(text: &mut Vec<u8>, contents: &Contents) -> Result<(), AllocError>
+    requires { length (entries contents.now) < 2 ^ 32 }
     ensures { OnOk result (text.new.items ≡ text.old.items ++ contents_line contents.now) }
 {
     text.extend_from_slice(b"contents ")?;

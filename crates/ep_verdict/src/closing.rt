@@ -1,16 +1,14 @@
 //! The seal that closed the map.
 
-ghost use Rattle.std.specs.Prelude.{◌≡◌, ◌↔◌, ℕ, IsTrue, IfOk, None, option_copied};
-ghost use Rattle.ep_base.specs.Places.{Has};
+ghost use Rattle.std.specs.Prelude.{◌≡◌, false, IfOk, option_copied};
 ghost use Rattle.ep_base.specs.Quorums.{size};
 ghost use Rattle.ep_journal.specs.Entries.{entries_of, journals_of};
 ghost use Rattle.ep_report.specs.declared.happening.Happening.{Happening as Line};
-ghost use Rattle.ep_rules.specs.Steps.{order_of};
 ghost use Rattle.ep_rules.specs.Worlds.{In};
 ghost use Rattle.ep_verdict.specs.Closings.{operations_in, IsClosing, IsExecuted};
-ghost use Rattle.ep_verdict.specs.Sealed.{first_sealing, least_below, least_in, lesser};
+ghost use Rattle.ep_verdict.specs.Sealed.{closing_by, first_sealing, is_among, least_below, least_in, lesser};
 
-use ep_base::{Answer, InstanceId, ReplicaId, Stamp, Value};
+use ep_base::{Answer, CommandView, InstanceId, ReplicaId, Stamp, Value};
 use ep_journal::{Entry, Journals};
 use ep_report::{Closing, Happening};
 use std::alloc::{AllocError, Global};
@@ -29,7 +27,7 @@ fn first_sealing(history: &[Happening]) -> Option<&Happening>
 
 /// Whether the instance is among these executions.
 fn is_among(done: &[(InstanceId, Answer)], instance: InstanceId) -> bool
-    ensures { IsTrue result ↔ Has (order_of done.now) instance }
+    ensures { result ≡ is_among instance done.now false }
 {
     let mut found = false;
     for (other, _) in done {
@@ -73,6 +71,30 @@ fn least_stamp(journals: &Journals, instance: InstanceId) -> Option<Stamp>
     best
 }
 
+/// The seal that this line is of, with a stamp; none where it is of another command.
+fn closing_by(
+    alloc: Global,
+    happening: &Happening,
+    stamp: Stamp,
+) -> Result<Option<Closing>, AllocError>
+    ensures { IfOk result (λ c. c ≡ closing_by happening.now stamp) }
+{
+    match happening.command.view() {
+        CommandView::Seal(bytes) => Ok(Some(Closing {
+            instance: happening.instance,
+            value: Value::known(alloc, bytes)?,
+            stamp,
+        })),
+        CommandView::Noop
+        | CommandView::Get(_)
+        | CommandView::Put(_, _)
+        | CommandView::Del(_)
+        | CommandView::Swap(_, _)
+        | CommandView::Cas(_, _, _)
+        | CommandView::Opaque(_, _) => Ok(None),
+    }
+}
+
 /// The first seal of the history, whose lines are of commands that were executed.
 pub(crate) fn closing_of(
     alloc: Global,
@@ -82,15 +104,10 @@ pub(crate) fn closing_of(
     requires { (h : Line) → In h history.now → IsExecuted (journals_of journals.now) h.instance }
     ensures { IfOk result (λ c. IsClosing (journals_of journals.now) (operations_in history.now) c) }
 {
+    journals.are_local_runs();
     let Some(happening) = first_sealing(history) else {
         return Ok(None);
     };
-    let instance = happening.instance;
-    let stamp = least_stamp(journals, instance).unwrap();
-    let value = Value::known(alloc, happening.command.body())?;
-    Ok(Some(Closing {
-        instance,
-        value,
-        stamp,
-    }))
+    let stamp = least_stamp(journals, happening.instance).unwrap();
+    closing_by(alloc, happening, stamp)
 }

@@ -13,6 +13,7 @@ use ep_report::Happening;
 use std::alloc::{AllocError, Global};
 
 /// Does a command; a no-op does nothing.
+#[tactic(auto, using(crate::proofs::FirstSeals::nothing_done))]
 fn apply(store: &mut Store, command: &Command) -> Result<(), AllocError>
     ensures { OnOk result (store.new ≡ after store.old command.now) }
 {

@@ -1,6 +1,5 @@
 -- What is told of what journals are of, and of what they begin with.
 use Rattle.std.specs.Prelude.{ℕ, List, [], ◌++◌, codes, decimal}
-use Rattle.std.specs.FinMap.{entries}
 use Rattle.ep_base.specs.declared.version.Version.{Version}
 use Rattle.ep_base.specs.declared.version_kind.VersionKind.TheVariants.{V1, V2, V3}
 use Rattle.ep_journal.specs.Openings.{Opening}
@@ -8,7 +7,7 @@ use Rattle.ep_report.specs.Contents.{contents_text}
 
 -- version 3 with its generation, the stamp that the clocks go on from, and how many keys the opening has, with the digest of what they have
 abbrev pub edition_text : ℕ → Opening → List ℕ
-edition_text g o = codes "version 3 generation " ++ decimal g ++ codes " since " ++ decimal o.since ++ codes " opening " ++ contents_text (entries o.contents)
+edition_text g o = codes "version 3 generation " ++ decimal g ++ codes " since " ++ decimal o.since ++ codes " opening " ++ contents_text o.contents
 
 -- the line that begins what is told of journals; those of versions 1 and 2 have none
 abbrev pub edition_line : Version → Opening → List ℕ

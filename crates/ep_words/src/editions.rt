@@ -22,7 +22,7 @@ pub fn push_generation(
     text.extend_from_slice(b" since ")?;
     push_number(text, opening.since())?;
     text.extend_from_slice(b" opening ")?;
-    push_contents(text, opening.contents().entries())
+    push_contents(text, opening.contents())
 }
 
 /// Appends the line that begins what is told of journals: of version 3 their generation and what they begin with. Of versions 1 and 2 there

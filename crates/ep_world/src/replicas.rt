@@ -82,8 +82,8 @@ pub(crate) fn all_opened(
     ensures entries { IfOk result (λ ks. (r : ℕ) → slice_index_or (all_entries ks.items) r [] ≡ []) }
 {
     let mut replicas = Vec::new(alloc);
-    for index in 0..cluster.count() {
-        replicas.push(opened(alloc, cluster, index, generation, opening)?)?;
+    for number in 0..cluster.count() {
+        replicas.push(opened(alloc, cluster, number, generation, opening)?)?;
     }
     Ok(replicas)
 }

@@ -12,18 +12,18 @@ use Rattle.ep_host.proofs.ring_host.RingHost.opened.Goals as goal
 abbrev start : ℕ → Opening → Version × Opening
 start g o = (V3 g, o)
 
-pub loop-index-init : goal.loop-index-init
-loop-index-init c = record { linked = rw c.new-nodes.ensures.items (linked_none c.args.capacity c.args.cluster (start c.args.generation c.args.opening.now)); count = search rules }
+pub loop-number-init : goal.loop-number-init
+loop-number-init c = record { linked = rw c.new-nodes.ensures.items (linked_none c.args.capacity c.args.cluster (start c.args.generation c.args.opening.now)); count = search rules }
 
 pub loop-place-init : goal.loop-place-init
 loop-place-init c =
-    let f = c.args.cluster in let nodes = c.loop-index.nodes.items in let k : Kept = c.in_ok-replica.replica in
+    let f = c.args.cluster in let nodes = c.loop-number.nodes.items in let k : Kept = c.in_ok-replica.replica in
     let faults : k.faults ≡ f = search rules in
-    let me : k.me ≡ length nodes = search (rules, c.loop-index.invariant.count) in
+    let me : k.me ≡ length nodes = search (rules, c.loop-number.invariant.count) in
     let begins : start_of k ≡ start c.args.generation c.args.opening.now = ap start_of c.in_ok-replica.ensures in
     let none : k.entries ≡ [] = search rules in record {
-      joined = rw c.new-node.ensures (joined_none c.args.capacity f (start c.args.generation c.args.opening.now) nodes k c.loop-index.invariant.linked faults me begins none);
-      count = c.loop-index.invariant.count;
+      joined = rw c.new-node.ensures (joined_none c.args.capacity f (start c.args.generation c.args.opening.now) nodes k c.loop-number.invariant.linked faults me begins none);
+      count = c.loop-number.invariant.count;
       end = search rules;
     }
 
@@ -43,8 +43,8 @@ loop-place-preserved c =
       end = h.end ∙ sym (length-set nodes k a);
     }
 
-pub loop-index-preserved : goal.loop-index-preserved
-loop-index-preserved c =
+pub loop-number-preserved : goal.loop-number-preserved
+loop-number-preserved c =
     let h = c.loop-place.invariant in let nodes = c.loop-place.nodes.items in
     rw c.in_ok-push.ensures.items record {
       linked = linked_more c.args.capacity c.args.cluster (start c.args.generation c.args.opening.now) c.loop-place.place nodes c.loop-place.node h.joined (omega (arith, h.end));
@@ -52,10 +52,10 @@ loop-index-preserved c =
     }
 
 pub returns-clause-host : goal.returns-clause-host
-returns-clause-host c = linked_host c.args.capacity c.args.cluster (start c.args.generation c.args.opening.now) c.loop-index.nodes.items c.loop-index.invariant.linked (search (rules, c.loop-index.invariant.count, c.count-index-end.ensures.value))
+returns-clause-host c = linked_host c.args.capacity c.args.cluster (start c.args.generation c.args.opening.now) c.loop-number.nodes.items c.loop-number.invariant.linked (search (rules, c.loop-number.invariant.count, c.count-number-end.ensures.value))
 
 pub returns-clause-fresh : goal.returns-clause-fresh
-returns-clause-fresh c = linked_fresh c.args.capacity c.args.cluster (start c.args.generation c.args.opening.now) c.loop-index.nodes.items c.loop-index.invariant.linked
+returns-clause-fresh c = linked_fresh c.args.capacity c.args.cluster (start c.args.generation c.args.opening.now) c.loop-number.nodes.items c.loop-number.invariant.linked
 
 pub returns-clause-start : goal.returns-clause-start
-returns-clause-start c = linked_start c.args.capacity c.args.cluster (start c.args.generation c.args.opening.now) c.loop-index.nodes.items c.loop-index.invariant.linked
+returns-clause-start c = linked_start c.args.capacity c.args.cluster (start c.args.generation c.args.opening.now) c.loop-number.nodes.items c.loop-number.invariant.linked

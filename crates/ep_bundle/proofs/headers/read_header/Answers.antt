@@ -1,0 +1,20 @@
+use Rattle.ep_bundle.proofs.Readings.{fails, goes_on}
+use Rattle.ep_bundle.proofs.headers.read_header.Goals as goal
+
+pub returns-in_err-field_u32-clause-bytes : goal.returns-in_err-field_u32-clause-bytes
+returns-in_err-field_u32-clause-bytes g c = λ y0 e0. fails _ _ _ _ _ _ _ _ (c.in_err-field_u32.ensures.bytes y0 e0) c.from_residual.ensures.1
+
+pub returns-in_err-number-clause-bytes : goal.returns-in_err-number-clause-bytes
+returns-in_err-number-clause-bytes g c = λ y0 e0. goes_on _ _ _ _ _ _ _ _ (c.in_ok-field_u32.ensures.bytes y0 e0) (λ y1 e1. fails _ _ _ _ _ _ _ _ (c.in_err-number.ensures.bytes y1 e1) c.from_residual-in_err-number.ensures.1)
+
+pub returns-in_err-cluster-clause-bytes : goal.returns-in_err-cluster-clause-bytes
+returns-in_err-cluster-clause-bytes g c = λ y0 e0. goes_on _ _ _ _ _ _ _ _ (c.in_ok-field_u32.ensures.bytes y0 e0) (λ y1 e1. goes_on _ _ _ _ _ _ _ _ (c.in_ok-number.ensures.bytes y1 e1) (λ y2 e2. fails _ _ _ _ _ _ _ _ (c.in_err-cluster.ensures.bytes y2 e2) c.from_residual-in_err-cluster.ensures.1))
+
+pub returns-in_err-edition-clause-bytes : goal.returns-in_err-edition-clause-bytes
+returns-in_err-edition-clause-bytes g c = λ y0 e0. goes_on _ _ _ _ _ _ _ _ (c.in_ok-field_u32.ensures.bytes y0 e0) (λ y1 e1. goes_on _ _ _ _ _ _ _ _ (c.in_ok-number.ensures.bytes y1 e1) (λ y2 e2. goes_on _ _ _ _ _ _ _ _ (c.in_ok-cluster.ensures.bytes y2 e2) (λ y3 e3. fails _ _ _ _ _ _ _ _ (c.in_err-edition.ensures.bytes y3 e3) c.from_residual-in_err-edition.ensures.1)))
+
+pub returns-in_err-receipts-clause-bytes : goal.returns-in_err-receipts-clause-bytes
+returns-in_err-receipts-clause-bytes g c = λ y0 e0. goes_on _ _ _ _ _ _ _ _ (c.in_ok-field_u32.ensures.bytes y0 e0) (λ y1 e1. goes_on _ _ _ _ _ _ _ _ (c.in_ok-number.ensures.bytes y1 e1) (λ y2 e2. goes_on _ _ _ _ _ _ _ _ (c.in_ok-cluster.ensures.bytes y2 e2) (λ y3 e3. goes_on _ _ _ _ _ _ _ _ (c.in_ok-edition.ensures.bytes y3 e3) (λ y4 e4. fails _ _ _ _ _ _ _ _ (c.in_err-receipts.ensures.bytes y4 e4) c.from_residual-in_err-receipts.ensures.1))))
+
+pub returns-in_err-contents-clause-bytes : goal.returns-in_err-contents-clause-bytes
+returns-in_err-contents-clause-bytes g c = λ y0 e0. goes_on _ _ _ _ _ _ _ _ (c.in_ok-field_u32.ensures.bytes y0 e0) (λ y1 e1. goes_on _ _ _ _ _ _ _ _ (c.in_ok-number.ensures.bytes y1 e1) (λ y2 e2. goes_on _ _ _ _ _ _ _ _ (c.in_ok-cluster.ensures.bytes y2 e2) (λ y3 e3. goes_on _ _ _ _ _ _ _ _ (c.in_ok-edition.ensures.bytes y3 e3) (λ y4 e4. goes_on _ _ _ _ _ _ _ _ (c.in_ok-receipts.ensures.bytes y4 e4) (λ y5 e5. fails _ _ _ _ _ _ _ _ (c.in_err-contents.ensures.bytes y5 e5) c.from_residual-in_err-contents.ensures.1)))))

@@ -1,0 +1,121 @@
+-- Generations of nodes that crash and come back. Each opens with the map that a node of the one before handed out, after it executed a seal.
+--
+-- A replica whose disk is lost moves no more in the generations that it has opened, and may open the next one.
+use Rattle.std.specs.Prelude.{◌≡◌, ℕ, suc, ◌<◌, ◌≤◌, Bool, true, false, ◌&&◌, ◌||◌, eqb, ltb, cond, List, [], ◌∷◌, ◌++◌}
+use Rattle.ep_base.specs.Quorums.{size}
+use Rattle.ep_rules.specs.Generations.{Turn, Opens, Steps, IsLife, birth, opening_map, one_history, IsOneHistory}
+use Rattle.ep_rules.specs.Journals.{left, Scheduled, of, act_of}
+use Rattle.ep_rules.specs.OneMap.{Contents, Store, opened, is_closed}
+use Rattle.ep_rules.specs.States.{fresh_state}
+use Rattle.ep_node.specs.Crashes.{Start, Cluster, fresh_cluster, Move, Take, HandOut, ComeBack, mover, IsMove, with_at, moved, handed_out, IsOneRun}
+
+-- The nodes of all generations: which replicas have opened which, with what map, and from which stamp their clocks went on.
+pub record Generations : Type 0 where
+  pub cluster : ℕ → Cluster
+  pub has_opened : ℕ → ℕ → Bool
+  pub map : ℕ → ℕ → Contents
+  pub since : ℕ → ℕ → ℕ
+
+-- every replica has opened the first generation, with one map, and no other one
+abbrev pub newborn : Start → Generations
+newborn start = record { cluster = λ g. fresh_cluster; has_opened = λ g r. eqb g 0; map = λ g r. start.map; since = λ g r. start.since r }
+
+-- what the replica opened the generation with
+abbrev pub start_of : Generations → ℕ → ℕ → Start
+start_of l g r = record { map = l.map g r; since = l.since g }
+
+-- the map that those entries leave of which the node has handed something out
+abbrev pub store_out : (ℕ → ℕ) → Generations → ℕ → ℕ → Store
+store_out f l g r = (left (f g) r (fresh_state (opened (l.map g r))) (handed_out (l.cluster g) r)).store
+
+pub data LifeMove : Type 0 where
+  -- a node of the generation moves
+  Within : (generation : ℕ) → (move : Move) → LifeMove
+  -- the replica opens the generation after this one, with the map of a node of this one; its clock goes on from the stamp
+  OpensNext : (generation replica from since : ℕ) → LifeMove
+
+-- Only who has opened a generation moves in it. Whoever opens the next one takes a map that entries have closed which were handed out of.
+-- f tells how many faults each generation stands.
+abbrev pub IsLifeMove : (ℕ → ℕ) → Generations → LifeMove → Type 0
+IsLifeMove f l (Within g m) = (l.has_opened g (mover m) ≡ true) × IsMove (start_of l g (mover m)) (f g) (l.cluster g) m
+IsLifeMove f l (OpensNext g r q since) = (l.has_opened (suc g) r ≡ false) × (l.has_opened g q ≡ true) × (is_closed (store_out f l g q) ≡ true)
+
+-- the replica has opened the generation after this one, too
+abbrev pub opened_next : ℕ → ℕ → (ℕ → ℕ → Bool) → ℕ → ℕ → Bool
+opened_next g r was = λ h p. cond (eqb (suc g) h) (eqb r p || was h p) (was h p)
+
+abbrev pub after_move : (ℕ → ℕ) → Generations → LifeMove → Generations
+after_move f l (Within g m) = record { cluster = with_at g (moved (l.cluster g) m) l.cluster; has_opened = l.has_opened; map = l.map; since = l.since }
+after_move f l (OpensNext g r q since) = record {
+  cluster = l.cluster;
+  has_opened = opened_next g r l.has_opened;
+  map = λ h p. cond (eqb (suc g) h) (cond (eqb r p) (store_out f l g q).contents (l.map h p)) (l.map h p);
+  since = λ h p. cond (eqb (suc g) h) (cond (eqb r p) since (l.since h p)) (l.since h p);
+}
+
+-- each move is one of what the earlier ones leave
+abbrev pub AreLifeMoves : (ℕ → ℕ) → Generations → List LifeMove → Type 0
+AreLifeMoves f l [] = Unit {0}
+AreLifeMoves f l (m ∷ ms) = IsLifeMove f l m × AreLifeMoves f (after_move f l m) ms
+
+abbrev pub life_after : (ℕ → ℕ) → Generations → List LifeMove → Generations
+life_after f l [] = l
+life_after f l (m ∷ ms) = life_after f (after_move f l m) ms
+
+-- What stands, in the order in which it was done: entries, each at its replica, and openings of the generation after this one.
+pub data Stood : Type 0 where
+  Took : (generation : ℕ) → (act : Scheduled) → Stood
+  Opened : (generation replica from : ℕ) → Stood
+
+-- it is an entry of the generation, at r, beyond its first n
+abbrev pub is_lost : ℕ → ℕ → ℕ → Stood → Bool
+is_lost g r n (Took h a) = eqb g h && (eqb a.replica r && ltb n a.entry.number)
+is_lost g r n (Opened h q p) = false
+
+abbrev pub kept_in : ℕ → ℕ → ℕ → List Stood → List Stood
+kept_in g r n [] = []
+kept_in g r n (s ∷ these) = cond (is_lost g r n s) (kept_in g r n these) (s ∷ kept_in g r n these)
+
+abbrev pub stand_on : LifeMove → List Stood → List Stood
+stand_on (Within g (Take r e)) these = these ++ (Took g (record { replica = r; entry = e }) ∷ [])
+stand_on (Within g (HandOut r n)) these = these
+stand_on (Within g (ComeBack r n)) these = kept_in g r n these
+stand_on (OpensNext g r q since) these = these ++ (Opened g r q ∷ [])
+
+-- what stands after moves, after these
+abbrev pub stood : List Stood → List LifeMove → List Stood
+stood these [] = these
+stood these (m ∷ ms) = stood (stand_on m these) ms
+
+-- the entries of a generation
+abbrev pub taken_in : ℕ → List Stood → List Scheduled
+taken_in g [] = []
+taken_in g (Took h a ∷ these) = cond (eqb h g) (a ∷ taken_in g these) (taken_in g these)
+taken_in g (Opened h r q ∷ these) = taken_in g these
+
+-- as turns of a life
+abbrev pub turn_of : Stood → Turn
+turn_of (Took g a) = Steps g (act_of a)
+turn_of (Opened g r q) = Opens g r q
+
+abbrev pub turns_of : List Stood → List Turn
+turns_of [] = []
+turns_of (s ∷ these) = turn_of s ∷ turns_of these
+
+-- what stands is a life
+pub record IsLifeInRealTime (start : Start) (f : ℕ → ℕ) (l : Generations) (these : List Stood) : Type 0 where
+  -- the entries that stand are the nodes'
+  pub own : (g r : ℕ) → of r (taken_in g these) ≡ (l.cluster g).journal r
+  -- whoever has opened a generation opened it with one map: what the operations of the one before have left at its first seal
+  pub maps : (g r : ℕ) → l.has_opened g r ≡ true → l.map g r ≡ opening_map start.map f (turns_of these) g
+  -- each generation's nodes have what a run without a crash leaves, from that map on
+  pub runs : (g : ℕ) → IsOneRun (record { map = opening_map start.map f (turns_of these) g; since = l.since g }) (f g) (l.cluster g)
+  -- they are a life without crashes, in this order, and one history of one map through all generations explains each answer
+  pub life : IsLife f (birth start.map) (turns_of these)
+  pub linearizable : IsOneHistory start.map f (turns_of these) (one_history start.map f (turns_of these))
+
+-- What stands of generations whose nodes crash and come back, open generations with maps of one another and lose their disks, is one life, and linearizable through all of it.
+abbrev pub CrashingLivesAreLinearizable : Type 0
+CrashingLivesAreLinearizable =
+    (start : Start) (f : ℕ → ℕ) → ((g : ℕ) → (0 < f g) × (size (f g) ≤ 256)) → (moves : List LifeMove) → AreLifeMoves f (newborn start) moves →
+    IsLifeInRealTime start f (life_after f (newborn start) moves) (stood [] moves)

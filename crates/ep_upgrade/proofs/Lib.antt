@@ -1,0 +1,4 @@
+mod Counts
+mod Frames
+mod Places
+mod Reread
