@@ -139,8 +139,8 @@ def fields():
     yield from refusal("a value too long", changed(opened, 27, number(65_536, 4)), 27, "length of the value", "the opening, key 1", "0 to 65535", "65536")
     higher = "a key above the one before it, by their bytes from the first one on"
     yield from refusal("a key twice", changed(opened, 38, b"a"), 38, "key", "the opening, key 2", higher, "a")
-    # a proposal's command stands 5 + 1 + 8 + 16 bytes behind the opening's 14
-    op, where = 26 + 14 + 5 + 9 + 16, "the journal of replica 0 entry 1"
+    # a proposal's command stands 5 + 9 + 16 bytes behind the opening's 15
+    op, where = 26 + 15 + 5 + 9 + 16, "the journal of replica 0 entry 1"
     yield from refusal("an op", changed(opened, op, b"\12"), op, OP, where, "2 to 9", "10")
     yield from refusal("no op", changed(opened, op, b"\1"), op, OP, where, "2 to 9", "1")
     yield from refusal("no key", changed(opened, op + 1, b"\0"), op + 1, "length of the key", where, "1 to 255", "0")
