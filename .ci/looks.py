@@ -107,6 +107,12 @@ def explained():
     wanted = f"verdict refused\n{edition}\nA4 unknown receipt 12\n"
     says = ["client 1 request 12 0.12 absent, executed by", "; for 0.12 it answers closed\n"]
     yield dict(name="version 3: another answer, explained", words=["explain"], given=one.bundle()[:-1] + b"\0", wanted=wanted.encode(), is_begun=True, says=says, status=1)
+    # what isn't a bundle
+    line, entries = b"bundle refused E12 at byte 0\n", ["\n  found: entries in words, as show prints them\n"]
+    yield dict(name="version 3: what is shown, explained", words=["explain"], given=one.shown(), wanted=line, is_begun=True, says=entries, status=2)
+    traced = f"{edition}\nline 3  stamp 41  replica 0 entry 1  propose get x (client 1 request 1 seen 40); took 0.1\n"
+    says = ["\n  found: a trace, as replay --emit trace prints it\n"]
+    yield dict(name="version 3: a trace, explained", words=["explain"], given=traced.encode(), wanted=line, is_begun=True, says=says, status=2)
     yield from fields()
     yield from steps()
 
