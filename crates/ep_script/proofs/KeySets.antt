@@ -7,6 +7,7 @@ use Rattle.std.specs.declared.cmp.Ordering.{Ordering}
 use Rattle.std.specs.Cmp.{IsEquivalence}
 use Rattle.std.specs.Cmp.Lexicographic.{slice_cmp, on_texts_equal}
 use Rattle.std.specs.List.{list_any, IsDistinct}
+use Rattle.std.specs.BTreeMap.{is_at}
 use Rattle.std.specs.BTreeSet.{BTreeSet, contains, Updates}
 use Rattle.std.proofs.lemmas.Bool.Decides.{nat_tests}
 use Rattle.std.proofs.lemmas.List.Folds.{list_any-append}
@@ -60,6 +61,15 @@ none_once = tt
 
 pub once_if_none : (entries : List (List ℕ × List ℕ)) → entries ≡ [] → AreOnce entries
 once_if_none entries none = subst AreOnce (sym none) none_once
+
+none_has : (keys : BTreeSet (Vec ℕ Global)) (name : Vec ℕ Global) → keys.keys ≡ [] → contains name_cmp keys name ≡ false
+none_has keys name e = ap (λ (ks : List (Vec ℕ Global)). list_any (is_at (name_cmp name)) ks) e
+
+pub none_kept : (keys : BTreeSet (Vec ℕ Global)) (entries : List (List ℕ × List ℕ)) → keys.keys ≡ [] → entries ≡ [] → HasKeys keys entries × AreOnce entries
+none_kept keys entries e f = (
+  λ name value. subst (λ (es : List (List ℕ × List ℕ)). contains name_cmp keys name ≡ has_key_of (name.items, value) es) (sym f) (none_has keys name e),
+  once_if_none entries f,
+)
 
 pub opens_with_none : (entries : List (List ℕ × List ℕ)) → entries ≡ [] → IsOpening (record { entries = entries; since = 0 })
 opens_with_none entries none = record { once = once_if_none entries none; since = omega arith }

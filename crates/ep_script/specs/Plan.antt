@@ -53,6 +53,13 @@ ended begins n (Sized f) = Ok (begins (first_head f))
 ended begins n (Opening h) = Ok (begins (head_of h))
 ended begins n (Within p) = Ok p
 
+-- it isn't the head of a script alone
+abbrev pub IsNoHead : {P : Type 0} → Stage P → Type 0
+IsNoHead Before = Unit {0}
+IsNoHead (Sized f) = ⊥
+IsNoHead (Opening h) = ⊥
+IsNoHead (Within p) = Unit {0}
+
 -- the lines from number n on: the whole script, or the number of the first line at fault
 abbrev pub reads : {P : Type 0} → (Head → P) → (ℕ → P → List (List ℕ) → Option P) → ℕ → Stage P → List (List ℕ) → Result P ℕ
 reads begins takes n p [] = ended begins n p

@@ -1,11 +1,11 @@
 //! The first lines of a script.
 
-ghost use Rattle.std.specs.Prelude.{◌≡◌, Some, None, IfOk, IfErr, MatchBool, option_map, option_and_then};
+ghost use Rattle.std.specs.Prelude.{◌≡◌, ℕ, Ok, Some, None, IfOk, IfErr, IfSome, MatchBool, option_map, option_and_then};
 ghost use Rattle.std.specs.Str.Lines.{strip_carriage_return};
 ghost use Rattle.ep_script.specs.Parts.{words_of};
 ghost use Rattle.ep_script.specs.Grammar.{size_of, generation_of, opening_of};
 ghost use Rattle.ep_script.specs.Heads.{open_head, after_opening};
-ghost use Rattle.ep_script.specs.Plan.{begun, sized_said, said, words_step, line_step, ended as ended_at};
+ghost use Rattle.ep_script.specs.Plan.{begun, sized_said, said, words_step, line_step, ended as ended_at, IsNoHead};
 ghost use Rattle.ep_script.specs.Outcome.{IsScript};
 ghost use Rattle.ep_script.specs.declared.script_fault.ScriptFault.TheVariants.{Refused};
 ghost use Rattle.ep_script.specs.declared.stage.Stage.TheVariants.{Before, Sized, Opening};
@@ -148,15 +148,43 @@ impl<P: ScriptKind> Draft<P> {
     }
 
     /// The script, where the source is over before the line of this number.
-    pub(crate) fn end(self, alloc: Global, number: u32) -> Result<P, ScriptFault>
+    pub(crate) fn end(mut self, alloc: Global, number: u32) -> Result<P, ScriptFault>
+        ensures script { IsScript result (ended_at P.begins number self.stage) }
+        ensures fault { IfErr result (λ e. e ≡ Refused number) }
+    {
+        match self.head_alone(alloc) {
+            Some(head) => Ok(P::begin(alloc, head)),
+            None => self.within(number),
+        }
+    }
+
+    // The head of a script that has no lines behind it. It is taken out.
+    fn head_alone(&mut self, alloc: Global) -> Option<Head>
+        ensures some { IfSome result (λ h. (n : ℕ) → ended_at P.begins n self.old.stage ≡ Ok (P.begins h)) }
+        ensures none { result ≡ None → (self.new.stage ≡ self.old.stage) × IsNoHead self.old.stage }
+    {
+        match &mut self.stage {
+            Stage::Sized(size) => {
+                let size = *size;
+                Some(Head::first(alloc, size))
+            }
+            Stage::Opening(head) => Some(head.close(alloc)),
+            Stage::Before => None,
+            Stage::Within(_) => None,
+        }
+    }
+
+    // The script, where it has lines behind its head.
+    fn within(self, number: u32) -> Result<P, ScriptFault>
+        requires { IsNoHead self.stage }
         ensures script { IsScript result (ended_at P.begins number self.stage) }
         ensures fault { IfErr result (λ e. e ≡ Refused number) }
     {
         match self.stage {
-            Stage::Before => Err(ScriptFault::Refused(number)),
-            Stage::Sized(size) => Ok(P::begin(alloc, Head::first(alloc, size))),
-            Stage::Opening(mut head) => Ok(P::begin(alloc, head.close(alloc))),
             Stage::Within(script) => Ok(script),
+            Stage::Before => Err(ScriptFault::Refused(number)),
+            Stage::Sized(_) => unreachable!(),
+            Stage::Opening(_) => unreachable!(),
         }
     }
 }

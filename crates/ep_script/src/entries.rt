@@ -39,7 +39,6 @@ impl Model for Entries {
 
 impl Entries {
     /// No entries.
-    #[tactic(auto, using(crate::proofs::KeySets::once_if_none))]
     pub(crate) fn new(alloc: Global) -> Entries
         ensures { result ≡ [] }
     {
