@@ -1,5 +1,5 @@
 -- What `clap` makes of the words that ask for something.
-use Rattle.std.proofs.Common.{◌≡◌, ◌⊎◌, inl, inr, List, [], ◌∷◌, map, string_bytes, Option, Some, None, Result, Ok, Err, MatchResult, IfOk, true, codes, refl, sym, ap, ap₂, subst, ◌∙◌, option_map}
+use Rattle.std.proofs.Common.{◌≡◌, ◌⊎◌, inl, inr, List, [], ◌∷◌, map, string_bytes, Option, Some, None, Result, Ok, Err, MatchResult, IfOk, Bool, true, false, codes, refl, sym, ap, ap₂, subst, ◌∙◌, option_map}
 use Rattle.clap.specs.Matches.{found_of, subcommand_name_of}
 use Rattle.clap.specs.Walk.{Row, Text, all_of, first_of, rows_of}
 use Rattle.clap.specs.declared.parser.matches.ArgMatches.{ArgMatches}
@@ -710,3 +710,9 @@ pub met_audit_tasks :
     IfOk r (λ t. IsAuditTask t (audit_words rows)) → IfOk r (λ t. IsMetTask t (subcommand_rows_of m))
 met_audit_tasks m rows (Ok t) named has is = met_audit_task m rows t named has is
 met_audit_tasks m rows (Err e) named has is = tt
+
+pub some_isnt : {A : Type 0} (given : A) (o : Option A) → Some given ≡ o → o ≡ None → ⊥
+some_isnt {A} given o is none = let bad : Some given ≡ None = is ∙ none in cc
+
+pub not_both : (b : Bool) → b ≡ false → b ≡ true → ⊥
+not_both b isnt is = let bad : false ≡ true = sym isnt ∙ is in cc

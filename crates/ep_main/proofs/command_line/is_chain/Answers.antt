@@ -6,7 +6,7 @@ use Rattle.ep_main.proofs.Literals.{some_is, none_isnt}
 use Rattle.ep_main.proofs.command_line.is_chain.Goals as goal
 
 pub returns-in-Some-clause-yes : goal.returns-in-Some-clause-yes
-returns-in-Some-clause-yes c yes =
+returns-in-Some-clause-yes c is =
     let first : Some c.in-Some.word.now ≡ first_value (found_of c.args.options.now) (codes "chain") = search rules in
     let same : c.in-Some.word.now ≡ codes "true" = search rules in
     sym (first ∙ first_value-rows (found_of c.args.options.now) (codes "chain")) ∙ ap (λ (w : Text). Some w) same
