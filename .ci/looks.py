@@ -107,6 +107,12 @@ def explained():
     wanted = f"verdict refused\n{edition}\nA4 unknown receipt 12\n"
     says = ["client 1 request 12 0.12 absent, executed by", "; for 0.12 it answers closed\n"]
     yield dict(name="version 3: another answer, explained", words=["explain"], given=one.bundle()[:-1] + b"\0", wanted=wanted.encode(), is_begun=True, says=says, status=1)
+    # what isn't a bundle
+    line, entries = b"bundle refused E12 at byte 0\n", ["\n  found: entries in words, as show prints them\n"]
+    yield dict(name="version 3: what is shown, explained", words=["explain"], given=one.shown(), wanted=line, is_begun=True, says=entries, status=2)
+    traced = f"{edition}\nline 3  stamp 41  replica 0 entry 1  propose get x (client 1 request 1 seen 40); took 0.1\n"
+    says = ["\n  found: a trace, as replay --emit trace prints it\n"]
+    yield dict(name="version 3: a trace, explained", words=["explain"], given=traced.encode(), wanted=line, is_begun=True, says=says, status=2)
     yield from fields()
     yield from steps()
 
@@ -139,8 +145,8 @@ def fields():
     yield from refusal("a value too long", changed(opened, 27, number(65_536, 4)), 27, "length of the value", "the opening, key 1", "0 to 65535", "65536")
     higher = "a key above the one before it, by their bytes from the first one on"
     yield from refusal("a key twice", changed(opened, 38, b"a"), 38, "key", "the opening, key 2", higher, "a")
-    # a proposal's command stands 5 + 1 + 8 + 16 bytes behind the opening's 14
-    op, where = 26 + 14 + 5 + 9 + 16, "the journal of replica 0 entry 1"
+    # a proposal's command stands 5 + 9 + 16 bytes behind the opening's 15
+    op, where = 26 + 15 + 5 + 9 + 16, "the journal of replica 0 entry 1"
     yield from refusal("an op", changed(opened, op, b"\12"), op, OP, where, "2 to 9", "10")
     yield from refusal("no op", changed(opened, op, b"\1"), op, OP, where, "2 to 9", "1")
     yield from refusal("no key", changed(opened, op + 1, b"\0"), op + 1, "length of the key", where, "1 to 255", "0")
@@ -198,7 +204,7 @@ def drawn():
     yield dict(name="version 3: every command, drawn", words=["draw"], given=one.bundle(), says=says, is_picture=True)
     said = {line.split(" ")[0]: line for line in one.history}
     says = [f"{name} {text} -> closed" if said[name].endswith("closed") else f"{name} {text}" for name, text in ((f"0.{at}", it) for at, it in enumerate(ALL, 1))]
-    says += ["a seal", "-> closed: a seal stood before it, and it changed nothing"]
+    says += ["a seal: it depends on all above it, and all below depends on it", "-> closed: a seal was executed before it"]
     yield dict(name="version 3: every command, drawn as a graph", words=["draw", "--graph"], given=one.bundle(), says=says, is_picture=True)
 
 

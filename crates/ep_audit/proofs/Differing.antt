@@ -1,11 +1,15 @@
 -- The least key that has not the same in two maps, found among their entries.
-use Rattle.std.proofs.Common.{◌≡◌, ◌≢◌, ℕ, zero, suc, Bool, true, false, ◌&&◌, true≢false, cond, T, Option, Some, None, List, [], ◌∷◌, drop, slice_get, refl, sym, ap, ap₂, subst, ◌∙◌, Ordering, Less, Equal, Greater, is_lt}
+use Rattle.std.proofs.Common.{◌≡◌, ◌≢◌, ℕ, zero, suc, ◌+◌, ◌<◌, ◌≤◌, arith, length, ltb, get_or, IfOk, Result, Ok, Err, Bool, true, false, ◌&&◌, true≢false, cond, T, Option, Some, None, List, [], ◌∷◌, drop, slice_get, refl, sym, ap, ap₂, subst, ◌∙◌, Ordering, Less, Equal, Greater, is_lt}
 use Rattle.std.specs.Cmp.Lexicographic.{nat_list_cmp_total}
 use Rattle.std.specs.FinMap.{entries, entries_sorted, find, get-entries, is_sorted, same_entries_map}
 use Rattle.std.specs.FinMap.Entries.{below_all}
 use Rattle.std.specs.Cmp.{tied_itself, tied_back}
 use Rattle.std.specs.Ordering.{is_eq, ordering_reverse}
+use Rattle.std.proofs.lemmas.Bool.{ltb-false, ltb-true}
+use Rattle.std.specs.Borrow.{Bor}
+use Rattle.std.specs.Option.{IfSome, is_some, option_copied}
 use Rattle.std.specs.Prelude.{MatchOption}
+use Rattle.std.specs.declared.alloc.AllocError.{AllocError}
 use Rattle.std.proofs.lemmas.Map.Lookups.{exact_bytes}
 use Rattle.ep_base.specs.Attributes.{same_list}
 use Rattle.ep_base.proofs.Same.{Decides-same_list}
@@ -178,6 +182,9 @@ passed (x ∷ es) [] (suc p) e = absurd (none (slice_get es p) e)
 passed (x ∷ es) (y ∷ os) zero e = ap (λ b. cond b (difference es os) (Some (lesser_of x.0 y.0))) (sym e)
 passed (x ∷ es) (y ∷ os) (suc p) e = passed es os p e
 
+pub passed_more : (es os : List Pair) (p : ℕ) → is_same_at (slice_get es p) (slice_get os p) ≡ true → difference (drop (p + 1) es) (drop (p + 1) os) ≡ difference (drop p es) (drop p os)
+passed_more es os p e = let next : suc p ≡ p + 1 = omega arith in subst (λ n. difference (drop n es) (drop n os) ≡ difference (drop p es) (drop p os)) next (passed es os p e)
+
 pub told : (m n : Contents) (key : Option (List ℕ)) → key ≡ difference (entries m) (entries n) → MatchOption key (m ≡ n) (λ k. IsLeastDifference m n k)
 told m n None e = same_entries_map m n (one_list (entries m) (entries n) (sym e))
 told m n (Some k) e =
@@ -193,3 +200,29 @@ told m n (Some k) e =
 
     sorted : (c : Contents) → is_sorted key_cmp (entries c) ≡ true
     sorted c = yes_of (is_sorted key_cmp (entries c)) (entries_sorted c)
+
+-- What is got at a place.
+
+module _ {A : Type 0} where
+  pub at_place : (xs : List A) (k : ℕ) (x : A) → k < length xs → x ≡ get_or xs k x → slice_get xs k ≡ Some x
+  at_place [] k x lt e = absurd (omega arith)
+  at_place (y ∷ xs) zero x lt e = ap Some (sym e)
+  at_place (y ∷ xs) (suc k) x lt e = at_place xs k x (omega arith) e
+
+  none_at : (xs : List A) (k : ℕ) → length xs ≤ k → slice_get xs k ≡ None
+  none_at [] zero le = refl
+  none_at [] (suc k) le = refl
+  none_at (y ∷ xs) zero le = absurd (omega arith)
+  none_at (y ∷ xs) (suc k) le = none_at xs k (omega arith)
+
+  pub got : (xs : List A) (k : ℕ) (o : Option (Bor A)) → is_some o ≡ ltb k (length xs) → IfSome o (λ x. x.now ≡ get_or xs k x.now) → option_copied o ≡ slice_get xs k
+  got xs k None some is = sym (none_at xs k (ltb-false k (length xs) (sym some)))
+  got xs k (Some x) some is = sym (at_place xs k x.now (ltb-true k (length xs) (sym some)) is)
+
+-- what is told of two maps by their entries
+pub told_of : (m n : Contents) (es os : List Pair) (p : ℕ) (a b : Option Pair) (r : Result (Option (List ℕ)) AllocError) →
+    es ≡ entries m → os ≡ entries n → a ≡ slice_get es p → b ≡ slice_get os p → is_same_at (slice_get es p) (slice_get os p) ≡ false → difference (drop p es) (drop p os) ≡ difference es os →
+    IfOk r (λ key. key ≡ lesser_key a b) → IfOk r (λ key. MatchOption key (m ≡ n) (λ k. IsLeastDifference m n k))
+told_of m n es os p a b (Ok key) ie io ia ib not_same left is =
+    told m n key (is ∙ ap₂ (λ (x y : Option Pair). lesser_key x y) ia ib ∙ lesser_here es os p not_same ∙ left ∙ ap₂ (λ (x y : List Pair). difference x y) ie io)
+told_of m n es os p a b (Err e) ie io ia ib not_same left is = tt

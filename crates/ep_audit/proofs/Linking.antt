@@ -1,12 +1,14 @@
 -- Generations, one after the other, are a chain of the rule book.
-use Rattle.std.proofs.Common.{◌≡◌, ◌≢◌, ℕ, zero, suc, ◌+◌, ◌<◌, ◌≤◌, ◌⊎◌, inl, inr, true, Option, Some, None, List, [], ◌∷◌, ◌++◌, length, slice_get, refl, sym, ap, ap₂, subst, ◌∙◌, arith}
+use Rattle.std.proofs.Common.{◌≡◌, ◌≢◌, ℕ, zero, suc, ◌+◌, ◌<◌, ◌≤◌, ◌⊎◌, inl, inr, true, IfOk, Result, Ok, Err, Option, Some, None, List, [], ◌∷◌, ◌++◌, length, slice_get, refl, sym, ap, ap₂, subst, ◌∙◌, arith}
 use Rattle.std.proofs.lemmas.Bool.{cases_lt}
+use Rattle.std.specs.Prelude.{IfErr, MatchOption}
 use Rattle.ep_base.specs.Commands.{Command, Seal}
 use Rattle.ep_base.specs.Interference.{is_seal}
 use Rattle.ep_base.specs.Quorums.{size}
 use Rattle.ep_journal.specs.Entries.{AreJournals, Collected, IsAbove, entries_at, entries_of, entry_of, journals_of}
 use Rattle.ep_journal.specs.Openings.{opens}
 use Rattle.ep_journal.specs.declared.entry.Entry.{Entry as Written}
+use Rattle.ep_report.specs.declared.chain_fault.ChainFault.{ChainFault}
 use Rattle.ep_report.specs.declared.closing.Closing.{Closing}
 use Rattle.ep_rules.specs.Chains.{Closing as Closes, IsChain, ClocksGoOn, Explains, histories, history_from, store_left}
 use Rattle.ep_rules.specs.Generations.{joined, place_in, HasIn}
@@ -21,7 +23,10 @@ use Rattle.ep_verdict.specs.Closings.{operations_in}
 use Rattle.ep_verdict.specs.Verdicts.{places_of}
 use Rattle.ep_verdict.specs.declared.verdict.Verdict.{Verdict}
 use Rattle.ep_audit.specs.Audited.{IsOneClosing}
-use Rattle.ep_audit.specs.Chained.{AreLinked, GoesOn, IsChained, IsGood, IsJudged, faults_at, faults_in, journals_at, journals_in, map_in, maps_at, number_of, receipts_at, receipts_in}
+use Rattle.ep_audit.specs.Chained.{AreLinked, GoesOn, IsChainFault, IsChainRefused, IsChained, IsGood, IsJudged, IsParted, IsReached, parted, refused, unclosed, faults_at, faults_in, journals_at, journals_in, map_in, maps_at, number_of, receipts_at, receipts_in}
+use Rattle.ep_audit.specs.Following.{IsOwnFault, IsUnfollowed, IsUnfollowedBy, IsUnjudged, left_open, refused_by, parted_by}
+use Rattle.ep_audit.specs.declared.chain_refusal.ChainRefusal.{ChainRefusal}
+use Rattle.ep_audit.specs.declared.chain_refusal.ChainRefusal.TheVariants.{Memory, Fault}
 use Rattle.ep_audit.specs.declared.link.Link.{Link}
 use Rattle.ep_audit.proofs.OneClosings.{same_operations, seal_there}
 
@@ -160,6 +165,7 @@ module _ (links : List Link) (verdicts : List Verdict) (count : length verdicts 
   schedule g = chosen g (cases_lt g n)
 
   facts : (g : ℕ) → g < n → Facts links verdicts g (schedule g)
+  unfolding chosen judged_at
   facts g lt = go (cases_lt g n)
     where
       go : (x : (g < n) ⊎ (n ≤ g)) → Facts links verdicts g (chosen g x)
@@ -178,8 +184,7 @@ module _ (links : List Link) (verdicts : List Verdict) (count : length verdicts 
       let b = facts (suc g) lt in
       let on = goes_at g a b in
       let s = a.closing.somebody on.closing on.closed in
-      let opening : maps_at links (suc g) ≡ a.verdict.contents = ap map_in b.there ∙ on.opening in
-      (
+      let opening : maps_at links (suc g) ≡ a.verdict.contents = ap map_in b.there ∙ on.opening in (
         s.0,
         on.closing.value,
         subst (λ (o : Option Link). store_left (map_in o) (faults_in o) (journals_in o) s.0 ≡ record { contents = maps_at links (suc g); seal = Some on.closing.value }) (sym a.there)
@@ -208,6 +213,16 @@ module _ (links : List Link) (verdicts : List Verdict) (count : length verdicts 
             omega arith;
       })
 
+  abbrev agrees : Option Link → Receipt → Type 0
+  agrees o t = Agrees (opened (map_in o)) (faults_in o) (journals_in o) t
+
+  within : (g : ℕ) (t : Receipt) → In t (receipts_at links g) → g < n
+  within g t i = go (slice_get links g) refl i
+    where
+      go : (o : Option Link) → slice_get links g ≡ o → In t (receipts_in o) → g < n
+      go None e i = absurd i
+      go (Some l) e i = below_length links g l e
+
   callers : (g k : ℕ) (u t : Receipt) → In u (receipts_at links g) → In t (receipts_at links k) → u.stamp ≤ t.seen →
       HasIn (joined (histories (faults_at links) (maps_at links) schedule) n) g u.instance → HasIn (joined (histories (faults_at links) (maps_at links) schedule) n) k t.instance →
       place_in (joined (histories (faults_at links) (maps_at links) schedule) n) g u.instance < place_in (joined (histories (faults_at links) (maps_at links) schedule) n) k t.instance
@@ -220,16 +235,6 @@ module _ (links : List Link) (verdicts : List Verdict) (count : length verdicts 
       (subst (λ (o : Option Link). agrees o u) (sym a.there) (a.good.agree u (subst (λ (o : Option Link). In u (receipts_in o)) a.there iu)))
       (subst (λ (o : Option Link). agrees o t) (sym b.there) (b.good.agree t (subst (λ (o : Option Link). In t (receipts_in o)) b.there it)))
       le hu ht
-    where
-      abbrev agrees : Option Link → Receipt → Type 0
-      agrees o t = Agrees (opened (map_in o)) (faults_in o) (journals_in o) t
-
-      within : (g : ℕ) (t : Receipt) → In t (receipts_at links g) → g < n
-      within g t i = go (slice_get links g) refl i
-        where
-          go : (o : Option Link) → slice_get links g ≡ o → In t (receipts_in o) → g < n
-          go None e i = absurd i
-          go (Some l) e i = below_length links g l e
 
   pub chained : IsChained links verdicts
   chained = record {
@@ -248,3 +253,66 @@ module _ (links : List Link) (verdicts : List Verdict) (count : length verdicts 
     explains = chains_explain_lem n (faults_at links) (maps_at links) (journals_at links) schedule chain;
     callers = callers;
   }
+
+-- Why there is none.
+
+module _ (links : List Link) (vs : List Verdict) (link : Link) (place : ℕ) (linked : AreLinked links vs) (count : length vs ≡ place) (there : slice_get links place ≡ Some link) where
+  own_fault : (at : ℕ) (fault : ChainFault) → ((j : ℕ) (v : Verdict) → place ≡ suc j → slice_get vs j ≡ Some v → (c : Closing) × (v.closing ≡ Some c)) → at ≡ place → IsOwnFault link fault → IsChainFault links at fault
+  own_fault at fault closed is own =
+      let reached : IsReached links place link = record { there = there; verdicts = vs; count = count; linked = linked; closed = closed } in
+      subst (λ n. IsChainFault links n fault) (sym is) (subst (λ (f : ChainFault). IsChainFault links place f) (sym own.is) (refused link own.found reached own.refuses))
+
+  pub first_refused : place ≡ 0 → (e : ChainRefusal) → IsUnjudged link place e → IsChainRefused links e
+  first_refused none Memory h = tt
+  first_refused none (Fault at fault) h = own_fault at fault (λ j v is s. absurd (omega arith)) h.0 h.1
+
+  pub first_judged : place ≡ 0 → (r : Result Verdict ChainRefusal) → IfOk r (λ v. IsJudged link v) → IfOk r (λ v. AreLinked links (vs ++ (v ∷ [])))
+  first_judged none (Ok v) judged = linked_more links vs link v place linked count there judged (λ p l w is a b. absurd (omega arith))
+  first_judged none (Err e) judged = tt
+
+  pub first_unjudged : place ≡ 0 → (r : Result Verdict ChainRefusal) → IfErr r (λ e. IsUnjudged link place e) → IfErr r (λ e. IsChainRefused links e)
+  first_unjudged none (Ok v) h = tt
+  first_unjudged none (Err e) h = first_refused none e h
+
+  module _ (p : Link) (w : Verdict) (q : ℕ) (before : place ≡ suc q) (p_there : slice_get links q ≡ Some p) (w_there : slice_get vs q ≡ Some w) where
+    closed_before : (c : Closing) → w.closing ≡ Some c → (j : ℕ) (v : Verdict) → place ≡ suc j → slice_get vs j ≡ Some v → (c : Closing) × (v.closing ≡ Some c)
+    closed_before c is j v at s =
+        let same : q ≡ j = omega arith in
+        let one : w ≡ v = same_there vs j w v (subst (λ n. slice_get vs n ≡ Some w) same w_there) s in
+        (c, subst (λ (z : Verdict). z.closing ≡ Some c) one is)
+
+    unfollowed : (at : ℕ) (fault : ChainFault) → place < length links → IsUnfollowedBy p w link place at fault → IsChainFault links at fault
+    unfollowed at fault lt (left_open none is told) =
+        let at_q : at ≡ q = omega arith in
+        subst (λ (f : ChainFault). IsChainFault links at f) (sym told)
+        (unclosed vs w (count ∙ sym is) linked (subst (λ n. slice_get vs n ≡ Some w) (sym at_q) w_there) none (omega arith))
+    unfollowed at fault lt (refused_by c closed is own) = own_fault at fault (closed_before c closed) is own
+    unfollowed at fault lt (parted_by c closed is good parts) =
+        let reached : IsReached links place link = record { there = there; verdicts = vs; count = count; linked = linked; closed = closed_before c closed } in
+        subst (λ n. IsChainFault links n fault) (sym is) (parted link p w c fault reached (record { place = q; is = before; link = p_there; verdict = w_there; closing = closed }) good parts)
+
+    next_refused : place < length links → (e : ChainRefusal) → IsUnfollowed p w link place e → IsChainRefused links e
+    next_refused lt Memory h = tt
+    next_refused lt (Fault at fault) h = unfollowed at fault lt h
+
+    pub next_unfollowed : place < length links → (r : Result Verdict ChainRefusal) → IfErr r (λ e. IsUnfollowed p w link place e) → IfErr r (λ e. IsChainRefused links e)
+    next_unfollowed lt (Ok v) h = tt
+    next_unfollowed lt (Err e) h = next_refused lt e h
+
+    pub next_judged : (r : Result Verdict ChainRefusal) → IfOk r (λ v. IsJudged link v × GoesOn p w link) → IfOk r (λ v. AreLinked links (vs ++ (v ∷ [])))
+    next_judged (Ok v) h = linked_more links vs link v place linked count there h.0 (λ k l x is a b.
+        let same : q ≡ k = omega arith in
+        let link_is : p ≡ l = same_there links k p l (subst (λ n. slice_get links n ≡ Some p) same p_there) a in
+        let verdict_is : w ≡ x = same_there vs k w x (subst (λ n. slice_get vs n ≡ Some w) same w_there) b in
+        subst (λ (z : Verdict). GoesOn l z link) verdict_is (subst (λ (z : Link). GoesOn z w link) link_is h.1))
+    next_judged (Err e) h = tt
+
+-- Why one isn't followed.
+
+pub unjudged_unfollowed : (p : Link) (v : Verdict) (l : Link) (place : ℕ) (c : Closing) (e : ChainRefusal) → v.closing ≡ Some c → IsUnjudged l place e → IsUnfollowed p v l place e
+unjudged_unfollowed p v l place c Memory closed h = tt
+unjudged_unfollowed p v l place c (Fault at fault) closed h = refused_by c closed h.0 h.1
+
+pub parted_here : (p : Link) (v : Verdict) (l : Link) (w : Verdict) (place : ℕ) (c : Closing) (f : ChainFault) (o : Option ChainFault) → v.closing ≡ Some c → IsJudged l w → o ≡ Some f → MatchOption o (GoesOn p v l) (λ f. IsParted p v c l f) →
+    IsUnfollowedBy p v l place place f
+parted_here p v l w place c f o closed judged is m = parted_by c closed refl judged.accepted (subst (λ (o : Option ChainFault). MatchOption o (GoesOn p v l) (λ f. IsParted p v c l f)) is m)

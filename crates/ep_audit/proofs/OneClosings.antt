@@ -47,6 +47,10 @@ nothing_up_to : (h : List Operation) → has_seal h ≡ true → up_to_seal h �
 nothing_up_to [] s e = false≢true s
 nothing_up_to (o ∷ h) s e = cc
 
+not_empty : (bs : List Operation) (o : Operation) → [] ≡ bs ++ (o ∷ []) → ⊥
+not_empty [] o e = cc
+not_empty (b ∷ bs) o e = cc
+
 -- the last of those up to the first seal is that seal
 pub last_of : (h before : List Operation) (o : Operation) → has_seal h ≡ true → up_to_seal h ≡ before ++ (o ∷ []) → IsLastOf h o
 last_of [] before o s e = absurd (false≢true s)
@@ -60,11 +64,7 @@ last_of (x ∷ h) before o s e = go (is_seal x.command) refl s before e (λ b. l
     go true is s (b ∷ bs) e rec =
         let one : x ∷ [] ≡ b ∷ (bs ++ (o ∷ [])) = sym (ap (λ t. x ∷ cond t [] (up_to_seal h)) is) ∙ e in
         let none : [] ≡ bs ++ (o ∷ []) = cc in
-        absurd (not_empty bs none)
-      where
-        not_empty : (bs : List Operation) → [] ≡ bs ++ (o ∷ []) → ⊥
-        not_empty [] e = cc
-        not_empty (b ∷ bs) e = cc
+        absurd (not_empty bs o none)
     go false is s [] e rec =
         let one : x ∷ up_to_seal h ≡ o ∷ [] = sym (ap (λ t. x ∷ cond t [] (up_to_seal h)) is) ∙ e in
         let none : up_to_seal h ≡ [] = cc in
@@ -171,7 +171,7 @@ module _ (m : Contents) (f : ℕ) (journal : Journals) (schedule : List Schedule
         let t = closes_left m f journal schedule given r shut in
         let after : after_commands (opened m) (commands_of h) ≡ map_of (written_by m (up_to_seal h)) (first_seal h) = seal_closes_lem m h t.0 in
         let told : v.contents ≡ written_by m (up_to_seal h) =
-            contents ∙ ap (λ cs. (after_commands (opened m) cs).contents) (commands_are_of v.history.items ∙ ap commands_of same) ∙ ap (λ (s : Store). s.contents) after
+        contents ∙ ap (λ cs. (after_commands (opened m) cs).contents) (commands_are_of v.history.items ∙ ap commands_of same) ∙ ap (λ (s : Store). s.contents) after
         in
         t.1 ∙ ap₂ (λ (n : Contents) (o : Option (List ℕ)). map_of n o) (sym told) (seal_told t.0)
 

@@ -18,7 +18,7 @@ use Rattle.ep_audit.specs.declared.link.Link.{Link}
 pub record IsOwnFault (l : Link) (fault : ChainFault) : Type 0 where
   pub found : AuditFault
   pub is : fault ≡ Audit found
-  pub fault : IsFault (opens l.journals.opening) l.journals.faults (journals_of l.journals) l.receipts.items (fault_of found)
+  pub refuses : IsFault (opens l.journals.opening) l.journals.faults (journals_of l.journals) l.receipts.items (fault_of found)
 
 -- its own audit refuses it, at this place
 abbrev pub IsUnjudged : Link → ℕ → ChainRefusal → Type 0
@@ -26,9 +26,9 @@ IsUnjudged l place Memory = Unit {0}
 IsUnjudged l place (Fault at fault) = (at ≡ place) × IsOwnFault l fault
 
 pub data IsUnfollowedBy (p : Link) (v : Verdict) (l : Link) (place at : ℕ) (fault : ChainFault) : Type 0 where
-  unclosed : v.closing ≡ None → suc at ≡ place → fault ≡ NotClosed → IsUnfollowedBy p v l place at fault
-  refused : (c : Closing) → v.closing ≡ Some c → at ≡ place → IsOwnFault l fault → IsUnfollowedBy p v l place at fault
-  parted : (c : Closing) → v.closing ≡ Some c → at ≡ place → IsGood l → IsParted p v c l fault → IsUnfollowedBy p v l place at fault
+  left_open : v.closing ≡ None → suc at ≡ place → fault ≡ NotClosed → IsUnfollowedBy p v l place at fault
+  refused_by : (c : Closing) → v.closing ≡ Some c → at ≡ place → IsOwnFault l fault → IsUnfollowedBy p v l place at fault
+  parted_by : (c : Closing) → v.closing ≡ Some c → at ≡ place → IsGood l → IsParted p v c l fault → IsUnfollowedBy p v l place at fault
 
 -- that one before has no seal, it is refused, or it doesn't go on
 abbrev pub IsUnfollowed : Link → Verdict → Link → ℕ → ChainRefusal → Type 0

@@ -68,7 +68,10 @@ fn follow(
     let Some(closing) = &verdict.closing else {
         return Err(ChainRefusal::Fault(place - 1, ChainFault::NotClosed));
     };
-    let next = judge(alloc, link, place)?;
+    let next = match judge(alloc, link, place) {
+        Ok(next) => next,
+        Err(refusal) => return Err(refusal),
+    };
     match parting(alloc, before, verdict, closing, link)? {
         None => Ok(next),
         Some(fault) => Err(ChainRefusal::Fault(place, fault)),

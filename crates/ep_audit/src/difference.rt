@@ -1,6 +1,6 @@
 //! The least key that has not the same in two maps.
 
-ghost use Rattle.std.specs.Prelude.{◌≡◌, ◌↔◌, ℕ, IsTrue, IfOk, MatchOption, drop, length, option_copied, slice_get};
+ghost use Rattle.std.specs.Prelude.{◌≡◌, false, IfOk, MatchOption, drop, option_copied, slice_get};
 ghost use Rattle.ep_audit.specs.Differences.{difference, is_same_at, lesser_key, lesser_of, IsLeastDifference};
 
 use ep_base::{Key, Value};
@@ -52,7 +52,12 @@ fn lesser_key(
 fn lesser_of(alloc: Global, key: &Key, other: &Key) -> Result<Key, AllocError>
     ensures { IfOk result (λ k. k ≡ lesser_of key.now other.now) }
 {
-    if other.as_slice() < key.as_slice() { other.copy(alloc) } else { key.copy(alloc) }
+    let turned = other.as_slice().cmp(key.as_slice()).is_lt();
+    if turned {
+        other.copy(alloc)
+    } else {
+        key.copy(alloc)
+    }
 }
 
 /// The least key that has not the same in both maps; none where they are one.

@@ -95,8 +95,8 @@ contents_given : (m : Contents) → All PairTyped (entries m) → Gives (content
 contents_given m t = made_of (pairs (length (entries m)) []) (λ es l. Ok (from_sorted es, l)) (flat_map pair_bytes (entries m)) (entries m) m (pairs_given [] (entries m) t (rising m)) (λ l. ap (λ (x : Contents). Ok (x, l)) (map_again m))
 
 map_given : (v : Version) (o : Opening) → OpensIn v o → length (entries o.contents) ≤ 4000000000 → All PairTyped (entries o.contents) → Gives (map_in v) (map_bytes v o.contents) o.contents
-map_given V1 o opens few t at rest = (at, ap (λ (p : Opening). Ok (p.contents, record { at = at; bytes = rest })) (sym opens))
-map_given V2 o opens few t at rest = (at, ap (λ (p : Opening). Ok (p.contents, record { at = at; bytes = rest })) (sym opens))
+map_given V1 o opens few t = λ at rest. (at, ap (λ (p : Opening). Ok (p.contents, record { at = at; bytes = rest })) (sym opens))
+map_given V2 o opens few t = λ at rest. (at, ap (λ (p : Opening). Ok (p.contents, record { at = at; bytes = rest })) (sym opens))
 map_given (V3 g) o opens few t =
     let n = length (entries o.contents) in
     respelled (map_in (V3 g)) (number_bytes 4 n ++ flat_map pair_bytes (entries o.contents)) (contents_bytes o.contents) o.contents (sym (contents_are o.contents))
@@ -132,8 +132,8 @@ numbers_high V2 = omega arith
 numbers_high (V3 g) = omega arith
 
 edition_given : (v : Version) (o : Opening) → HasItsGeneration v → OpensIn v o → o.since ≤ 281474976710655 → Gives (edition (version_number v)) (edition_bytes v o.since) (v, o.since)
-edition_given V1 o generation opens high at rest = (at, ap (λ (p : Opening). Ok ((V1, p.since), record { at = at; bytes = rest })) (sym opens))
-edition_given V2 o generation opens high at rest = (at, ap (λ (p : Opening). Ok ((V2, p.since), record { at = at; bytes = rest })) (sym opens))
+edition_given V1 o generation opens high = λ at rest. (at, ap (λ (p : Opening). Ok ((V1, p.since), record { at = at; bytes = rest })) (sym opens))
+edition_given V2 o generation opens high = λ at rest. (at, ap (λ (p : Opening). Ok ((V2, p.since), record { at = at; bytes = rest })) (sym opens))
 edition_given (V3 g) o generation opens high =
     let most : g ≤ 4294967295 = generation.1 in
     then_gives (field 4 1 4294967295) (λ g l. and_then (field 8 0 281474976710655 l) (λ since l. Ok ((V3 g, since), l))) (number_bytes 4 g) (number_bytes 8 o.since) g (V3 g, o.since) (fielded 4 1 4294967295 g (omega arith) generation.0 most)

@@ -141,6 +141,7 @@ pub fn field_u8<S: Source>(
     high: u8,
 ) -> Result<u8, BundleFault>
     ensures bytes { (zs : List ℕ) → S.left source.old ≡ Some zs → Reads (field 1 low high (record { at = place.old; bytes = zs })) result place.new (S.left source.new) }
+    ensures range { IfOk result (λ x. (low ≤ x) × (x ≤ high)) }
     ensures told { FailsAsTold is_read_failed result (S.has_failed source.old) (S.has_failed source.new) }
 {
     let at = *place;
@@ -159,6 +160,7 @@ pub(crate) fn field_u16<S: Source>(
     high: u16,
 ) -> Result<u16, BundleFault>
     ensures bytes { (zs : List ℕ) → S.left source.old ≡ Some zs → Reads (field 2 low high (record { at = place.old; bytes = zs })) result place.new (S.left source.new) }
+    ensures range { IfOk result (λ x. (low ≤ x) × (x ≤ high)) }
     ensures told { FailsAsTold is_read_failed result (S.has_failed source.old) (S.has_failed source.new) }
 {
     let at = *place;
@@ -177,6 +179,7 @@ pub(crate) fn field_u32<S: Source>(
     high: u32,
 ) -> Result<u32, BundleFault>
     ensures bytes { (zs : List ℕ) → S.left source.old ≡ Some zs → Reads (field 4 low high (record { at = place.old; bytes = zs })) result place.new (S.left source.new) }
+    ensures range { IfOk result (λ x. (low ≤ x) × (x ≤ high)) }
     ensures told { FailsAsTold is_read_failed result (S.has_failed source.old) (S.has_failed source.new) }
 {
     let at = *place;
@@ -195,6 +198,7 @@ pub(crate) fn field_u64<S: Source>(
     high: u64,
 ) -> Result<u64, BundleFault>
     ensures bytes { (zs : List ℕ) → S.left source.old ≡ Some zs → Reads (field 8 low high (record { at = place.old; bytes = zs })) result place.new (S.left source.new) }
+    ensures range { IfOk result (λ x. (low ≤ x) × (x ≤ high)) }
     ensures told { FailsAsTold is_read_failed result (S.has_failed source.old) (S.has_failed source.new) }
 {
     let at = *place;

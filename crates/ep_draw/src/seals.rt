@@ -96,8 +96,8 @@ fn add_square(
             y: middle.y.saturating_sub(reach),
         },
         extent: Point {
-            x: 2 * reach,
-            y: 2 * reach,
+            x: reach.saturating_mul(2),
+            y: reach.saturating_mul(2),
         },
     })?;
     Ok(())

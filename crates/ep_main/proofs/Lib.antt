@@ -4,6 +4,7 @@ pub mod Ending
 mod Flags
 mod Judging
 mod Puts
+mod Ranges
 mod Rewriting
 mod Verdicts
 pub mod Literals

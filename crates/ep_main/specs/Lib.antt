@@ -9,5 +9,6 @@ pub mod Options
 pub mod Outputs
 pub mod Reported
 pub mod Runs
+pub mod Tasks
 pub mod Upgrades
 pub mod Words

@@ -4,9 +4,9 @@ ghost use Rattle.std.specs.Prelude.{◌≡◌, ◌⊎◌, ℕ, List, Some, IfOk,
 ghost use Rattle.ep_base.specs.Devices.{FailsAsTold};
 ghost use Rattle.ep_main.specs.Faults.{is_read, is_write};
 ghost use Rattle.ep_main.specs.Outputs.{input, output};
-ghost use Rattle.ep_main.specs.Runs.{Performs, IsHelped, Declines, Ends, Does, Concludes, IsVerdict, TellsWhy};
-ghost use Rattle.ep_main.specs.Chains.{ChainsFiles, EndsOfFiles};
-ghost use Rattle.ep_main.specs.Words.{AskFor, AskForHelp, IsAsked, IsChainAsked};
+ghost use Rattle.ep_main.specs.Runs.{Performs, IsHelped, Declines, Ends, Does as Attempts, Concludes, IsVerdict, TellsWhy};
+ghost use Rattle.ep_main.specs.Tasks.{Does, EndsBy, EndsSo, Works};
+ghost use Rattle.ep_main.specs.Words.{AskFor, AskForHelp};
 ghost use Rattle.ep_main.specs.declared.asked.Asked.{Asked};
 
 use crate::asked::{Asked, Emit};
@@ -67,25 +67,40 @@ pub fn engine<
     ensures other { (zs : List ℕ) → S.left reader.old ≡ Some zs → Declines result
         (output (W.held writer.old) (W.held writer.new) (W.has_failed writer.old) (W.has_failed writer.new))
         (output (F.held fault_writer.old) (F.held fault_writer.new) (F.has_failed fault_writer.old) (F.has_failed fault_writer.new))
-        ⊎ (((asked : Asked) × IsAsked asked (map T.text words.now) × Performs asked result zs (input (S.has_failed reader.old) (S.has_failed reader.new))
+        ⊎ Does (map T.text words.now) result zs (input (S.has_failed reader.old) (S.has_failed reader.new))
         (output (W.held writer.old) (W.held writer.new) (W.has_failed writer.old) (W.has_failed writer.new))
-        (output (F.held fault_writer.old) (F.held fault_writer.new) (F.has_failed fault_writer.old) (F.has_failed fault_writer.new)))
-        ⊎ ((names : List (List ℕ)) × IsChainAsked names (map T.text words.now) × ChainsFiles names result
-        (output (W.held writer.old) (W.held writer.new) (W.has_failed writer.old) (W.has_failed writer.new))
-        (output (F.held fault_writer.old) (F.held fault_writer.new) (F.has_failed fault_writer.old) (F.has_failed fault_writer.new)))) }
+        (output (F.held fault_writer.old) (F.held fault_writer.new) (F.has_failed fault_writer.old) (F.has_failed fault_writer.new)) }
 
     // whatever the words and the bytes are, status 4 is that of a device that failed in this run; or, where they ask for a chain, of a file of it
-    ensures ends { Ends result (input (S.has_failed reader.old) (S.has_failed reader.new))
+    ensures ends { EndsSo (map T.text words.now) result (input (S.has_failed reader.old) (S.has_failed reader.new))
         (output (W.held writer.old) (W.held writer.new) (W.has_failed writer.old) (W.has_failed writer.new))
-        (output (F.held fault_writer.old) (F.held fault_writer.new) (F.has_failed fault_writer.old) (F.has_failed fault_writer.new))
-        ⊎ ((names : List (List ℕ)) × IsChainAsked names (map T.text words.now) × (S.has_failed reader.new ≡ S.has_failed reader.old) × EndsOfFiles result
-        (output (W.held writer.old) (W.held writer.new) (W.has_failed writer.old) (W.has_failed writer.new))
-        (output (F.held fault_writer.old) (F.held fault_writer.new) (F.has_failed fault_writer.old) (F.has_failed fault_writer.new))) }
+        (output (F.held fault_writer.old) (F.held fault_writer.new) (F.has_failed fault_writer.old) (F.has_failed fault_writer.new)) }
 {
     match read_words(alloc, words) {
-        Ok(Task::Streams(asked)) => perform(rt, alloc, asked, reader, writer, fault_writer),
-        Ok(Task::Chain(names)) => print_chain(rt, &names, writer, fault_writer),
+        Ok(task) => work(rt, alloc, task, reader, writer, fault_writer),
         Err(why) => decline(why, fault_writer),
+    }
+}
+
+/// Does what there is to do, and answers how the program ends.
+fn work<R: Files + AllocGlobal + Threads + Wait + Sync, S: Source, W: Sink, F: Sink>(
+    rt: &R,
+    alloc: Global,
+    task: Task,
+    reader: &mut S,
+    writer: &mut W,
+    fault_writer: &mut F,
+) -> Status
+    ensures works { (zs : List ℕ) → S.left reader.old ≡ Some zs → Works task result zs (input (S.has_failed reader.old) (S.has_failed reader.new))
+        (output (W.held writer.old) (W.held writer.new) (W.has_failed writer.old) (W.has_failed writer.new))
+        (output (F.held fault_writer.old) (F.held fault_writer.new) (F.has_failed fault_writer.old) (F.has_failed fault_writer.new)) }
+    ensures ends { EndsBy task result (input (S.has_failed reader.old) (S.has_failed reader.new))
+        (output (W.held writer.old) (W.held writer.new) (W.has_failed writer.old) (W.has_failed writer.new))
+        (output (F.held fault_writer.old) (F.held fault_writer.new) (F.has_failed fault_writer.old) (F.has_failed fault_writer.new)) }
+{
+    match task {
+        Task::Streams(asked) => perform(rt, alloc, asked, reader, writer, fault_writer),
+        Task::Chain(names) => print_chain(rt, &names, writer, fault_writer),
     }
 }
 
@@ -130,7 +145,7 @@ fn attempt<R: Threads + Wait + Sync, S: Source, W: Sink>(
     reader: &mut S,
     writer: &mut W,
 ) -> Result<Status, Fault>
-    ensures done { (zs : List ℕ) → S.left reader.old ≡ Some zs → Does asked result zs
+    ensures done { (zs : List ℕ) → S.left reader.old ≡ Some zs → Attempts asked result zs
         (output (W.held writer.old) (W.held writer.new) (W.has_failed writer.old) (W.has_failed writer.new)) }
     ensures verdict { IfOk result IsVerdict }
     ensures read { FailsAsTold is_read result (S.has_failed reader.old) (S.has_failed reader.new) }

@@ -19,7 +19,7 @@ use crate::gathering::gather_bundle;
 use crate::status::Status;
 use crate::target::Target;
 use ep_base::{Sink, Source};
-use ep_bundle::{Bundle, read_bundle, read_bundle_of};
+use ep_bundle::{Bundle, bundles_are_canonical, read_bundle, read_bundle_of};
 use ep_upgrade::in_third;
 use std::alloc::Global;
 use std::mem::forget;
@@ -56,6 +56,7 @@ fn print_second<S: Source, W: Sink>(
     ensures read { FailsAsTold is_read result (S.has_failed reader.old) (S.has_failed reader.new) }
     ensures written { FailsAsTold is_write result (W.has_failed writer.old) (W.has_failed writer.new) }
 {
+    bundles_are_canonical();
     let bundle = read_bundle_of(alloc, reader, 1, 2)?;
     let upgraded = upgrade(alloc, bundle)?;
     let text = bundle_of(alloc, &upgraded)?;
@@ -87,8 +88,7 @@ fn print_third<S: Source, W: Sink>(
 
 /// The bundle with its journals in version 2.
 fn upgrade(alloc: Global, bundle: Bundle) -> Result<Bundle, Fault>
-    requires { version_number bundle.journals.version ≤ 2 }
-    ensures journals { IfOk result (λ b. IsUpgraded bundle.journals b.journals) }
+    ensures journals { version_number bundle.journals.version ≤ 2 → IfOk result (λ b. IsUpgraded bundle.journals b.journals) }
     ensures same { bundle.journals.version ≡ V2 → IfOk result (λ b. b.journals ≡ bundle.journals) }
     ensures receipts { IfOk result (λ b. b.receipts.items ≡ bundle.receipts.items) }
     ensures memory { IfErr result (λ e. e ≡ Memory) }

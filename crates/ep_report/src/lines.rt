@@ -38,7 +38,8 @@ pub(crate) fn push_generation(text: &mut Vec<u8>, life: &Life<'_>) -> Result<(),
     text.extend_from_slice(b"generation ")?;
     push_number(text, u64::from(life.generation().number()))?;
     text.extend_from_slice(b" since ")?;
-    push_number(text, life.since())
+    push_number(text, life.since())?;
+    Ok(())
 }
 
 /// Appends the seal that closed the map, or that none did.

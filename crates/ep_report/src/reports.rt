@@ -8,7 +8,7 @@ ghost use Rattle.ep_report.specs.Reports.{text_of, counted, committed_line, hist
 
 use crate::audit_fault::AuditFault;
 use crate::cause::Cause;
-use crate::chain_fault::ChainFault;
+use crate::chain_fault::{ChainFault, push_chain_fault};
 use crate::findings::Findings;
 use crate::happening::Happening;
 use crate::life::Life;
@@ -16,7 +16,6 @@ use crate::lines::{
     push_closing, push_committed_line, push_contents_line, push_generation, push_heading,
     push_history_line, push_lost_line, push_receipt_line, push_refused_line,
 };
-use crate::chain_fault::push_chain_fault;
 use crate::losses::Losses;
 use crate::parts::push_number;
 use ep_base::{Decree, InstanceId};

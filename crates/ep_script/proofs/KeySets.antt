@@ -12,7 +12,7 @@ use Rattle.std.proofs.lemmas.Bool.Decides.{nat_tests}
 use Rattle.std.proofs.lemmas.List.Folds.{list_any-append}
 use Rattle.std.proofs.lemmas.Map.Keys.{IsDistinct-push}
 use Rattle.ep_base.specs.Attributes.{same_list}
-use Rattle.ep_script.specs.Heads.{same_key, has_key_of, AreOnce}
+use Rattle.ep_script.specs.Heads.{same_key, has_key_of, AreOnce, IsOpening}
 use Rattle.ep_script.specs.Keys.{name_cmp, HasKeys}
 
 -- two keys are one where they compare equal
@@ -58,6 +58,21 @@ pub none_once : AreOnce []
 unfolding IsDistinct
 none_once = tt
 
+pub once_if_none : (entries : List (List ℕ × List ℕ)) → entries ≡ [] → AreOnce entries
+once_if_none entries none = subst AreOnce (sym none) none_once
+
+pub opens_with_none : (entries : List (List ℕ × List ℕ)) → entries ≡ [] → IsOpening (record { entries = entries; since = 0 })
+opens_with_none entries none = record { once = once_if_none entries none; since = omega arith }
+
 -- an entry more, of a key that has none
 pub once_more : (entries taken : List (List ℕ × List ℕ)) (e : List ℕ × List ℕ) → taken ≡ entries ++ e ∷ [] → has_key_of e entries ≡ false → AreOnce entries → AreOnce taken
 once_more entries taken e more new once = subst AreOnce (sym more) (IsDistinct-push keys_equal entries e once new)
+
+-- an entry more, of a key that no entry had
+pub entry_taken : {E : Type 0} (before after : BTreeSet (Vec ℕ Global)) (entries taken : List (List ℕ × List ℕ)) (key value : List ℕ) (name : Vec ℕ Global) (r : Result Bool E)
+    → is_err r ≡ false → OnOk r (Updates name_cmp before after name true) → name.items ≡ key → contains name_cmp before name ≡ false → taken ≡ entries ++ (key, value) ∷ [] → HasKeys before entries × AreOnce entries → HasKeys after taken × AreOnce taken
+entry_taken before after entries taken key value name r fine updates is absent more h =
+    let new : has_key_of (key, value) entries ≡ false = subst (λ (k : List ℕ). has_key_of (k, value) entries ≡ false) is (sym (h.0 name value) ∙ absent) in (
+      key_taken before after entries taken key value name r fine updates is more h.0,
+      once_more entries taken (key, value) more new h.1,
+    )

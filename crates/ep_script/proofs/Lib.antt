@@ -5,3 +5,4 @@ pub mod LinesFit
 pub mod FrameSets
 pub mod Splitting
 pub mod KeySets
+pub mod Powers

@@ -1,12 +1,21 @@
 //! The entries of an opening.
 
 ghost use Rattle.std.specs.Prelude.{◌≡◌, ◌++◌, ◌∷◌, [], true, false, IfOk, OnErr, MatchBool};
+ghost use Rattle.std.specs.BTreeSet.{contains};
 ghost use Rattle.ep_script.specs.Heads.{AreOnce, has_key_of};
+ghost use Rattle.ep_script.specs.Keys.{name_cmp};
 
 use ep_base::{Key, Value};
 use std::alloc::{AllocError, Global};
 use std::collections::BTreeSet;
 use std::marker::Model;
+
+// Whether there is this key.
+fn has_name(keys: &BTreeSet<Vec<u8>>, name: &Vec<u8>) -> bool
+    ensures { result ≡ contains name_cmp keys.now name.now }
+{
+    keys.contains(name)
+}
 
 /// The entries of an opening, no two of one key. Contracts see them as a list.
 #[derive(Drop)]
@@ -30,6 +39,7 @@ impl Model for Entries {
 
 impl Entries {
     /// No entries.
+    #[tactic(auto, using(crate::proofs::KeySets::once_if_none))]
     pub(crate) fn new(alloc: Global) -> Entries
         ensures { result ≡ [] }
     {
@@ -45,7 +55,7 @@ impl Entries {
         ensures err { OnErr result (self.new ≡ self.old) }
     {
         let name = Vec::from_slice(alloc, key.as_slice())?;
-        if self.keys.contains(&name) {
+        if has_name(&self.keys, &name) {
             return Ok(false);
         }
         self.items.push((key, value))?;

@@ -27,6 +27,7 @@ impl Model for Opening {
 
 impl Opening {
     /// What a life begins with: no key has a value, and clocks begin at 0.
+    #[tactic(auto, using(crate::proofs::KeySets::opens_with_none))]
     pub(crate) fn none(alloc: Global) -> Opening
         ensures { result ≡ no_opening }
     {

@@ -1,5 +1,5 @@
 -- What reading the bytes as a bundle tells of them.
-use Rattle.std.proofs.Common.{◌≡◌, inl, inr, ℕ, List, Some, Option, Result, Ok, Err, refl}
+use Rattle.std.proofs.Common.{◌≡◌, ℕ, List, Some, Option, Result, Ok, Err, refl}
 use Rattle.ep_bundle.specs.Contents.{contents_of}
 use Rattle.ep_bundle.specs.Journals.{Contents, Finds, ReadsBundle}
 use Rattle.ep_bundle.specs.Reading.{map_ok}
@@ -16,7 +16,7 @@ pub is_bundle : (zs : List ℕ) (b : Bundle) (end : ℕ) (left : Option (List �
 is_bundle zs b end left h = ((contents_of b).0, (contents_of b).1, record { at = end; bytes = h.0 }, h.2)
 
 pub is_none : (zs : List ℕ) (fault : BundleFault) (end : ℕ) (left : Option (List ℕ)) → (fault ≡ ReadFailed → ⊥) → Found zs (Err fault) end left → IsNoBundle zs fault
-is_none zs Memory end left other h = inl refl
+is_none zs Memory end left other h = tt
 is_none zs ReadFailed end left other h = absurd (other refl)
-is_none zs (BadBundle at) end left other h = inr h
-is_none zs (NotARun replica entry) end left other h = inr h
+is_none zs (BadBundle at) end left other h = h
+is_none zs (NotARun replica entry) end left other h = h

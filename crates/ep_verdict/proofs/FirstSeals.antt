@@ -1,7 +1,8 @@
 -- The first seal of a history's lines.
-use Rattle.std.proofs.Common.{◌≡◌, ℕ, Bool, true, false, cond, ◌||◌, inl, inr, Option, Some, None, List, [], ◌∷◌, ◌++◌, refl, sym, ap, subst, ◌∙◌}
+use Rattle.std.proofs.Common.{◌≡◌, ℕ, IfOk, Result, Ok, Err, Bool, true, false, cond, ◌||◌, inl, inr, Option, Some, None, List, [], ◌∷◌, ◌++◌, refl, sym, ap, subst, ◌∙◌}
 use Rattle.std.proofs.lemmas.Bool.{false≢true}
 use Rattle.std.specs.Option.{option_map}
+use Rattle.std.specs.declared.alloc.AllocError.{AllocError}
 use Rattle.ep_base.specs.Commands.{Command, Noop, Seal}
 use Rattle.ep_base.specs.Interference.{is_seal}
 use Rattle.ep_rules.specs.Closing.{has_seal, up_to_seal}
@@ -10,7 +11,7 @@ use Rattle.ep_rules.specs.OneMap.{Store, sealed_by, after, after_under}
 use Rattle.ep_rules.specs.Operations.{Operation}
 use Rattle.ep_rules.specs.Verdicts.{agreed}
 use Rattle.ep_rules.specs.Worlds.{In}
-use Rattle.ep_rules.proofs.Commuting.{seal_value}
+use Rattle.ep_rules.proofs.Commuting.{map_of, seal_value}
 use Rattle.ep_rules.proofs.JournalsCallers.{in_has}
 use Rattle.ep_rules.proofs.Merged.{in_of, in_right}
 use Rattle.ep_rules.proofs.Sealing.{noop_is}
@@ -24,8 +25,14 @@ use Rattle.ep_verdict.specs.Lines.{lines_in}
 use Rattle.ep_verdict.specs.Sealed.{first_sealing, closing_by}
 use Rattle.ep_verdict.proofs.Answering.{each_told}
 
-abbrev operation_of : Happening → Operation
-operation_of h = record { instance = h.instance; command = h.command }
+abbrev pub operation_at : ℕ → Command → Operation
+operation_at i c = record { instance = i; command = c }
+
+abbrev pub operation_of : Happening → Operation
+operation_of h = operation_at h.instance h.command
+
+abbrev pub closing_at : ℕ → ℕ → List ℕ → Closing
+closing_at i t v = record { instance = i; value = v; stamp = t }
 
 pub record IsFirstLine (hs : List Happening) (h : Happening) : Type 0 where
   pub seals : has_seal (operations_in hs) ≡ true
@@ -71,16 +78,19 @@ pub closing_is : (journal : Journals) (hs : List Happening) (h : Happening) (t :
 closing_is journal hs h t c first least is =
     let l = first_line hs h first in
     let v = seal_value h.command l.is in
-    let told : c ≡ Some (record { instance = h.instance; value = v.0; stamp = t }) = is ∙ ap (λ d. option_map (λ (w : List ℕ). record { instance = h.instance; value = w; stamp = t }) (sealed_by d)) v.1 in
-    subst (λ o. IsClosing journal (operations_in hs) o) (sym told) (record {
+    let told : c ≡ Some (closing_at h.instance t v.0) = is ∙ ap (λ d. option_map (closing_at h.instance t) (sealed_by d)) v.1 in
+    let seal : IsFirstSeal journal (operations_in hs) (closing_at h.instance t v.0) = record {
       seals = l.seals;
       before = l.before;
-      last = l.last ∙ ap (λ d. l.before ++ (record { instance = h.instance; command = d } ∷ [])) v.1;
+      last = l.last ∙ ap (λ d. l.before ++ (operation_at h.instance d ∷ [])) v.1;
       stamp = least;
-    })
+    } in
+    subst (λ (o : Option Closing). IsClosing journal (operations_in hs) o) (sym told) seal
 
-pub open_is : (journal : Journals) (hs : List Happening) (o : Option Happening) → o ≡ first_sealing hs → o ≡ None → IsClosing journal (operations_in hs) None
-open_is journal hs o first none = no_line hs (sym first ∙ none)
+pub closing_told : (journal : Journals) (hs : List Happening) (h : Happening) (t : ℕ) (r : Result (Option Closing) AllocError) → first_sealing hs ≡ Some h → IsLeastStamp journal h.instance t → IfOk r (λ c. c ≡ closing_by h t) →
+    IfOk r (λ c. IsClosing journal (operations_in hs) c)
+closing_told journal hs h t (Ok c) first least is = closing_is journal hs h t c first least is
+closing_told journal hs h t (Err e) first least is = tt
 
 -- each line is of an instance that an entry executes
 pub line_executed : (base : Store) (f : ℕ) (journal : Journals) (lines : List Happening) → AreLocalRuns base f journal → ((s : List Scheduled) → IsSchedule journal s → lines ≡ lines_in (agreed base f journal) [] s) →
@@ -99,8 +109,8 @@ line_executed base f journal lines runs are h there =
 
 -- a no-op does nothing
 pub nothing_done : (s : Store) (c : Command) → is_noop c ≡ true → s ≡ after s c
-nothing_done s c e = go s.seal refl
+nothing_done s c e = sym (ap (λ d. after s d) (noop_is c e) ∙ go s.seal refl)
   where
-    go : (o : Option (List ℕ)) → s.seal ≡ o → s ≡ after s c
-    go None is = sym (ap (λ d. after s d) (noop_is c e) ∙ ap (λ o. after_under o s.contents Noop) is ∙ ap (λ o. record { contents = s.contents; seal = o }) (sym is))
-    go (Some v) is = sym (ap (λ o. after_under o s.contents c) is ∙ ap (λ o. record { contents = s.contents; seal = o }) (sym is))
+    go : (o : Option (List ℕ)) → s.seal ≡ o → after s Noop ≡ s
+    go None is = ap (λ o. after_under o s.contents Noop) is ∙ ap (λ o. map_of s.contents o) (sym is)
+    go (Some v) is = ap (λ o. after_under o s.contents Noop) is ∙ ap (λ o. map_of s.contents o) (sym is)

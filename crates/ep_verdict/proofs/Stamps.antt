@@ -1,6 +1,6 @@
 -- The least stamp of the entries that execute an instance.
-use Rattle.std.proofs.Common.{◌≡◌, ◌≢◌, ◌≤◌, ◌<◌, ℕ, zero, suc, Bool, true, false, cond, ltb, ◌||◌, ◌==◌, ◌⊎◌, inl, inr, Option, Some, None, List, [], ◌∷◌, refl, sym, ap, subst, ◌∙◌, arith}
-use Rattle.std.proofs.lemmas.Bool.{false≢true, cases_Bool, cases_lt}
+use Rattle.std.proofs.Common.{◌≡◌, ◌≤◌, ◌<◌, ℕ, zero, suc, Bool, true, false, cond, eqb, ltb, ◌⊎◌, inl, inr, Option, Some, None, List, [], ◌∷◌, refl, sym, ap, subst, ◌∙◌, arith}
+use Rattle.std.proofs.lemmas.Bool.{false≢true, cases_lt, eqb-false, eqb-true, ltb-false, ltb-true}
 use Rattle.std.specs.Option.{is_some}
 use Rattle.ep_base.specs.Places.{place, Has}
 use Rattle.ep_base.specs.Quorums.{size}
@@ -21,22 +21,20 @@ was_found i (d ∷ ds) = was_found i ds
 
 pub among_has : (i : ℕ) (ds : List (ℕ × Answer)) → Has (order_of ds) i → is_among i ds false ≡ true
 among_has i [] h = absurd (omega arith)
-among_has i (d ∷ ds) h = go (d.0 == i) refl (has_cons d.0 i (order_of ds) h)
+among_has i (d ∷ ds) h = go (eqb d.0 i) refl (has_cons d.0 i (order_of ds) h) (among_has i ds)
   where
-    go : (b : Bool) → (d.0 == i) ≡ b → (d.0 ≡ i) ⊎ Has (order_of ds) i → is_among i ds b ≡ true
-    go true e h = was_found i ds
-    go false e (inl is) = absurd (grind (arith, e, is))
-    go false e (inr t) = among_has i ds t
+    go : (b : Bool) → eqb d.0 i ≡ b → (d.0 ≡ i) ⊎ Has (order_of ds) i → (Has (order_of ds) i → is_among i ds false ≡ true) → is_among i ds b ≡ true
+    go true e h rec = was_found i ds
+    go false e (inl is) rec = absurd (eqb-false d.0 i e is)
+    go false e (inr t) rec = rec t
 
 pub has_among : (i : ℕ) (ds : List (ℕ × Answer)) → is_among i ds false ≡ true → Has (order_of ds) i
 has_among i [] h = absurd (false≢true h)
-has_among i (d ∷ ds) h = go (d.0 == i) refl h
+has_among i (d ∷ ds) h = go (eqb d.0 i) refl h (has_among i ds)
   where
-    go : (b : Bool) → (d.0 == i) ≡ b → is_among i ds b ≡ true → Has (d.0 ∷ order_of ds) i
-    go true e k =
-        let is : d.0 ≡ i = grind (arith, e) in
-        subst (λ z. Has (d.0 ∷ order_of ds) z) is (let p = place_head d.0 (order_of ds) in omega arith)
-    go false e k = has_tail d.0 i (order_of ds) (has_among i ds k)
+    go : (b : Bool) → eqb d.0 i ≡ b → is_among i ds b ≡ true → (is_among i ds false ≡ true → Has (order_of ds) i) → Has (d.0 ∷ order_of ds) i
+    go true e k rec = subst (λ z. Has (d.0 ∷ order_of ds) z) (eqb-true d.0 i e) (let p = place_head d.0 (order_of ds) in omega arith)
+    go false e k rec = has_tail d.0 i (order_of ds) (rec k)
 
 -- The least one.
 
@@ -46,24 +44,25 @@ pub record IsWithin (best : Option ℕ) (t : ℕ) : Type 0 where
   pub is : best ≡ Some stamp
   pub most : stamp ≤ t
 
+within_lesser : (b s t : ℕ) → (b ≤ t) ⊎ (s ≤ t) → IsWithin (cond (ltb s b) (Some s) (Some b)) t
+within_lesser b s t h = go (ltb s b) refl h
+  where
+    go : (c : Bool) → ltb s b ≡ c → (b ≤ t) ⊎ (s ≤ t) → IsWithin (cond c (Some s) (Some b)) t
+    go true e (inl old) = let lt = ltb-true s b e in record { stamp = s; is = refl; most = omega arith }
+    go true e (inr new) = record { stamp = s; is = refl; most = new }
+    go false e (inl old) = record { stamp = b; is = refl; most = old }
+    go false e (inr new) = let le = ltb-false s b e in record { stamp = b; is = refl; most = omega arith }
+
 lesser_old : (best : Option ℕ) (t s : ℕ) → IsWithin best t → IsWithin (lesser best s) t
 lesser_old None t s w = (let e = w.is in absurd (cc))
 lesser_old (Some b) t s w =
     let same : b ≡ w.stamp = (let e = w.is in cc) in
-    go (ltb s b) (cases_lt s b)
-  where
-    go : (c : Bool) → (s < b) ⊎ (b ≤ s) → IsWithin (cond (ltb s b) (Some s) (Some b)) t
-    go c k = elim k [
-      | inl lt ↦ record { stamp = s; is = grind (arith, lt); most = (let m = w.most in let e : b ≡ w.stamp = (let q = w.is in cc) in omega arith) }
-      | inr le ↦ record { stamp = b; is = grind (arith, le); most = (let m = w.most in let e : b ≡ w.stamp = (let q = w.is in cc) in omega arith) }
-    ]
+    let most : b ≤ t = (let m = w.most in omega arith) in
+    within_lesser b s t (inl most)
 
 lesser_new : (best : Option ℕ) (s : ℕ) → IsWithin (lesser best s) s
 lesser_new None s = record { stamp = s; is = refl; most = omega arith }
-lesser_new (Some b) s = elim (cases_lt s b) [
-  | inl lt ↦ record { stamp = s; is = grind (arith, lt); most = omega arith }
-  | inr le ↦ record { stamp = b; is = grind (arith, le); most = le }
-]
+lesser_new (Some b) s = within_lesser b s s (inr (omega arith))
 
 lesser_one : (best : Option ℕ) (s u : ℕ) → lesser best s ≡ Some u → (best ≡ Some u) ⊎ (s ≡ u)
 lesser_one None s u e = inr (cc)
@@ -94,7 +93,7 @@ module _ (i : ℕ) where
   within (x ∷ es) best e (inl is) h =
       let found : is_among i x.done false ≡ true = among_has i x.done (subst (λ (z : Entry). Has (order_of z.done) i) (sym is) h) in
       let new : IsWithin (cond (is_among i x.done false) (lesser best x.stamp) best) e.stamp =
-          subst (λ b. IsWithin (cond b (lesser best x.stamp) best) e.stamp) (sym found) (subst (λ (z : Entry). IsWithin (lesser best x.stamp) z.stamp) is (lesser_new best x.stamp)) in
+      subst (λ b. IsWithin (cond b (lesser best x.stamp) best) e.stamp) (sym found) (subst (λ (z : Entry). IsWithin (lesser best x.stamp) z.stamp) is (lesser_new best x.stamp)) in
       still_within es (cond (is_among i x.done false) (lesser best x.stamp) best) e.stamp new
   within (x ∷ es) best e (inr k) h = within es (cond (is_among i x.done false) (lesser best x.stamp) best) e k h
 

@@ -42,7 +42,13 @@ fn lesser(best: Option<Stamp>, stamp: Stamp) -> Option<Stamp>
 {
     match best {
         None => Some(stamp),
-        Some(other) => { if stamp < other { Some(stamp) } else { Some(other) } }
+        Some(other) => {
+            if stamp < other {
+                Some(stamp)
+            } else {
+                Some(other)
+            }
+        }
     }
 }
 

@@ -1,5 +1,6 @@
+use Rattle.ep_bundle.proofs.ReadHeaders.{header_ends, opens_as}
 use Rattle.ep_bundle.proofs.Readings.{fails, goes_on}
-use Rattle.ep_bundle.proofs.headers.read_header.Goals as goal
+use Rattle.ep_bundle.proofs.headers.read_header_of.Goals as goal
 
 pub returns-in_err-field_u32-clause-bytes : goal.returns-in_err-field_u32-clause-bytes
 returns-in_err-field_u32-clause-bytes g c = λ y0 e0. fails _ _ _ _ _ _ _ _ (c.in_err-field_u32.ensures.bytes y0 e0) c.from_residual.ensures.1
@@ -18,3 +19,12 @@ returns-in_err-receipts-clause-bytes g c = λ y0 e0. goes_on _ _ _ _ _ _ _ _ (c.
 
 pub returns-in_err-contents-clause-bytes : goal.returns-in_err-contents-clause-bytes
 returns-in_err-contents-clause-bytes g c = λ y0 e0. goes_on _ _ _ _ _ _ _ _ (c.in_ok-field_u32.ensures.bytes y0 e0) (λ y1 e1. goes_on _ _ _ _ _ _ _ _ (c.in_ok-number.ensures.bytes y1 e1) (λ y2 e2. goes_on _ _ _ _ _ _ _ _ (c.in_ok-cluster.ensures.bytes y2 e2) (λ y3 e3. goes_on _ _ _ _ _ _ _ _ (c.in_ok-edition.ensures.bytes y3 e3) (λ y4 e4. goes_on _ _ _ _ _ _ _ _ (c.in_ok-receipts.ensures.bytes y4 e4) (λ y5 e5. fails _ _ _ _ _ _ _ _ (c.in_err-contents.ensures.bytes y5 e5) c.from_residual-in_err-contents.ensures.1)))))
+
+pub returns-clause-bytes : goal.returns-clause-bytes
+returns-clause-bytes g c = λ y0 e0.
+    goes_on _ _ _ _ _ _ _ _ (c.in_ok-field_u32.ensures.bytes y0 e0) (λ y1 e1. goes_on _ _ _ _ _ _ _ _ (c.in_ok-number.ensures.bytes y1 e1) (λ y2 e2. goes_on _ _ _ _ _ _ _ _ (c.in_ok-cluster.ensures.bytes y2 e2)
+    (λ y3 e3. goes_on _ _ _ _ _ _ _ _ (c.in_ok-edition.ensures.bytes y3 e3) (λ y4 e4. goes_on _ _ _ _ _ _ _ _ (c.in_ok-receipts.ensures.bytes y4 e4) (λ y5 e5. goes_on _ _ _ _ _ _ _ _ (c.in_ok-contents.ensures.bytes y5 e5)
+    (λ y6 e6. header_ends c.in_ok-edition.edition.0 c.in_ok-cluster.cluster c.in_ok-receipts.receipts c.in_ok-contents.contents c.in_ok-edition.edition.1 c.in_default.opening c.read_map.new.place y6 (g.S.Source.left c.read_map.new.source) e6 c.in_default.ensures.value))))))
+
+pub returns-clause-opens : goal.returns-clause-opens
+returns-clause-opens g c = opens_as c.in_ok-edition.edition.0 c.in_ok-contents.contents c.in_ok-edition.edition.1 c.in_default.opening c.in_default.ensures.value c.in_ok-edition.ensures.starts c.in_ok-contents.ensures.holds
