@@ -1,5 +1,5 @@
 -- Commands: each took its own bytes, the lengths as its version tells them and the parts as all do.
-use Rattle.std.proofs.Common.{◌≡◌, ℕ, ◌+◌, ◌≤◌, ◌<◌, ◌^◌, Bool, true, false, ◌&&◌, not, cond, leb, List, [], ◌∷◌, ◌++◌, length, length-append, append-nil, append_assoc, Option, Some, None, Ok, Err, refl, sym, ap, ◌∙◌, subst, arith}
+use Rattle.std.proofs.Common.{◌≡◌, ℕ, ◌+◌, ◌≤◌, ◌<◌, ◌^◌, Bool, true, false, ◌&&◌, not, cond, leb, List, [], ◌∷◌, ◌++◌, length, length-append, append-nil, append_assoc, Option, Some, None, Result, Ok, Err, refl, sym, ap, ◌∙◌, subst, arith}
 use Rattle.std.proofs.lemmas.Bool.{leb-true}
 use Rattle.ep_base.specs.Commands.{Command}
 use Rattle.ep_base.specs.Ops.{op_number, first_fits, second_fits, body_fits}
@@ -17,6 +17,7 @@ use Rattle.ep_bundle.specs.Bytes.{command_bytes, length_bytes, part_bytes}
 use Rattle.ep_bundle.specs.Reading.{Left, Reading, Reads, and_then, run, number, field}
 use Rattle.ep_bundle.specs.Stages.{AreLengths, allowed, allowed_run, body_in, command, early_fits, early_lengths, lengths, op, other_lengths, parts, second_in}
 use Rattle.ep_bundle.specs.Writing.{CommandFits}
+use Rattle.ep_bundle.specs.declared.bundle_fault.BundleFault.{BundleFault}
 use Rattle.ep_bundle.specs.declared.bundle_fault.BundleFault.TheVariants.{BadBundle}
 use Rattle.ep_bundle.specs.declared.lengths.Lengths.{Lengths}
 use Rattle.ep_bundle.proofs.ReadNumbers.{Gives, Comes, Ranges, done, step, last, other, whole, choice, refused, run_gives, number_gives, field_gives}
@@ -200,6 +201,10 @@ command_gives v l h =
 
 abbrev finished : Op → List ℕ → List ℕ → ℕ → Left → Reading Command
 finished o k m n l = and_then (allowed_run n (body_said o) l) (λ b l. Ok (command_with o k m b, l))
+
+-- a second key that is compared with the first one as it was lent
+pub second_as : (k k' : List ℕ) (n : ℕ) (l : Left) (r : Result (List ℕ) BundleFault) (p : ℕ) (left : Option (List ℕ)) → k' ≡ k → Reads (allowed_run n (λ m. not (is_twice k' m)) l) r p left → Reads (allowed_run n (λ m. not (is_twice k m)) l) r p left
+second_as k k' n l r p left is h = subst (λ x. Reads (allowed_run n (λ m. not (is_twice x m)) l) r p left) is h
 
 pub body_read : (o : Op) (k m b k' m' b' : List ℕ) (n : ℕ) (c : Command) (l : Left) (p : ℕ) (left : Option (List ℕ)) → k' ≡ k → m' ≡ m → b' ≡ b → Reads (run n l) (Ok b) p left
     → Some c ≡ command_of (record { op = o; first = k'; second = m'; body = b' }) → Reads (finished o k m n l) (Ok c) p left
