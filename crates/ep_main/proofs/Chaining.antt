@@ -2,6 +2,7 @@
 use Rattle.std.proofs.Common.{◌≡◌, ◌⊎◌, ◌<◌, ◌^◌, inl, inr, ℕ, zero, suc, List, [], ◌∷◌, ◌++◌, Option, Some, None, Result, Ok, Err, IfOk, length, get_or, map, slice_get, slice_index_or, take, append-nil, append_assoc, refl, sym, ap, subst, ◌∙◌, arith}
 use Rattle.std.specs.Prelude.{All, IfErr}
 use Rattle.std.specs.FinMap.{entries}
+use Rattle.std.proofs.lemmas.List.Elements.{All-append}
 use Rattle.std.proofs.lemmas.Option.{slice_get-get_or}
 use Rattle.ep_assemble.specs.Files.{IsOfFile}
 use Rattle.ep_assemble.specs.declared.files.FilesFault.{FilesFault}
@@ -14,7 +15,7 @@ use Rattle.ep_bundle.specs.declared.bundle_fault.BundleFault.TheVariants as bund
 use Rattle.ep_report.specs.declared.chain_fault.ChainFault.{ChainFault}
 use Rattle.ep_verdict.specs.declared.verdict.Verdict.{Verdict}
 use Rattle.ep_main.specs.ChainLines.{IsRefusal}
-use Rattle.ep_main.specs.Chains.{Chains, EndsOfFiles, IsBadFile, IsLinkOf, IsNoFile, IsNoLink, IsStopped, IsToldChain, IsWritten, ReadsLate, SaysOfChain, TurnsAway, file_line, link_text, links_text}
+use Rattle.ep_main.specs.Chains.{AreRead, Chains, EndsOfFiles, IsBadFile, IsOfBytes, IsLinkOf, IsNoFile, IsNoLink, IsStopped, IsToldChain, IsWritten, ReadsLate, SaysOfChain, TurnsAway, file_line, link_text, links_text}
 use Rattle.ep_main.specs.Outputs.{Output, Told, WroteNothing}
 use Rattle.ep_main.specs.Runs.{Concludes}
 use Rattle.ep_main.specs.declared.fault.Fault.{Fault}
@@ -28,19 +29,19 @@ abbrev FoundNone : List ℕ → BundleFault → ℕ → Option (List ℕ) → Ty
 FoundNone zs fault place left = Finds (ReadsLate zs) (Err fault) place left
 
 bad_file :
-    (name zs line : List ℕ) (fault : BundleFault) (place : ℕ) (left : Option (List ℕ)) → (fault ≡ bundle.Memory → ⊥) → (fault ≡ bundle.ReadFailed → ⊥) → FoundNone zs fault place left →
-    line ≡ file_line name fault → IsBadFile name zs line
-bad_file name zs line bundle.Memory place left other failed found told = absurd (other refl)
-bad_file name zs line bundle.ReadFailed place left other failed found told = absurd (failed refl)
-bad_file name zs line (bundle.BadBundle offset) place left other failed found told = record { fault = bundle.BadBundle offset; of = tt; read = found; told = told }
-bad_file name zs line (bundle.NotARun replica entry) place left other failed found told = record { fault = bundle.NotARun replica entry; of = tt; read = found; told = told }
+    (name zs line : List ℕ) (fault : BundleFault) (place : ℕ) (left : Option (List ℕ)) → IsOfBytes fault → FoundNone zs fault place left → line ≡ file_line name fault →
+    IsBadFile name zs line
+bad_file name zs line bundle.Memory place left of found told = absurd of
+bad_file name zs line bundle.ReadFailed place left of found told = absurd of
+bad_file name zs line (bundle.BadBundle offset) place left of found told = record { fault = bundle.BadBundle offset; of = tt; read = found; told = told }
+bad_file name zs line (bundle.NotARun replica entry) place left of found told = record { fault = bundle.NotARun replica entry; of = tt; read = found; told = told }
 
 pub no_link :
-    (name zs : List ℕ) (fault : BundleFault) (place : ℕ) (left : Option (List ℕ)) (f : FilesFault) → (fault ≡ bundle.Memory → ⊥) → (fault ≡ bundle.ReadFailed → ⊥) →
-    FoundNone zs fault place left → IsRefusal name fault f → IsNoLink name zs f
-no_link name zs fault place left files.Memory other failed found told = tt
-no_link name zs fault place left (files.ReadFailed line) other failed found told = absurd told
-no_link name zs fault place left (files.Refused line) other failed found told = bad_file name zs line.items fault place left other failed found told
+    (name zs : List ℕ) (fault : BundleFault) (place : ℕ) (left : Option (List ℕ)) (f : FilesFault) → IsOfBytes fault → FoundNone zs fault place left → IsRefusal name fault f →
+    IsNoLink name zs f
+no_link name zs fault place left files.Memory of found told = tt
+no_link name zs fault place left (files.ReadFailed line) of found told = absurd told
+no_link name zs fault place left (files.Refused line) of found told = bad_file name zs line.items fault place left of found told
 
 no_file : (name zs : List ℕ) (f : FilesFault) → IsNoLink name zs f → IsNoFile name f
 no_file name zs files.Memory h = tt
@@ -156,3 +157,12 @@ ends_stopped names files.Memory result out fault is turns kept = subst (λ s. En
 ends_stopped names (files.ReadFailed line) result out fault (name, named, same) turns kept =
     subst (λ s. EndsOfFiles s out fault) (sym turns.0) (inr (kept, (name, subst (Told fault) same turns.1)))
 ends_stopped names (files.Refused line) result out fault is turns kept = subst (λ s. EndsOfFiles s out fault) (sym turns.0) kept
+
+-- one more was read
+
+all_one : (l : Link) → (zs : List ℕ) × IsLinkOf zs l → AreRead (l ∷ [])
+all_one l read zero d less = read
+all_one l read (suc k) d less = absurd (omega arith)
+
+pub read_more : (ls : List Link) (l : Link) → AreRead ls → (zs : List ℕ) × IsLinkOf zs l → AreRead (ls ++ l ∷ [])
+read_more ls l read one = All-append (λ (x : Link). (zs : List ℕ) × IsLinkOf zs x) ls (l ∷ []) read (all_one l one)

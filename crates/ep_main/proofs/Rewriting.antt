@@ -56,15 +56,15 @@ pub in_third :
     (AreBytes zs → zs ≡ bundle_bytes journals receipts) → Wrote out text → IsEarlyInThird zs out ⊎ IsLateAsItIs zs out
 in_third journals receipts zs text end out read early late canonical wrote = ⊎_elim
     (λ (low : version_number journals.version < 3).
-        inl (record { journals = journals; receipts = receipts; end = end; read = read; early = omega arith; text = text; third = early (omega arith); wrote = wrote }))
+    inl (record { journals = journals; receipts = receipts; end = end; read = read; early = omega arith; text = text; third = early (omega arith); wrote = wrote }))
     (λ (high : 3 ≤ version_number journals.version). inr (record {
-        journals = journals;
-        receipts = receipts;
-        end = end;
-        read = read;
-        late = high;
-        wrote = subst (Wrote out) (late high) wrote;
-        same = λ are. subst (Wrote out) (late high ∙ sym (canonical are)) wrote;
+      journals = journals;
+      receipts = receipts;
+      end = end;
+      read = read;
+      late = high;
+      wrote = subst (Wrote out) (late high) wrote;
+      same = λ are. subst (Wrote out) (late high ∙ sym (canonical are)) wrote;
     }))
     (cases_lt (version_number journals.version) 3)
 

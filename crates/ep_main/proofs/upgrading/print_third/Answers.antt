@@ -29,6 +29,8 @@ returns-in_err-text-clause-written g c = third_silent c.in_ok-bundle.bundle.jour
 
 pub returns-clause-rewrites : goal.returns-clause-rewrites
 returns-clause-rewrites g c zs known =
-    let found = c.in_ok-bundle.ensures.bytes zs known in
-    (refl, in_third c.in_ok-bundle.bundle.journals c.in_ok-bundle.bundle.receipts.items zs c.in_ok-text.text.items (record { at = found.0; bytes = found.1.0 }) _ found.1.2
-    c.in_ok-text.ensures.early c.in_ok-text.ensures.late (λ are. (c.in_ok-bundle.ensures.canonical zs known are).1.0) (search rules))
+    let found = c.in_ok-bundle.ensures.bytes zs known in (
+      refl,
+      in_third c.in_ok-bundle.bundle.journals c.in_ok-bundle.bundle.receipts.items zs c.in_ok-text.text.items (record { at = found.0; bytes = found.1.0 }) _ found.1.2
+          c.in_ok-text.ensures.early c.in_ok-text.ensures.late (λ are. (c.in_ok-bundle.ensures.canonical zs known are).1.0) (search rules),
+    )
