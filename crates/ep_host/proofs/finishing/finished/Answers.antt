@@ -11,3 +11,13 @@ returns-clause-size c =
     let length : vec_len c.args.journals ≡ length c.args.journals.items = c.args.journals.ok.0 in
     let same : size f ≡ vec_len c.args.journals = omega arith in
     IfOk-weaker c.audited.result (λ x. x.journals.faults ≡ f) (λ x. size x.journals.faults ≡ vec_len c.args.journals) (λ x faults. ap size faults ∙ same) c.audited.ensures.size
+
+pub returns-clause-version : goal.returns-clause-version
+returns-clause-version c =
+    let v = c.in-Ok.journals.version in
+    IfOk-weaker c.audited.result (λ x. x.journals.version ≡ v) (λ x. x.journals.version ≡ c.args.version) (λ x same. same ∙ (c.are_of.ensures c.if-not-are_of.false).0) c.audited.ensures.version
+
+pub returns-clause-opening : goal.returns-clause-opening
+returns-clause-opening c =
+    let o = c.in-Ok.journals.opening in
+    IfOk-weaker c.audited.result (λ x. x.journals.opening ≡ o) (λ x. x.journals.opening ≡ c.args.opening.now) (λ x same. same ∙ (c.are_of.ensures c.if-not-are_of.false).1) c.audited.ensures.opening
