@@ -1,5 +1,5 @@
 -- Commands: each took its own bytes, the lengths as its version tells them and the parts as all do.
-use Rattle.std.proofs.Common.{◌≡◌, ℕ, ◌+◌, ◌≤◌, ◌<◌, ◌^◌, Bool, true, false, ◌&&◌, not, cond, leb, List, [], ◌∷◌, ◌++◌, length, length-append, append-nil, append_assoc, Some, None, Ok, Err, refl, sym, ap, ◌∙◌, subst, arith}
+use Rattle.std.proofs.Common.{◌≡◌, ℕ, ◌+◌, ◌≤◌, ◌<◌, ◌^◌, Bool, true, false, ◌&&◌, not, cond, leb, List, [], ◌∷◌, ◌++◌, length, length-append, append-nil, append_assoc, Option, Some, None, Result, Ok, Err, refl, sym, ap, ◌∙◌, subst, arith}
 use Rattle.std.proofs.lemmas.Bool.{leb-true}
 use Rattle.ep_base.specs.Commands.{Command}
 use Rattle.ep_base.specs.Ops.{op_number, first_fits, second_fits, body_fits}
@@ -7,16 +7,17 @@ use Rattle.ep_base.specs.Parts.{Parts, parts_of, command_of, command_in, command
 use Rattle.ep_base.specs.declared.op.Op.{Op}
 use Rattle.ep_base.specs.declared.version.Version.{Version}
 use Rattle.ep_base.specs.declared.version_kind.VersionKind.TheVariants.{V1, V2, V3}
-use Rattle.ep_base.proofs.Partitions.{parts_law_lem}
+use Rattle.ep_base.proofs.Partitions.{fits, of_then, parts_law_lem}
 use Rattle.ep_frame.specs.Faults.{highest_op, op_of}
 use Rattle.ep_frame.specs.Fields.{number_bytes}
 use Rattle.ep_frame.specs.Spelling.{AreBytes}
 use Rattle.ep_frame.proofs.BigEndian.{IsWide, wide1, wide2, wide4}
-use Rattle.ep_frame.proofs.Saying.{IsShortIn, op_low, op_found, op_known}
+use Rattle.ep_frame.proofs.Saying.{IsShortIn, op_again, op_low, op_found, op_known, second_high}
 use Rattle.ep_bundle.specs.Bytes.{command_bytes, length_bytes, part_bytes}
-use Rattle.ep_bundle.specs.Reading.{Left, Reading, and_then, run, number, field}
+use Rattle.ep_bundle.specs.Reading.{Left, Reading, Reads, and_then, run, number, field}
 use Rattle.ep_bundle.specs.Stages.{AreLengths, allowed, allowed_run, body_in, command, early_fits, early_lengths, lengths, op, other_lengths, parts, second_in}
 use Rattle.ep_bundle.specs.Writing.{CommandFits}
+use Rattle.ep_bundle.specs.declared.bundle_fault.BundleFault.{BundleFault}
 use Rattle.ep_bundle.specs.declared.bundle_fault.BundleFault.TheVariants.{BadBundle}
 use Rattle.ep_bundle.specs.declared.lengths.Lengths.{Lengths}
 use Rattle.ep_bundle.proofs.ReadNumbers.{Gives, Comes, Ranges, done, step, last, other, whole, choice, refused, run_gives, number_gives, field_gives}
@@ -38,6 +39,12 @@ allowed_run_gives n holds l h =
     (λ b m p k. choice (holds b) (Ok (b, m)) (Err (BadBundle l.at)) (λ e. done b (append-nil b, (p.0, e))) (λ e. refused (BadBundle l.at))))
 
 -- the op
+
+pub ops_low : (v : Version) → highest_op v ≤ 9
+ops_low v = op_low v
+
+pub op_is : (o : Op) (n : ℕ) → n ≡ op_number o → o ≡ op_of n
+op_is o n is = sym (op_again o) ∙ sym (ap op_of is)
 
 op_gives : (v : Version) (l : Left) → AreBytes l.bytes → Gives (λ o. number_bytes 1 (op_number o)) (λ o. op_number o ≤ highest_op v) l (op v l)
 op_gives v l h =
@@ -65,6 +72,15 @@ pub record IsOther (v : Version) (o : Op) (k : ℕ) (s : Lengths) : Type 0 where
   pub first : s.first ≡ k
   pub fit : (second_fits o s.second ≡ true) × (body_fits o s.body ≡ true)
   pub short : IsShortIn v s.body
+
+-- the lengths that a command of version 1 or 2 tells are of its parts
+pub early_lengths_are : (o : Op) (k n : ℕ) → first_fits o k ≡ true → early_fits o n ≡ true → AreLengths (record { op = o; first = k; second = second_in o n; body = body_in o n })
+early_lengths_are o k n h e =
+    let p = both_true (second_fits o (second_in o n)) (leb (body_in o n) 1024 && body_fits o (body_in o n)) e in
+    (h, p.0, (both_true (leb (body_in o n) 1024) (body_fits o (body_in o n)) p.1).1)
+
+pub early_second : (o : Op) (n : ℕ) → early_fits o n ≡ true → second_in o n ≤ 255
+early_second o n e = second_high o (second_in o n) (both_true (second_fits o (second_in o n)) (leb (body_in o n) 1024 && body_fits o (body_in o n)) e).0
 
 divided : (b : Bool) (n : ℕ) → n ≡ cond b 0 n + cond b n 0
 divided true n = omega arith
@@ -180,3 +196,42 @@ made_bytes v s c bs told m =
 pub command_gives : (v : Version) (l : Left) → AreBytes l.bytes → Gives (command_bytes v) (CommandFits v) l (command v l)
 command_gives v l h =
     whole (step (lengths v l) parts h (lengths_gives v l h) (λ s m p hm. other (parts_comes s m p.fit hm) (λ c bs q. let r = made_bytes v s c bs p q in (r.bytes, r.fits))))
+
+-- What a call makes of the body.
+
+abbrev finished : Op → List ℕ → List ℕ → ℕ → Left → Reading Command
+finished o k m n l = and_then (allowed_run n (body_said o) l) (λ b l. Ok (command_with o k m b, l))
+
+-- a second key that is compared with the first one as it was lent
+pub second_as : (k k' : List ℕ) (n : ℕ) (l : Left) (r : Result (List ℕ) BundleFault) (p : ℕ) (left : Option (List ℕ)) → k' ≡ k → Reads (allowed_run n (λ m. not (is_twice k' m)) l) r p left → Reads (allowed_run n (λ m. not (is_twice k m)) l) r p left
+second_as k k' n l r p left is h = subst (λ x. Reads (allowed_run n (λ m. not (is_twice x m)) l) r p left) is h
+
+pub body_read : (o : Op) (k m b k' m' b' : List ℕ) (n : ℕ) (c : Command) (l : Left) (p : ℕ) (left : Option (List ℕ)) → k' ≡ k → m' ≡ m → b' ≡ b → Reads (run n l) (Ok b) p left
+    → Some c ≡ command_of (record { op = o; first = k'; second = m'; body = b' }) → Reads (finished o k m n l) (Ok c) p left
+body_read o k m b k' m' b' n c l p left ek em eb h is =
+    let here : command_of (record { op = o; first = k; second = m; body = b }) ≡ Some c = (λ t. command_of (record { op = o; first = sym ek t; second = sym em t; body = sym eb t })) ∙ sym is in
+    let t = of_then (record { op = o; first = k; second = m; body = b }) c here in
+    let f = fits o k m b t.0 in (
+      h.0,
+      h.1,
+      ap (λ (r : Reading (List ℕ)). and_then (and_then r (λ b l'. cond (body_said o b) (Ok (b, l')) (Err (BadBundle l.at)))) (λ b l. Ok (command_with o k m b, l))) h.2
+          ∙ ap (λ (x : Bool). and_then (cond x (Ok (b, record { at = p; bytes = h.0 })) (Err (BadBundle l.at))) (λ b l. Ok (command_with o k m b, l))) f.said
+          ∙ ap (λ (x : Command). Ok (x, record { at = p; bytes = h.0 })) t.1,
+    )
+
+none_said : (s : Lengths) (k m b : List ℕ) → AreLengths s → length k ≡ s.first → length m ≡ s.second → length b ≡ s.body → is_twice k m ≡ false → command_of (record { op = s.op; first = k; second = m; body = b }) ≡ None → body_said s.op b ≡ false
+none_said s k m b fit ek em eb once none = go (body_said s.op b) refl
+  where
+    go : (x : Bool) → body_said s.op b ≡ x → x ≡ false
+    go false is = refl
+    go true is =
+        let some : command_of (record { op = s.op; first = k; second = m; body = b }) ≡ Some (command_with s.op k m b) = (made s k m b fit ek em eb (ap not once) is).is in
+        absurd (let t : None ≡ Some (command_with s.op k m b) = sym none ∙ some in (cc))
+
+pub body_unread : (s : Lengths) (k m b k' m' b' : List ℕ) (l : Left) (p : ℕ) (left : Option (List ℕ)) → AreLengths s → k' ≡ k → m' ≡ m → b' ≡ b → length k ≡ s.first → length m ≡ s.second → length b ≡ s.body → is_twice k' m ≡ false
+    → Reads (run s.body l) (Ok b) p left → None ≡ command_of (record { op = s.op; first = k'; second = m'; body = b' }) → finished s.op k m s.body l ≡ Err (BadBundle l.at)
+body_unread s k m b k' m' b' l p left fit ek em eb lk lm lb once h none =
+    let here : command_of (record { op = s.op; first = k; second = m; body = b }) ≡ None = (λ t. command_of (record { op = s.op; first = sym ek t; second = sym em t; body = sym eb t })) ∙ sym none in
+    let said : body_said s.op b ≡ false = none_said s k m b fit lk lm lb ((λ t. is_twice (sym ek t) m) ∙ once) here in
+    ap (λ (r : Reading (List ℕ)). and_then (and_then r (λ b l'. cond (body_said s.op b) (Ok (b, l')) (Err (BadBundle l.at)))) (λ b l. Ok (command_with s.op k m b, l))) h.2
+    ∙ ap (λ (x : Bool). and_then (cond x (Ok (b, record { at = p; bytes = h.0 })) (Err (BadBundle l.at))) (λ b l. Ok (command_with s.op k m b, l))) said

@@ -1,18 +1,18 @@
 //! Commands: an op, the lengths of its parts, and these, one after the other. The versions tell the lengths differently, and nothing else.
 
-ghost use Rattle.std.specs.Prelude.{◌≡◌, not, ℕ, List, Some, IfOk, true, false, length};
+ghost use Rattle.std.specs.Prelude.{◌≡◌, ◌≤◌, not, ℕ, List, Some, IfOk, true, false, length};
 ghost use Rattle.ep_base.specs.Devices.{FailsAsTold};
 ghost use Rattle.ep_base.specs.Ops.{first_fits, second_fits, body_fits};
-ghost use Rattle.ep_base.specs.Parts.{is_twice};
-ghost use Rattle.ep_frame.specs.Faults.{highest_op};
-ghost use Rattle.ep_bundle.specs.Reading.{is_read_failed, map_ok, Reads};
+ghost use Rattle.ep_base.specs.Parts.{command_of, is_twice};
+ghost use Rattle.ep_frame.specs.Faults.{highest_op, op_of};
+ghost use Rattle.ep_bundle.specs.Reading.{field, is_read_failed, map_ok, Reads};
 ghost use Rattle.ep_bundle.specs.Stages.{AreLengths, allowed, allowed_run, body_in, command, early_fits, early_lengths, lengths, op as op_of_command, other_lengths, parts, second_in};
 
 use crate::bundle_fault::BundleFault;
 use crate::fields::{field_u8, read_run, read_u8, read_u16, read_u32};
 use crate::lengths::Lengths;
 use ep_base::{Command, CommandFault, Op, Source, Version, VersionKind};
-use std::alloc::Global;
+use std::alloc::{AllocError, Global};
 
 /// The highest op: version 1 has no swap, which is 5, and versions 1 and 2 have none of those from 6 on.
 fn highest_op(version: Version) -> u8
@@ -25,17 +25,39 @@ fn highest_op(version: Version) -> u8
     }
 }
 
-/// The op of a command of the version; a no-op isn't proposed.
+/// The number of an op of a command of the version; a no-op, which is 1, isn't proposed.
+#[tactic(auto, using(crate::proofs::ReadCommands::ops_low))]
+fn read_op_number<S: Source>(
+    source: &mut S,
+    place: &mut u64,
+    version: Version,
+) -> Result<u8, BundleFault>
+    ensures bytes { (zs : List ℕ) → S.left source.old ≡ Some zs → Reads (field 1 2 (highest_op version) (record { at = place.old; bytes = zs })) result place.new (S.left source.new) }
+    ensures range { IfOk result (λ n. (1 ≤ n) × (n ≤ 9)) }
+    ensures told { FailsAsTold is_read_failed result (S.has_failed source.old) (S.has_failed source.new) }
+{
+    field_u8(source, place, 2, highest_op(version))
+}
+
+/// The op of this number.
+#[tactic(auto, using(crate::proofs::ReadCommands::op_is))]
+fn known_op(number: u8) -> Op
+    requires { (1 ≤ number) × (number ≤ 9) }
+    ensures { result ≡ op_of number }
+{
+    match Op::of_number(number) {
+        Some(op) => op,
+        None => Op::Noop,
+    }
+}
+
+/// The op of a command of the version.
 fn read_op<S: Source>(source: &mut S, place: &mut u64, version: Version) -> Result<Op, BundleFault>
     ensures bytes { (zs : List ℕ) → S.left source.old ≡ Some zs → Reads (op_of_command version (record { at = place.old; bytes = zs })) result place.new (S.left source.new) }
     ensures told { FailsAsTold is_read_failed result (S.has_failed source.old) (S.has_failed source.new) }
 {
-    let at = *place;
-    let number = field_u8(source, place, 2, highest_op(version))?;
-    match Op::of_number(number) {
-        Some(op) => Ok(op),
-        None => Err(BundleFault::BadBundle(at)),
-    }
+    let number = read_op_number(source, place, version)?;
+    Ok(known_op(number))
 }
 
 /// How many bytes the op's first key has.
@@ -119,6 +141,20 @@ fn early_of(op: Op, first: u8, len: u16) -> Lengths
     }
 }
 
+/// How many bytes follow the first key in version 1 or 2.
+fn read_early_len<S: Source>(source: &mut S, place: &mut u64, op: Op) -> Result<u16, BundleFault>
+    ensures bytes { (zs : List ℕ) → S.left source.old ≡ Some zs → Reads (allowed 2 (early_fits op) (record { at = place.old; bytes = zs })) result place.new (S.left source.new) }
+    ensures told { FailsAsTold is_read_failed result (S.has_failed source.old) (S.has_failed source.new) }
+    ensures fits { IfOk result (λ n. early_fits op n ≡ true) }
+{
+    let at = *place;
+    let len = read_u16(source, place)?;
+    if !early_fits(op, len) {
+        return Err(BundleFault::BadBundle(at));
+    }
+    Ok(len)
+}
+
 /// The lengths of a command of version 1 or 2, after that of its first key.
 fn read_early_lengths<S: Source>(
     source: &mut S,
@@ -131,11 +167,7 @@ fn read_early_lengths<S: Source>(
     ensures told { FailsAsTold is_read_failed result (S.has_failed source.old) (S.has_failed source.new) }
     ensures fit { IfOk result (λ s. AreLengths s) }
 {
-    let at = *place;
-    let len = read_u16(source, place)?;
-    if !early_fits(op, len) {
-        return Err(BundleFault::BadBundle(at));
-    }
+    let len = read_early_len(source, place, op)?;
     Ok(early_of(op, first, len))
 }
 
@@ -216,10 +248,28 @@ fn read_second<S: Source>(
 {
     let at = *place;
     let second = read_run(alloc, source, place, len as usize)?;
-    if is_twice(first, &second) {
+    let twice = is_twice(first, &second);
+    if twice {
         return Err(BundleFault::BadBundle(at));
     }
     Ok(second)
+}
+
+/// The command of these parts, if they are one's.
+fn command_made(
+    alloc: Global,
+    op: Op,
+    first: &[u8],
+    second: &[u8],
+    body: &[u8],
+) -> Result<Option<Command>, AllocError>
+    ensures { IfOk result (λ c. c ≡ command_of (record { op = op; first = first.now; second = second.now; body = body.now })) }
+{
+    match Command::of_parts(alloc, op, first, second, body) {
+        Ok(command) => Ok(Some(command)),
+        Err(CommandFault::OutOfRange) => Ok(None),
+        Err(CommandFault::Memory) => Err(AllocError),
+    }
 }
 
 /// The parts of a command, of these lengths.
@@ -233,20 +283,17 @@ fn read_parts<S: Source>(
     ensures bytes { (zs : List ℕ) → S.left source.old ≡ Some zs → Reads (parts lengths (record { at = place.old; bytes = zs })) result place.new (S.left source.new) }
     ensures told { FailsAsTold is_read_failed result (S.has_failed source.old) (S.has_failed source.new) }
 {
-    let Lengths {
-        op,
-        first,
-        second,
-        body,
-    } = lengths;
-    let first = read_run(alloc, source, place, first as usize)?;
-    let second = read_second(alloc, source, place, &first, second)?;
+    let first = read_run(alloc, source, place, lengths.first as usize)?;
+    let first_key = first.as_slice();
+    let second = read_second(alloc, source, place, first_key, lengths.second)?;
+    let second_key = second.as_slice();
     let at = *place;
-    let body = read_run(alloc, source, place, body as usize)?;
-    match Command::of_parts(alloc, op, &first, &second, &body) {
-        Ok(command) => Ok(command),
-        Err(CommandFault::Memory) => Err(BundleFault::Memory),
-        Err(CommandFault::OutOfRange) => Err(BundleFault::BadBundle(at)),
+    let body = read_run(alloc, source, place, lengths.body as usize)?;
+    let bytes = body.as_slice();
+    let made = command_made(alloc, lengths.op, first_key, second_key, bytes)?;
+    match made {
+        Some(command) => Ok(command),
+        None => Err(BundleFault::BadBundle(at)),
     }
 }
 

@@ -75,6 +75,7 @@ pub fn read_run<S: Source>(
     len: usize,
 ) -> Result<Vec<u8>, BundleFault>
     ensures bytes { (zs : List ℕ) → S.left source.old ≡ Some zs → Reads (run len (record { at = place.old; bytes = zs })) (map_ok (λ v. v.items) result) place.new (S.left source.new) }
+    ensures long { IfOk result (λ v. length v.items ≡ len) }
     ensures told { FailsAsTold is_read_failed result (S.has_failed source.old) (S.has_failed source.new) }
 {
     let mut bytes = vec![in alloc; 0; len]?;

@@ -136,6 +136,18 @@ fn highest_code(version: Version) -> u8
     }
 }
 
+/// The code of an answer.
+fn read_code<S: Source>(
+    source: &mut S,
+    place: &mut u64,
+    version: Version,
+) -> Result<u8, BundleFault>
+    ensures bytes { (zs : List ℕ) → S.left source.old ≡ Some zs → Reads (field 1 0 (highest_code version) (record { at = place.old; bytes = zs })) result place.new (S.left source.new) }
+    ensures told { FailsAsTold is_read_failed result (S.has_failed source.old) (S.has_failed source.new) }
+{
+    field_u8(source, place, 0, highest_code(version))
+}
+
 /// An answer.
 pub(crate) fn read_answer<S: Source>(
     alloc: Global,
@@ -146,6 +158,6 @@ pub(crate) fn read_answer<S: Source>(
     ensures bytes { (zs : List ℕ) → S.left source.old ≡ Some zs → Reads (answer version (record { at = place.old; bytes = zs })) result place.new (S.left source.new) }
     ensures told { FailsAsTold is_read_failed result (S.has_failed source.old) (S.has_failed source.new) }
 {
-    let code = field_u8(source, place, 0, highest_code(version))?;
+    let code = read_code(source, place, version)?;
     read_reply(alloc, source, place, version, code)
 }

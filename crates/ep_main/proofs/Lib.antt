@@ -1,4 +1,5 @@
 mod Bundling
+mod Chaining
 mod Choosing
 pub mod Ending
 mod Flags

@@ -1,5 +1,5 @@
 -- What `clap` makes of the words that ask for something.
-use Rattle.std.proofs.Common.{◌≡◌, ◌⊎◌, inl, inr, List, [], ◌∷◌, map, string_bytes, Option, Some, None, Result, Ok, Err, MatchResult, IfOk, true, codes, refl, sym, ap, ap₂, subst, ◌∙◌, option_map}
+use Rattle.std.proofs.Common.{◌≡◌, ◌⊎◌, inl, inr, List, [], ◌∷◌, map, string_bytes, Option, Some, None, Result, Ok, Err, MatchResult, IfOk, Bool, true, false, codes, refl, sym, ap, ap₂, subst, ◌∙◌, option_map}
 use Rattle.clap.specs.Matches.{found_of, subcommand_name_of}
 use Rattle.clap.specs.Walk.{Row, Text, all_of, first_of, rows_of}
 use Rattle.clap.specs.declared.parser.matches.ArgMatches.{ArgMatches}
@@ -15,7 +15,7 @@ use Rattle.clap.specs.Kinds.{IsAmong}
 use Rattle.clap.specs.Takes.{takes}
 use Rattle.clap.proofs.OnLiterals.{clap_on_literals}
 use Rattle.ep_main.specs.Options.{Options, plain}
-use Rattle.ep_main.specs.Words.{AskFor, AskForHelp, Chooses, IsAsked, IsHelp, IsMet, IsShown, AuditWords, IsBundleAudit, IsChainAudit, IsChainOf, IsHelpTask, IsMetTask, IsShownTask, IsTask, MetReplay, MetRun, MetAudit, MetChain, MetUpgrade, Names, NamesHost, NamesTarget, RunWords, audit_words, emit_word, epaxos, host_word, met, met_audit, met_to, met_with, run_words}
+use Rattle.ep_main.specs.Words.{AskFor, AskForHelp, Chooses, IsAsked, IsHelp, IsMet, IsShown, AuditWords, IsAuditTask, IsBundleAudit, IsChainAudit, IsChainOf, IsHelpTask, IsMetTask, IsShownTask, IsTask, MetReplay, MetRun, MetAudit, MetChain, MetUpgrade, Names, NamesHost, NamesTarget, RunWords, audit_words, emit_word, epaxos, host_word, met, met_audit, met_to, met_with, run_words}
 use Rattle.ep_main.specs.declared.asked.Asked.{Asked}
 use Rattle.ep_main.specs.declared.asked.Asked.TheVariants.{Replay, Run, Audit, Upgrade, Version, Help}
 use Rattle.ep_main.specs.declared.asked.Emit.TheVariants.{Report, Bundle}
@@ -674,3 +674,45 @@ none_targets Third o is names = let bad : None ≡ Some (codes "3") = is ∙ nam
 
 pub no_target : (target : Target) (o : Option Text) (r : Result Target Declined) → r ≡ Ok Second → None ≡ o → NamesTarget o target → r ≡ Ok target
 no_target target o r seconds is names = subst (λ t. r ≡ Ok t) (none_targets target o is names) seconds
+
+-- the word that was found
+
+pub some_is : (word wanted : Text) (o : Option Text) → Some word ≡ o → o ≡ Some wanted → word ≡ wanted
+some_is word wanted o is given = let e : Some word ≡ Some wanted = is ∙ given in cc
+
+pub none_isnt : {A : Type 0} (wanted : A) (o : Option A) → None ≡ o → o ≡ Some wanted → ⊥
+none_isnt {A} wanted o is given = let bad : None ≡ Some wanted = is ∙ given in cc
+
+pub all_is : (words wanted : List Text) (o : Option (List Text)) → Some words ≡ o → o ≡ Some wanted → words ≡ wanted
+all_is words wanted o is given = let e : Some words ≡ Some wanted = is ∙ given in cc
+
+-- the files of a chain that was copied
+
+pub chain_copied : (words names copies : List Text) (o : Option (List Text)) → Some words ≡ o → copies ≡ words → o ≡ Some names → copies ≡ names
+chain_copied words names copies o is copied given = copied ∙ all_is words names o is given
+
+pub chain_found : (words copies : List Text) (o : Option (List Text)) → Some words ≡ o → copies ≡ words → o ≡ Some copies
+chain_found words copies o is copied = sym is ∙ ap (λ (ws : List Text). Some ws) (sym copied)
+
+-- The task that the options of `audit` ask for.
+
+pub chain_isnt_bundle : (words : AuditWords) → words.chain ≡ Some (codes "true") → IsBundleAudit words → ⊥
+chain_isnt_bundle words chain h = h.chain chain
+
+pub met_audit_task :
+    (m : ArgMatches) (rows : List Row) (t : Task) → subcommand_name_of m ≡ Some (codes "audit") → option_map (λ p. p.1) (subcommand_rows_of m) ≡ Some rows →
+    IsAuditTask t (audit_words rows) → IsMetTask t (subcommand_rows_of m)
+met_audit_task m rows (Streams asked) named has is = subst (λ (a : Asked). IsMet a (subcommand_rows_of m)) (sym is.0) (audit_words rows, met_audit_by m rows named has, is.1)
+met_audit_task m rows (Chain files) named has is = (audit_words rows, met_audit_by m rows named has, is)
+
+pub met_audit_tasks :
+    (m : ArgMatches) (rows : List Row) (r : Result Task Declined) → subcommand_name_of m ≡ Some (codes "audit") → option_map (λ p. p.1) (subcommand_rows_of m) ≡ Some rows →
+    IfOk r (λ t. IsAuditTask t (audit_words rows)) → IfOk r (λ t. IsMetTask t (subcommand_rows_of m))
+met_audit_tasks m rows (Ok t) named has is = met_audit_task m rows t named has is
+met_audit_tasks m rows (Err e) named has is = tt
+
+pub some_isnt : {A : Type 0} (given : A) (o : Option A) → Some given ≡ o → o ≡ None → ⊥
+some_isnt {A} given o is none = let bad : Some given ≡ None = is ∙ none in cc
+
+pub not_both : (b : Bool) → b ≡ false → b ≡ true → ⊥
+not_both b isnt is = let bad : false ≡ true = sym isnt ∙ is in cc

@@ -42,7 +42,12 @@ pub(crate) fn link_of(alloc: Global, name: &str, bytes: &[u8]) -> Result<Link, F
         Ok(Bundle { journals, receipts }) => Ok(Link { journals, receipts }),
         // (a slice never fails)
         Err(BundleFault::Memory | BundleFault::ReadFailed) => Err(FilesFault::Memory),
-        Err(fault) => Err(placed(alloc, name, fault)),
+        Err(BundleFault::BadBundle(offset)) => {
+            Err(placed(alloc, name, BundleFault::BadBundle(offset)))
+        }
+        Err(BundleFault::NotARun(replica, entry)) => {
+            Err(placed(alloc, name, BundleFault::NotARun(replica, entry)))
+        }
     }
 }
 

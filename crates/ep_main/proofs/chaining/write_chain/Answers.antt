@@ -1,0 +1,16 @@
+use Rattle.std.proofs.Common.{refl}
+use Rattle.std.proofs.KnownBytes.{Appends-nil}
+use Rattle.ep_main.proofs.Chaining.{chains_none, chains_written, ends_none, ends_written}
+use Rattle.ep_main.proofs.chaining.write_chain.Goals as goal
+
+pub returns-in-Ok-clause-chains : goal.returns-in-Ok-clause-chains
+returns-in-Ok-clause-chains g c = chains_written _ _ _ _ _ _ c.in-Ok.ensures.value c.write_judged.ensures
+
+pub returns-in-Ok-clause-ends : goal.returns-in-Ok-clause-ends
+returns-in-Ok-clause-ends g c = ends_written _ _ _ _ _ _ c.in-Ok.ensures.value c.write_judged.ensures
+
+pub returns-in-Err-clause-chains : goal.returns-in-Err-clause-chains
+returns-in-Err-clause-chains g c = chains_none _ _ _ _ _ c.in-Err.ensures.memory c.concluded.ensures (Appends-nil _)
+
+pub returns-in-Err-clause-ends : goal.returns-in-Err-clause-ends
+returns-in-Err-clause-ends g c = ends_none _ _ _ _ c.in-Err.ensures.memory c.concluded.ensures refl
