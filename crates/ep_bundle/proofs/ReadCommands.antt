@@ -1,5 +1,5 @@
 -- Commands: each took its own bytes, the lengths as its version tells them and the parts as all do.
-use Rattle.std.proofs.Common.{◌≡◌, ℕ, ◌+◌, ◌≤◌, ◌<◌, ◌^◌, Bool, true, false, ◌&&◌, not, cond, leb, List, [], ◌∷◌, ◌++◌, length, length-append, append-nil, append_assoc, Option, Some, None, Ok, Err, refl, sym, ap, ◌∙◌, subst, arith}
+use Rattle.std.proofs.Common.{◌≡◌, ℕ, ◌+◌, ◌≤◌, ◌<◌, ◌^◌, Bool, true, false, ◌&&◌, not, cond, leb, List, [], ◌∷◌, ◌++◌, length, length-append, append-nil, append_assoc, Option, Some, None, Result, Ok, Err, refl, sym, ap, ◌∙◌, subst, arith}
 use Rattle.std.proofs.lemmas.Bool.{leb-true}
 use Rattle.ep_base.specs.Commands.{Command}
 use Rattle.ep_base.specs.Ops.{op_number, first_fits, second_fits, body_fits}
@@ -7,7 +7,7 @@ use Rattle.ep_base.specs.Parts.{Parts, parts_of, command_of, command_in, command
 use Rattle.ep_base.specs.declared.op.Op.{Op}
 use Rattle.ep_base.specs.declared.version.Version.{Version}
 use Rattle.ep_base.specs.declared.version_kind.VersionKind.TheVariants.{V1, V2, V3}
-use Rattle.ep_base.proofs.Partitions.{fits, of_then, parts_law_lem}
+use Rattle.ep_base.proofs.Partitions.{fits, fits_from, of_fitting, of_then, parts_law_lem}
 use Rattle.ep_frame.specs.Faults.{highest_op, op_of}
 use Rattle.ep_frame.specs.Fields.{number_bytes}
 use Rattle.ep_frame.specs.Spelling.{AreBytes}
@@ -17,8 +17,10 @@ use Rattle.ep_bundle.specs.Bytes.{command_bytes, length_bytes, part_bytes}
 use Rattle.ep_bundle.specs.Reading.{Left, Reading, Reads, and_then, run, number, field}
 use Rattle.ep_bundle.specs.Stages.{AreLengths, allowed, allowed_run, body_in, command, early_fits, early_lengths, lengths, op, other_lengths, parts, second_in}
 use Rattle.ep_bundle.specs.Writing.{CommandFits}
+use Rattle.ep_bundle.specs.declared.bundle_fault.BundleFault.{BundleFault}
 use Rattle.ep_bundle.specs.declared.bundle_fault.BundleFault.TheVariants.{BadBundle}
 use Rattle.ep_bundle.specs.declared.lengths.Lengths.{Lengths}
+use Rattle.ep_bundle.proofs.Readings.{fails}
 use Rattle.ep_bundle.proofs.ReadNumbers.{Gives, Comes, Ranges, done, step, last, other, whole, choice, refused, run_gives, number_gives, field_gives}
 
 both_true : (a b : Bool) → (a && b) ≡ true → (a ≡ true) × (b ≡ true)
@@ -201,6 +203,10 @@ command_gives v l h =
 abbrev finished : Op → List ℕ → List ℕ → ℕ → Left → Reading Command
 finished o k m n l = and_then (allowed_run n (body_said o) l) (λ b l. Ok (command_with o k m b, l))
 
+-- a second key that is compared with the first one as it was lent
+pub second_as : (k k' : List ℕ) (n : ℕ) (l : Left) (r : Result (List ℕ) BundleFault) (p : ℕ) (left : Option (List ℕ)) → k' ≡ k → Reads (allowed_run n (λ m. not (is_twice k' m)) l) r p left → Reads (allowed_run n (λ m. not (is_twice k m)) l) r p left
+second_as k k' n l r p left is h = subst (λ x. Reads (allowed_run n (λ m. not (is_twice x m)) l) r p left) is h
+
 pub body_read : (o : Op) (k m b k' m' b' : List ℕ) (n : ℕ) (c : Command) (l : Left) (p : ℕ) (left : Option (List ℕ)) → k' ≡ k → m' ≡ m → b' ≡ b → Reads (run n l) (Ok b) p left
     → Some c ≡ command_of (record { op = o; first = k'; second = m'; body = b' }) → Reads (finished o k m n l) (Ok c) p left
 body_read o k m b k' m' b' n c l p left ek em eb h is =
@@ -220,8 +226,21 @@ none_said s k m b fit ek em eb once none = go (body_said s.op b) refl
     go : (x : Bool) → body_said s.op b ≡ x → x ≡ false
     go false is = refl
     go true is =
-        let some : command_of (record { op = s.op; first = k; second = m; body = b }) ≡ Some (command_with s.op k m b) = (made s k m b fit ek em eb (ap not once) is).is in
+        let all : are_parts (record { op = s.op; first = k; second = m; body = b }) ≡ true =
+        fits_from s.op k m b
+        (record {
+          first = subst (λ n. first_fits s.op n ≡ true) (sym ek) fit.0;
+          second = subst (λ n. second_fits s.op n ≡ true) (sym em) fit.1;
+          body = subst (λ n. body_fits s.op n ≡ true) (sym eb) fit.2;
+          once = ap not once;
+          said = is;
+        }) in
+        let some : command_of (record { op = s.op; first = k; second = m; body = b }) ≡ Some (command_with s.op k m b) = of_fitting (record { op = s.op; first = k; second = m; body = b }) all in
         absurd (let t : None ≡ Some (command_with s.op k m b) = sym none ∙ some in (cc))
+
+-- a run that isn't read
+pub run_fails : (n : ℕ) (holds : List ℕ → Bool) (l : Left) (e : BundleFault) (p : ℕ) (left : Option (List ℕ)) → Reads {A = List ℕ} (run n l) (Err e) p left → Reads {A = List ℕ} (allowed_run n holds l) (Err e) p left
+run_fails n holds l e p left h = fails (run n l) (λ b l'. cond (holds b) (Ok (b, l')) (Err (BadBundle l.at))) e (Err e) p p left left h refl
 
 pub body_unread : (s : Lengths) (k m b k' m' b' : List ℕ) (l : Left) (p : ℕ) (left : Option (List ℕ)) → AreLengths s → k' ≡ k → m' ≡ m → b' ≡ b → length k ≡ s.first → length m ≡ s.second → length b ≡ s.body → is_twice k' m ≡ false
     → Reads (run s.body l) (Ok b) p left → None ≡ command_of (record { op = s.op; first = k'; second = m'; body = b' }) → finished s.op k m s.body l ≡ Err (BadBundle l.at)

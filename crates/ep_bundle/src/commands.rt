@@ -248,7 +248,8 @@ fn read_second<S: Source>(
 {
     let at = *place;
     let second = read_run(alloc, source, place, len as usize)?;
-    if is_twice(first, &second) {
+    let twice = is_twice(first, &second);
+    if twice {
         return Err(BundleFault::BadBundle(at));
     }
     Ok(second)

@@ -24,7 +24,7 @@ pub returns-clause-bytes : goal.returns-clause-bytes
 returns-clause-bytes g c = λ y0 e0.
     goes_on _ _ _ _ _ _ _ _ (c.in_ok-field_u32.ensures.bytes y0 e0) (λ y1 e1. goes_on _ _ _ _ _ _ _ _ (c.in_ok-number.ensures.bytes y1 e1) (λ y2 e2. goes_on _ _ _ _ _ _ _ _ (c.in_ok-cluster.ensures.bytes y2 e2)
     (λ y3 e3. goes_on _ _ _ _ _ _ _ _ (c.in_ok-edition.ensures.bytes y3 e3) (λ y4 e4. goes_on _ _ _ _ _ _ _ _ (c.in_ok-receipts.ensures.bytes y4 e4) (λ y5 e5. goes_on _ _ _ _ _ _ _ _ (c.in_ok-contents.ensures.bytes y5 e5)
-    (λ y6 e6. header_ends c.in_ok-edition.edition.0 c.in_ok-cluster.cluster c.in_ok-receipts.receipts c.in_ok-contents.contents c.in_ok-edition.edition.1 c.in_default.opening c.read_map.new.place y6 (g.S.Source.left c.read_map.new.source) e6 c.in_default.ensures.value))))))
+    (λ y6 e6. header_ends c.in_ok-edition.edition.0 c.in_ok-cluster.cluster c.in_ok-receipts.receipts c.in_ok-contents.contents c.in_ok-edition.edition.1 c.in-Ok.opening c.read_map.new.place y6 (g.S.Source.left c.read_map.new.source) e6 c.in-Ok.ensures.value))))))
 
 pub returns-clause-opens : goal.returns-clause-opens
-returns-clause-opens g c = opens_as c.in_ok-edition.edition.0 c.in_ok-contents.contents c.in_ok-edition.edition.1 c.in_default.opening c.in_default.ensures.value c.in_ok-edition.ensures.starts c.in_ok-contents.ensures.holds
+returns-clause-opens g c = opens_as c.in_ok-edition.edition.0 c.in_ok-contents.contents c.in_ok-edition.edition.1 c.in-Ok.opening c.in-Ok.ensures.value c.in_ok-edition.ensures.starts c.in_ok-contents.ensures.holds
