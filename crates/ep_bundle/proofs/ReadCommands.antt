@@ -20,7 +20,7 @@ use Rattle.ep_bundle.specs.Writing.{CommandFits}
 use Rattle.ep_bundle.specs.declared.bundle_fault.BundleFault.{BundleFault}
 use Rattle.ep_bundle.specs.declared.bundle_fault.BundleFault.TheVariants.{BadBundle}
 use Rattle.ep_bundle.specs.declared.lengths.Lengths.{Lengths}
-use Rattle.ep_bundle.proofs.Readings.{fails}
+use Rattle.ep_bundle.proofs.Readings.{fails, goes_on}
 use Rattle.ep_bundle.proofs.ReadNumbers.{Gives, Comes, Ranges, done, step, last, other, whole, choice, refused, run_gives, number_gives, field_gives}
 
 both_true : (a b : Bool) → (a && b) ≡ true → (a ≡ true) × (b ≡ true)
@@ -249,3 +249,23 @@ body_unread s k m b k' m' b' l p left fit ek em eb lk lm lb once h none =
     let said : body_said s.op b ≡ false = none_said s k m b fit lk lm lb ((λ t. is_twice (sym ek t) m) ∙ once) here in
     ap (λ (r : Reading (List ℕ)). and_then (and_then r (λ b l'. cond (body_said s.op b) (Ok (b, l')) (Err (BadBundle l.at)))) (λ b l. Ok (command_with s.op k m b, l))) h.2
     ∙ ap (λ (x : Bool). and_then (cond x (Ok (b, record { at = p; bytes = h.0 })) (Err (BadBundle l.at))) (λ b l. Ok (command_with s.op k m b, l))) said
+
+-- all parts were read, but the body isn't one of the op
+pub parts_unread : (s : Lengths) (k m b k' m' b' : List ℕ) (l : Left) (p1 p2 p3 : ℕ) (left1 left2 left3 : Option (List ℕ)) → AreLengths s → k' ≡ k → m' ≡ m → b' ≡ b → length k ≡ s.first → length m ≡ s.second → length b ≡ s.body → is_twice k' m ≡ false
+    → Reads (run s.first l) (Ok k) p1 left1 → ((ys : List ℕ) → left1 ≡ Some ys → Reads (allowed_run s.second (λ m. not (is_twice k' m)) (record { at = p1; bytes = ys })) (Ok m) p2 left2)
+    → ((ys : List ℕ) → left2 ≡ Some ys → Reads (run s.body (record { at = p2; bytes = ys })) (Ok b) p3 left3) → None ≡ command_of (record { op = s.op; first = k'; second = m'; body = b' }) → Reads {A = Command} (parts s l) (Err (BadBundle p2)) p3 left3
+parts_unread s k m b k' m' b' l p1 p2 p3 left1 left2 left3 fit ek em eb lk lm lb once first second body none =
+    goes_on (run s.first l) (λ k l. and_then (allowed_run s.second (λ m. not (is_twice k m)) l) (λ m l. finished s.op k m s.body l)) k p1 left1 (Err (BadBundle p2)) p3 left3 first
+    (λ ys is. goes_on (allowed_run s.second (λ m. not (is_twice k m)) (record { at = p1; bytes = ys })) (λ m l. finished s.op k m s.body l) m p2 left2 (Err (BadBundle p2)) p3 left3
+    (second_as k k' s.second (record { at = p1; bytes = ys }) (Ok m) p2 left2 ek (second ys is))
+    (λ zs ks. body_unread s k m b k' m' b' (record { at = p2; bytes = zs }) p3 left3 fit ek em eb lk lm lb once (body zs ks) none))
+
+-- and it is
+pub parts_read : (s : Lengths) (k m b k' m' b' : List ℕ) (c : Command) (l : Left) (p1 p2 p3 : ℕ) (left1 left2 left3 : Option (List ℕ)) → k' ≡ k → m' ≡ m → b' ≡ b
+    → Reads (run s.first l) (Ok k) p1 left1 → ((ys : List ℕ) → left1 ≡ Some ys → Reads (allowed_run s.second (λ m. not (is_twice k' m)) (record { at = p1; bytes = ys })) (Ok m) p2 left2)
+    → ((ys : List ℕ) → left2 ≡ Some ys → Reads (run s.body (record { at = p2; bytes = ys })) (Ok b) p3 left3) → Some c ≡ command_of (record { op = s.op; first = k'; second = m'; body = b' }) → Reads (parts s l) (Ok c) p3 left3
+parts_read s k m b k' m' b' c l p1 p2 p3 left1 left2 left3 ek em eb first second body is =
+    goes_on (run s.first l) (λ k l. and_then (allowed_run s.second (λ m. not (is_twice k m)) l) (λ m l. finished s.op k m s.body l)) k p1 left1 (Ok c) p3 left3 first
+    (λ ys at. goes_on (allowed_run s.second (λ m. not (is_twice k m)) (record { at = p1; bytes = ys })) (λ m l. finished s.op k m s.body l) m p2 left2 (Ok c) p3 left3
+    (second_as k k' s.second (record { at = p1; bytes = ys }) (Ok m) p2 left2 ek (second ys at))
+    (λ zs ks. body_read s.op k m b k' m' b' s.body c (record { at = p2; bytes = zs }) p3 left3 ek em eb (body zs ks) is))

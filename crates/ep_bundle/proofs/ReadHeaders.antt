@@ -17,12 +17,13 @@ use Rattle.ep_rules.specs.OneMap.{Contents, empty}
 use Rattle.ep_exec.specs.Bytes.{contents_bytes, pair_bytes}
 use Rattle.ep_bundle.specs.Bytes.{edition_bytes, header_bytes, magic, map_bytes}
 use Rattle.ep_journal.specs.Openings.{Opening, OpensIn, no_opening}
-use Rattle.ep_bundle.specs.Headers.{HoldsAt, Pair, StartsAt, cluster, contents, edition, header, key_above, late_edition, map_in, pair, pairs}
+use Rattle.ep_bundle.specs.Headers.{HoldsAt, Pair, StartsAt, cluster, contents, edition, header, header_of, key_above, late_edition, map_in, pair, pairs}
 use Rattle.ep_bundle.specs.Reading.{Left, Reading, Reads, and_then, run, number, field}
 use Rattle.ep_bundle.specs.Writing.{OpeningFits}
 use Rattle.ep_bundle.specs.declared.bundle_header.BundleHeader.{BundleHeader}
 use Rattle.ep_bundle.specs.declared.bundle_fault.BundleFault.TheVariants.{BadBundle}
 use Rattle.ep_bundle.proofs.MapBytes.{pair_is, contents_are}
+use Rattle.ep_bundle.proofs.Readings.{goes_on}
 use Rattle.ep_bundle.proofs.ReadNumbers.{Gives, Comes, Ranges, done, step, last, other, whole, choice, refused, run_gives, number_gives, field_gives}
 
 -- the edition
@@ -188,6 +189,22 @@ header_gives l h =
 pub opens_as : (v : Version) (m : Contents) (since : ℕ) (o : Opening) → o ≡ record { contents = m; since = since } → StartsAt v since → HoldsAt v m → OpensIn v o
 opens_as v m since o is at none = subst (OpensIn v) (sym is) (opens_in v m since at none)
 
-pub header_ends : (v : Version) (f k : ℕ) (m : Contents) (since : ℕ) (o : Opening) (p : ℕ) (ys : List ℕ) (left : Option (List ℕ)) → left ≡ Some ys → o ≡ record { contents = m; since = since }
+header_ends : (v : Version) (f k : ℕ) (m : Contents) (since : ℕ) (o : Opening) (p : ℕ) (ys : List ℕ) (left : Option (List ℕ)) → left ≡ Some ys → o ≡ record { contents = m; since = since }
     → Reads (Ok (made (v, since) f k m, record { at = p; bytes = ys })) (Ok (record { version = v; cluster = f; opening = o; receipts = k })) p left
 header_ends v f k m since o p ys left h is = (ys, h, ap (λ (x : Opening). Ok (record { version = v; cluster = f; opening = x; receipts = k }, record { at = p; bytes = ys })) (sym is))
+
+-- all parts of a header were read
+pub header_read : (low high : ℕ) (l : Left) (x n f : ℕ) (e : Version × ℕ) (k : ℕ) (m : Contents) (o : Opening) (p0 p1 p2 p3 p4 p5 : ℕ) (left0 left1 left2 left3 left4 left5 : Option (List ℕ)) → Reads (field 4 magic magic l) (Ok x) p0 left0
+    → ((ys : List ℕ) → left0 ≡ Some ys → Reads (field 1 low high (record { at = p0; bytes = ys })) (Ok n) p1 left1) → ((ys : List ℕ) → left1 ≡ Some ys → Reads (cluster (record { at = p1; bytes = ys })) (Ok f) p2 left2)
+    → ((ys : List ℕ) → left2 ≡ Some ys → Reads (edition n (record { at = p2; bytes = ys })) (Ok e) p3 left3) → ((ys : List ℕ) → left3 ≡ Some ys → Reads (number 4 (record { at = p3; bytes = ys })) (Ok k) p4 left4)
+    → ((ys : List ℕ) → left4 ≡ Some ys → Reads (map_in e.0 (record { at = p4; bytes = ys })) (Ok m) p5 left5) → o ≡ record { contents = m; since = e.1 }
+    → Reads (header_of low high l) (Ok (record { version = e.0; cluster = f; opening = o; receipts = k })) p5 left5
+header_read low high l x n f e k m o p0 p1 p2 p3 p4 p5 left0 left1 left2 left3 left4 left5 r0 r1 r2 r3 r4 r5 is =
+    let h : BundleHeader = record { version = e.0; cluster = f; opening = o; receipts = k } in
+    goes_on (field 4 magic magic l) (λ x l. and_then (field 1 low high l) (λ n l. and_then (cluster l) (λ f l. and_then (edition n l) (λ e l. and_then (number 4 l) (λ k l. and_then (map_in e.0 l) (λ m l. Ok (made e f k m, l))))))) x p0 left0 (Ok h) p5 left5 r0
+    (λ y0 e0. goes_on (field 1 low high (record { at = p0; bytes = y0 })) (λ n l. and_then (cluster l) (λ f l. and_then (edition n l) (λ e l. and_then (number 4 l) (λ k l. and_then (map_in e.0 l) (λ m l. Ok (made e f k m, l)))))) n p1 left1 (Ok h) p5 left5 (r1 y0 e0)
+    (λ y1 e1. goes_on (cluster (record { at = p1; bytes = y1 })) (λ f l. and_then (edition n l) (λ e l. and_then (number 4 l) (λ k l. and_then (map_in e.0 l) (λ m l. Ok (made e f k m, l))))) f p2 left2 (Ok h) p5 left5 (r2 y1 e1)
+    (λ y2 e2. goes_on (edition n (record { at = p2; bytes = y2 })) (λ e l. and_then (number 4 l) (λ k l. and_then (map_in e.0 l) (λ m l. Ok (made e f k m, l)))) e p3 left3 (Ok h) p5 left5 (r3 y2 e2)
+    (λ y3 e3. goes_on (number 4 (record { at = p3; bytes = y3 })) (λ k l. and_then (map_in e.0 l) (λ m l. Ok (made e f k m, l))) k p4 left4 (Ok h) p5 left5 (r4 y3 e3)
+    (λ y4 e4. goes_on (map_in e.0 (record { at = p4; bytes = y4 })) (λ m l. Ok (made e f k m, l)) m p5 left5 (Ok h) p5 left5 (r5 y4 e4)
+    (λ y5 e5. header_ends e.0 f k m e.1 o p5 y5 left5 e5 is))))))
