@@ -83,7 +83,8 @@ pub(crate) fn all_opened(
 {
     let mut replicas = Vec::new(alloc);
     for number in 0..cluster.count() {
-        replicas.push(opened(alloc, cluster, number, generation, opening)?)?;
+        let replica = opened(alloc, cluster, number, generation, opening)?;
+        replicas.push(replica)?;
     }
     Ok(replicas)
 }
