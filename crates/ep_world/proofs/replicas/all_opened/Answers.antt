@@ -11,8 +11,8 @@ loop-number-preserved c =
     let r = c.loop-number.number in
     let ks = c.loop-number.replicas.items in
     record {
-      replicas = more_fresh (V3 c.args.generation) c.args.opening.now f r ks c.push.new.self.items c.in_ok-opened.result c.in_ok-push.ensures.items c.in_ok-opened.ensures c.loop-number.invariant.replicas;
-      entries = still_none (V3 c.args.generation) c.args.opening.now f r ks c.push.new.self.items c.in_ok-opened.result c.in_ok-push.ensures.items c.in_ok-opened.ensures c.loop-number.invariant.entries;
+      replicas = more_fresh (V3 c.args.generation) c.args.opening.now f r ks c.push.new.self.items c.in_ok-opened.field-0 c.in_ok-push.ensures.items c.in_ok-opened.ensures c.loop-number.invariant.replicas;
+      entries = still_none (V3 c.args.generation) c.args.opening.now f r ks c.push.new.self.items c.in_ok-opened.field-0 c.in_ok-push.ensures.items c.in_ok-opened.ensures c.loop-number.invariant.entries;
     }
 
 all : (c : After-loop-number) → Whole (V3 c.args.generation) c.args.opening.now c.args.cluster c.loop-number.replicas.items
