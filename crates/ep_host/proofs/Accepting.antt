@@ -101,7 +101,7 @@ module _ (f : ℕ) (nodes : List Node) (host : IsHost f nodes) (know : All Knows
   journal_is : (r : ℕ) → their_journals (replicas_in nodes) r ≡ entries_of (get_or nodes r blank).replica.entries
   journal_is r = ap entries_of (entries_is nodes r)
 
-  opening : Opening
+  abbrev opening : Opening
   opening = first_opening (replicas_in nodes)
 
   start_at : (r : ℕ) → r < length nodes → ((get_or nodes r blank).replica.version ≡ first_version (replicas_in nodes)) × ((get_or nodes r blank).replica.opening ≡ opening)
