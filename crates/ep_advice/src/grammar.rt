@@ -79,7 +79,7 @@ pub(crate) fn line_fault(
 fn words_fault(
     alloc: Global,
     subcommand: Subcommand,
-    before: &Before<'_>,
+    before: &Before,
     line: &[u8],
 ) -> Result<Vec<u8>, AllocError> {
     let words = words_of(alloc, line)?;
@@ -131,7 +131,7 @@ fn tell_first(telling: &mut Telling<'_>) -> Result<bool, AllocError> {
 fn tell_head(
     alloc: Global,
     telling: &mut Telling<'_>,
-    before: &Before<'_>,
+    before: &Before,
 ) -> Result<bool, AllocError> {
     match telling.word(1) {
         b"generation" => tell_generation(telling, before),
@@ -141,7 +141,7 @@ fn tell_head(
     }
 }
 
-fn tell_generation(telling: &mut Telling<'_>, before: &Before<'_>) -> Result<bool, AllocError> {
+fn tell_generation(telling: &mut Telling<'_>, before: &Before) -> Result<bool, AllocError> {
     if before.is_late || before.is_within {
         telling.tell(1, b"stands once, as the first line behind replicas")?;
         return Ok(true);
@@ -150,10 +150,7 @@ fn tell_generation(telling: &mut Telling<'_>, before: &Before<'_>) -> Result<boo
 }
 
 /// Why no line may stand here that says what the replicas open with.
-fn tell_place_of_opening(
-    telling: &mut Telling<'_>,
-    before: &Before<'_>,
-) -> Result<bool, AllocError> {
+fn tell_place_of_opening(telling: &mut Telling<'_>, before: &Before) -> Result<bool, AllocError> {
     if !before.is_late {
         telling.tell(
             1,
@@ -171,7 +168,7 @@ fn tell_place_of_opening(
     Ok(false)
 }
 
-fn tell_since(telling: &mut Telling<'_>, before: &Before<'_>) -> Result<bool, AllocError> {
+fn tell_since(telling: &mut Telling<'_>, before: &Before) -> Result<bool, AllocError> {
     if tell_place_of_opening(telling, before)?
         || telling.misses(2, SINCE)?
         || telling.exceeds(3, b"since S")?
@@ -189,7 +186,7 @@ fn tell_since(telling: &mut Telling<'_>, before: &Before<'_>) -> Result<bool, Al
 fn tell_opening(
     alloc: Global,
     telling: &mut Telling<'_>,
-    before: &Before<'_>,
+    before: &Before,
 ) -> Result<bool, AllocError> {
     if tell_place_of_opening(telling, before)?
         || telling.no_word(alloc, 2, KEY)?
@@ -420,7 +417,7 @@ fn tell_frame(telling: &mut Telling<'_>, count: u64, form: &[u8]) -> Result<bool
 /// Why a line of a weather is one too many for its frame.
 fn tell_weather(
     telling: &mut Telling<'_>,
-    before: &Before<'_>,
+    before: &Before,
     frame: (u64, u64, u64),
 ) -> Result<bool, AllocError> {
     if !is_weather(telling.word(1)) {

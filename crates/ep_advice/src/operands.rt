@@ -320,8 +320,7 @@ impl<'a> Telling<'a> {
     }
 }
 
-/// Whether both are there, and are the same bytes.
-pub(crate) fn is_same(one: &Option<Vec<u8>>, other: &Option<Vec<u8>>) -> bool {
+fn is_same(one: &Option<Vec<u8>>, other: &Option<Vec<u8>>) -> bool {
     match (one, other) {
         (Some(one), Some(other)) => one.as_slice() == other.as_slice(),
         _ => false,

@@ -1,7 +1,6 @@
 //! What the lines before the one at fault say that matters to it.
 
 use crate::lines::{Lines, words_of};
-use crate::operands::is_same;
 use ep_script::{number, read_word};
 use std::alloc::{AllocError, Global};
 
@@ -12,17 +11,17 @@ pub(crate) struct Weather {
     pub line: u64,
 }
 
-/// A key that the replicas open with, as it is spelled, and its line.
-#[derive(Clone, Copy)]
-struct Opened<'a> {
-    key: &'a [u8],
+/// A key that the replicas open with, and its line.
+#[derive(Drop)]
+struct Opened {
+    key: Vec<u8>,
     line: u64,
 }
 
 /// What the lines before the one at fault say: how many replicas there are, in which line, what the head says besides, and for which frames
 /// the section has a line of its weather.
 #[derive(Drop)]
-pub(crate) struct Before<'a> {
+pub(crate) struct Before {
     pub replicas: Option<u64>,
     pub line: u64,
     /// Whether the script is of version 3: it has a line of a generation.
@@ -31,7 +30,7 @@ pub(crate) struct Before<'a> {
     pub is_within: bool,
     /// The line of the stamp that the clocks go on from.
     pub since: Option<u64>,
-    openings: Vec<Opened<'a>>,
+    openings: Vec<Opened>,
     weather: Vec<Weather>,
 }
 
@@ -65,13 +64,13 @@ pub(crate) fn frame_of(words: &[&[u8]]) -> (u64, u64, u64) {
     )
 }
 
-impl<'a> Before<'a> {
+impl Before {
     /// What as many lines say.
     pub(crate) fn read(
         alloc: Global,
-        lines: &mut Lines<'a>,
+        lines: &mut Lines<'_>,
         count: u64,
-    ) -> Result<Before<'a>, AllocError> {
+    ) -> Result<Before, AllocError> {
         let mut before = Before {
             replicas: None,
             line: 0,
@@ -89,7 +88,7 @@ impl<'a> Before<'a> {
         Ok(before)
     }
 
-    fn note(&mut self, alloc: Global, number: u64, line: &'a [u8]) -> Result<(), AllocError> {
+    fn note(&mut self, alloc: Global, number: u64, line: &[u8]) -> Result<(), AllocError> {
         let words = words_of(alloc, line)?;
         match words.first() {
             Some(first) if !is_comment(first) => self.note_words(alloc, number, &words),
@@ -97,12 +96,7 @@ impl<'a> Before<'a> {
         }
     }
 
-    fn note_words(
-        &mut self,
-        alloc: Global,
-        line: u64,
-        words: &[&'a [u8]],
-    ) -> Result<(), AllocError> {
+    fn note_words(&mut self, alloc: Global, line: u64, words: &[&[u8]]) -> Result<(), AllocError> {
         let [first, rest @ ..] = words else {
             return Ok(());
         };
@@ -120,7 +114,7 @@ impl<'a> Before<'a> {
                 self.since = Some(line);
                 Ok(())
             }
-            b"opening" => self.note_opening(line, rest),
+            b"opening" => self.note_opening(alloc, line, rest),
             _ => {
                 self.is_within = true;
                 self.note_weather(alloc, line, words)
@@ -128,11 +122,19 @@ impl<'a> Before<'a> {
         }
     }
 
-    fn note_opening(&mut self, line: u64, operands: &[&'a [u8]]) -> Result<(), AllocError> {
-        let [key, ..] = operands else {
+    fn note_opening(
+        &mut self,
+        alloc: Global,
+        line: u64,
+        operands: &[&[u8]],
+    ) -> Result<(), AllocError> {
+        let [word, ..] = operands else {
             return Ok(());
         };
-        self.openings.push(Opened { key: *key, line })?;
+        let Some(key) = read_word(alloc, word)? else {
+            return Ok(());
+        };
+        self.openings.push(Opened { key, line })?;
         Ok(())
     }
 
@@ -140,7 +142,7 @@ impl<'a> Before<'a> {
         &mut self,
         alloc: Global,
         line: u64,
-        words: &[&'a [u8]],
+        words: &[&[u8]],
     ) -> Result<(), AllocError> {
         let [first, ..] = words else {
             return Ok(());
@@ -158,14 +160,19 @@ impl<'a> Before<'a> {
 
     /// The line of the key that the word spells, if the replicas open with it.
     pub(crate) fn opening_of(&self, alloc: Global, word: &[u8]) -> Result<Option<u64>, AllocError> {
-        let wanted = read_word(alloc, word)?;
+        let Some(key) = read_word(alloc, word)? else {
+            return Ok(None);
+        };
+        Ok(self.line_of(key.as_slice()))
+    }
+
+    fn line_of(&self, key: &[u8]) -> Option<u64> {
         for one in &self.openings {
-            let key = read_word(alloc, one.key)?;
-            if is_same(&wanted, &key) {
-                return Ok(Some(one.line));
+            if one.key.as_slice() == key {
+                return Some(one.line);
             }
         }
-        Ok(None)
+        None
     }
 
     /// The line of the section's weather for this frame.
