@@ -5,9 +5,17 @@ use Rattle.ep_base.specs.declared.version_kind.VersionKind.TheVariants.{V1, V2, 
 use Rattle.ep_journal.specs.Openings.{Opening}
 use Rattle.ep_report.specs.Contents.{contents_text}
 
--- version 3 with its generation, the stamp that the clocks go on from, and how many keys the opening has, with the digest of what they have
+-- version 3 with its generation
+unfoldable pub generation_text : ℕ → List ℕ
+generation_text g = codes "version 3 generation " ++ decimal g
+
+-- the stamp that the clocks go on from, and how many keys there are, with the digest of what they have
+abbrev pub opening_text : Opening → List ℕ
+opening_text o = codes " since " ++ decimal o.since ++ codes " opening " ++ contents_text o.contents
+
+-- a generation, and what it begins with
 abbrev pub edition_text : ℕ → Opening → List ℕ
-edition_text g o = codes "version 3 generation " ++ decimal g ++ codes " since " ++ decimal o.since ++ codes " opening " ++ contents_text o.contents
+edition_text g o = generation_text g ++ opening_text o
 
 -- the line that begins what is told of journals; those of versions 1 and 2 have none
 abbrev pub edition_line : Version → Opening → List ℕ
