@@ -32,5 +32,5 @@ returns-clause-rewrites g c zs known =
       refl,
       rewritten journals c.in_ok-upgraded.upgraded.journals receipts c.in_ok-upgraded.upgraded.receipts.items zs c.in_ok-text.text.items end _ found.1.2
           (c.in_ok-upgraded.ensures.journals (read_early zs ((journals, receipts), end) found.1.2)) c.in_ok-upgraded.ensures.same c.in_ok-upgraded.ensures.receipts
-          c.in_ok-text.ensures.value (λ are. all_begun _ _ _ (let law = c.bundles_are_canonical.ensures (record { at = 0; bytes = zs }) end journals receipts are (read_wider zs ((journals, receipts), end) found.1.2) in law.1.1)) (search rules),
+          c.in_ok-text.ensures.value (λ are. all_begun _ _ _ (let law = c.bundles_are_canonical.ensures (record { at = 0; bytes = zs }) end journals receipts are (read_wider zs ((journals, receipts), end) found.1.2) in (law.2, law.3))) (search rules),
     )

@@ -32,5 +32,5 @@ returns-clause-rewrites g c zs known =
     let found = c.in_ok-bundle.ensures.bytes zs known in (
       refl,
       in_third c.in_ok-bundle.bundle.journals c.in_ok-bundle.bundle.receipts.items zs c.in_ok-text.text.items (record { at = found.0; bytes = found.1.0 }) _ found.1.2
-          c.in_ok-text.ensures.early c.in_ok-text.ensures.late (λ are. (c.in_ok-bundle.ensures.canonical zs known are).1.0) (search rules),
+          c.in_ok-text.ensures.early c.in_ok-text.ensures.late (λ are. (c.in_ok-bundle.ensures.canonical zs known are).1) (search rules),
     )
