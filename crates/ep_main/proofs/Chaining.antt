@@ -1,5 +1,5 @@
 -- Files of a chain, and what is said of them.
-use Rattle.std.proofs.Common.{◌≡◌, ◌⊎◌, ◌<◌, ◌^◌, inl, inr, ℕ, zero, suc, List, [], ◌∷◌, ◌++◌, Option, Some, None, Result, Ok, Err, IfOk, length, get_or, map, slice_get, slice_index_or, take, append-nil, append_assoc, refl, sym, ap, subst, ◌∙◌, arith}
+use Rattle.std.proofs.Common.{◌≡◌, ◌⊎◌, ◌+◌, ◌≤◌, ◌<◌, ◌^◌, inl, inr, ℕ, zero, suc, List, [], ◌∷◌, ◌++◌, Option, Some, None, Result, Ok, Err, IfOk, length, get_or, map, slice_get, slice_index_or, take, take_all, append-nil, append_assoc, codes, refl, sym, ap, ap₂, subst, ◌∙◌, arith}
 use Rattle.std.specs.Prelude.{All, IfErr}
 use Rattle.std.specs.FinMap.{entries}
 use Rattle.std.proofs.lemmas.List.Elements.{All-append}
@@ -12,10 +12,12 @@ use Rattle.ep_audit.specs.declared.link.Link.{Link}
 use Rattle.ep_bundle.specs.Journals.{Finds}
 use Rattle.ep_bundle.specs.declared.bundle_fault.BundleFault.{BundleFault}
 use Rattle.ep_bundle.specs.declared.bundle_fault.BundleFault.TheVariants as bundle
+use Rattle.ep_report.specs.Lives.{Life, link_line}
 use Rattle.ep_report.specs.declared.chain_fault.ChainFault.{ChainFault}
 use Rattle.ep_verdict.specs.declared.verdict.Verdict.{Verdict}
 use Rattle.ep_main.specs.ChainLines.{IsRefusal}
-use Rattle.ep_main.specs.Chains.{AreRead, Chains, EndsOfFiles, IsBadFile, IsOfBytes, IsLinkOf, IsNoFile, IsNoLink, IsStopped, IsToldChain, IsWritten, ReadsLate, SaysOfChain, TurnsAway, file_line, link_text, links_text}
+use Rattle.ep_main.specs.Chains.{AreRead, Chains, EndsOfFiles, IsBadFile, IsOfBytes, IsLinkOf, IsNoFile, IsNoLink, IsStopped, IsToldChain, IsWritten, ReadsLate, SaysOfChain, TurnsAway, chain_text, file_line, life_text, link_text, links_text}
+use Rattle.ep_main.specs.Lives.{life_in}
 use Rattle.ep_main.specs.Outputs.{Output, Told, WroteNothing}
 use Rattle.ep_main.specs.Runs.{Concludes}
 use Rattle.ep_main.specs.declared.fault.Fault.{Fault}
@@ -125,7 +127,7 @@ there_less (x ∷ ls) (suc k) l h = let rest : k < length ls = there_less ls k l
 pub fault_less : (ls : List Link) (k : ℕ) {fault : ChainFault} → IsChainFault ls k fault → k < length ls
 fault_less ls k (refused l fault reached is) = there_less ls k l reached.there
 fault_less ls k (parted l p v c fault reached before good is) = there_less ls k l reached.there
-fault_less ls k (unclosed verdicts v count linked there open more) = omega arith
+fault_less ls k (unclosed verdicts v count linked there none more) = omega arith
 
 pub ends_written :
     (links : List Link) (status result : Status) (text : List ℕ) (out fault : Output) → SaysOfChain links status text → IsWritten status text result out fault → EndsOfFiles result out fault
@@ -166,3 +168,30 @@ all_one l read (suc k) d less = absurd (omega arith)
 
 pub read_more : (ls : List Link) (l : Link) → AreRead ls → (zs : List ℕ) × IsLinkOf zs l → AreRead (ls ++ l ∷ [])
 read_more ls l read one = All-append (λ (x : Link). (zs : List ℕ) × IsLinkOf zs x) ls (l ∷ []) read (all_one l one)
+
+-- The lines of generations.
+
+pub link_told :
+    (l : Link) (v : Verdict) (life : Life) (old new : List ℕ) → Some life ≡ life_in l.journals v →
+    new ≡ old ++ link_line life (length v.committed.items) (length v.history.items) ++ codes "\n" → new ≡ old ++ link_text l v
+link_told l v life old new some is = is ∙ ap (λ (o : Option Life). old ++ life_text o v) some
+
+pub link_silent : (l : Link) (v : Verdict) (old : List ℕ) → None ≡ life_in l.journals v → old ≡ old ++ link_text l v
+link_silent l v old none = sym (append-nil old) ∙ ap (λ (o : Option Life). old ++ life_text o v) none
+
+pub line_more :
+    (k : ℕ) (ls : List Link) (vs : List Verdict) (l dl : Link) (v dv : Verdict) (text text' : List ℕ) → k < length ls → length vs ≡ length ls → l ≡ get_or ls k dl → v ≡ get_or vs k dv →
+    text ≡ codes "verdict accepted\n" ++ links_text (take k ls) (take k vs) → text' ≡ text ++ link_text l v →
+    text' ≡ codes "verdict accepted\n" ++ links_text (take (k + 1) ls) (take (k + 1) vs)
+line_more k ls vs l dl v dv text text' less same at_l at_v held more =
+    let next : suc k ≡ k + 1 = omega arith in
+    subst (λ (n : ℕ). text' ≡ codes "verdict accepted\n" ++ links_text (take n ls) (take n vs)) next
+    (more ∙ ap (λ (t : List ℕ). t ++ link_text l v) held ∙ append_assoc (codes "verdict accepted\n") (links_text (take k ls) (take k vs)) (link_text l v)
+    ∙ ap (λ (t : List ℕ). codes "verdict accepted\n" ++ t) (sym (links_more k ls vs l dl v dv less same at_l at_v)))
+
+pub line_all :
+    (k : ℕ) (ls : List Link) (vs : List Verdict) (text : List ℕ) → length ls ≤ k → length vs ≡ length ls →
+    text ≡ codes "verdict accepted\n" ++ links_text (take k ls) (take k vs) → text ≡ chain_text ls vs
+line_all k ls vs text le same held =
+    let enough : length vs ≤ k = omega arith in
+    held ∙ ap₂ (λ (xs : List Link) (ys : List Verdict). codes "verdict accepted\n" ++ links_text xs ys) (take_all k ls le) (take_all k vs enough)

@@ -118,6 +118,7 @@ fn accepted_chain(
 }
 
 /// Appends the line of a generation.
+#[tactic(auto, using(crate::proofs::Chaining::link_told, crate::proofs::Chaining::link_silent))]
 fn push_link(text: &mut Vec<u8>, link: &Link, verdict: &Verdict) -> Result<(), AllocError>
     requires { length (entries verdict.now.contents) < 2 ^ 32 }
     ensures { OnOk result (text.new.items ≡ text.old.items ++ link_text link.now verdict.now) }
@@ -135,11 +136,13 @@ fn refused_chain(
     place: usize,
     fault: &ChainFault,
 ) -> Result<Vec<u8>, AllocError>
-    requires { IsChainFault links.now place fault.now }
+    requires there { place < length links.now }
+    requires fault { IsChainFault links.now place fault.now }
     ensures { IfOk result (λ t. IsFaultText links.now t.items) }
 {
     let link = &links[place];
-    chain_refusal(alloc, link.journals.version().generation(), fault)
+    let text = chain_refusal(alloc, link.journals.version().generation(), fault)?;
+    Ok(text)
 }
 
 /// Tells why the files aren't a chain; the status stays where that fails.
