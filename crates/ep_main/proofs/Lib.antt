@@ -1,5 +1,5 @@
 mod Bundling
-mod Chaining
+mod Linked
 mod Choosing
 pub mod Ending
 mod Flags

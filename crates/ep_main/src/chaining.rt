@@ -118,7 +118,7 @@ fn accepted_chain(
 }
 
 /// Appends the line of a generation.
-#[tactic(auto, using(crate::proofs::Chaining::link_told, crate::proofs::Chaining::link_silent))]
+#[tactic(auto, using(crate::proofs::Linked::link_told, crate::proofs::Linked::link_silent))]
 fn push_link(text: &mut Vec<u8>, link: &Link, verdict: &Verdict) -> Result<(), AllocError>
     requires { length (entries verdict.now.contents) < 2 ^ 32 }
     ensures { OnOk result (text.new.items ≡ text.old.items ++ link_text link.now verdict.now) }

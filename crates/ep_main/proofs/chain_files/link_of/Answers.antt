@@ -1,6 +1,6 @@
 use Rattle.std.proofs.Common.{refl}
 use Rattle.ep_bundle.specs.declared.bundle_fault.BundleFault.TheVariants.{BadBundle, NotARun}
-use Rattle.ep_main.proofs.Chaining.{no_link}
+use Rattle.ep_main.proofs.Linked.{no_link}
 use Rattle.ep_main.proofs.chain_files.link_of.Goals as goal
 
 pub returns-in-Ok-clause-ok : goal.returns-in-Ok-clause-ok

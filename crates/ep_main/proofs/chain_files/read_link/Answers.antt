@@ -1,5 +1,5 @@
 use Rattle.std.proofs.lemmas.Result.{err_from_is_err_and}
-use Rattle.ep_main.proofs.Chaining.{none_of_file, of_file, some_link}
+use Rattle.ep_main.proofs.Linked.{none_of_file, of_file, some_link}
 use Rattle.ep_main.proofs.chain_files.read_link.Goals as goal
 
 pub returns-in_err-bytes-clause-err : goal.returns-in_err-bytes-clause-err

@@ -2,7 +2,7 @@ use Rattle.std.proofs.Common.{rules, ◌≡◌, ◌<◌, ◌++◌, ◌∷◌, []
 use Rattle.ep_audit.specs.declared.link.Link.{Link}
 use Rattle.std.proofs.lemmas.Result.{err_from_is_err_and}
 use Rattle.ep_main.specs.Chains.{AreRead, IsNoFile}
-use Rattle.ep_main.proofs.Chaining.{read_more, stopped_at}
+use Rattle.ep_main.proofs.Linked.{read_more, stopped_at}
 use Rattle.ep_main.proofs.chain_files.read_links.Goals as goal
 
 pub returns-in_err-reserve-clause-err : goal.returns-in_err-reserve-clause-err

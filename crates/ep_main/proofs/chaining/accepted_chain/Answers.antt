@@ -1,7 +1,7 @@
 use Rattle.std.proofs.Common.{◌≡◌, ◌≤◌, ◌<◌, ◌^◌, length, sym, subst, arith}
 use Rattle.std.specs.FinMap.{entries}
 use Rattle.ep_verdict.specs.declared.verdict.Verdict.{Verdict}
-use Rattle.ep_main.proofs.Chaining.{line_all, line_more}
+use Rattle.ep_main.proofs.Linked.{line_all, line_more}
 use Rattle.ep_main.proofs.chaining.accepted_chain.Goals as goal
 
 pub push_link-requires : goal.push_link-requires

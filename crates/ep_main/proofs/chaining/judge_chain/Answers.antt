@@ -3,7 +3,7 @@ use Rattle.std.specs.FinMap.{entries}
 use Rattle.std.specs.Prelude.{All}
 use Rattle.ep_audit.specs.Chained.{IsChainRefused}
 use Rattle.ep_verdict.specs.declared.verdict.Verdict.{Verdict}
-use Rattle.ep_main.proofs.Chaining.{fault_less, few_of}
+use Rattle.ep_main.proofs.Linked.{fault_less, few_of}
 use Rattle.ep_main.proofs.chaining.judge_chain.Goals as goal
 
 pub accepted_chain-requires-clause-count : goal.accepted_chain-requires-clause-count

@@ -1,7 +1,7 @@
 use Rattle.std.proofs.Common.{◌∙◌, inl, inr, refl, sym, string_bytes}
 use Rattle.std.proofs.lemmas.List.{length-map}
 use Rattle.std.proofs.KnownBytes.{Appends-nil}
-use Rattle.ep_main.proofs.Chaining.{ends_stopped}
+use Rattle.ep_main.proofs.Linked.{ends_stopped}
 use Rattle.ep_main.proofs.chaining.print_chain.Goals as goal
 
 pub returns-in-Ok-clause-chains : goal.returns-in-Ok-clause-chains

@@ -1,6 +1,6 @@
 use Rattle.std.proofs.Common.{refl}
 use Rattle.std.proofs.KnownBytes.{Appends-nil}
-use Rattle.ep_main.proofs.Chaining.{chains_none, chains_written, ends_none, ends_written}
+use Rattle.ep_main.proofs.Linked.{chains_none, chains_written, ends_none, ends_written}
 use Rattle.ep_main.proofs.chaining.write_chain.Goals as goal
 
 pub returns-in-Ok-clause-chains : goal.returns-in-Ok-clause-chains
