@@ -418,7 +418,7 @@ module _ (f : ℕ → ℕ) (o : ℕ → ℕ → Bool) where
   opened_has l g r q since = (
     ap (λ b. cond b (eqb r r || l.has_opened (suc g) r) (l.has_opened (suc g) r)) (eq-eqb (suc g) (suc g) refl) ∙ ap (λ b. b || l.has_opened (suc g) r) (eq-eqb r r refl),
     ap (λ b. cond b (cond (eqb r r) (store_out f l g q).contents (l.map (suc g) r)) (l.map (suc g) r)) (eq-eqb (suc g) (suc g) refl)
-    ∙ ap (λ b. cond b (store_out f l g q).contents (l.map (suc g) r)) (eq-eqb r r refl),
+        ∙ ap (λ b. cond b (store_out f l g q).contents (l.map (suc g) r)) (eq-eqb r r refl),
   )
 
   ready_move : (l : Generations) (m : LifeMove) (ms : List LifeMove) (these : List Stood) → AreLifeMoves f l (m ∷ ms) → has_over o these ≡ l.has_opened → Fits l these →
