@@ -1,8 +1,8 @@
 //! A bundle of version 1 or 2, upgraded to version 3.
 
-ghost use Rattle.std.specs.Prelude.{◌≡◌, ◌≤◌, ◌<◌, ◌^◌, length, IfOk, IfErr};
+ghost use Rattle.std.specs.Prelude.{◌≡◌, ◌≤◌, ◌<◌, ◌^◌, ℕ, List, length, IfOk, IfErr};
 ghost use Rattle.ep_base.specs.Versions.{version_number};
-ghost use Rattle.ep_upgrade.specs.Respelled.{IsBundle, IsNoBundle, IsNoThird, IsThird};
+ghost use Rattle.ep_upgrade.specs.Respelled.{IsBundle, IsNoBundle, IsNoThird, IsThird, IsUnread};
 
 use crate::writing::bundle_text;
 use ep_base::Noted;
@@ -11,6 +11,17 @@ use ep_journal::Journals;
 use ep_rules::Receipt;
 use std::alloc::Global;
 use std::mem::forget;
+
+/// What a fault of bytes in memory is told as: reading them never fails.
+fn told(fault: BundleFault) -> BundleFault
+    ensures { (zs : List ℕ) → IsUnread zs fault → IsNoBundle zs result }
+{
+    match fault {
+        BundleFault::Memory | BundleFault::ReadFailed => BundleFault::Memory,
+        BundleFault::BadBundle(offset) => BundleFault::BadBundle(offset),
+        BundleFault::NotARun(replica, entry) => BundleFault::NotARun(replica, entry),
+    }
+}
 
 /// Reads the bytes as a bundle, and lets it go.
 fn check(alloc: Global, bytes: &[u8]) -> Result<(), BundleFault>
@@ -23,10 +34,7 @@ fn check(alloc: Global, bytes: &[u8]) -> Result<(), BundleFault>
             forget(bundle);
             Ok(())
         }
-        // (a slice never fails)
-        Err(BundleFault::Memory | BundleFault::ReadFailed) => Err(BundleFault::Memory),
-        Err(BundleFault::BadBundle(offset)) => Err(BundleFault::BadBundle(offset)),
-        Err(BundleFault::NotARun(replica, entry)) => Err(BundleFault::NotARun(replica, entry)),
+        Err(fault) => Err(told(fault)),
     }
 }
 
