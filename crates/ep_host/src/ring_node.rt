@@ -38,10 +38,12 @@ pub struct RingNode {
 impl Model for RingNode {
     ghost use Rattle.std.specs.Prelude.{◌+◌, ◌≤◌, vec_len, vec_capacity};
     ghost use Rattle.std.specs.VecDeque.{deque_len};
-    ghost use Rattle.ep_host.specs.Node.{Node};
+    ghost use Rattle.ep_host.specs.Node.{Node, node_code};
     ghost use Rattle.ep_host.specs.Rings.{IsBooked};
 
     ghost Value = { Node };
+
+    ghost coded = { node_code };
 
     ghost view = { λ n. record { replica = n.replica; links = n.links.items; weather = n.weather.items; agenda = n.agenda.items; refused = n.refused.items; used = n.used; lost = n.lost; ended = n.ended } };
 
