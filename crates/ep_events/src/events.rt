@@ -1,7 +1,8 @@
 //! The parts of trace events.
 
-ghost use Rattle.std.specs.Prelude.{◌≡◌, ◌++◌, OnOk};
+ghost use Rattle.std.specs.Prelude.{◌≡◌, ◌++◌, IfOk, OnOk};
 ghost use Rattle.ep_events.specs.Events.{pid_text, time_text, begun, named, instant_text, arrow_id, process_start, process_name, process_text, first_event, generation_event, edition_event};
+ghost use Rattle.ep_words.specs.Editions.{edition_text};
 
 use ep_base::{ReplicaId, Version, VersionKind};
 use ep_frame::Frame;
@@ -9,7 +10,7 @@ use ep_journal::{Entry, Opening};
 use ep_json::push_string;
 use ep_report::push_number;
 use ep_words::{push_generation, push_origin};
-use std::alloc::AllocError;
+use std::alloc::{AllocError, Global};
 
 #[tactic(auto, unfolding(crate::specs::Events::pid_text))]
 fn push_pid(text: &mut Vec<u8>, replica: ReplicaId) -> Result<(), AllocError>
@@ -127,6 +128,18 @@ pub(crate) fn push_first(text: &mut Vec<u8>) -> Result<(), AllocError>
     )
 }
 
+fn generation_words(
+    alloc: Global,
+    generation: u32,
+    opening: &Opening,
+) -> Result<Vec<u8>, AllocError>
+    ensures { IfOk result (λ words. words.items ≡ edition_text generation opening.now) }
+{
+    let mut words = Vec::new(alloc);
+    push_generation(&mut words, generation, opening)?;
+    Ok(words)
+}
+
 #[tactic(auto, unfolding(crate::specs::Events::generation_event))]
 fn push_generation_event(
     text: &mut Vec<u8>,
@@ -135,8 +148,7 @@ fn push_generation_event(
 ) -> Result<(), AllocError>
     ensures { OnOk result (text.new.items ≡ text.old.items ++ generation_event generation opening.now) }
 {
-    let mut words = Vec::new(*text.allocator());
-    push_generation(&mut words, generation, opening)?;
+    let words = generation_words(*text.allocator(), generation, opening)?;
     text.extend_from_slice(
         b",\n{\"ph\":\"M\",\"name\":\"process_labels\",\"pid\":0,\"tid\":0,\"args\":{\"labels\":",
     )?;
