@@ -24,9 +24,8 @@ fn check(alloc: Global, bytes: &[u8]) -> Result<(), BundleFault>
             Ok(())
         }
         // (a slice never fails)
-        Err(BundleFault::Memory | BundleFault::ReadFailed) => Err(BundleFault::Memory),
-        Err(BundleFault::BadBundle(offset)) => Err(BundleFault::BadBundle(offset)),
-        Err(BundleFault::NotARun(replica, entry)) => Err(BundleFault::NotARun(replica, entry)),
+        Err(BundleFault::ReadFailed) => Err(BundleFault::Memory),
+        Err(fault) => Err(fault),
     }
 }
 
