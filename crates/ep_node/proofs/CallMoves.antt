@@ -38,9 +38,12 @@ module _ (start : Start) (f n : ℕ) (c : Cluster) (k : Kept) (h : IsNode start 
     marked = a.marked;
   }
 
+  of_entries : (es : List Entry) → StartsFrom start (record k { entries = es })
+  of_entries es = record { map = h.opening.map; since = h.opening.since }
+
   grown : (e : Entry) → IsNode start f (moved c (Take k.me (entry_of e))) (record k { entries = k.entries ++ e ∷ [] }) n
   grown e = record {
-    opening = h.opening;
+    opening = of_entries (k.entries ++ e ∷ []);
     faults = h.faults;
     member = h.member;
     journal = at_same k.me (c.journal k.me ++ (entry_of e ∷ [])) c.journal ∙ ap (λ (es : List rules.Entry). es ++ (entry_of e ∷ [])) h.journal ∙ sym (entries_of-push k.entries e);
@@ -89,7 +92,7 @@ module _ (start : Start) (f n : ℕ) (c : Cluster) (k : Kept) (h : IsNode start 
       record {
         move = (h.member, record { least = omega (arith, long, out, least); most = omega (arith, long, most, count) });
         node = record {
-          opening = h.opening;
+          opening = of_entries es;
           faults = h.faults;
           member = h.member;
           journal = at_same k.me (take (length es) (c.journal k.me)) c.journal
