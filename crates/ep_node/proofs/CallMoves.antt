@@ -11,7 +11,7 @@ use Rattle.ep_replica.specs.Kept.{Kept}
 use Rattle.ep_rules.specs.Journals.{IsAmong, IsEntry, left, stamp_after, heard}
 use Rattle.ep_rules.specs.Journals as rules
 use Rattle.ep_rules.specs.States.{fresh_state}
-use Rattle.ep_node.specs.Calls.{CallsAreMoves, IsNode, Makes}
+use Rattle.ep_node.specs.Calls.{CallsAreMoves, IsNode, Makes, StartsFrom}
 use Rattle.ep_node.specs.Crashes.{Cluster, Start, IsTaken, Move, Take, HandOut, ComeBack, mover, moved}
 use Rattle.ep_node.proofs.CrashMoves.{at_same}
 use Rattle.ep_node.proofs.CrashTraces.{at_other}
