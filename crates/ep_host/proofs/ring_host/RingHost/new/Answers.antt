@@ -9,7 +9,7 @@ use Rattle.ep_host.specs.Node.{Node}
 use Rattle.ep_host.proofs.Hosting.{linked_none, joined_none, can_join, joined_more, linked_more, linked_host, linked_fresh, linked_start}
 use Rattle.ep_host.proofs.ring_host.RingHost.new.Goals as goal
 
-start : Version × Opening
+abbrev start : Version × Opening
 start = (V2, no_opening)
 
 pub loop-index-init : goal.loop-index-init

@@ -1,4 +1,4 @@
-use Rattle.std.proofs.Common.{rules, arith, ◌≡◌, ◌∙◌, ◌∷◌, [], ap, length, length-append, subst, sym, get_or}
+use Rattle.std.proofs.Common.{ℕ, rules, arith, ◌≡◌, ◌∙◌, ◌∷◌, [], ap, length, length-append, subst, sym, get_or}
 use Rattle.std.proofs.Math.ListN.{length-set}
 use Rattle.ep_base.specs.declared.version.Version.{Version}
 use Rattle.ep_base.specs.declared.version_kind.VersionKind.TheVariants.{V3}
@@ -38,7 +38,7 @@ loop-place-preserved c =
     let h = c.loop-place.invariant in let nodes = c.loop-place.nodes.items in let k = c.loop-place.place in
     let was = c.index_mut.result.now in let a = c.join_nodes.new.a in let b = c.join_nodes.new.b in
     let joins : Joins c.args.capacity (get_or nodes k was) c.loop-place.node a b = subst (λ (n : Node). Joins c.args.capacity n c.loop-place.node a b) c.index_mut.ensures.value c.in_ok-join_nodes.ensures in record {
-      joined = joined_more c.args.capacity c.args.cluster start k nodes c.loop-place.node was a b h.joined (omega (arith, h.end)) joins;
+      joined = joined_more c.args.capacity c.args.cluster (start c.args.generation c.args.opening.now) k nodes c.loop-place.node was a b h.joined (omega (arith, h.end)) joins;
       count = length-set nodes k a ∙ h.count;
       end = h.end ∙ sym (length-set nodes k a);
     }
