@@ -1,6 +1,6 @@
 -- Files of a chain, and what is said of them.
 use Rattle.std.proofs.Common.{◌≡◌, ◌⊎◌, ◌+◌, ◌≤◌, ◌<◌, ◌^◌, inl, inr, ℕ, zero, suc, List, [], ◌∷◌, ◌++◌, Option, Some, None, Result, Ok, Err, IfOk, length, get_or, map, slice_get, slice_index_or, take, take_all, append-nil, append_assoc, codes, refl, sym, ap, ap₂, subst, ◌∙◌, arith}
-use Rattle.std.specs.Prelude.{All, IfErr}
+use Rattle.std.specs.Prelude.{All, IfErr, OnOk}
 use Rattle.std.specs.FinMap.{entries}
 use Rattle.std.proofs.lemmas.List.Elements.{All-append}
 use Rattle.std.proofs.lemmas.Option.{slice_get-get_or}
@@ -172,6 +172,13 @@ pub link_told :
     (l : Link) (v : Verdict) (life : Life) (old new : List ℕ) → Some life ≡ life_in l.journals v →
     new ≡ old ++ link_line life (length v.committed.items) (length v.history.items) ++ codes "\n" → new ≡ old ++ link_text l v
 link_told l v life old new some is = is ∙ ap (λ (o : Option Life). old ++ life_text o v) some
+
+pub line_told :
+    {A E : Type 0} (r : Result A E) (l : Link) (v : Verdict) (life : Life) (n m : ℕ) (old new : List ℕ) → Some life ≡ life_in l.journals v → n ≡ length v.committed.items → m ≡ length v.history.items →
+    OnOk r (new ≡ old ++ link_line life n m ++ codes "\n") → OnOk r (new ≡ old ++ link_text l v)
+line_told {A} {E} (Ok a) l v life n m old new some is is' h =
+    link_told l v life old new some (h ∙ ap₂ (λ (x y : ℕ). old ++ link_line life x y ++ codes "\n") is is')
+line_told {A} {E} (Err e) l v life n m old new some is is' h = tt
 
 pub link_silent : (l : Link) (v : Verdict) (old : List ℕ) → None ≡ life_in l.journals v → old ≡ old ++ link_text l v
 link_silent l v old none = sym (append-nil old) ∙ ap (λ (o : Option Life). old ++ life_text o v) none
