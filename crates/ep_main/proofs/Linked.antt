@@ -1,6 +1,6 @@
 -- Files of a chain, and what is said of them.
 use Rattle.std.proofs.Common.{◌≡◌, ◌⊎◌, ◌+◌, ◌≤◌, ◌<◌, ◌^◌, inl, inr, ℕ, zero, suc, List, [], ◌∷◌, ◌++◌, Option, Some, None, Result, Ok, Err, IfOk, length, get_or, map, slice_get, slice_index_or, take, take_all, append-nil, append_assoc, codes, refl, sym, ap, ap₂, subst, ◌∙◌, arith}
-use Rattle.std.specs.Prelude.{All, IfErr}
+use Rattle.std.specs.Prelude.{All, IfErr, OnOk}
 use Rattle.std.specs.FinMap.{entries}
 use Rattle.std.proofs.lemmas.List.Elements.{All-append}
 use Rattle.std.proofs.lemmas.Option.{slice_get-get_or}
@@ -9,13 +9,13 @@ use Rattle.ep_assemble.specs.declared.files.FilesFault.{FilesFault}
 use Rattle.ep_assemble.specs.declared.files.FilesFault.TheVariants as files
 use Rattle.ep_audit.specs.Chained.{AreLinked, IsChainFault, parted, refused, unclosed}
 use Rattle.ep_audit.specs.declared.link.Link.{Link}
-use Rattle.ep_bundle.specs.Journals.{Finds}
+use Rattle.ep_bundle.specs.Journals.{Contents, Finds}
 use Rattle.ep_bundle.specs.declared.bundle_fault.BundleFault.{BundleFault}
 use Rattle.ep_bundle.specs.declared.bundle_fault.BundleFault.TheVariants as bundle
 use Rattle.ep_report.specs.Lives.{Life, link_line}
 use Rattle.ep_report.specs.declared.chain_fault.ChainFault.{ChainFault}
 use Rattle.ep_verdict.specs.declared.verdict.Verdict.{Verdict}
-use Rattle.ep_main.specs.ChainLines.{IsRefusal}
+use Rattle.ep_main.specs.ChainLines.{IsRefusal, IsUnreadLate}
 use Rattle.ep_main.specs.Chains.{AreRead, Chains, EndsOfFiles, IsBadFile, IsOfBytes, IsLinkOf, IsNoFile, IsNoLink, IsStopped, IsToldChain, IsWritten, ReadsLate, SaysOfChain, TurnsAway, chain_text, file_line, life_text, link_text, links_text}
 use Rattle.ep_main.specs.Lives.{life_in}
 use Rattle.ep_main.specs.Outputs.{Output, Told, WroteNothing}
@@ -27,23 +27,20 @@ use Rattle.ep_main.specs.declared.status.Status.TheVariants.{Accepted, AuditRefu
 
 -- A file that is no bundle.
 
-abbrev FoundNone : List ℕ → BundleFault → ℕ → Option (List ℕ) → Type 0
-FoundNone zs fault place left = Finds (ReadsLate zs) (Err fault) place left
+pub bad_file : (name zs line : List ℕ) (fault : BundleFault) → IsOfBytes fault → ReadsLate zs (Err fault) → line ≡ file_line name fault → IsBadFile name zs line
+bad_file name zs line fault of found told = record { fault = fault; of = of; read = found; told = told }
 
-bad_file :
-    (name zs line : List ℕ) (fault : BundleFault) (place : ℕ) (left : Option (List ℕ)) → IsOfBytes fault → FoundNone zs fault place left → line ≡ file_line name fault →
-    IsBadFile name zs line
-bad_file name zs line bundle.Memory place left of found told = absurd of
-bad_file name zs line bundle.ReadFailed place left of found told = absurd of
-bad_file name zs line (bundle.BadBundle offset) place left of found told = record { fault = bundle.BadBundle offset; of = tt; read = found; told = told }
-bad_file name zs line (bundle.NotARun replica entry) place left of found told = record { fault = bundle.NotARun replica entry; of = tt; read = found; told = told }
+pub refusal : (name zs : List ℕ) (fault : BundleFault) (f : FilesFault) → IsOfBytes fault → ReadsLate zs (Err fault) → IsRefusal name fault f → IsNoLink name zs f
+refusal name zs fault files.Memory of found told = tt
+refusal name zs fault (files.ReadFailed line) of found told = absurd told
+refusal name zs fault (files.Refused line) of found told = bad_file name zs line.items fault of found told
 
-pub no_link :
-    (name zs : List ℕ) (fault : BundleFault) (place : ℕ) (left : Option (List ℕ)) (f : FilesFault) → IsOfBytes fault → FoundNone zs fault place left → IsRefusal name fault f →
-    IsNoLink name zs f
-no_link name zs fault place left files.Memory of found told = tt
-no_link name zs fault place left (files.ReadFailed line) of found told = absurd told
-no_link name zs fault place left (files.Refused line) of found told = bad_file name zs line.items fault place left of found told
+-- what the reader found
+pub unread : (zs : List ℕ) (fault : BundleFault) (place : ℕ) (left : Option (List ℕ)) → Finds {A = Contents} (ReadsLate zs) (Err fault) place left → IsUnreadLate zs fault
+unread zs bundle.Memory place left found = tt
+unread zs bundle.ReadFailed place left found = tt
+unread zs (bundle.BadBundle offset) place left found = found
+unread zs (bundle.NotARun replica entry) place left found = found
 
 no_file : (name zs : List ℕ) (f : FilesFault) → IsNoLink name zs f → IsNoFile name f
 no_file name zs files.Memory h = tt
@@ -175,6 +172,13 @@ pub link_told :
     (l : Link) (v : Verdict) (life : Life) (old new : List ℕ) → Some life ≡ life_in l.journals v →
     new ≡ old ++ link_line life (length v.committed.items) (length v.history.items) ++ codes "\n" → new ≡ old ++ link_text l v
 link_told l v life old new some is = is ∙ ap (λ (o : Option Life). old ++ life_text o v) some
+
+pub line_told :
+    {A E : Type 0} (r : Result A E) (l : Link) (v : Verdict) (life : Life) (n m : ℕ) (old new : List ℕ) → Some life ≡ life_in l.journals v → n ≡ length v.committed.items → m ≡ length v.history.items →
+    OnOk r (new ≡ old ++ link_line life n m ++ codes "\n") → OnOk r (new ≡ old ++ link_text l v)
+line_told {A} {E} (Ok a) l v life n m old new some is is' h =
+    link_told l v life old new some (h ∙ ap₂ (λ (x y : ℕ). old ++ link_line life x y ++ codes "\n") is is')
+line_told {A} {E} (Err e) l v life n m old new some is is' h = tt
 
 pub link_silent : (l : Link) (v : Verdict) (old : List ℕ) → None ≡ life_in l.journals v → old ≡ old ++ link_text l v
 link_silent l v old none = sym (append-nil old) ∙ ap (λ (o : Option Life). old ++ life_text o v) none

@@ -2,7 +2,7 @@
 
 ghost use Rattle.std.specs.Prelude.{◌≡◌, ◌++◌, ℕ, List, codes, length, map, string_bytes, IfOk, IfErr, OnOk};
 ghost use Rattle.ep_main.specs.Chains.{AreRead, IsLinkOf, IsNoFile, IsNoLink, IsStopped, file_line};
-ghost use Rattle.ep_main.specs.ChainLines.{IsRefusal};
+ghost use Rattle.ep_main.specs.ChainLines.{IsRefusal, IsUnreadLate};
 
 use ep_assemble::{FilesFault, read_file};
 use ep_audit::Link;
@@ -32,6 +32,19 @@ fn placed(alloc: Global, name: &str, fault: BundleFault) -> FilesFault
     }
 }
 
+/// What a fault of the bytes of the file with this name is told as: a slice never fails.
+fn no_link(alloc: Global, name: &str, fault: BundleFault) -> FilesFault
+    ensures { (zs : List ℕ) → IsUnreadLate zs fault → IsNoLink name.now zs result }
+{
+    match fault {
+        BundleFault::Memory | BundleFault::ReadFailed => FilesFault::Memory,
+        BundleFault::BadBundle(offset) => placed(alloc, name, BundleFault::BadBundle(offset)),
+        BundleFault::NotARun(replica, entry) => {
+            placed(alloc, name, BundleFault::NotARun(replica, entry))
+        }
+    }
+}
+
 /// The generation that these bytes of the file with this name are the bundle of.
 pub(crate) fn link_of(alloc: Global, name: &str, bytes: &[u8]) -> Result<Link, FilesFault>
     ensures ok { IfOk result (IsLinkOf bytes.now) }
@@ -40,14 +53,7 @@ pub(crate) fn link_of(alloc: Global, name: &str, bytes: &[u8]) -> Result<Link, F
     let mut source = Noted::new(bytes);
     match read_bundle_of(alloc, &mut source, 3, 3) {
         Ok(Bundle { journals, receipts }) => Ok(Link { journals, receipts }),
-        // (a slice never fails)
-        Err(BundleFault::Memory | BundleFault::ReadFailed) => Err(FilesFault::Memory),
-        Err(BundleFault::BadBundle(offset)) => {
-            Err(placed(alloc, name, BundleFault::BadBundle(offset)))
-        }
-        Err(BundleFault::NotARun(replica, entry)) => {
-            Err(placed(alloc, name, BundleFault::NotARun(replica, entry)))
-        }
+        Err(fault) => Err(no_link(alloc, name, fault)),
     }
 }
 

@@ -1,17 +1,12 @@
-use Rattle.std.proofs.Common.{refl}
-use Rattle.ep_bundle.specs.declared.bundle_fault.BundleFault.TheVariants.{BadBundle, NotARun}
-use Rattle.ep_main.proofs.Linked.{no_link}
+use Rattle.std.proofs.Common.{Some}
+use Rattle.ep_main.proofs.Linked.{unread}
 use Rattle.ep_main.proofs.chain_files.link_of.Goals as goal
 
 pub returns-in-Ok-clause-ok : goal.returns-in-Ok-clause-ok
-returns-in-Ok-clause-ok c = let found = c.in-Ok.ensures.bytes c.args.bytes.now refl in (record { at = found.0; bytes = found.1.0 }, found.1.2)
+returns-in-Ok-clause-ok c =
+    let found = c.in-Ok.ensures.bytes c.args.bytes.now (λ t. Some (c.new-source.ensures t).inner.now) in (record { at = found.0; bytes = found.1.0 }, found.1.2)
 
-pub returns-in-Err-BadBundle-clause-err : goal.returns-in-Err-BadBundle-clause-err
-returns-in-Err-BadBundle-clause-err c =
-    let found = c.in-Err-BadBundle.ensures.bytes c.args.bytes.now refl in
-    no_link c.args.name.now c.args.bytes.now (BadBundle c.in-Err-BadBundle.offset) found.0 _ _ tt found.1 c.placed.ensures
-
-pub returns-in-Err-NotARun-clause-err : goal.returns-in-Err-NotARun-clause-err
-returns-in-Err-NotARun-clause-err c =
-    let found = c.in-Err-NotARun.ensures.bytes c.args.bytes.now refl in
-    no_link c.args.name.now c.args.bytes.now (NotARun c.in-Err-NotARun.replica c.in-Err-NotARun.entry) found.0 _ _ tt found.1 c.placed-in-Err-NotARun.ensures
+pub returns-in-Err-clause-err : goal.returns-in-Err-clause-err
+returns-in-Err-clause-err c =
+    let found = c.in-Err.ensures.bytes c.args.bytes.now (λ t. Some (c.new-source.ensures t).inner.now) in
+    c.no_link.ensures c.args.bytes.now (unread c.args.bytes.now c.in-Err.fault found.0 _ found.1)
