@@ -1,4 +1,5 @@
 use Rattle.std.proofs.Common.{rules, refl}
+use Rattle.ep_bundle.specs.Reading.{Left}
 use Rattle.ep_main.proofs.Ending.{second_not_read, not_upgraded}
 use Rattle.ep_main.proofs.Flags.{bundle_read, bundle_not_written}
 use Rattle.ep_main.proofs.Ranges.{read_early, read_wider}
@@ -28,7 +29,7 @@ returns-clause-rewrites g c zs known =
     let found = c.in_ok-bundle.ensures.bytes zs known in
     let journals = c.in_ok-bundle.bundle.journals in
     let receipts = c.in_ok-bundle.bundle.receipts.items in
-    let end = record { at = found.0; bytes = found.1.0 } in (
+    let end : Left = record { at = found.0; bytes = found.1.0 } in (
       refl,
       rewritten journals c.in_ok-upgraded.upgraded.journals receipts c.in_ok-upgraded.upgraded.receipts.items zs c.in_ok-text.text.items end _ found.1.2
           (c.in_ok-upgraded.ensures.journals (read_early zs ((journals, receipts), end) found.1.2)) c.in_ok-upgraded.ensures.same c.in_ok-upgraded.ensures.receipts
