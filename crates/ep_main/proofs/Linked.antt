@@ -171,7 +171,8 @@ read_more ls l read one = All-append (λ (x : Link). (zs : List ℕ) × IsLinkOf
 pub link_told :
     (l : Link) (v : Verdict) (life : Life) (old new : List ℕ) → Some life ≡ life_in l.journals v →
     new ≡ old ++ link_line life (length v.committed.items) (length v.history.items) ++ codes "\n" → new ≡ old ++ link_text l v
-link_told l v life old new some is = is ∙ ap (λ (o : Option Life). old ++ life_text o v) some
+link_told l v life old new some is =
+    is ∙ append_assoc old (link_line life (length v.committed.items) (length v.history.items)) (codes "\n") ∙ ap (λ (o : Option Life). old ++ life_text o v) some
 
 pub line_told :
     {A E : Type 0} (r : Result A E) (l : Link) (v : Verdict) (life : Life) (n m : ℕ) (old new : List ℕ) → Some life ≡ life_in l.journals v → n ≡ length v.committed.items → m ≡ length v.history.items →

@@ -63,30 +63,25 @@ header_wider l p h =
     and_then_is (field 4 magic magic l) _ a.0 p a.1 (and_then_is (field 1 1 3 a.0.1) _ b.0 p (field_wider 2 a.0.1 b.0 (omega arith) b.1) b.2)
 
 early_number : (n : ℕ) → n ≤ 2 → version_number (version_of n 0) ≤ 2
-early_number 0 low = omega arith
-early_number 1 low = omega arith
-early_number 2 low = omega arith
+early_number zero low = omega arith
+early_number (suc zero) low = omega arith
+early_number (suc (suc zero)) low = omega arith
 early_number (suc (suc (suc n))) low = absurd (omega arith)
 
+abbrev edition_version : Version → Reading (Version × ℕ) → Version
+edition_version v (Ok q) = q.0.0
+edition_version v (Err e) = v
+
 early_edition : (n : ℕ) (l : Left) (p : (Version × ℕ) × Left) → n ≤ 2 → edition n l ≡ Ok p → version_number p.0.0 ≤ 2
-early_edition 0 l p low h = let same : version_of 0 0 ≡ p.0.0 = ap (got (version_of 0 0)) h in subst (λ (v : Version). version_number v ≤ 2) same (early_number 0 low)
-  where
-    got : Version → Reading (Version × ℕ) → Version
-    got v (Ok q) = q.0.0
-    got v (Err e) = v
-early_edition 1 l p low h = let same : version_of 1 0 ≡ p.0.0 = ap (got (version_of 1 0)) h in subst (λ (v : Version). version_number v ≤ 2) same (early_number 1 low)
-  where
-    got : Version → Reading (Version × ℕ) → Version
-    got v (Ok q) = q.0.0
-    got v (Err e) = v
-early_edition 2 l p low h = let same : version_of 2 0 ≡ p.0.0 = ap (got (version_of 2 0)) h in subst (λ (v : Version). version_number v ≤ 2) same (early_number 2 low)
-  where
-    got : Version → Reading (Version × ℕ) → Version
-    got v (Ok q) = q.0.0
-    got v (Err e) = v
+early_edition zero l p low h =
+    let same : version_of 0 0 ≡ p.0.0 = ap (edition_version (version_of 0 0)) h in subst (λ (v : Version). version_number v ≤ 2) same (early_number 0 low)
+early_edition (suc zero) l p low h =
+    let same : version_of 1 0 ≡ p.0.0 = ap (edition_version (version_of 1 0)) h in subst (λ (v : Version). version_number v ≤ 2) same (early_number 1 low)
+early_edition (suc (suc zero)) l p low h =
+    let same : version_of 2 0 ≡ p.0.0 = ap (edition_version (version_of 2 0)) h in subst (λ (v : Version). version_number v ≤ 2) same (early_number 2 low)
 early_edition (suc (suc (suc n))) l p low h = absurd (omega arith)
 
-header_version : Version → Reading BundleHeader → Version
+abbrev header_version : Version → Reading BundleHeader → Version
 header_version v (Ok p) = p.0.version
 header_version v (Err e) = v
 
@@ -118,7 +113,7 @@ After h l o = (p : Reading (List (List Entry))) × ReadsJournals h.version h.ope
 pub read_wider : (zs : List ℕ) (p : Contents × Left) → ReadsEarly zs (Ok p) → Reads zs (Ok p)
 read_wider zs p h = let l : Left = record { at = 0; bytes = zs } in then_as (header_of 1 2 l) (header_of 1 3 l) After p (header_wider l) h
 
-closed_version : Version → Reading Contents → Version
+abbrev closed_version : Version → Reading Contents → Version
 closed_version v (Ok p) = p.0.0.version
 closed_version v (Err e) = v
 

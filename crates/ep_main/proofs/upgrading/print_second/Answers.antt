@@ -1,4 +1,6 @@
 use Rattle.std.proofs.Common.{rules, refl}
+use Rattle.ep_bundle.specs.Bytes.{bundle_bytes}
+use Rattle.ep_bundle.specs.Reading.{Left}
 use Rattle.ep_main.proofs.Ending.{second_not_read, not_upgraded}
 use Rattle.ep_main.proofs.Flags.{bundle_read, bundle_not_written}
 use Rattle.ep_main.proofs.Ranges.{read_early, read_wider}
@@ -28,9 +30,12 @@ returns-clause-rewrites g c zs known =
     let found = c.in_ok-bundle.ensures.bytes zs known in
     let journals = c.in_ok-bundle.bundle.journals in
     let receipts = c.in_ok-bundle.bundle.receipts.items in
-    let end = record { at = found.0; bytes = found.1.0 } in (
+    let end : Left = record { at = found.0; bytes = found.1.0 } in (
       refl,
       rewritten journals c.in_ok-upgraded.upgraded.journals receipts c.in_ok-upgraded.upgraded.receipts.items zs c.in_ok-text.text.items end _ found.1.2
           (c.in_ok-upgraded.ensures.journals (read_early zs ((journals, receipts), end) found.1.2)) c.in_ok-upgraded.ensures.same c.in_ok-upgraded.ensures.receipts
-          c.in_ok-text.ensures.value (λ are. all_begun _ _ _ (let law = c.bundles_are_canonical.ensures (record { at = 0; bytes = zs }) end journals receipts are (read_wider zs ((journals, receipts), end) found.1.2) in (law.2, law.3))) (search rules),
+          c.in_ok-text.ensures.value (λ are.
+          (let l : Left = record { at = 0; bytes = zs } in
+          let law = c.bundles_are_canonical.ensures l end journals receipts are (read_wider zs ((journals, receipts), end) found.1.2) in
+          all_begun l (bundle_bytes journals receipts) end (law.2, law.3))) (search rules),
     )

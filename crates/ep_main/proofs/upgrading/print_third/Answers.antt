@@ -1,4 +1,5 @@
 use Rattle.std.proofs.Common.{rules, refl}
+use Rattle.std.proofs.KnownBytes.{Appends-nil}
 use Rattle.ep_main.proofs.Ending.{third_not_read, third_refused}
 use Rattle.ep_main.proofs.Flags.{bundle_read, bundle_not_written}
 use Rattle.ep_main.proofs.Rewriting.{in_third, third_told, third_silent}
@@ -19,7 +20,7 @@ pub returns-in_err-text-clause-rewrites : goal.returns-in_err-text-clause-rewrit
 returns-in_err-text-clause-rewrites g c zs known =
     let found = c.in_ok-bundle.ensures.bytes zs known in
     third_refused c.in_err-text.field-0.0 _ zs c.in_ok-bundle.bundle.journals c.in_ok-bundle.bundle.receipts.items (record { at = found.0; bytes = found.1.0 }) _
-    c.from_residual-in_err-text.ensures.1 found.1.2 c.in_err-text.ensures.refused c.in_err-text.ensures.memory (search rules)
+    c.from_residual-in_err-text.ensures.1 found.1.2 c.in_err-text.ensures.refused c.in_err-text.ensures.memory (Appends-nil _)
 
 pub returns-in_err-text-clause-read : goal.returns-in_err-text-clause-read
 returns-in_err-text-clause-read g c = third_told c.in_ok-bundle.bundle.journals c.in_ok-bundle.bundle.receipts.items c.in_err-text.field-0.0 _ _ _ c.from_residual-in_err-text.ensures.1 c.in_err-text.ensures.refused c.in_err-text.ensures.memory c.in_ok-bundle.ensures.told
