@@ -198,7 +198,7 @@ def drawn():
     yield dict(name="version 3: every command, drawn", words=["draw"], given=one.bundle(), says=says, is_picture=True)
     said = {line.split(" ")[0]: line for line in one.history}
     says = [f"{name} {text} -> closed" if said[name].endswith("closed") else f"{name} {text}" for name, text in ((f"0.{at}", it) for at, it in enumerate(ALL, 1))]
-    says += ["a seal", "-> closed: a seal stood before it, and it changed nothing"]
+    says += ["a seal: it depends on all above it, and all below depends on it", "-> closed: a seal was executed before it"]
     yield dict(name="version 3: every command, drawn as a graph", words=["draw", "--graph"], given=one.bundle(), says=says, is_picture=True)
 
 

@@ -6,7 +6,7 @@ ghost use Rattle.ep_graph.specs.Graphs.{measured, viewed, front, opening, IsGrap
 
 use crate::graph_fault::GraphFault;
 use crate::layers::Layers;
-use crate::plan::{Plan, closed_in};
+use crate::plan::{Plan, closed_in, sealed_in};
 use crate::reach::Reach;
 use crate::rects::{EDGE, FIRST, GAP, LANE, LINE, Place, place_boxes};
 use crate::style::STYLE;
@@ -164,23 +164,37 @@ fn next_lane(taken: &mut [u64], from: Place) -> u64 {
     lane
 }
 
+// Draws the arrow between the components of these first nodes, if it is one that is drawn.
+fn add_edge(
+    shapes: &mut Vec<Shape>,
+    plan: &Plan<'_>,
+    places: &[Place],
+    taken: &mut [u64],
+    edge: &(usize, usize),
+) -> Result<(), AllocError> {
+    let (from, to) = edge;
+    if !plan.is_drawn(*from, *to) {
+        return Ok(());
+    }
+    let (Some(from), Some(to)) = (place_of(places, *from), place_of(places, *to)) else {
+        return Ok(());
+    };
+    let lane = if passes(from, to) {
+        next_lane(taken, from)
+    } else {
+        0
+    };
+    add_arrow(shapes, from, to, lane)
+}
+
 fn add_arrows(
     shapes: &mut Vec<Shape>,
     plan: &Plan<'_>,
     places: &[Place],
 ) -> Result<(), AllocError> {
     let mut taken = vec![in *shapes.allocator(); 0; plan.layers.layers.len()]?;
-    for (from, to) in &plan.layers.edges {
-        if let Some(from) = place_of(places, *from) {
-            if let Some(to) = place_of(places, *to) {
-                let lane = if passes(from, to) {
-                    next_lane(&mut taken, from)
-                } else {
-                    0
-                };
-                add_arrow(shapes, from, to, lane)?;
-            }
-        }
+    for edge in &plan.layers.edges {
+        add_edge(shapes, plan, places, &mut taken, edge)?;
     }
     Ok(())
 }
@@ -329,7 +343,10 @@ fn add_seal_meaning(shapes: &mut Vec<Shape>, y: u64) -> Result<(), AllocError> {
             y: LINE.saturating_add(1),
         },
     })?;
-    let words = Vec::from_slice(*shapes.allocator(), b"a seal")?;
+    let words = Vec::from_slice(
+        *shapes.allocator(),
+        b"a seal: it depends on all above it, and all below depends on it",
+    )?;
     add_words(shapes, Look::Plain, Point { x: 54, y }, words)
 }
 
@@ -337,9 +354,9 @@ fn add_seal_meaning(shapes: &mut Vec<Shape>, y: u64) -> Result<(), AllocError> {
 fn add_closed_meaning(shapes: &mut Vec<Shape>, y: u64) -> Result<(), AllocError> {
     let words = Vec::from_slice(
         *shapes.allocator(),
-        b"-> closed: a seal stood before it, and it changed nothing",
+        b"-> closed: a seal was executed before it",
     )?;
-    add_words(shapes, Look::Closed, Point { x: 130, y }, words)
+    add_words(shapes, Look::Closed, Point { x: 510, y }, words)
 }
 
 // Draws a key below the graph, which ends at this y, of the marks that occur, and answers where it ends.
@@ -434,7 +451,7 @@ fn drawn(alloc: Global, plan: &Plan<'_>) -> Result<Vec<u8>, AllocError>
 
 /// Draws the dependency graph of what the journals commit, an SVG file: a box a component of instances that depend on each
 /// other, in layers by the order of execution, with an arrow to what a component depends on, unless another one that it
-/// depends on lies between. Where several journals commit in an instance, it is as `Verdict::of` has it.
+/// depends on lies between, or one of them is a seal, above which all stands that it depends on, and below which all that depends on it. Where several journals commit in an instance, it is as `Verdict::of` has it.
 ///
 /// `TooMany` where more than 2,000 are committed or depended on.
 pub fn graph(alloc: Global, journals: &Journals) -> Result<Vec<u8>, GraphFault>
@@ -445,11 +462,13 @@ pub fn graph(alloc: Global, journals: &Journals) -> Result<Vec<u8>, GraphFault>
     let reach = Reach::of(alloc, &verdict.committed, MOST)?;
     let layers = Layers::of(alloc, &reach)?;
     let closed = closed_in(alloc, &reach, &verdict.history)?;
+    let sealed = sealed_in(alloc, &reach, &verdict.committed)?;
     let plan = Plan {
         committed: &verdict.committed,
         reach,
         layers,
         closed,
+        sealed,
     };
     let text = drawn(alloc, &plan)?;
     Ok(text)

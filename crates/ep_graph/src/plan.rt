@@ -18,6 +18,31 @@ pub(crate) struct Plan<'a> {
     pub layers: Layers,
     /// The nodes that were answered `closed`.
     pub closed: Marks,
+    /// The first nodes of the components that have a seal.
+    pub sealed: Marks,
+}
+
+/// The first nodes of the components in which this rising table has a seal.
+pub(crate) fn sealed_in(
+    alloc: Global,
+    reach: &Reach,
+    committed: &[(InstanceId, Decree)],
+) -> Result<Marks, AllocError> {
+    let mut sealed = Marks::none(alloc, reach.nodes().len())?;
+    for (node, instance) in reach.nodes().iter().enumerate() {
+        if is_seal(committed, *instance) {
+            sealed.add(reach.first_of(node));
+        }
+    }
+    Ok(sealed)
+}
+
+/// Whether the rising table has a seal in the instance.
+fn is_seal(committed: &[(InstanceId, Decree)], instance: InstanceId) -> bool {
+    match decree_of(committed, instance) {
+        Some(decree) => decree.command.is_seal(),
+        None => false,
+    }
 }
 
 /// The nodes that were answered `closed` in this history.
@@ -71,6 +96,28 @@ impl<'a> Plan<'a> {
             Some(decree) => decree.command.is_seal(),
             None => false,
         }
+    }
+
+    /// Whether an arrow between the components of these first nodes is drawn: none is to a seal or from one, on which all hangs.
+    pub fn is_drawn(&self, from: usize, to: usize) -> bool {
+        !self.sealed.has(from) && !self.sealed.has(to)
+    }
+
+    /// When the component of this first node comes: twice the number of seals that it comes after, and one more where it has a seal itself.
+    pub fn turn(&self, node: usize) -> usize {
+        let mut turn = 0usize;
+        for other in 0..self.reach.nodes().len() {
+            if self.sealed.has(other)
+                && self.reach.has(node, other)
+                && !self.reach.has(other, node)
+            {
+                turn = turn.saturating_add(2);
+            }
+        }
+        if self.sealed.has(node) {
+            turn = turn.saturating_add(1);
+        }
+        turn
     }
 
     fn seq(&self, node: usize) -> u32 {
