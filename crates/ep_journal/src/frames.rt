@@ -126,7 +126,7 @@ pub(crate) fn written(
 }
 
 /// The frames of what is told, by rising receiver.
-fn written_of(alloc: Global, cell: &Cell<'_>, told: &Told<'_>) -> Result<Frames, AllocError>
+pub(crate) fn written_of(alloc: Global, cell: &Cell<'_>, told: &Told<'_>) -> Result<Frames, AllocError>
     requires number { 1 ≤ told.now.mark.number }
     requires fit { AllFit cell.now.me (to_receivers cell.now.faults cell.now.me cell.now.instance told.now.to (says told.now.telling.now.instance told.now.telling.now.said)) }
     requires said { AllSayable told.now.version (to_receivers cell.now.faults cell.now.me cell.now.instance told.now.to (says told.now.telling.now.instance told.now.telling.now.said)) }
@@ -223,11 +223,11 @@ fn is_receiver(cell: &Cell<'_>, to: Receivers, replica: u8) -> bool
 
 /// What an entry so marked tells, in this version, and whom.
 #[derive(Drop)]
-struct Told<'a> {
-    version: Version,
-    mark: Mark,
-    to: Receivers,
-    telling: &'a Telling<'a>,
+pub(crate) struct Told<'a> {
+    pub version: Version,
+    pub mark: Mark,
+    pub to: Receivers,
+    pub telling: &'a Telling<'a>,
 }
 
 /// The replica of this number.

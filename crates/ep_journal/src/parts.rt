@@ -18,17 +18,18 @@ use crate::deciding::decide;
 use crate::event::Event;
 use crate::execute::execute;
 use crate::executions::Executions;
-use crate::frames::{Frames, written};
+use crate::frames::{Frames, Told, written, written_of};
 use crate::input::Input;
 use crate::mark::Mark;
 use crate::screen::{screen_frame, screen_instance, screen_request};
 use crate::step_fault::StepFault;
 use crate::taken::Taken;
 use crate::versioned::check_version;
-use ep_base::{Command, InstanceId, ReplicaId, Version, VersionKind};
+use ep_base::{Ballot, Command, Decree, InstanceId, ReplicaId, Said, Status, Version, VersionKind};
 use ep_exec::{Executed, Store};
-use ep_frame::Frame;
-use ep_phase::{Cell, Lead, next_instance};
+use ep_frame::{Frame, FrameView, Kind, Origin, Telling, write_said};
+use ep_rules::{Answers, Led};
+use ep_phase::{Cell, DecisionFault, Lead, Receivers, all_equal, fast_answered, is_usable, next_instance};
 use ep_space::{Space, SpaceFull};
 use std::alloc::{AllocError, Global};
 
@@ -140,8 +141,7 @@ impl Parts {
             return Err(StepFault::StampFull);
         };
         let id = instance_for(&self.space, self.me, command)?;
-        let input = Input::Start(command);
-        self.ask(alloc, id, input, Some(mark))
+        self.start_in_place(alloc, command, id, mark)
     }
 
     /// Handles the frame, if it is for this replica and all that it names is of the cluster.
@@ -158,7 +158,16 @@ impl Parts {
     {
         let view = frame.view();
         screen_frame(self.space.size(), self.me, &view)?;
-        self.ask(alloc, view.instance(), Input::Message(&view), mark)
+        let Some(mark) = mark else {
+            return Err(StepFault::StampFull);
+        };
+        let id = view.instance();
+        match view.kind() {
+            Kind::Commit => self.commit_in_place(alloc, &view, id),
+            Kind::PreAccept => self.pre_accept_in_place(alloc, &view, id, mark),
+            Kind::PreAcceptOk => self.pre_accept_ok_in_place(alloc, &view, id, mark),
+            _ => self.change(alloc, id, Input::Message(&view), mark),
+        }
     }
 
     /// Executes the root, and before it all that it depends on.
@@ -205,6 +214,140 @@ impl Parts {
             return Err(StepFault::StampFull);
         };
         self.change(alloc, id, input, mark)
+    }
+
+    fn none(alloc: Global) -> Taken {
+        Taken {
+            frames: Frames::none(alloc),
+            done: Executions::none(alloc),
+        }
+    }
+
+    fn start_in_place(
+        &mut self,
+        alloc: Global,
+        command: &Command,
+        id: InstanceId,
+        mark: Mark,
+    ) -> Result<Taken, StepFault>
+    {
+        let attrs = match self.space.interference(alloc, command, id) {
+            Ok(attrs) => attrs,
+            Err(fault) => return Err(DecisionFault::from(fault).into()),
+        };
+        let ballot = Ballot::default_of(id.replica());
+        let command = command.copy(alloc)?;
+        let decree = Decree { command, attrs };
+        let telling = Telling { instance: id, said: Said::PreAccept(ballot, &decree) };
+        let told = Told { version: self.space.version(), mark, to: Receivers::FastQuorum, telling: &telling };
+        let cell = Cell::of(&self.space, &self.lead, self.me, id);
+        let frames = written_of(alloc, &cell, &told)?;
+        self.space.reserve(id)?;
+        self.lead.reserve(id)?;
+        self.space.vote_pre(id, ballot, decree)?;
+        self.lead.lead(id, Led::Proposing(ballot, Answers::new(alloc)));
+        Ok(Taken { frames, done: Executions::none(alloc) })
+    }
+
+    fn commit_in_place(
+        &mut self,
+        alloc: Global,
+        view: &FrameView<'_>,
+        id: InstanceId,
+    ) -> Result<Taken, StepFault>
+    {
+        let same = match self.space.vote(id) {
+            None => false,
+            Some(vote) => {
+                if matches!(vote.status, Status::Committed) {
+                    return Ok(Parts::none(alloc));
+                }
+                view.has_decree(&vote.decree)
+            }
+        };
+        if same {
+            self.space.settle(id);
+            self.lead.end(id);
+            return Ok(Parts::none(alloc));
+        }
+        let decree = view.to_decree(alloc)?;
+        self.space.reserve(id)?;
+        self.space.commit(id, decree)?;
+        self.lead.end(id);
+        Ok(Parts::none(alloc))
+    }
+
+    fn pre_accept_in_place(
+        &mut self,
+        alloc: Global,
+        view: &FrameView<'_>,
+        id: InstanceId,
+        mark: Mark,
+    ) -> Result<Taken, StepFault>
+    {
+        let ballot = view.ballot();
+        let promised = self.space.promised(id);
+        if ballot < promised {
+            return self.change(alloc, id, Input::Message(view), mark);
+        }
+        if self.space.is_done_at(id, ballot) {
+            return Ok(Parts::none(alloc));
+        }
+        let command = view.to_command()?;
+        let mut attrs = match self.space.interference(alloc, &command, id) {
+            Ok(attrs) => attrs,
+            Err(fault) => return Err(DecisionFault::from(fault).into()),
+        };
+        view.join_to(alloc, &mut attrs)?;
+        let telling = Telling { instance: id, said: Said::PreAcceptOk(ballot, &attrs) };
+        let origin = Origin {
+            to: view.from(),
+            out: 0,
+            entry: mark.number,
+            stamp: mark.stamp,
+        };
+        let mut items = Vec::with_capacity(alloc, 1)?;
+        let frame = write_said(alloc, self.space.version(), self.me, &telling, origin)?;
+        items.push_reserved(frame);
+        self.space.reserve(id)?;
+        self.space.vote_pre(id, ballot, Decree { command, attrs })?;
+        Ok(Taken { frames: Frames::new(items), done: Executions::none(alloc) })
+    }
+
+    fn pre_accept_ok_in_place(
+        &mut self,
+        alloc: Global,
+        view: &FrameView<'_>,
+        id: InstanceId,
+        mark: Mark,
+    ) -> Result<Taken, StepFault>
+    {
+        let cell = Cell::of(&self.space, &self.lead, self.me, id);
+        let Some(Led::Proposing(led, answers)) = cell.led() else {
+            return Ok(Parts::none(alloc));
+        };
+        let leader = id.replica();
+        let ballot = view.ballot();
+        let fast = answers.get(view.from().index()).is_none()
+            && is_usable(&cell, ballot, *led)
+            && ballot == Ballot::default_of(leader)
+            && fast_answered(cell.size(), leader, answers, view.from())
+            && all_equal(cell.size(), view, answers);
+        if !fast {
+            return self.change(alloc, id, Input::Message(view), mark);
+        }
+        let Some(vote) = cell.vote() else {
+            return Ok(Parts::none(alloc));
+        };
+        if !view.has_attrs(&vote.decree.attrs) {
+            return self.change(alloc, id, Input::Message(view), mark);
+        }
+        let telling = Telling { instance: id, said: Said::Commit(&vote.decree) };
+        let told = Told { version: self.space.version(), mark, to: Receivers::Others, telling: &telling };
+        let frames = written_of(alloc, &cell, &told)?;
+        self.space.settle(id);
+        self.lead.end(id);
+        Ok(Taken { frames, done: Executions::none(alloc) })
     }
 
     /// Does what is asked of the instance: decides, writes the frames, and puts the change in place. All that may fail comes before

@@ -62,7 +62,7 @@ fn has_answered<X>(answers: &Answers<X>, from: ReplicaId, r: u8) -> bool
 
 /// Whether all others of the leader's fast quorum answered, the one that answers now among them.
 #[tactic(auto, using(crate::proofs::Answering::fast_more))]
-pub(crate) fn fast_answered(
+pub fn fast_answered(
     size: Size,
     leader: ReplicaId,
     answers: &Answers<Attrs>,
@@ -78,7 +78,7 @@ pub(crate) fn fast_answered(
 }
 
 /// Whether each replica that answered did so with the attributes of the frame, which is the newest answer.
-pub(crate) fn all_equal(size: Size, frame: &FrameView<'_>, answers: &Answers<Attrs>) -> bool
+pub fn all_equal(size: Size, frame: &FrameView<'_>, answers: &Answers<Attrs>) -> bool
     ensures { result ≡ rules.all_equal size (attrs_at frame.now) (with_answer answers.now (sender_at frame.now) (attrs_at frame.now)) }
 {
     let mut all = true;

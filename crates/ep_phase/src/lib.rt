@@ -30,6 +30,7 @@ pub use accept::{begin_accept, on_accept, on_accept_ok};
 pub use cell::Cell;
 pub use change::Change;
 pub use commit::{begin_commit, on_commit};
+pub use counting::{all_equal, fast_answered};
 pub use decision_fault::DecisionFault;
 pub use lead::Lead;
 pub use leading::Leading;
