@@ -144,21 +144,21 @@ all_taken f nodes j d b host know begins low c =
     let me = get_or nodes j d in
     let t = All-contains (IsTaken me.links) (frames_handled me.replica.entries) b (know j d low).booked.taken c in
     let mine : (e : Link) → Contains (received (get_or me.links t.0 e).from) b = λ e. subst (λ (l : Link). Contains (received l.from) b) (sym t.3 ∙ get_or_default me.links t.0 t.1 e t.2) t.4 in
-    let out = out_of f nodes j t.0 d t.1 b host know begins low t.2 (mine t.1) in record {
+    let there = out_of f nodes j t.0 d t.1 b host know begins low t.2 (mine t.1) in record {
       from = peer_at j t.0;
-      low = out.0;
+      low = there.0;
       taken = λ e. subst (λ (n : ℕ). Contains (received (get_or me.links n e).from) b) (sym (place_peer j t.0)) (mine e);
-      out = out.1;
+      out = there.1;
     }
 
 -- each frame that was taken is of the one version of the host
 pub all_of_version : (f : ℕ) (nodes : List Node) → IsHost f nodes → All Knows nodes → AllBegin nodes → AllOfVersion nodes
 all_of_version f nodes host know begins = λ j k d e b low lk c.
-    let out = out_of f nodes j k d e b host know begins low lk c in
+    let there = out_of f nodes j k d e b host know begins low lk c in
     let i = peer_at j k in
     let n : Kept = (get_or nodes i d).replica in
-    let v : version_at b ≡ n.version = frames_of_version n.version n.faults n.me (fresh_state (opens n.opening)) n.entries b (know i d out.0).journal.versioned out.1 in
-    v ∙ ap (λ p. p.0) (host.start i d out.0) ∙ sym (ap (λ p. p.0) (host.start j d low))
+    let v : version_at b ≡ n.version = frames_of_version n.version n.faults n.me (fresh_state (opens n.opening)) n.entries b (know i d there.0).journal.versioned there.1 in
+    v ∙ ap (λ p. p.0) (host.start i d there.0) ∙ sym (ap (λ p. p.0) (host.start j d low))
 
 pub all_sent : (f : ℕ) (nodes : List Node) → IsHost f nodes → All Knows nodes → AllBegin nodes → AllSent nodes
 all_sent f nodes host know begins = λ j d b low c. let t = all_taken f nodes j d b host know begins low c in (t.from, t.low, t.out)

@@ -16,6 +16,10 @@ IsHostFrame b = 2 ≤ version_number (version_at b)
 abbrev pub AreHostFrames : List (List ℕ) → Type 0
 AreHostFrames frames = All IsHostFrame frames
 
+-- each of the frames is of this version
+abbrev pub AreOfVersion : Version → List (List ℕ) → Type 0
+AreOfVersion v frames = All (λ (b : List ℕ). version_at b ≡ v) frames
+
 -- the frame, if there is one and it is of this version
 abbrev pub IsOnly : Version → Option (List ℕ) → Option (List ℕ) → Type 0
 IsOnly v None given = given ≡ None

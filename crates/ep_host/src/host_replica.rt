@@ -2,6 +2,7 @@
 
 ghost use Rattle.std.specs.Prelude.{◌≡◌};
 ghost use Rattle.ep_host.specs.Asking.{IsKept};
+ghost use Rattle.ep_host.specs.Starts.{one_start};
 ghost use Rattle.ep_replica.specs.Kept.{start_of};
 
 use crate::host_frame::{HostFrame, frame_in, only_of};
@@ -21,7 +22,7 @@ use std::marker::PhantomData;
 pub struct HostReplica<S: Start> {
     replica: Replica,
     of: PhantomData<S>,
-    ghost start: { start_of replica ≡ S.start },
+    ghost start: { start_of replica ≡ S.start } by { one_start _ _ },
 }
 
 /// What a replica is: a law, which costs nothing.

@@ -3,6 +3,7 @@
 ghost use Rattle.std.specs.Prelude.{◌≡◌, IfOk, vec_len, All};
 ghost use Rattle.ep_base.specs.Quorums.{size};
 ghost use Rattle.ep_host.specs.Finishing.{StartAs};
+ghost use Rattle.ep_host.specs.Starts.{one_opening, one_version};
 
 use crate::act::Act;
 use crate::finished::Finished;
@@ -33,8 +34,8 @@ pub struct LockHost<S: Start = Second> {
     seats: Vec<Seat<S>>,
     alloc: Global,
     ghost seated: { vec_len seats ≡ size cluster },
-    ghost of_version: { version ≡ S.start.0 },
-    ghost of_opening: { opening ≡ S.start.1 },
+    ghost of_version: { version ≡ S.start.0 } by { one_version _ _ },
+    ghost of_opening: { opening ≡ S.start.1 } by { one_opening _ _ },
 }
 
 /// The journals of the replicas, which start so.

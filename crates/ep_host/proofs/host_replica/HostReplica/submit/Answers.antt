@@ -14,7 +14,7 @@ use Rattle.ep_host.proofs.host_replica.HostReplica.submit.Goals as goal
 pub returns-clause-ok : goal.returns-clause-ok
 returns-clause-ok g c =
     let event : Event = Propose c.args.client c.args.request c.args.command c.args.seen in
-    let old = c.args.self.now.replica in let new = c.submit.new.replica in
+    let old = c.args.self.now.replica in let new = c.submit.new.self in
     IfOk-weaker c.submit.result (λ i. Submits old event i new) (IsSubmitted g.S.Start.start event)
     (λ i h. let told : IsSubmitted (start_of old) event i = record { old = old; new = new; run = c.know.ensures; submits = h } in
     subst (λ (s : Version × Opening). IsSubmitted s event i) c.args.self.now.start told) c.submit.ensures.ok
