@@ -1,6 +1,6 @@
 //! Runs.
 
-ghost use Rattle.std.specs.Prelude.{◌≡◌, ℕ, List, IfOk, OnOk};
+ghost use Rattle.std.specs.Prelude.{◌≡◌, ◌≤◌, ℕ, List, IfOk, OnOk};
 ghost use Rattle.ep_base.specs.Quorums.{size as size_with};
 ghost use Rattle.ep_base.specs.declared.version_kind.VersionKind.TheVariants.{V3};
 ghost use Rattle.ep_host.specs.Finishing.{IsFinished};
