@@ -55,5 +55,4 @@ end-requires g c =
     let all : List SectionPlan = c.sections-section-items.result.now in
     let at : c.loop-section.section-index ≡ length all = omega arith in
     let same : take c.loop-section.section-index all ≡ c.sections.result.now = ap (λ (n : ℕ). take n all) at ∙ take-length all ∙ c.sections-section-items.ensures.value ∙ sym c.sections.ensures.value in
-    let h : HasRun b turns c.sections.result.now c.loop-section.run = subst (λ (ss : List SectionPlan). HasRun b turns ss c.loop-section.run) same c.loop-section.invariant in
-    (b, (turns, h))
+    (b, turns, subst (λ (ss : List SectionPlan). HasRun b turns ss c.loop-section.run) same c.loop-section.invariant)
