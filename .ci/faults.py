@@ -72,6 +72,49 @@ def keys():
     yield "a swap of one key", S + b"propose 0 1 swap a %61\n", told(2, ", word 6: %61 spells the bytes of the first key: a swap has two different keys")
 
 
+LATE = S + b"generation 1\n"
+
+
+def generations():
+    """Lines of version 3: where they stand, and their words."""
+    place = ", word 1: generation stands once, as the first line behind replicas"
+    yield "a generation twice", LATE + b"generation 2\n", told(3, place)
+    yield "a generation behind a line", S + b"propose 0 1 put x 1\ngeneration 1\n", told(3, place)
+    yield "generation 0", S + b"generation 0\n", told(2, ", word 2: 0 is out of range: a generation, 1 to 4294967295")
+    yield "a generation and more", S + b"generation 1 2\n", told(2, ", word 3: 2 is one word more than the line has: generation G")
+    early = "is a line of version 3: behind replicas stands generation G, and then such lines"
+    yield "a stamp without a generation", S + b"since 7\n", told(2, f", word 1: since {early}")
+    yield "an opening without a generation", S + b"opening x 1\n", told(2, f", word 1: opening {early}")
+    late = "stands behind generation, before all lines of other kinds"
+    yield "a stamp behind a line", LATE + b"propose 0 1 put x 1\nsince 7\n", told(4, f", word 1: since {late}")
+    yield "an opening behind a line", LATE + b"flush\nopening x 1\n", told(4, f", word 1: opening {late}", taken=replay(3))
+    yield "a stamp too high", LATE + b"since 281474976710655\n", told(3, ", word 2: 281474976710655 is out of range: a stamp, 0 to 281474976710654")
+    yield "a stamp of 16 digits", LATE + b"since 0000000000000000\n", told(3, ", word 2: 0000000000000000 has no number of 1 to 15 digits: a stamp, 0 to 281474976710654")
+    yield "a stamp twice", LATE + b"since 7\nopening x 1\nsince 7\n", told(5, ", word 1: since is the script's second line since, after line 3")
+    yield "a key twice", LATE + b"opening x 1\nopening y 1\nopening %78 2\n", told(5, ", word 2: %78 spells a key that has a value already, by line 3")
+    yield "an opening without a value", LATE + b"opening x\n", told(3, ", word 3: nothing stands here: a value")
+    yield "an opening with no bytes for a key", LATE + b"opening %- 1\n", told(3, ", word 2: %- spells 0 bytes: the length of a key, 1 to 255")
+
+
+def late():
+    """Commands of version 3."""
+    early = "is a command of version 3: here may stand get, put, del or swap; behind replicas, generation G makes the script one of version 3"
+    for command in (b"cas x 1 2", b"ask x q", b"act x y q", b"seal n"):
+        word = command.split()[0].decode()
+        yield f"{word} in version 2", S + b"propose 0 1 " + command + b"\n", told(2, f", word 4: {word} {early}")
+    yield "another command of version 3", LATE + b"propose 0 1 set x 1\n", told(3, ", word 4: set is no command: get, put, del, swap, cas, ask, act or seal")
+    yield "no command of version 3", LATE + b"propose 0 1\n", told(3, ", word 4: nothing stands here: a command, get, put, del, swap, cas, ask, act or seal")
+    yield "a cas without what is new", LATE + b"propose 0 1 cas x 1\n", told(3, ", word 7: nothing stands here: a value")
+    yield "a cas and more", LATE + b"propose 0 1 cas x 1 2 3\n", told(3, ", word 8: 3 is one word more than the line has: propose R C cas K E N")
+    none = "has %!, which is no escape: % and two hexadecimal digits; %- stands alone, for no bytes"
+    yield "none for a key", LATE + b"propose 0 1 cas %! 1 2\n", told(3, f", word 5: %! {none}")
+    yield "none for a body", LATE + b"propose 0 1 ask x %!\n", told(3, f", word 6: %! {none}")
+    yield "an act of one key twice", LATE + b"propose 0 1 act x %78 q\n", told(3, ", word 6: %78 spells the bytes of the first key: such a command has two different keys")
+    yield "an ask without a body", LATE + b"propose 0 1 ask x\n", told(3, ", word 6: nothing stands here: a body")
+    yield "an ask and more", LATE + b"propose 0 1 ask x y q z\n", told(3, ", word 8: z is one word more than the line has: propose R C ask K K B")
+    yield "a seal and more", LATE + b"propose 0 1 seal n m\n", told(3, ", word 6: m is one word more than the line has: propose R C seal V")
+
+
 def weather():
     """Lines of a weather, and lines that are too long."""
     yield "a frame for itself", S + b"drop 1 1 1\n", told(2, ", word 3: 1 is the sender too: no replica puts a frame for itself", taken=run(2))
@@ -110,7 +153,7 @@ def texts():
 
 def every():
     """All of them."""
-    for name, script, wanted in (*firsts(), *words(), *numbers(), *keys(), *weather()):
+    for name, script, wanted in (*firsts(), *words(), *numbers(), *keys(), *generations(), *late(), *weather()):
         yield dict(name=f"explain a script: {name}", words=["explain"], given=script, wanted=wanted.encode(), status=2)
     for name, command, wanted in endless():
         yield dict(name=f"explain input without an end: {name}", words=["explain"], redirect=f"< <({command})", wanted=wanted.encode(), status=2)
@@ -120,5 +163,6 @@ def every():
         ("replay", S + b"propose 0 1 put x 1\nflush\n", "replay"),
         ("run", S + b"propose 0 1 put x 1\nsection\n", "run"),
         ("both", S + b"propose 0 1 put x 1", "replay"),
+        ("version 3", LATE + b"opening y 1\nsince 7\nopening x %-\npropose 0 1 cas x %- %!\npropose 1 2 seal n\nsection\n", "run"),
     ):
         yield dict(name=f"explain a script for {name}", words=["explain"], given=script, wanted=f"script read, for {subcommand}\n".encode())

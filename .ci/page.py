@@ -5,7 +5,7 @@
 
 Of each run the trace events are read as JSON, and counted against what `show` prints; and its page is opened in headless Chromium, where there is
 one: it has to say how many events and instances there are, to list the instances with their commands as `show` has them, and to raise no error.
-The runs are worked scripts, a run whose keys and values are odd bytes, and one of 10,800 events at five replicas.
+The runs are worked scripts, a run whose keys and values are odd bytes, one of 10,800 events at five replicas, and one of version 3 with two seals.
 The last line is 'pages: N passed, M failed'.
 """
 
@@ -21,6 +21,7 @@ import tempfile
 sys.dont_write_bytecode = True
 TOP = os.path.dirname(os.path.dirname(os.path.abspath(__file__)))
 sys.path.insert(0, f"{TOP}/.ci")
+import looks
 import odd
 import rows
 
@@ -59,6 +60,13 @@ def scripts():
     yield "10,800 events", large()
 
 
+def bundles(program):
+    """The bundles of the runs, by name."""
+    for name, script in scripts():
+        yield name, ran(program, ["replay", "--emit", "bundle"], script)
+    yield "version 3", looks.life().bundle()
+
+
 def ran(program, words, given):
     """What a run writes."""
     ended = subprocess.run([rows.program_of(program, words), *words], input=given, capture_output=True, timeout=SECONDS)
@@ -67,10 +75,19 @@ def ran(program, words, given):
     return ended.stdout
 
 
-def events_fault(shown, made):
-    """What is wrong with trace events, by the lines that are shown; nothing where all is right."""
+def parted(told):
+    """The line of the edition, if there is one, and the lines of entries."""
+    return [it for it in told if it.startswith("version ")], [it for it in told if it.startswith("stamp ")]
+
+
+def events_fault(told, made):
+    """What is wrong with trace events, by what is shown; nothing where all is right."""
+    edition, shown = parted(told)
     events = json.loads(made)["traceEvents"]
     of = lambda phase: [it for it in events if it["ph"] == phase]
+    labels = [it["args"]["labels"] for it in events if it["name"] == "process_labels"]
+    if labels != edition:
+        return f"the labels are {labels}, and the edition {edition}"
     slices = of("X")
     if len(slices) != len(shown):
         return f"{len(slices)} slices of {len(shown)} entries"
@@ -91,8 +108,9 @@ def events_fault(shown, made):
     return ""
 
 
-def page_fault(shown, page):
-    """What is wrong with a page in a browser, by the lines that are shown; nothing where all is right."""
+def page_fault(shown_lines, page):
+    """What is wrong with a page in a browser, by what is shown; nothing where all is right."""
+    edition, shown = parted(shown_lines)
     with tempfile.TemporaryDirectory() as folder:
         with open(f"{folder}/page.html", "wb") as it:
             it.write(page)
@@ -106,6 +124,8 @@ def page_fault(shown, page):
     if wanted not in dom:
         found = re.search(r'id="count"[^>]*>([^<]*)', dom)
         return f"it has {found and found[1]!r} and not {wanted!r}"
+    if not all(f">{it}</span>" in dom for it in edition):
+        return f"it doesn't say {edition[0]}"
     commands = {took[1]: command for line in shown for command, took in [(re.search(r"  propose (.*) \(client ", line), re.search(rf"; took ({INSTANCE})", line))] if command and took}
     # (the list has rows for what is in sight alone)
     for name in instances[:10]:
@@ -121,12 +141,11 @@ def tried(program):
     passed = failed = 0
     if not BROWSER:
         print("pages: there is no chromium here, so no page is opened", flush=True)
-    for name, script in scripts():
-        bundle = ran(program, ["replay", "--emit", "bundle"], script)
-        shown = ran(program, ["show"], bundle).decode().splitlines()
-        looks = [("trace events", events_fault, ["trace-events"])] + [("a page", page_fault, ["draw", "--page"])] * bool(BROWSER)
-        for what, look, words in looks:
-            wrong = look(shown, ran(program, words, bundle))
+    ways = [("trace events", events_fault, ["trace-events"])] + [("a page", page_fault, ["draw", "--page"])] * bool(BROWSER)
+    for name, bundle in bundles(program):
+        told = ran(program, ["show"], bundle).decode().splitlines()
+        for what, fault, words in ways:
+            wrong = fault(told, ran(program, words, bundle))
             passed, failed = passed + (not wrong), failed + bool(wrong)
             if wrong:
                 print(f"{name}, {what}: {wrong}", flush=True)

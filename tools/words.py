@@ -69,17 +69,19 @@ class Command:
         found = re.findall(r"^  (?:    |-\w, )--([\w-]+)(?: <([^>]+)>)?(?:\.\.\.)?(?:  .*)?$", text, re.M)
         self.options = {option: Option(option, value) for option, value in found}
         self.usage, self.needed = usage, re.findall(r"(?<!\[)--([\w-]+)", usage)
-        self.words = re.findall(r"(<\w+>)\.\.\.$", usage)
+        self.words = re.findall(r"([<[]\w+[>\]])\.\.\.$", usage)
+        self.may_lack_words = usage.endswith("]...")
         self.repeated = {"receipts"}
 
-    def usage_with(self, given):
+    def usage_with(self, given, plain=()):
         """The usage where these options are given: those that can't be left out, and then the others in the order in which they are given."""
         others = dict.fromkeys(name for name in given if name not in self.needed)
         wanted = [self.options[name].shown for name in (*self.needed, *others)]
-        return " ".join([f"epaxos {self.name}", *wanted, *(f"{it}..." for it in self.words)])
+        other = [f"<{it[1:-1]}>..." if plain else f"{it}..." for it in self.words]
+        return " ".join([f"epaxos {self.name}", *wanted, *other])
 
     def read(self, words):
-        """Reads the words and returns the value of each option, or refuses them."""
+        """Reads the words and returns the value of each option, and the other words, or refuses them."""
         given, plain, at = {}, [], 0
         while at < len(words):
             word, at = words[at], at + 1
@@ -96,10 +98,10 @@ class Command:
                     raise unexpected(word, self.usage, tip_of_file(self.name, word))
         if not self.words and plain:
             raise unexpected(plain[0], self.usage)
-        lacking = [self.options[it].shown for it in self.needed if it not in given] + [f"{it}..." for it in self.words if not plain]
+        lacking = [self.options[it].shown for it in self.needed if it not in given] + [f"{it}..." for it in self.words if not plain and not self.may_lack_words]
         if lacking:
             raise Refused("the following required arguments were not provided:\n" + "".join(f"  {it}\n" for it in lacking) + f"\nUsage: {self.usage_with(given)}\n")
-        return given
+        return given, plain
 
     def read_option(self, word, words, at, given, plain):
         """Reads an option, and its value where it has one, and returns the place of the next word."""
@@ -114,7 +116,7 @@ class Command:
                 raise Refused(f"a value is required for '{option.shown}' but none was supplied\n")
             value, at = words[at], at + 1
         elif equals and not option.value:
-            raise Refused(f"unexpected value '{value}' for '{option.shown}' found; no more were expected\n\nUsage: {self.usage_with([*given, name])}\n")
+            raise Refused(f"unexpected value '{value}' for '{option.shown}' found; no more were expected\n\nUsage: {self.usage_with([*given, name], plain)}\n")
         if name in given and name not in self.repeated:
             raise Refused(f"the argument '{option.shown}' cannot be used multiple times\n\nUsage: {self.usage}\n")
         given[name] = value
@@ -129,9 +131,9 @@ class Command:
         word = word.partition("=")[0] if word.startswith("--") else word[:2]
         near = nearest(word[2:], list(self.options)) if word.startswith("--") else None
         if near:
-            return unexpected(word, self.usage_with([*given, near]), f"a similar argument exists: '--{near}'")
+            return unexpected(word, self.usage_with([*given, near], plain), f"a similar argument exists: '--{near}'")
         tip = f"to pass '{word}' as a value, use '-- {word}'" if self.words else ""
-        return unexpected(word, self.usage_with(given) if plain or given and word.startswith("--") else self.usage, tip)
+        return unexpected(word, self.usage_with(given, plain) if plain or given and word.startswith("--") else self.usage, tip)
 
 
 def is_option(word):
@@ -207,18 +209,23 @@ def refusal(words):
     try:
         if not words or words[0] not in commands():
             raise Refused(of_top(words))
-        check(words[0], Command(words[0]).read(words[1:]))
+        check(words[0], *Command(words[0]).read(words[1:]))
     except Refused as why:
         return f"command line refused\nerror: {why}{MORE}"
     return ""
 
 
-def check(command, given):
-    """Refuses a value that an option hasn't."""
+def check(command, given, plain):
+    """Refuses a value that an option hasn't, and files that don't go with the options."""
     if {"graph", "page"} <= {*given}:
         raise Refused("'--graph' and '--page' don't go together\n")
     if "graph" in given and {*given} & {it for it, *_ in PART}:
         raise Refused("with '--graph' no part is kept\n")
+    if command == "audit" and plain and "chain" not in given:
+        tip = tip_of_file(command, plain[0]) if len(plain) == 1 else ""
+        raise Refused("a FILE stands with '--chain' alone\n" + (f"\n  tip: {tip}\n" if tip else ""))
+    if command == "audit" and "chain" in given and not plain:
+        raise Refused("'--chain' takes one FILE or more\n")
     for option, is_value, wanted in VALUES.get(command, ()):
         if option in given and not is_value(given[option]):
             raise Refused(wanted.format(value=quoted(given[option]), shown=f"--{option}"))
@@ -279,14 +286,16 @@ VALUES = {
     "show": PART,
     "draw": PART,
     "trace-events": PART,
+    "upgrade": (("to", *listed("VERSION", "2", "3")),),
     "node": (("replicas", *listed("N", "3", "5", "7")), ("sync", *listed("WHEN", "each", "asked"))),
 }
 
 
 def explained(words, status, said):
-    """The line that leads to `explain`, where a script, a bundle or an audit refuses, as `./epaxos` adds it on a terminal; else nothing."""
+    """The line that leads to `explain`, where a script, a bundle or an audit refuses, as `./epaxos` adds it on a terminal; else nothing. (A chain
+    isn't standard input.)"""
     is_refused = words[0] != "explain" and re.match("(script|bundle) refused", said)
-    if not os.isatty(2) or not (is_refused or words[0] == "audit" and status == 1):
+    if not os.isatty(2) or "--chain" in words or not (is_refused or words[0] == "audit" and status == 1):
         return ""
     path = os.path.realpath("/dev/stdin")
     file = os.path.relpath(path) if os.path.isfile(path) else "FILE"

@@ -27,6 +27,27 @@ const VALUE: Bounds = Bounds {
     most: 1024,
 };
 
+/// A value in version 3.
+const LATE_VALUE: Bounds = Bounds {
+    name: b"a value",
+    least: 0,
+    most: 65_535,
+};
+
+/// What a machine outside is told.
+const BODY: Bounds = Bounds {
+    name: b"a body",
+    least: 0,
+    most: 65_535,
+};
+
+/// The stamp that clocks go on from.
+const SINCE: Bounds = Bounds {
+    name: b"a stamp",
+    least: 0,
+    most: 281_474_976_710_654,
+};
+
 /// Why the line of this number is refused, behind its number.
 pub(crate) fn line_fault(
     alloc: Global,
@@ -67,7 +88,8 @@ fn words_fault(
     let told = match before.replicas {
         None => tell_first(&mut telling)?,
         Some(count) => {
-            tell_line(alloc, &mut telling, subcommand, count)?
+            tell_head(alloc, &mut telling, before)?
+                || tell_line(alloc, &mut telling, subcommand, (count, before.is_late))?
                 || tell_weather(&mut telling, before, frame)?
         }
     };
@@ -105,15 +127,92 @@ fn tell_first(telling: &mut Telling<'_>) -> Result<bool, AllocError> {
     }
 }
 
-/// Why a line behind `replicas N` is refused, in a cluster of so many replicas.
+/// Why a line of what the script's head says is refused, behind `replicas N`.
+fn tell_head(
+    alloc: Global,
+    telling: &mut Telling<'_>,
+    before: &Before,
+) -> Result<bool, AllocError> {
+    match telling.word(1) {
+        b"generation" => tell_generation(telling, before),
+        b"since" => tell_since(telling, before),
+        b"opening" => tell_opening(alloc, telling, before),
+        _ => Ok(false),
+    }
+}
+
+fn tell_generation(telling: &mut Telling<'_>, before: &Before) -> Result<bool, AllocError> {
+    if before.is_late || before.is_within {
+        telling.tell(1, b"stands once, as the first line behind replicas")?;
+        return Ok(true);
+    }
+    Ok(telling.misses(2, counted(b"a generation"))? || telling.exceeds(3, b"generation G")?)
+}
+
+/// Why no line may stand here that says what the replicas open with.
+fn tell_place_of_opening(telling: &mut Telling<'_>, before: &Before) -> Result<bool, AllocError> {
+    if !before.is_late {
+        telling.tell(
+            1,
+            b"is a line of version 3: behind replicas stands generation G, and then such lines",
+        )?;
+        return Ok(true);
+    }
+    if before.is_within {
+        telling.tell(
+            1,
+            b"stands behind generation, before all lines of other kinds",
+        )?;
+        return Ok(true);
+    }
+    Ok(false)
+}
+
+fn tell_since(telling: &mut Telling<'_>, before: &Before) -> Result<bool, AllocError> {
+    if tell_place_of_opening(telling, before)?
+        || telling.misses(2, SINCE)?
+        || telling.exceeds(3, b"since S")?
+    {
+        return Ok(true);
+    }
+    let Some(line) = before.since else {
+        return Ok(false);
+    };
+    telling.tell(1, b"is the script's second line since, after line ")?;
+    telling.say_number(line)?;
+    Ok(true)
+}
+
+fn tell_opening(
+    alloc: Global,
+    telling: &mut Telling<'_>,
+    before: &Before,
+) -> Result<bool, AllocError> {
+    if tell_place_of_opening(telling, before)?
+        || telling.no_word(alloc, 2, KEY)?
+        || telling.no_word(alloc, 3, LATE_VALUE)?
+        || telling.exceeds(4, b"opening K V")?
+    {
+        return Ok(true);
+    }
+    let Some(line) = before.opening_of(alloc, telling.word(2))? else {
+        return Ok(false);
+    };
+    telling.tell(2, b"spells a key that has a value already, by line ")?;
+    telling.say_number(line)?;
+    Ok(true)
+}
+
+/// Why a line behind the head is refused, in a cluster of so many replicas, which is of version 3 or isn't.
 fn tell_line(
     alloc: Global,
     telling: &mut Telling<'_>,
     subcommand: Subcommand,
-    count: u64,
+    cluster: (u64, bool),
 ) -> Result<bool, AllocError> {
+    let (count, is_late) = cluster;
     match telling.word(1) {
-        b"propose" => tell_propose(alloc, telling, count),
+        b"propose" => tell_propose(alloc, telling, count, is_late),
         b"giveup" => tell_place(telling, count, b"giveup R I"),
         b"recover" => tell_place(telling, count, b"recover R I"),
         b"replicas" => {
@@ -174,33 +273,99 @@ fn tell_run(telling: &mut Telling<'_>, count: u64) -> Result<bool, AllocError> {
     }
 }
 
-fn tell_propose(alloc: Global, telling: &mut Telling<'_>, count: u64) -> Result<bool, AllocError> {
+fn tell_propose(
+    alloc: Global,
+    telling: &mut Telling<'_>,
+    count: u64,
+    is_late: bool,
+) -> Result<bool, AllocError> {
     if telling.misses(2, replica_below(count))? || telling.misses(3, counted(b"a client"))? {
         return Ok(true);
     }
-    if telling.lacks(4, b"a command, get, put, del or swap")? {
+    if telling.lacks(4, commands(is_late))? {
         return Ok(true);
     }
     match telling.word(4) {
         b"get" => tell_key(alloc, telling, b"propose R C get K"),
         b"del" => tell_key(alloc, telling, b"propose R C del K"),
-        b"put" => tell_put(alloc, telling),
+        b"put" => tell_put(alloc, telling, is_late),
         b"swap" => tell_swap(alloc, telling),
+        b"cas" | b"ask" | b"act" | b"seal" => tell_late(alloc, telling, is_late),
         _ => {
-            telling.tell(4, b"is no command: get, put, del or swap")?;
+            telling.tell(4, b"is no command: ")?;
+            telling.say(names(is_late))?;
             Ok(true)
         }
     }
+}
+
+/// The commands of version 3, or of version 2.
+fn names(is_late: bool) -> &'static [u8] {
+    if is_late {
+        b"get, put, del, swap, cas, ask, act or seal"
+    } else {
+        b"get, put, del or swap"
+    }
+}
+
+fn commands(is_late: bool) -> &'static [u8] {
+    if is_late {
+        b"a command, get, put, del, swap, cas, ask, act or seal"
+    } else {
+        b"a command, get, put, del or swap"
+    }
+}
+
+/// Why a command that version 3 alone has is refused.
+fn tell_late(alloc: Global, telling: &mut Telling<'_>, is_late: bool) -> Result<bool, AllocError> {
+    if !is_late {
+        telling.tell(
+            4,
+            b"is a command of version 3: here may stand get, put, del or swap; behind replicas, generation G makes the script one of version 3",
+        )?;
+        return Ok(true);
+    }
+    match telling.word(4) {
+        b"cas" => tell_cas(alloc, telling),
+        b"ask" => tell_opaque(alloc, telling, b"propose R C ask K K B"),
+        b"act" => tell_opaque(alloc, telling, b"propose R C act K K B"),
+        _ => {
+            Ok(telling.no_word(alloc, 5, LATE_VALUE)? || telling.exceeds(6, b"propose R C seal V")?)
+        }
+    }
+}
+
+fn tell_cas(alloc: Global, telling: &mut Telling<'_>) -> Result<bool, AllocError> {
+    Ok(
+        telling.no_word(alloc, 5, KEY)?
+            || telling.no_option(alloc, 6, LATE_VALUE)?
+            || telling.no_option(alloc, 7, LATE_VALUE)?
+            || telling.exceeds(8, b"propose R C cas K E N")?,
+    )
+}
+
+fn tell_opaque(alloc: Global, telling: &mut Telling<'_>, form: &[u8]) -> Result<bool, AllocError> {
+    if telling.len() < 7 {
+        return Ok(telling.no_word(alloc, 5, KEY)? || telling.no_word(alloc, 6, BODY)?);
+    }
+    Ok(
+        telling.no_word(alloc, 5, KEY)?
+            || telling.no_word(alloc, 6, KEY)?
+            || telling.no_word(alloc, 7, BODY)?
+            || telling.exceeds(8, form)?
+            || telling.are_same(alloc, 5, 6, b"such a command")?,
+    )
 }
 
 fn tell_key(alloc: Global, telling: &mut Telling<'_>, form: &[u8]) -> Result<bool, AllocError> {
     Ok(telling.no_word(alloc, 5, KEY)? || telling.exceeds(6, form)?)
 }
 
-fn tell_put(alloc: Global, telling: &mut Telling<'_>) -> Result<bool, AllocError> {
+fn tell_put(alloc: Global, telling: &mut Telling<'_>, is_late: bool) -> Result<bool, AllocError> {
+    let value = if is_late { LATE_VALUE } else { VALUE };
     Ok(
         telling.no_word(alloc, 5, KEY)?
-            || telling.no_word(alloc, 6, VALUE)?
+            || telling.no_word(alloc, 6, value)?
             || telling.exceeds(7, b"propose R C put K V")?,
     )
 }
@@ -210,7 +375,7 @@ fn tell_swap(alloc: Global, telling: &mut Telling<'_>) -> Result<bool, AllocErro
         telling.no_word(alloc, 5, KEY)?
             || telling.no_word(alloc, 6, KEY)?
             || telling.exceeds(7, b"propose R C swap K K")?
-            || telling.are_same(alloc, 5, 6)?,
+            || telling.are_same(alloc, 5, 6, b"a swap")?,
     )
 }
 

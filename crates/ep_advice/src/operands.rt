@@ -2,7 +2,7 @@
 
 use crate::bounds::{Bounds, replica_below};
 use ep_report::push_number;
-use ep_script::{number, read_word};
+use ep_script::{long_number, number, read_word};
 use std::alloc::{AllocError, Global};
 
 /// How much of a word is told.
@@ -158,9 +158,31 @@ impl<'a> Telling<'a> {
 
     /// Whether this word, or part of one, is no number in these bounds, which is told.
     fn is_wrong(&mut self, place: usize, word: &[u8], bounds: Bounds) -> Result<bool, AllocError> {
+        if bounds.most > 9_999_999_999 {
+            return self.is_wrong_stamp(place, word, bounds);
+        }
         match number(word) {
             None if word.len() > 10 => {
                 self.bound(place, b"has no number of 1 to 10 digits: ", bounds)
+            }
+            None => self.bound(place, b"is no number: ", bounds),
+            Some(value) if value < bounds.least || value > bounds.most => {
+                self.bound(place, b"is out of range: ", bounds)
+            }
+            Some(_) => Ok(false),
+        }
+    }
+
+    /// The same of a stamp.
+    fn is_wrong_stamp(
+        &mut self,
+        place: usize,
+        word: &[u8],
+        bounds: Bounds,
+    ) -> Result<bool, AllocError> {
+        match long_number(word) {
+            None if word.len() > 15 => {
+                self.bound(place, b"has no number of 1 to 15 digits: ", bounds)
             }
             None => self.bound(place, b"is no number: ", bounds),
             Some(value) if value < bounds.least || value > bounds.most => {
@@ -265,22 +287,35 @@ impl<'a> Telling<'a> {
         Ok(true)
     }
 
-    /// Whether the words there spell the same bytes, which is told.
+    /// Whether neither a word of bytes with a length in these bounds nor `%!` stands there, which is told.
+    pub(crate) fn no_option(
+        &mut self,
+        alloc: Global,
+        place: usize,
+        bounds: Bounds,
+    ) -> Result<bool, AllocError> {
+        if self.is(place, b"%!") {
+            return Ok(false);
+        }
+        self.no_word(alloc, place, bounds)
+    }
+
+    /// Whether the words there spell the same bytes, which is told, with the form that has two keys.
     pub(crate) fn are_same(
         &mut self,
         alloc: Global,
         one: usize,
         other: usize,
+        form: &[u8],
     ) -> Result<bool, AllocError> {
         let first = read_word(alloc, self.word(one))?;
         let second = read_word(alloc, self.word(other))?;
         if !is_same(&first, &second) {
             return Ok(false);
         }
-        self.tell(
-            other,
-            b"spells the bytes of the first key: a swap has two different keys",
-        )?;
+        self.tell(other, b"spells the bytes of the first key: ")?;
+        self.say(form)?;
+        self.say(b" has two different keys")?;
         Ok(true)
     }
 }

@@ -1,7 +1,7 @@
 //! What the lines before the one at fault say that matters to it.
 
 use crate::lines::{Lines, words_of};
-use ep_script::number;
+use ep_script::{number, read_word};
 use std::alloc::{AllocError, Global};
 
 /// A frame that a line of a weather is for, and the line.
@@ -11,12 +11,26 @@ pub(crate) struct Weather {
     pub line: u64,
 }
 
-/// What the lines before the one at fault say: how many replicas there are, in which line, and for which frames the section has a line
-/// of its weather.
+/// A key that the replicas open with, and its line.
+#[derive(Drop)]
+struct Opened {
+    key: Vec<u8>,
+    line: u64,
+}
+
+/// What the lines before the one at fault say: how many replicas there are, in which line, what the head says besides, and for which frames
+/// the section has a line of its weather.
 #[derive(Drop)]
 pub(crate) struct Before {
     pub replicas: Option<u64>,
     pub line: u64,
+    /// Whether the script is of version 3: it has a line of a generation.
+    pub is_late: bool,
+    /// Whether a line behind the head has come.
+    pub is_within: bool,
+    /// The line of the stamp that the clocks go on from.
+    pub since: Option<u64>,
+    openings: Vec<Opened>,
     weather: Vec<Weather>,
 }
 
@@ -60,6 +74,10 @@ impl Before {
         let mut before = Before {
             replicas: None,
             line: 0,
+            is_late: false,
+            is_within: false,
+            since: None,
+            openings: Vec::new(alloc),
             weather: Vec::new(alloc),
         };
         for place in 0..count {
@@ -79,13 +97,57 @@ impl Before {
     }
 
     fn note_words(&mut self, alloc: Global, line: u64, words: &[&[u8]]) -> Result<(), AllocError> {
-        let [first, ..] = words else {
+        let [first, rest @ ..] = words else {
             return Ok(());
         };
         if self.replicas.is_none() {
             self.replicas = Some(number_at(words, 1));
             self.line = line;
-        } else if *first == b"section".as_slice() {
+            return Ok(());
+        }
+        match *first {
+            b"generation" => {
+                self.is_late = true;
+                Ok(())
+            }
+            b"since" => {
+                self.since = Some(line);
+                Ok(())
+            }
+            b"opening" => self.note_opening(alloc, line, rest),
+            _ => {
+                self.is_within = true;
+                self.note_weather(alloc, line, words)
+            }
+        }
+    }
+
+    fn note_opening(
+        &mut self,
+        alloc: Global,
+        line: u64,
+        operands: &[&[u8]],
+    ) -> Result<(), AllocError> {
+        let [word, ..] = operands else {
+            return Ok(());
+        };
+        let Some(key) = read_word(alloc, word)? else {
+            return Ok(());
+        };
+        self.openings.push(Opened { key, line })?;
+        Ok(())
+    }
+
+    fn note_weather(
+        &mut self,
+        alloc: Global,
+        line: u64,
+        words: &[&[u8]],
+    ) -> Result<(), AllocError> {
+        let [first, ..] = words else {
+            return Ok(());
+        };
+        if *first == b"section".as_slice() {
             self.weather = Vec::new(alloc);
         } else if is_weather(first) {
             self.weather.push(Weather {
@@ -94,6 +156,23 @@ impl Before {
             })?;
         }
         Ok(())
+    }
+
+    /// The line of the key that the word spells, if the replicas open with it.
+    pub(crate) fn opening_of(&self, alloc: Global, word: &[u8]) -> Result<Option<u64>, AllocError> {
+        let Some(key) = read_word(alloc, word)? else {
+            return Ok(None);
+        };
+        Ok(self.line_of(key.as_slice()))
+    }
+
+    fn line_of(&self, key: &[u8]) -> Option<u64> {
+        for one in &self.openings {
+            if one.key.as_slice() == key {
+                return Some(one.line);
+            }
+        }
+        None
     }
 
     /// The line of the section's weather for this frame.

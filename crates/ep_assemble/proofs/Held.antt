@@ -25,13 +25,13 @@ one_more : (n : ℕ) (l m l' : Left) (rs : List Receipt) (r : Receipt) → AreRe
 one_more n l m l' [] r h e = (l', subst (λ (x : Left). receipt V2 n x ≡ Ok (r, l')) h e, refl)
 one_more n l m l' (x ∷ rs) r h e = (h.0, h.1, one_more n h.0 m l' rs r h.2 e)
 
-some_bytes : (r : Receipt) → 0 < length (receipt_bytes r)
+some_bytes : (r : Receipt) → 0 < length (receipt_bytes V2 r)
 some_bytes r =
     let client = number_bytes 4 r.client in
     let request = number_bytes 4 r.request in
     omega (
       arith,
-      length-append (claim_bytes r) (outcome_bytes r),
+      length-append (claim_bytes r) (outcome_bytes V2 r),
       length-append (client ++ request ++ dep_bytes r.instance) (number_bytes 8 r.seen),
       length-append (client ++ request) (dep_bytes r.instance),
       length-append client request,
@@ -61,14 +61,14 @@ goes_on n bytes before now now' place place' tail tail' r left h reads is more =
     let l' : Left = record { at = place'; bytes = tail' } in
     let same : reads.0 ≡ tail' = (let e : Some reads.0 ≡ Some tail' = sym reads.1 ∙ is in cc) in
     let read : receipt V2 n l ≡ Ok (r, l') = subst (λ (b : List ℕ). receipt V2 n l ≡ Ok (r, record { at = place'; bytes = b })) same reads.2 in
-    let took : Took (receipt_bytes r) l l' = ((receipt_gives V2 n l h.are).took r l' read).1 in
-    let long : length tail ≡ length (receipt_bytes r ++ tail') = ap (λ (b : List ℕ). length b) took.bytes in
-    let sum : length (receipt_bytes r ++ tail') ≡ length (receipt_bytes r) + length tail' = length-append (receipt_bytes r) tail' in
-    let some : 0 < length (receipt_bytes r) = some_bytes r in
+    let took : Took (receipt_bytes V2 r) l l' = ((receipt_gives V2 n l h.are).took r l' read).1 in
+    let long : length tail ≡ length (receipt_bytes V2 r ++ tail') = ap (λ (b : List ℕ). length b) took.bytes in
+    let sum : length (receipt_bytes V2 r ++ tail') ≡ length (receipt_bytes V2 r) + length tail' = length-append (receipt_bytes V2 r) tail' in
+    let some : 0 < length (receipt_bytes V2 r) = some_bytes r in
     let fits = h.fits in
     record {
       holding = record {
-        are = rest_bytes (receipt_bytes r) l l' h.are took;
+        are = rest_bytes (receipt_bytes V2 r) l l' h.are took;
         fits = omega arith;
         more = h.more ++ r ∷ [];
         read = one_more n (all_of bytes) l l' h.more r h.read read;

@@ -2,5 +2,4 @@ mod Appending
 mod Held
 mod InTurn
 mod Unread
-mod Early
 mod Unassembled

@@ -3,7 +3,6 @@
 ghost use Rattle.std.specs.Prelude.{◌≡◌, ◌<◌, ◌^◌, length, IfOk, IfErr};
 ghost use Rattle.ep_base.specs.Quorums.{size};
 ghost use Rattle.ep_bundle.specs.Bytes.{bundle_bytes};
-ghost use Rattle.ep_bundle.specs.Writing.{HasBundles};
 ghost use Rattle.ep_assemble.specs.Logs.{IsAssembled, IsBundled, IsRefused, contents};
 ghost use Rattle.ep_assemble.specs.Receipts.{AreUnheld};
 
@@ -55,7 +54,6 @@ fn bundle_of(
     journals: &Journals,
     receipts: &[Vec<u8>],
 ) -> Result<Bundled, AssembleFault>
-    requires { HasBundles journals.now.version }
     ensures ok { IfOk result (λ b. IsBundled journals.now (contents receipts.now) b.bundle.items b.ends.items) }
     ensures err { IfErr result (AreUnheld (size journals.now.faults) (contents receipts.now)) }
 {
@@ -72,7 +70,6 @@ fn bundle_of(
 
 /// The bytes of the bundle of these journals and receipts.
 fn bytes_of(alloc: Global, journals: &Journals, receipts: &[Receipt]) -> Result<Vec<u8>, AllocError>
-    requires early { HasBundles journals.now.version }
     requires receipts { length receipts.now < 2 ^ 32 }
     ensures { IfOk result (λ bytes. bytes.items ≡ bundle_bytes journals.now receipts.now) }
 {

@@ -62,7 +62,7 @@ pub fn read_files<R: Files + AllocGlobal>(
 }
 
 /// The bytes of a file.
-fn read_file<R: Files + AllocGlobal>(rt: &R, name: &str) -> Result<Vec<u8>, FilesFault>
+pub fn read_file<R: Files + AllocGlobal>(rt: &R, name: &str) -> Result<Vec<u8>, FilesFault>
     ensures { IfErr result (IsOfFile name.now) }
 {
     match fs::read(rt, name) {

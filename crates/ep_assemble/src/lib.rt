@@ -17,4 +17,4 @@ mod receipts;
 pub use assemble_fault::AssembleFault;
 pub use assembled::{Assembled, End};
 pub use assembling::assemble;
-pub use files::{Collection, FilesFault, collect_files, read_files};
+pub use files::{Collection, FilesFault, collect_files, read_file, read_files};

@@ -1,2 +1,5 @@
+pub mod OneClosings
 pub mod OneHistory
+pub mod Differing
+pub mod Linking
 pub mod Upgraded

@@ -16,6 +16,7 @@ use Rattle.ep_rules.proofs.Merged.{merged_is_a_run_lem}
 use Rattle.ep_verdict.specs.Verdicts.{IsVerdict}
 use Rattle.ep_verdict.specs.declared.verdict.Verdict.{Verdict}
 use Rattle.ep_audit.specs.Audited.{IsOneHistory, IsAudited}
+use Rattle.ep_audit.proofs.OneClosings.{closing_of_verdict}
 use Rattle.ep_rules.specs.OneMap.{Store}
 
 -- what is committed after some entries is committed after all
@@ -42,4 +43,4 @@ one_history base f journal receipts schedule m a =
 pub audited : (base : Store) (f : ℕ) (journal : Journals) (receipts : List Receipt) (v : Verdict) → 1 ≤ f → f ≤ 3 → AreLocalRuns base f journal → IsAccepted base f journal receipts → IsVerdict base f journal v → IsAudited base f journal receipts v
 audited base f journal receipts v some few local a is =
     let m : Merges base f journal is.order = record { some = omega arith; few = omega arith; local = local; matched = a.matched; scheduled = is.scheduled } in
-    record { accepted = a; verdict = is; history = subst (λ h. IsOneHistory base f journal receipts is.order h) (sym is.history.instances) (one_history base f journal receipts is.order m a) }
+    record { accepted = a; verdict = is; merges = m; history = subst (λ h. IsOneHistory base f journal receipts is.order h) (sym is.history.instances) (one_history base f journal receipts is.order m a); closing = closing_of_verdict base f journal v is m }

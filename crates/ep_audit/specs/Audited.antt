@@ -1,5 +1,5 @@
 -- What holds of journals and receipts that an audit accepts.
-use Rattle.std.specs.Prelude.{◌≡◌, ◌≢◌, ◌⊎◌, ◌↔◌, ℕ, ◌<◌, ◌≤◌, true, false, List, ◌++◌, Some}
+use Rattle.std.specs.Prelude.{◌≡◌, ◌≢◌, ◌⊎◌, ◌↔◌, ℕ, ◌<◌, ◌≤◌, true, false, List, ◌++◌, Some, option_map}
 use Rattle.ep_base.specs.Instances.{leader_of}
 use Rattle.ep_base.specs.Interference.{interfere}
 use Rattle.ep_base.specs.Places.{place, Has}
@@ -7,17 +7,20 @@ use Rattle.ep_base.specs.Sameness.{is_noop}
 use Rattle.ep_base.specs.declared.decree.Decree.{Decree}
 use Rattle.ep_base.specs.declared.reply.Answer.{Answer}
 use Rattle.ep_rules.specs.Audits.{IsAccepted, IsFault}
+use Rattle.ep_rules.specs.Chains.{store_left}
 use Rattle.ep_rules.specs.Journals.{Entry, Journals, Scheduled, IsSchedule, acts_of, left}
+use Rattle.ep_rules.specs.Merging.{Merges}
 use Rattle.ep_rules.specs.States.{fresh_state, committed_in}
 use Rattle.ep_rules.specs.Verdicts.{committed_by, command_at, history_of, IsReply, Proposes}
 use Rattle.ep_rules.specs.Worlds.{In, IsRun, opening}
 use Rattle.ep_rules.specs.declared.receipt.Receipt.{Receipt}
 use Rattle.ep_report.specs.Refusals.{fault_of}
+use Rattle.ep_report.specs.declared.closing.Closing.{Closing}
 use Rattle.ep_verdict.specs.Verdicts.{instances_in, IsVerdict}
 use Rattle.ep_verdict.specs.declared.verdict.Verdict.{Verdict}
 use Rattle.ep_audit.specs.declared.refusal.Refusal.{Refusal}
 use Rattle.ep_audit.specs.declared.refusal.Refusal.TheVariants.{Memory, Fault}
-use Rattle.ep_rules.specs.OneMap.{Store}
+use Rattle.ep_rules.specs.OneMap.{Contents, Store, opened, is_closed}
 
 -- The journals of replicas that open with the map base, merged in the schedule's order, are a run of the protocol; h is their one history.
 pub record IsOneHistory (base : Store) (f : ℕ) (journal : Journals) (receipts : List Receipt) (schedule : List Scheduled) (h : List ℕ) : Type 0 where
@@ -50,11 +53,21 @@ pub record IsOneHistory (base : Store) (f : ℕ) (journal : Journals) (receipts 
   pub callers :
       (t u : Receipt) → In t receipts → In u receipts → u.stamp ≤ t.seen → Has h t.instance → Has h u.instance → place h u.instance < place h t.instance
 
+-- The journals of replicas that open with the map m have one closing, which the verdict tells.
+pub record IsOneClosing (m : Contents) (f : ℕ) (journal : Journals) (v : Verdict) : Type 0 where
+  -- whose journal has executed a seal leaves the verdict's map, closed by the verdict's seal
+  pub left : (r : ℕ) → is_closed (store_left m f journal r) ≡ true → store_left m f journal r ≡ record { contents = v.contents; seal = option_map (λ c. c.value) v.closing }
+  -- and where the history has a seal, somebody has executed it
+  pub somebody : (c : Closing) → v.closing ≡ Some c → (r : ℕ) × (store_left m f journal r ≡ record { contents = v.contents; seal = Some c.value })
+
 -- the verdict of journals and receipts that are accepted: its schedule and its history are those of the run
 pub record IsAudited (base : Store) (f : ℕ) (journal : Journals) (receipts : List Receipt) (v : Verdict) : Type 0 where
   pub accepted : IsAccepted base f journal receipts
   pub verdict : IsVerdict base f journal v
+  -- what the laws of runs that merge are said of
+  pub merges : Merges base f journal verdict.order
   pub history : IsOneHistory base f journal receipts verdict.order (instances_in v.history.items)
+  pub closing : (m : Contents) → base ≡ opened m → IsOneClosing m f journal v
 
 -- why there is no verdict: want of memory, or the first fault
 abbrev pub IsRefused : Store → ℕ → Journals → List Receipt → Refusal → Type 0

@@ -10,7 +10,6 @@ pub mod Journeys
 pub mod Stepped
 pub mod Bundles
 pub mod Puts
-pub mod HavingBundles
 pub mod WrittenCommands
 pub mod WrittenStages
 pub mod WrittenParts
@@ -19,11 +18,17 @@ pub mod WrittenRuns
 pub mod WrittenCounts
 pub mod WrittenEntries
 pub mod WrittenJournals
+pub mod WrittenHeaders
+pub mod PairLoops
+pub mod Beginning
 pub mod WrittenBundles
 pub mod WrittenRanges
 pub mod WrittenOnce
 pub mod ReadNumbers
+pub mod ReadCommands
 pub mod ReadParts
 pub mod ReadEntries
 pub mod ReadJournals
+pub mod ReadHeaders
+pub mod MapBytes
 pub mod ReadBundles

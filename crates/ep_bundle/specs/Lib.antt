@@ -3,6 +3,7 @@ pub mod Reading
 pub mod Filling
 pub mod Drafts
 pub mod Stages
+pub mod Headers
 pub mod Journals
 pub mod Openings
 pub mod Texts

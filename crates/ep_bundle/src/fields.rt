@@ -75,6 +75,7 @@ pub fn read_run<S: Source>(
     len: usize,
 ) -> Result<Vec<u8>, BundleFault>
     ensures bytes { (zs : List ℕ) → S.left source.old ≡ Some zs → Reads (run len (record { at = place.old; bytes = zs })) (map_ok (λ v. v.items) result) place.new (S.left source.new) }
+    ensures long { IfOk result (λ v. length v.items ≡ len) }
     ensures told { FailsAsTold is_read_failed result (S.has_failed source.old) (S.has_failed source.new) }
 {
     let mut bytes = vec![in alloc; 0; len]?;
@@ -141,6 +142,7 @@ pub fn field_u8<S: Source>(
     high: u8,
 ) -> Result<u8, BundleFault>
     ensures bytes { (zs : List ℕ) → S.left source.old ≡ Some zs → Reads (field 1 low high (record { at = place.old; bytes = zs })) result place.new (S.left source.new) }
+    ensures range { IfOk result (λ x. (low ≤ x) × (x ≤ high)) }
     ensures told { FailsAsTold is_read_failed result (S.has_failed source.old) (S.has_failed source.new) }
 {
     let at = *place;
@@ -159,6 +161,7 @@ pub(crate) fn field_u16<S: Source>(
     high: u16,
 ) -> Result<u16, BundleFault>
     ensures bytes { (zs : List ℕ) → S.left source.old ≡ Some zs → Reads (field 2 low high (record { at = place.old; bytes = zs })) result place.new (S.left source.new) }
+    ensures range { IfOk result (λ x. (low ≤ x) × (x ≤ high)) }
     ensures told { FailsAsTold is_read_failed result (S.has_failed source.old) (S.has_failed source.new) }
 {
     let at = *place;
@@ -170,13 +173,14 @@ pub(crate) fn field_u16<S: Source>(
 }
 
 /// A number of four bytes, from `low` to `high`.
-pub(crate) fn field_u32<S: Source>(
+pub fn field_u32<S: Source>(
     source: &mut S,
     place: &mut u64,
     low: u32,
     high: u32,
 ) -> Result<u32, BundleFault>
     ensures bytes { (zs : List ℕ) → S.left source.old ≡ Some zs → Reads (field 4 low high (record { at = place.old; bytes = zs })) result place.new (S.left source.new) }
+    ensures range { IfOk result (λ x. (low ≤ x) × (x ≤ high)) }
     ensures told { FailsAsTold is_read_failed result (S.has_failed source.old) (S.has_failed source.new) }
 {
     let at = *place;
@@ -188,13 +192,14 @@ pub(crate) fn field_u32<S: Source>(
 }
 
 /// A number of eight bytes, from `low` to `high`.
-pub(crate) fn field_u64<S: Source>(
+pub fn field_u64<S: Source>(
     source: &mut S,
     place: &mut u64,
     low: u64,
     high: u64,
 ) -> Result<u64, BundleFault>
     ensures bytes { (zs : List ℕ) → S.left source.old ≡ Some zs → Reads (field 8 low high (record { at = place.old; bytes = zs })) result place.new (S.left source.new) }
+    ensures range { IfOk result (λ x. (low ≤ x) × (x ≤ high)) }
     ensures told { FailsAsTold is_read_failed result (S.has_failed source.old) (S.has_failed source.new) }
 {
     let at = *place;

@@ -32,7 +32,7 @@ pub fn read_receipt<S: Source>(
     let replica = read_replica(source, place, cluster)?;
     let entry = read_u32(source, place)?;
     let stamp = read_u64(source, place)?;
-    let answer = read_answer(alloc, source, place)?;
+    let answer = read_answer(alloc, source, place, version)?;
     Ok(Receipt {
         client,
         request,

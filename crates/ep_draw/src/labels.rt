@@ -4,11 +4,13 @@
 use crate::commits::add_commit;
 use crate::layout::row_y;
 use crate::scene::Scene;
+use crate::seals::{add_marks, add_meanings};
 use crate::words::told;
-use ep_base::ReplicaId;
+use ep_base::{ReplicaId, VersionKind};
 use ep_journal::Entry;
 use ep_report::{AuditFault, push_number};
 use ep_svg::{Look, Point, Shape};
+use ep_words::push_generation;
 use std::alloc::{AllocError, Global};
 
 /// How many bytes of a row's words are shown; the title of its dot has all.
@@ -78,6 +80,34 @@ fn add_alarm(shapes: &mut Vec<Shape>, fault: &AuditFault) -> Result<(), AllocErr
     add_words(shapes, Look::Alarm, Point { x: 360, y: 28 }, words)
 }
 
+/// How the picture is read, in two lines.
+const READING: [&[u8]; 2] = [
+    b"Time runs downwards, one event to a row, in the order of the stamps on the left. On the right stands what happened:",
+    b"0:2 is entry 2 of replica 0, 0:2:0 the first frame that it sent, and 0:2:1 the second. Point at a dot or an arrow to read all of it.",
+];
+
+// The journals' edition in words; nothing in versions 1 and 2.
+fn edition_of(alloc: Global, scene: &Scene<'_>) -> Result<Vec<u8>, AllocError> {
+    let mut words = Vec::new(alloc);
+    if let VersionKind::V3(generation) = scene.journals.version().kind() {
+        push_generation(&mut words, generation, scene.journals.opening())?;
+    }
+    Ok(words)
+}
+
+// Says how the picture is read, under the journals' edition, if they have one.
+fn add_reading(shapes: &mut Vec<Shape>, scene: &Scene<'_>) -> Result<(), AllocError> {
+    let [first, second] = READING;
+    let edition = edition_of(*shapes.allocator(), scene)?;
+    if edition.is_empty() {
+        add_plain(shapes, 52, first)?;
+        return add_plain(shapes, 70, second);
+    }
+    add_words(shapes, Look::Plain, Point { x: 24, y: 47 }, edition)?;
+    add_plain(shapes, 64, first)?;
+    add_plain(shapes, 80, second)
+}
+
 // Says what the picture is, and the audit's first fault.
 fn add_heading(
     shapes: &mut Vec<Shape>,
@@ -86,16 +116,8 @@ fn add_heading(
 ) -> Result<(), AllocError> {
     let title = title_of(*shapes.allocator(), scene)?;
     add_words(shapes, Look::Title, Point { x: 24, y: 28 }, title)?;
-    add_plain(
-        shapes,
-        52,
-        b"Time runs downwards, one event to a row, in the order of the stamps on the left. On the right stands what happened:",
-    )?;
-    add_plain(
-        shapes,
-        70,
-        b"0:2 is entry 2 of replica 0, 0:2:0 the first frame that it sent, and 0:2:1 the second. Point at a dot or an arrow to read all of it.",
-    )?;
+    add_reading(shapes, scene)?;
+    add_meanings(shapes, scene)?;
     match fault {
         Some(fault) => add_alarm(shapes, fault),
         None => Ok(()),
@@ -173,6 +195,7 @@ fn add_row(
 ) -> Result<(), AllocError> {
     add_stamp(shapes, row, entry)?;
     add_guide(shapes, scene, row)?;
+    add_marks(shapes, scene, row, replica, entry)?;
     add_commit(shapes, scene, row, replica, entry)?;
     let words = shown(*shapes.allocator(), replica, entry)?;
     let at = Point {

@@ -14,6 +14,7 @@ mod layout;
 mod picture;
 mod ranges;
 mod scene;
+mod seals;
 mod style;
 mod way;
 mod words;

@@ -50,6 +50,8 @@ text{font:12px ui-monospace,'DejaVu Sans Mono',Menlo,Consolas,monospace;fill:#22
 .fast{fill:#c9ecd9;stroke:#0a7a4b;stroke-width:2}
 .slow{fill:#fbe0c8;stroke:#a04a00;stroke-width:2}
 .recovered{fill:#e8d6f3;stroke:#7a2ea0;stroke-width:2}
+.seal{fill:#fff3bf;stroke:#222;stroke-width:1.5}
+.closed{fill:#e3e3e3;stroke:#666;stroke-width:1.5;stroke-dasharray:3 2}
 .fault{color:#d00000}
 .fault path{stroke-width:3.5;marker-end:url(#fault)}
 svg:not(:has(>.preaccept)) .k1{display:none}

@@ -2,12 +2,16 @@
 -- all of them.
 use Rattle.std.specs.Prelude.{ℕ, Bool, cond, List, [], ◌∷◌, ◌++◌, take, codes, decimal}
 use Rattle.std.specs.Str.{bytes_eq}
+use Rattle.ep_base.specs.declared.version.Version.{Version}
+use Rattle.ep_base.specs.declared.version_kind.VersionKind.TheVariants.{V1, V2, V3}
 use Rattle.ep_frame.specs.Meaning.{instance_at, origin_at, sender_at}
 use Rattle.ep_journal.specs.declared.entry.Entry.{Entry}
 use Rattle.ep_journal.specs.declared.event.Event.{Event}
 use Rattle.ep_journal.specs.declared.event.Event.TheVariants.{Propose, Handle, GiveUp, Recover, Execute}
+use Rattle.ep_journal.specs.Openings.{Opening}
 use Rattle.ep_report.specs.Parts.{instance_text}
 use Rattle.ep_view.specs.Lines.{words_at, taken_text, done_text}
+use Rattle.ep_words.specs.Editions.{edition_text}
 use Rattle.ep_words.specs.Words.{event_text, origin_text}
 use Rattle.ep_json.specs.Strings.{string_text}
 
@@ -121,3 +125,14 @@ process_text r = process_start r ++ process_name r
 -- the first event, which says that the process of replica 0 stands first
 unfoldable pub first_event : List ℕ
 first_event = codes "{\"traceEvents\":[\n{\"ph\":\"M\",\"name\":\"process_sort_index\",\"pid\":0,\"tid\":0,\"args\":{\"sort_index\":0}}"
+
+-- Editions.
+
+-- in version 3, at the process of replica 0, which generation it is and what it begins with
+unfoldable pub generation_event : ℕ → Opening → List ℕ
+generation_event g o = codes ",\n{\"ph\":\"M\",\"name\":\"process_labels\",\"pid\":0,\"tid\":0,\"args\":{\"labels\":" ++ string_text (edition_text g o) ++ codes "}}"
+
+abbrev pub edition_event : Version → Opening → List ℕ
+edition_event V1 o = []
+edition_event V2 o = []
+edition_event (V3 g) o = generation_event g o

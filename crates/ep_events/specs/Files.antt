@@ -8,7 +8,7 @@ use Rattle.ep_view.specs.Lookups.{entry_at}
 use Rattle.ep_view.specs.Shown.{IsInOrder}
 use Rattle.ep_words.specs.Kept.{keeps}
 use Rattle.ep_words.specs.declared.part.Part.{Part}
-use Rattle.ep_events.specs.Events.{entry_events, process_text, first_event}
+use Rattle.ep_events.specs.Events.{entry_events, process_text, first_event, edition_event}
 
 -- the processes of the replicas below n
 abbrev pub processes : ℕ → List ℕ
@@ -29,12 +29,12 @@ module _ (handled : List ℕ → Bool) (part : Part) where
 unfoldable pub opening : ℕ → List ℕ
 opening n = first_event ++ processes n
 
--- the processes of n replicas, and these events
-abbrev pub file_text : ℕ → List ℕ → List ℕ
-file_text n events = opening n ++ events ++ codes "\n]}\n"
+-- the processes of n replicas, the edition, and these events
+abbrev pub file_text : ℕ → List ℕ → List ℕ → List ℕ
+file_text n edition events = opening n ++ edition ++ events ++ codes "\n]}\n"
 
--- the file has the events of each entry that is asked for, in the order of the journals' schedule
+-- the file has the journals' edition, and the events of each entry that is asked for, in the order of the journals' schedule
 pub record IsTraceFile (c : Collected) (part : Part) (text : List ℕ) : Type 0 where
   pub all : List (ℕ × ℕ)
   pub ordered : IsInOrder c all
-  pub is : text ≡ file_text (size c.faults) (events_at (is_handled c) part c all)
+  pub is : text ≡ file_text (size c.faults) (edition_event c.version c.opening) (events_at (is_handled c) part c all)

@@ -1,15 +1,16 @@
 //! The parts of trace events.
 
-ghost use Rattle.std.specs.Prelude.{◌≡◌, ◌++◌, OnOk};
-ghost use Rattle.ep_events.specs.Events.{pid_text, time_text, begun, named, instant_text, arrow_id, process_start, process_name, process_text, first_event};
+ghost use Rattle.std.specs.Prelude.{◌≡◌, ◌++◌, IfOk, OnOk};
+ghost use Rattle.ep_events.specs.Events.{pid_text, time_text, begun, named, instant_text, arrow_id, process_start, process_name, process_text, first_event, generation_event, edition_event};
+ghost use Rattle.ep_words.specs.Editions.{edition_text};
 
-use ep_base::ReplicaId;
+use ep_base::{ReplicaId, Version, VersionKind};
 use ep_frame::Frame;
-use ep_journal::Entry;
+use ep_journal::{Entry, Opening};
 use ep_json::push_string;
 use ep_report::push_number;
-use ep_words::push_origin;
-use std::alloc::AllocError;
+use ep_words::{push_generation, push_origin};
+use std::alloc::{AllocError, Global};
 
 #[tactic(auto, unfolding(crate::specs::Events::pid_text))]
 fn push_pid(text: &mut Vec<u8>, replica: ReplicaId) -> Result<(), AllocError>
@@ -125,4 +126,46 @@ pub(crate) fn push_first(text: &mut Vec<u8>) -> Result<(), AllocError>
     text.extend_from_slice(
         b"{\"traceEvents\":[\n{\"ph\":\"M\",\"name\":\"process_sort_index\",\"pid\":0,\"tid\":0,\"args\":{\"sort_index\":0}}",
     )
+}
+
+fn generation_words(
+    alloc: Global,
+    generation: u32,
+    opening: &Opening,
+) -> Result<Vec<u8>, AllocError>
+    ensures { IfOk result (λ words. words.items ≡ edition_text generation opening.now) }
+{
+    let mut words = Vec::new(alloc);
+    push_generation(&mut words, generation, opening)?;
+    Ok(words)
+}
+
+#[tactic(auto, unfolding(crate::specs::Events::generation_event))]
+fn push_generation_event(
+    text: &mut Vec<u8>,
+    generation: u32,
+    opening: &Opening,
+) -> Result<(), AllocError>
+    ensures { OnOk result (text.new.items ≡ text.old.items ++ generation_event generation opening.now) }
+{
+    let words = generation_words(*text.allocator(), generation, opening)?;
+    text.extend_from_slice(
+        b",\n{\"ph\":\"M\",\"name\":\"process_labels\",\"pid\":0,\"tid\":0,\"args\":{\"labels\":",
+    )?;
+    push_string(text, &words)?;
+    text.extend_from_slice(b"}}")
+}
+
+/// Appends, in version 3, which generation it is and what it begins with.
+pub(crate) fn push_edition_event(
+    text: &mut Vec<u8>,
+    version: Version,
+    opening: &Opening,
+) -> Result<(), AllocError>
+    ensures { OnOk result (text.new.items ≡ text.old.items ++ edition_event version opening.now) }
+{
+    match version.kind() {
+        VersionKind::V1 | VersionKind::V2 => Ok(()),
+        VersionKind::V3(generation) => push_generation_event(text, generation, opening),
+    }
 }

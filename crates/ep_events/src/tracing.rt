@@ -5,10 +5,11 @@ ghost use Rattle.ep_base.specs.Quorums.{size};
 ghost use Rattle.ep_journal.specs.Entries.{AreJournals, entries_at};
 ghost use Rattle.ep_view.specs.Handled.{is_in};
 ghost use Rattle.ep_view.specs.Lookups.{entry_at};
+ghost use Rattle.ep_events.specs.Events.{edition_event};
 ghost use Rattle.ep_events.specs.Files.{processes, events_of, events_at, opening, file_text, IsTraceFile};
 
 use crate::entries::push_entry_events;
-use crate::events::{push_first, push_process};
+use crate::events::{push_edition_event, push_first, push_process};
 use ep_base::ReplicaId;
 use ep_journal::{Entry, Journals};
 use ep_view::{Handled, entry_at, schedule};
@@ -93,9 +94,10 @@ fn push_file(
     places: &[(ReplicaId, u32)],
 ) -> Result<(), AllocError>
     requires { AreJournals journals.now }
-    ensures { OnOk result (text.new.items ≡ text.old.items ++ file_text (size journals.now.faults) (events_at (is_in handled.now) part.now journals.now places.now)) }
+    ensures { OnOk result (text.new.items ≡ text.old.items ++ file_text (size journals.now.faults) (edition_event journals.now.version journals.now.opening) (events_at (is_in handled.now) part.now journals.now places.now)) }
 {
     push_opening(text, journals.size().count())?;
+    push_edition_event(text, journals.version(), journals.opening())?;
     push_entries(text, journals, handled, part, places)?;
     text.extend_from_slice(b"\n]}\n")
 }
@@ -103,7 +105,8 @@ fn push_file(
 /// The entries of the journals that the part keeps as trace events: a file of JSON in the Trace Event Format, which Perfetto and
 /// chrome://tracing open. Each replica is a process, each entry a slice of a microsecond at its stamp, with its words among the slice's arguments.
 /// An arrow leads from where each handled frame says that it was sent to where it is handled. Instants tell where an instance is committed, and
-/// where a frame is sent that no entry of any journal handles.
+/// where a frame is sent that no entry of any journal handles. Of journals of version 3 a label of the first process tells their generation
+/// and what they begin with.
 #[tactic(auto, using(crate::proofs::Traced::is_traced))]
 pub fn trace_events(alloc: Global, journals: &Journals, part: &Part) -> Result<Vec<u8>, AllocError>
     ensures { IfOk result (λ text. IsTraceFile journals.now part.now text.items) }

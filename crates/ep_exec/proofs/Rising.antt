@@ -6,6 +6,7 @@ use Rattle.std.specs.FinMap.{FinMap, get-entries, entries, empty, from_sorted, f
 use Rattle.std.specs.FinMap.Entries.{below_all}
 use Rattle.std.specs.Cmp.Lexicographic.{nat_list_cmp_total}
 use Rattle.std.specs.Prelude.{slice_get}
+use Rattle.ep_rules.specs.OneMap as one_map
 use Rattle.ep_exec.specs.Table.{key_cmp}
 use Rattle.ep_exec.proofs.Entries.{same_contents, drop_here}
 
@@ -19,6 +20,10 @@ list_is es h = entries-from_sorted key_cmp es (subst T (sym h) tt)
 pub none_is_empty : (es : List Pair) → es ≡ [] → from_sorted {R = key_cmp} es ≡ empty
 none_is_empty [] e = same_contents _ _ (λ q. get-from_sorted key_cmp [] q tt ∙ sym (get-empty key_cmp q))
 none_is_empty (x ∷ es) e = absurd (cc)
+
+-- no key has an entry in the empty map
+pub none_listed : entries one_map.empty ≡ []
+none_listed = ap (λ (m : FinMap key_cmp (List ℕ)). entries m) (sym (none_is_empty [] refl)) ∙ list_is [] refl
 
 pub sorted_is : (es : List Pair) → is_sorted key_cmp es ≡ true → from_entries {R = key_cmp} es ≡ from_sorted es
 sorted_is es h = same_contents _ _ (λ q. get-from_entries nat_list_cmp_total es q ∙ sym (get-from_sorted key_cmp es q (subst T (sym h) tt)))
@@ -66,7 +71,7 @@ below_more : (x k v : List ℕ) (es : List Pair) → below_all key_cmp x es ≡ 
 below_more x k v [] h = and_true (below x k)
 below_more x k v (e ∷ es) h = ap (λ b. b && below_all key_cmp x (es ++ (k, v) ∷ [])) (and_first _ _ h) ∙ below_more x k v es (and_second _ _ h)
 
-one_more : (k v : List ℕ) (es : List Pair) → is_sorted key_cmp es ≡ true → is_sorted key_cmp (es ++ (k, v) ∷ []) ≡ ends_below k es
+pub one_more : (k v : List ℕ) (es : List Pair) → is_sorted key_cmp es ≡ true → is_sorted key_cmp (es ++ (k, v) ∷ []) ≡ ends_below k es
 one_more k v [] h = refl
 one_more k v (e ∷ []) h = and_true (below e.0 k && true) ∙ and_true (below e.0 k)
 one_more k v (e ∷ f ∷ es) h =

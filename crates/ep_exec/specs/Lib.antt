@@ -10,3 +10,4 @@ pub mod Cut
 pub mod Missing
 pub mod Taking
 pub mod Sorting
+pub mod Bytes

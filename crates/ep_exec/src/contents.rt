@@ -53,6 +53,14 @@ impl Contents {
         Contents { items }
     }
 
+    /// Whether the key is above all that are there, so that it may be the next one.
+    #[tactic(auto, using(crate::proofs::Rising::list_is))]
+    pub fn is_below(&self, key: &Key) -> bool
+        ensures { (value : List ℕ) → result ≡ is_sorted key_cmp (entries_in self.now ++ (key.now, value) ∷ []) }
+    {
+        is_above(&self.items, key)
+    }
+
     /// Takes one more key, with what it has; `NotAbove` unless the key is above all that are there. As it was at an `Err`.
     #[tactic(auto, using(crate::proofs::Rising::pushed, crate::proofs::Rising::still_sorted, crate::proofs::Rising::list_is))]
     pub fn push(&mut self, key: Key, value: Value) -> Result<(), ContentsFault>

@@ -10,6 +10,7 @@ use Rattle.ep_journal.specs.Openings.{opens}
 use Rattle.ep_report.specs.Reports.{text_of}
 use Rattle.ep_report.specs.declared.audit_fault.AuditFault.{AuditFault}
 use Rattle.ep_rules.specs.declared.receipt.Receipt.{Receipt}
+use Rattle.ep_words.specs.Editions.{edition_line}
 use Rattle.ep_explain.specs.Faults.{all_faults, IsFirst}
 use Rattle.ep_advice.specs.Advice.{IsAdvice, refused_at}
 use Rattle.ep_advice.specs.Sections.{section}
@@ -31,15 +32,16 @@ pub record IsRefusalTold (e : BundleFault) (finding : Finding) (text : List ℕ)
   pub reasons : List (List ℕ)
   pub told : text ≡ text_of (section (refusal_text e) reasons)
 
--- the verdict of these faults, which are all that there are, and then each of them
-abbrev pub IsVerdictTold : List AuditFault → Finding → List ℕ → Type 0
-IsVerdictTold [] finding text = (finding ≡ Accepted) × (text ≡ text_of (codes "verdict accepted" ∷ []))
-IsVerdictTold (x ∷ xs) finding text = (finding ≡ Refused) × (told : List ℕ) × AreTold (x ∷ xs) told × (text ≡ text_of (codes "verdict refused" ∷ []) ++ told)
+-- the verdict of these faults, which are all that there are, the line of the edition, and then each of them
+abbrev pub IsVerdictTold : List ℕ → List AuditFault → Finding → List ℕ → Type 0
+IsVerdictTold edition [] finding text = (finding ≡ Accepted) × (text ≡ text_of (codes "verdict accepted" ∷ []) ++ edition)
+IsVerdictTold edition (x ∷ xs) finding text =
+    (finding ≡ Refused) × (told : List ℕ) × AreTold (x ∷ xs) told × (text ≡ text_of (codes "verdict refused" ∷ []) ++ edition ++ told)
 
 -- all faults of the journals and the receipts are told, of which the first is the audit's; where there are none, it accepts
 pub record IsJudged (c : Collected) (ts : List Receipt) (finding : Finding) (text : List ℕ) : Type 0 where
   pub first : IsFirst (opens c.opening) c.faults (journals_of c) ts (all_faults c ts)
-  pub told : IsVerdictTold (all_faults c ts) finding text
+  pub told : IsVerdictTold (edition_line c.version c.opening) (all_faults c ts) finding text
 
 -- the bytes, none of which is read yet
 abbrev pub unread : List ℕ → Left

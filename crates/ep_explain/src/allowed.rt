@@ -18,6 +18,10 @@ pub(crate) enum Allowed {
     ClusterSize,
     /// A key other than the one before it.
     OtherKey,
+    /// A key above the one before it.
+    HigherKey,
+    /// What a cas expects and what is new.
+    TwoParts,
 }
 
 impl Allowed {
@@ -34,6 +38,12 @@ impl Allowed {
             }
             Allowed::ClusterSize => text.extend_from_slice(b"3, 5 or 7"),
             Allowed::OtherKey => text.extend_from_slice(b"another key than the first"),
+            Allowed::HigherKey => text.extend_from_slice(
+                b"a key above the one before it, by their bytes from the first one on",
+            ),
+            Allowed::TwoParts => text.extend_from_slice(
+                b"what is expected, and then what is new, and nothing more: each a 0, or a 1, a length of four bytes to 65535, and so many bytes",
+            ),
         }
     }
 }

@@ -8,6 +8,7 @@ ghost use Rattle.ep_advice.specs.declared.explain_fault.ExplainFault.TheVariants
 ghost use Rattle.ep_explain.specs.Explained.{IsExplained, IsJudged, IsNoBundle, IsRefusalTold, IsVerdictTold, script_finding};
 ghost use Rattle.ep_explain.specs.Sections.{AreTold, fault_section};
 ghost use Rattle.ep_report.specs.Reports.{text_of};
+ghost use Rattle.ep_words.specs.Editions.{edition_line};
 
 use crate::claims::{order_reasons, unknown_reasons};
 use crate::explained::Explained;
@@ -22,6 +23,7 @@ use ep_advice::{
 use ep_base::Source;
 use ep_bundle::{Bundle, BundleFault, read_bundle};
 use ep_report::AuditFault;
+use ep_words::push_edition;
 use std::alloc::{AllocError, Global};
 
 /// How many bytes are looked at before it is known what they are.
@@ -32,7 +34,8 @@ const AHEAD: usize = 65_536;
 ///
 /// First comes what the reader or an audit says: `bundle refused ..`, where they are no bundle; `verdict accepted`, and nothing
 /// else; or `verdict refused`, and then all faults in the audit's order, of which the first is the audit's. Under each fault
-/// stand its reasons, a line each, indented by two spaces. Of a script see `explain_script`.
+/// stand its reasons, a line each, indented by two spaces. Under the verdict of a bundle of version 3 stands the line of its
+/// edition. Of a script see `explain_script`.
 pub fn explain<S: Source>(alloc: Global, source: &mut Kept<S>) -> Result<Explained, ExplainFault>
     ensures told { (bytes : List ℕ) → known_left S.left source.old ≡ Some bytes → IfOk result (λ told. IsExplained bytes told.finding told.text.items) }
     ensures failed { FailsAsTold is_read_failed result (S.has_failed source.old.source) (S.has_failed source.new.source) }
@@ -146,22 +149,32 @@ fn explain_bundle(alloc: Global, bundle: &Bundle) -> Result<Explained, ExplainFa
     Ok(tell_verdict(alloc, bundle, &found)?)
 }
 
+/// A verdict, and under it the line of the bundle's edition.
+fn headed(alloc: Global, bundle: &Bundle, verdict: &[u8]) -> Result<Vec<u8>, AllocError>
+    ensures { IfOk result (λ text. text.items ≡ verdict.now ++ edition_line bundle.now.journals.version bundle.now.journals.opening) }
+{
+    let mut text = Vec::from_slice(alloc, verdict)?;
+    let journals = &bundle.journals;
+    push_edition(&mut text, journals.version(), journals.opening())?;
+    Ok(text)
+}
+
 /// What an audit says that finds these faults, and the reasons.
 fn tell_verdict(
     alloc: Global,
     bundle: &Bundle,
     found: &[AuditFault],
 ) -> Result<Explained, AllocError>
-    ensures { IfOk result (λ told. IsVerdictTold found.now told.finding told.text.items) }
+    ensures { IfOk result (λ told. IsVerdictTold (edition_line bundle.now.journals.version bundle.now.journals.opening) found.now told.finding told.text.items) }
 {
     if found.is_empty() {
-        let text = Vec::from_slice(alloc, b"verdict accepted\n")?;
+        let text = headed(alloc, bundle, b"verdict accepted\n")?;
         return Ok(Explained {
             finding: Finding::Accepted,
             text,
         });
     }
-    let mut text = Vec::from_slice(alloc, b"verdict refused\n")?;
+    let mut text = headed(alloc, bundle, b"verdict refused\n")?;
     push_faults(alloc, &mut text, bundle, found)?;
     Ok(Explained {
         finding: Finding::Refused,

@@ -1,11 +1,14 @@
 //! The fields of frames.
 
 use crate::form::Form;
+use crate::front::push_front;
 use crate::walk::number_of;
 use ep_base::{InstanceId, ReplicaId};
 use ep_report::{push_instance, push_number};
-use ep_script::push_word;
 use std::alloc::AllocError;
+
+/// How many bytes of a key, a value or a body are told.
+const SHOWN: usize = 1024;
 
 /// A field of a frame: its name, where it begins, and how many bytes it has.
 #[derive(Clone, Copy)]
@@ -26,7 +29,7 @@ fn number(name: &[u8], start: usize, len: usize) -> FrameField<'_> {
     }
 }
 
-/// The field of the header that has the byte at this place, by docs/FORMATS.md, section 1.2.
+/// The field of a header of any version that has the byte at this place, by docs/FORMATS.md, section 1.2.
 fn header_field(place: usize) -> FrameField<'static> {
     match place {
         0..=1 => number(b"magic", 0, 2),
@@ -57,48 +60,104 @@ fn header_field(place: usize) -> FrameField<'static> {
     }
 }
 
-/// The byte at this place, 0 where there is none.
-fn byte_at(bytes: &[u8], place: usize) -> u8 {
-    match bytes.get(place) {
-        Some(byte) => *byte,
+/// The field of a header of version 3 that has the byte at this place.
+fn late_header_field(place: usize) -> FrameField<'static> {
+    match place {
+        36..=37 => number(b"length of the second key", 36, 2),
+        40..=43 => number(b"generation", 40, 4),
+        44..=47 => number(b"length of the body", 44, 4),
+        _ => header_field(place),
+    }
+}
+
+/// Where the parts behind a header begin, as its lengths tell it.
+#[derive(Clone, Copy)]
+struct Begins {
+    key: usize,
+    second: usize,
+    body: usize,
+    deps: usize,
+}
+
+/// The number that so many bytes spell from this place on; 0 where they aren't all there.
+fn number_in(bytes: &[u8], place: usize, len: usize) -> usize {
+    match bytes.get(place..place.saturating_add(len)) {
+        Some(field) => number_of(field) as usize,
         None => 0,
     }
 }
 
-/// The field behind the header that has the byte at this place, in a frame with the lengths that these bytes tell.
-fn body_field<'a>(bytes: &[u8], place: usize) -> FrameField<'a> {
-    let value = 40 + byte_at(bytes, 35) as usize;
-    let deps = value + 256 * byte_at(bytes, 36) as usize + byte_at(bytes, 37) as usize;
-    if place < value {
-        return FrameField {
-            name: b"key",
-            start: 40,
-            len: value - 40,
-            form: Form::Word,
-        };
+/// Where the parts behind a header of version 3 begin. In one of the others a value or a second key has the place of a body.
+fn begins_of(bytes: &[u8]) -> Begins {
+    let is_late = is_late(bytes);
+    let key = if is_late { 48 } else { 40 };
+    let second = number_in(bytes, 35, 1).saturating_add(key);
+    let body = if is_late {
+        second.saturating_add(number_in(bytes, 36, 2))
+    } else {
+        second
+    };
+    let len = if is_late {
+        number_in(bytes, 44, 4)
+    } else {
+        number_in(bytes, 36, 2)
+    };
+    Begins {
+        key,
+        second,
+        body,
+        deps: body.saturating_add(len),
     }
-    if place < deps {
-        return FrameField {
-            name: b"value or second key",
-            start: value,
-            len: deps - value,
-            form: Form::Word,
+}
+
+/// Whether the bytes say that they are of version 3.
+fn is_late(bytes: &[u8]) -> bool {
+    number_in(bytes, 2, 1) == 3
+}
+
+/// A field that is a word, between these places.
+fn word(name: &[u8], start: usize, end: usize) -> FrameField<'_> {
+    FrameField {
+        name,
+        start,
+        len: end.saturating_sub(start),
+        form: Form::Word,
+    }
+}
+
+/// The field behind the header that has the byte at this place, where its parts begin so.
+fn body_field<'a>(bytes: &[u8], begins: Begins, place: usize) -> FrameField<'a> {
+    if place < begins.second {
+        return word(b"key", begins.key, begins.second);
+    }
+    if place < begins.body {
+        return word(b"second key", begins.second, begins.body);
+    }
+    if place < begins.deps {
+        let name: &[u8] = if is_late(bytes) {
+            b"body"
+        } else {
+            b"value or second key"
         };
+        return word(name, begins.body, begins.deps);
     }
     FrameField {
         name: b"dependency",
-        start: place - (place - deps) % 3,
+        start: place - (place - begins.deps) % 3,
         len: 3,
         form: Form::Instance,
     }
 }
 
-/// The field that has the byte at this place, in a frame with the lengths that these bytes tell.
+/// The field that has the byte at this place, in a frame of the version and with the lengths that these bytes tell.
 pub(crate) fn field_at<'a>(bytes: &[u8], place: usize) -> FrameField<'a> {
-    if place < 40 {
-        header_field(place)
+    let begins = begins_of(bytes);
+    if begins.key <= place {
+        body_field(bytes, begins, place)
+    } else if is_late(bytes) {
+        late_header_field(place)
     } else {
-        body_field(bytes, place)
+        header_field(place)
     }
 }
 
@@ -150,7 +209,7 @@ pub(crate) fn push_value(
     match field.form {
         Form::Number => push_number(text, number_of(bytes)),
         Form::Kind => push_kind(text, number_of(bytes)),
-        Form::Word => push_word(text, bytes),
+        Form::Word => push_front(text, bytes, SHOWN),
         Form::Instance => push_dependency(text, bytes),
     }
 }

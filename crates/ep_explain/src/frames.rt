@@ -26,18 +26,22 @@ pub(crate) fn push_told(text: &mut Vec<u8>, bytes: &Bytes) -> Result<(), AllocEr
         Ok(frame) => push_frame(text, &frame),
         Err(fault) => {
             text.extend_from_slice(b"no frame: ")?;
-            push_frame_fault(text, fault)
+            push_frame_fault(text, bytes.as_slice(), fault)
         }
     }
 }
 
-/// Appends why bytes are no frame.
-pub(crate) fn push_frame_fault(text: &mut Vec<u8>, fault: FrameFault) -> Result<(), AllocError> {
+/// Appends why bytes are no frame, of which some begin so: with their version, if they have one.
+pub(crate) fn push_frame_fault(
+    text: &mut Vec<u8>,
+    bytes: &[u8],
+    fault: FrameFault,
+) -> Result<(), AllocError> {
     let alloc = *text.allocator();
     text.extend_from_slice(fault.to_string(alloc)?.as_bytes())?;
     if let FrameFault::Field(place) = fault {
         text.extend_from_slice(b" (")?;
-        text.extend_from_slice(field_at(&[], place as usize).name)?;
+        text.extend_from_slice(field_at(bytes, place as usize).name)?;
         text.push(b')')?;
     }
     Ok(())

@@ -2,6 +2,7 @@
 
 use crate::allowed::Allowed;
 use crate::field::Field;
+use crate::front::push_front;
 use crate::region::Region;
 use crate::spot::Spot;
 use crate::stop::Stop;
@@ -11,11 +12,21 @@ use ep_report::push_number;
 use ep_script::push_word;
 use std::alloc::{AllocError, Global};
 
-/// The version of a bundle, and how many replicas it has.
+/// How many bytes of a body are told.
+const SHOWN: usize = 60;
+
+/// The version of a bundle, 1 to 3, and how many replicas it has.
 #[derive(Clone, Copy)]
 struct Terms {
     version: u64,
     replicas: u64,
+}
+
+impl Terms {
+    /// Whether the bundle is of version 3.
+    fn is_late(self) -> bool {
+        self.version == 3
+    }
 }
 
 /// Why the reader refuses the field that begins at this place.
@@ -39,10 +50,17 @@ pub(crate) fn field_reasons(
 
 fn pass_bundle(walk: &mut Walk<'_>) -> Result<(), Stop> {
     walk.number(Field::Magic, 4, Allowed::Magic)?;
-    let version = walk.number(Field::Version, 1, Allowed::Range(1, 2))?;
+    let version = walk.number(Field::Version, 1, Allowed::Range(1, 3))?;
     let replicas = walk.number(Field::Replicas, 1, Allowed::ClusterSize)?;
-    let receipts = walk.number(Field::ReceiptCount, 4, Allowed::Any)?;
     let terms = Terms { version, replicas };
+    if terms.is_late() {
+        walk.number(Field::Generation, 4, Allowed::Range(1, 4_294_967_295))?;
+        walk.number(Field::Since, 8, Allowed::Range(0, 281_474_976_710_655))?;
+    }
+    let receipts = walk.number(Field::ReceiptCount, 4, Allowed::Any)?;
+    if terms.is_late() {
+        pass_opening(walk)?;
+    }
     for replica in 0..replicas {
         walk.enter(Region::Journal(replica));
         pass_journal(walk, terms, replica)?;
@@ -51,6 +69,23 @@ fn pass_bundle(walk: &mut Walk<'_>) -> Result<(), Stop> {
         walk.enter(Region::Receipt(receipt.saturating_add(1)));
         pass_receipt(walk, terms)?;
     }
+    Ok(())
+}
+
+fn pass_opening(walk: &mut Walk<'_>) -> Result<(), Stop> {
+    let keys = walk.number(Field::OpeningCount, 4, Allowed::Range(0, 4_000_000_000))?;
+    for key in 0..keys {
+        walk.enter(Region::Opening(key.saturating_add(1)));
+        pass_pair(walk)?;
+    }
+    Ok(())
+}
+
+fn pass_pair(walk: &mut Walk<'_>) -> Result<(), Stop> {
+    let key = walk.number(Field::OpenedKeyLength, 1, Allowed::Range(1, 255))?;
+    let value = walk.number(Field::OpenedValueLength, 4, Allowed::Range(0, 65_535))?;
+    walk.run(Field::OpenedKey, key as usize, Allowed::HigherKey)?;
+    walk.run(Field::OpenedValue, value as usize, Allowed::Any)?;
     Ok(())
 }
 
@@ -70,12 +105,12 @@ fn pass_entry(walk: &mut Walk<'_>, terms: Terms) -> Result<(), Stop> {
     pass_body(walk, terms, kind)?;
     let frames = walk.number(Field::FrameCount, 2, Allowed::Any)?;
     for _ in 0..frames {
-        pass_frame(walk)?;
+        pass_frame(walk, terms)?;
     }
     let executions = walk.number(Field::ExecutionCount, 2, Allowed::Any)?;
     for _ in 0..executions {
         pass_instance(walk, terms)?;
-        pass_answer(walk)?;
+        pass_answer(walk, terms)?;
     }
     Ok(())
 }
@@ -83,7 +118,7 @@ fn pass_entry(walk: &mut Walk<'_>, terms: Terms) -> Result<(), Stop> {
 fn pass_body(walk: &mut Walk<'_>, terms: Terms, kind: u64) -> Result<(), Stop> {
     match kind {
         1 => pass_proposal(walk, terms),
-        2 => pass_frame(walk),
+        2 => pass_frame(walk, terms),
         _ => pass_instance(walk, terms),
     }
 }
@@ -97,7 +132,11 @@ fn pass_request(walk: &mut Walk<'_>) -> Result<(), Stop> {
 fn pass_proposal(walk: &mut Walk<'_>, terms: Terms) -> Result<(), Stop> {
     pass_request(walk)?;
     walk.number(Field::SeenStamp, 8, Allowed::Any)?;
-    pass_command(walk, terms)
+    if terms.is_late() {
+        pass_command(walk)
+    } else {
+        pass_early_command(walk, terms)
+    }
 }
 
 /// The highest op: version 1 has no swap.
@@ -114,8 +153,9 @@ fn text_lengths(op: u64) -> Allowed {
     }
 }
 
-fn pass_command(walk: &mut Walk<'_>, terms: Terms) -> Result<(), Stop> {
-    let op = walk.number(Field::Op, 1, Allowed::Range(2, highest_op(terms)))?;
+/// A command of version 1 or 2.
+fn pass_early_command(walk: &mut Walk<'_>, terms: Terms) -> Result<(), Stop> {
+    let op = walk.number(Field::EarlyOp, 1, Allowed::Range(2, highest_op(terms)))?;
     let key = walk.number(Field::KeyLength, 1, Allowed::Range(1, 255))?;
     let text = walk.number(Field::TextLength, 2, text_lengths(op))?;
     walk.run(Field::Key, key as usize, Allowed::Any)?;
@@ -128,8 +168,65 @@ fn pass_command(walk: &mut Walk<'_>, terms: Terms) -> Result<(), Stop> {
     Ok(())
 }
 
-fn pass_frame(walk: &mut Walk<'_>) -> Result<(), Stop> {
-    let len = walk.number(Field::FrameLength, 4, Allowed::Range(40, 65_535))?;
+/// What the length of the op's first key may be.
+fn key_lengths(op: u64) -> Allowed {
+    if op == 9 {
+        Allowed::One(0)
+    } else {
+        Allowed::Range(1, 255)
+    }
+}
+
+/// What the length of the op's second key may be.
+fn second_key_lengths(op: u64) -> Allowed {
+    match op {
+        5 => Allowed::Range(1, 255),
+        7 | 8 => Allowed::Range(0, 255),
+        _ => Allowed::One(0),
+    }
+}
+
+/// What the length of the op's body may be.
+fn body_lengths(op: u64) -> Allowed {
+    match op {
+        3 | 7 | 8 | 9 => Allowed::Range(0, 65_535),
+        6 => Allowed::Range(2, 131_080),
+        _ => Allowed::One(0),
+    }
+}
+
+/// What the op's body may be.
+fn bodies(op: u64) -> Allowed {
+    if op == 6 {
+        Allowed::TwoParts
+    } else {
+        Allowed::Any
+    }
+}
+
+/// A command of version 3.
+fn pass_command(walk: &mut Walk<'_>) -> Result<(), Stop> {
+    let op = walk.number(Field::Op, 1, Allowed::Range(2, 9))?;
+    let key = walk.number(Field::KeyLength, 1, key_lengths(op))?;
+    let second = walk.number(Field::SecondKeyLength, 1, second_key_lengths(op))?;
+    let body = walk.number(Field::BodyLength, 4, body_lengths(op))?;
+    walk.run(Field::Key, key as usize, Allowed::Any)?;
+    walk.run(Field::SecondKey, second as usize, Allowed::OtherKey)?;
+    walk.run(Field::Body, body as usize, bodies(op))?;
+    Ok(())
+}
+
+/// What the length of a frame may be.
+fn frame_lengths(terms: Terms) -> Allowed {
+    if terms.is_late() {
+        Allowed::Range(48, 200_000)
+    } else {
+        Allowed::Range(40, 65_535)
+    }
+}
+
+fn pass_frame(walk: &mut Walk<'_>, terms: Terms) -> Result<(), Stop> {
+    let len = walk.number(Field::FrameLength, 4, frame_lengths(terms))?;
     walk.run(Field::Frame, len as usize, Allowed::Any)?;
     Ok(())
 }
@@ -146,10 +243,23 @@ fn pass_instance(walk: &mut Walk<'_>, terms: Terms) -> Result<(), Stop> {
     Ok(())
 }
 
-fn pass_answer(walk: &mut Walk<'_>) -> Result<(), Stop> {
-    let code = walk.number(Field::AnswerCode, 1, Allowed::Range(0, 2))?;
+fn pass_answer(walk: &mut Walk<'_>, terms: Terms) -> Result<(), Stop> {
+    if terms.is_late() {
+        return pass_late_answer(walk);
+    }
+    let code = walk.number(Field::EarlyAnswerCode, 1, Allowed::Range(0, 2))?;
     if code == 1 {
         let len = walk.number(Field::ValueLength, 2, Allowed::Range(0, 1024))?;
+        walk.run(Field::Value, len as usize, Allowed::Any)?;
+    }
+    Ok(())
+}
+
+/// An answer of version 3.
+fn pass_late_answer(walk: &mut Walk<'_>) -> Result<(), Stop> {
+    let code = walk.number(Field::AnswerCode, 1, Allowed::Range(0, 4))?;
+    if code == 1 {
+        let len = walk.number(Field::ValueLength, 4, Allowed::Range(0, 65_535))?;
         walk.run(Field::Value, len as usize, Allowed::Any)?;
     }
     Ok(())
@@ -162,11 +272,23 @@ fn pass_receipt(walk: &mut Walk<'_>, terms: Terms) -> Result<(), Stop> {
     walk.number(Field::ReceiptReplica, 1, replicas_of(terms))?;
     walk.number(Field::ReceiptEntry, 4, Allowed::Any)?;
     walk.number(Field::ReceiptStamp, 8, Allowed::Any)?;
-    pass_answer(walk)
+    pass_answer(walk, terms)
+}
+
+/// What stands behind the line of an edition, if the text begins by one.
+fn behind_edition(bytes: &[u8]) -> &[u8] {
+    if !bytes.starts_with(b"version ") {
+        return bytes;
+    }
+    match bytes.iter().position(|byte| *byte == b'\n') {
+        Some(place) => bytes.get(place.saturating_add(1)..).unwrap_or(bytes),
+        None => bytes,
+    }
 }
 
 /// What the text is that was given for a bundle.
 fn name_of(bytes: &[u8]) -> &'static [u8] {
+    let bytes = behind_edition(bytes);
     if bytes.starts_with(b"verdict ") {
         b"found: a report, as replay, run and audit print it"
     } else if bytes.starts_with(b"stamp ") {
@@ -258,7 +380,8 @@ fn add_allowed(
 fn push_found(line: &mut Vec<u8>, spot: Spot, rest: &[u8]) -> Result<(), AllocError> {
     let (front, _) = rest.split_at(spot.len.min(rest.len()));
     match spot.allowed {
-        Allowed::Magic | Allowed::OtherKey => push_word(line, front),
+        Allowed::Magic | Allowed::OtherKey | Allowed::HigherKey => push_word(line, front),
+        Allowed::TwoParts => push_front(line, front, SHOWN),
         _ => push_number(line, number_of(front)),
     }
 }

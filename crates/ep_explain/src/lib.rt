@@ -19,6 +19,7 @@ mod finding;
 mod form;
 mod frame_field;
 mod frames;
+mod front;
 mod grammar;
 mod handled;
 mod listing;

@@ -7,6 +7,8 @@ use std::alloc::AllocError;
 #[derive(Clone, Copy)]
 pub(crate) enum Region {
     Header,
+    /// A key of the opening with what it has, counted from 1.
+    Opening(u64),
     /// The journal of the replica of this number.
     Journal(u64),
     /// An entry of the journal of the replica of this number, counted from 1.
@@ -20,6 +22,10 @@ impl Region {
     pub(crate) fn push(self, text: &mut Vec<u8>) -> Result<(), AllocError> {
         match self {
             Region::Header => text.extend_from_slice(b"the header"),
+            Region::Opening(place) => {
+                text.extend_from_slice(b"the opening, key ")?;
+                push_number(text, place)
+            }
             Region::Journal(replica) => {
                 text.extend_from_slice(b"the journal of replica ")?;
                 push_number(text, replica)

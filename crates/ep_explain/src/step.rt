@@ -8,7 +8,7 @@ use crate::side::Side;
 use crate::told::Told;
 use bytes::Bytes;
 use ep_advice::Reasons;
-use ep_base::{Answer, InstanceId, Stamp};
+use ep_base::{Answer, InstanceId, Stamp, Version};
 use ep_bundle::Draft;
 use ep_frame::{Frame, FrameFault};
 use ep_journal::{Entry, Event, Journal, Mark, StepFault};
@@ -38,15 +38,20 @@ pub(crate) fn add_draft(
         done: done.as_slice(),
     };
     match event.checked() {
-        Err(fault) => add_no_frame(alloc, fault, reasons),
+        Err(fault) => add_no_frame(alloc, journal.version(), fault, reasons),
         Ok(event) => add_event(alloc, journal, event, &told, reasons),
     }
 }
 
-/// The bytes that are handled are no frame.
-fn add_no_frame(alloc: Global, fault: FrameFault, reasons: &mut Reasons) -> Result<(), AllocError> {
+/// The bytes that are handled are no frame. They are taken for bytes of the journal's version.
+fn add_no_frame(
+    alloc: Global,
+    version: Version,
+    fault: FrameFault,
+    reasons: &mut Reasons,
+) -> Result<(), AllocError> {
     let mut line = Vec::from_slice(alloc, b"cause: the bytes that are handled are no frame: ")?;
-    push_frame_fault(&mut line, fault)?;
+    push_frame_fault(&mut line, &[0, 0, version.number()], fault)?;
     reasons.add(line)
 }
 
@@ -59,8 +64,9 @@ fn add_event(
     reasons: &mut Reasons,
 ) -> Result<(), AllocError> {
     add_words(alloc, &event, reasons)?;
+    add_generations(alloc, journal.version(), &event, reasons)?;
     let Some(mark) = next_mark(journal, told.stamp) else {
-        return add_stamps(alloc, journal.last_stamp(), told.stamp, reasons);
+        return add_stamps(alloc, journal, told.stamp, reasons);
     };
     let taken = journal.take(alloc, event, Some(mark));
     add_taken(alloc, taken, journal.entries(), told, reasons)
@@ -71,6 +77,23 @@ fn add_words(alloc: Global, event: &Event, reasons: &mut Reasons) -> Result<(), 
     let mut line = Vec::from_slice(alloc, b"event: ")?;
     push_event(&mut line, event)?;
     reasons.add(line)
+}
+
+/// The generation of the frame that is handled, where it is another one than the bundle's.
+fn add_generations(
+    alloc: Global,
+    version: Version,
+    event: &Event,
+    reasons: &mut Reasons,
+) -> Result<(), AllocError> {
+    let Event::Handle(frame) = event else {
+        return Ok(());
+    };
+    let (found, own) = (frame.version().generation(), version.generation());
+    if found == own || found == 0 || own == 0 {
+        return Ok(());
+    }
+    reasons.tell(format!(in alloc; "generations: the frame's is {found}, the bundle's is {own}")?)
 }
 
 /// The number and the stamp of the journal's next entry; none where the stamp doesn't rise.
@@ -90,11 +113,16 @@ fn next_mark(journal: &Journal, stamp: Stamp) -> Option<Mark>
 /// The stamp doesn't rise.
 fn add_stamps(
     alloc: Global,
-    last: u64,
+    journal: &Journal,
     stamp: Stamp,
     reasons: &mut Reasons,
 ) -> Result<(), AllocError> {
-    let stamp = stamp.ticks();
+    let (stamp, last) = (stamp.ticks(), journal.last_stamp());
+    if journal.entries().is_empty() {
+        return reasons.tell(format!(in alloc;
+            "cause: its stamp {stamp} isn't above the stamp that the clocks go on from, {last}"
+        )?);
+    }
     reasons.tell(format!(in alloc;
         "cause: its stamp {stamp} isn't above the stamp of the entry before it, {last}"
     )?)
@@ -136,7 +164,9 @@ fn meaning_of(fault: StepFault) -> &'static str {
         StepFault::OutOfRange => "a replica or an instance in it isn't one of the cluster",
         StepFault::NotMine => "the frame is for another replica",
         StepFault::StampFull => "the stamp or the entry's number is past its limit",
-        StepFault::SpaceFull => "the replica has no number left for an instance",
+        StepFault::SpaceFull => {
+            "the replica has no number left for the command: in version 3 the last ten are for seals"
+        }
         StepFault::SeqExhausted => "the command's seq would pass its limit",
         StepFault::NotLeading => "there is nothing to give up",
         StepFault::TooFewAnswers => "too few replicas have answered",

@@ -2,12 +2,13 @@
 
 ghost use Rattle.std.specs.Prelude.{◌<◌};
 ghost use Rattle.ep_base.specs.Quorums.{size};
+ghost use Rattle.ep_journal.specs.Openings.{OpensIn};
 
 use crate::step::{MOST_ENTRIES, add_draft};
 use ep_advice::Reasons;
 use ep_base::{Noted, ReplicaId, Source};
 use ep_bundle::{
-    BundleFault, BundleHeader, read_draft, read_entry, read_header, read_journal, read_opening,
+    BundleFault, BundleHeader, read_count, read_draft, read_entry, read_header, read_journal,
 };
 use ep_journal::Journal;
 use std::alloc::{AllocError, Global};
@@ -67,15 +68,15 @@ fn read_up_to<S: Source>(
     replica: ReplicaId,
     number: u32,
 ) -> Result<Journal, BundleFault> {
-    let header = read_header(source, place)?;
+    let header = read_header(alloc, source, place)?;
     if replica.index() >= header.cluster.count() {
         return Err(BundleFault::BadBundle(*place));
     }
     for lower in 0..replica.index() {
         pass_journal(alloc, source, place, &header, lower)?;
     }
-    read_opening(source, place, replica)?;
-    let mut journal = Journal::new(alloc, header.cluster, header.version, replica);
+    read_count(source, place, replica)?;
+    let mut journal = header.journal(alloc, replica)?;
     pass_entries(alloc, source, place, &mut journal, number)?;
     Ok(journal)
 }
@@ -88,14 +89,14 @@ fn pass_journal<S: Source>(
     header: &BundleHeader,
     index: u8,
 ) -> Result<(), BundleFault>
-    requires { index < size header.now.cluster }
+    requires index { index < size header.now.cluster }
+    requires opens { OpensIn header.now.version header.now.opening }
 {
     let Ok(replica) = ReplicaId::new(index) else {
         return Err(BundleFault::BadBundle(*place));
     };
-    let (version, cluster) = (header.version, header.cluster);
-    read_journal(alloc, cluster, version, replica, source, place)?;
-    Ok(())
+    let mut journal = header.journal(alloc, replica)?;
+    read_journal(alloc, source, place, &mut journal)
 }
 
 /// Reads the journal's entries before the one of this number.

@@ -6,7 +6,7 @@ ghost use Rattle.ep_graph.specs.Graphs.{measured, viewed, front, opening, IsGrap
 
 use crate::graph_fault::GraphFault;
 use crate::layers::Layers;
-use crate::plan::Plan;
+use crate::plan::{Plan, closed_in, sealed_in};
 use crate::reach::Reach;
 use crate::rects::{EDGE, FIRST, GAP, LANE, LINE, Place, place_boxes};
 use crate::style::STYLE;
@@ -164,23 +164,37 @@ fn next_lane(taken: &mut [u64], from: Place) -> u64 {
     lane
 }
 
+// Draws the arrow between the components of these first nodes, if it is one that is drawn.
+fn add_edge(
+    shapes: &mut Vec<Shape>,
+    plan: &Plan<'_>,
+    places: &[Place],
+    taken: &mut [u64],
+    edge: &(usize, usize),
+) -> Result<(), AllocError> {
+    let (from, to) = edge;
+    if !plan.is_drawn(*from, *to) {
+        return Ok(());
+    }
+    let (Some(from), Some(to)) = (place_of(places, *from), place_of(places, *to)) else {
+        return Ok(());
+    };
+    let lane = if passes(from, to) {
+        next_lane(taken, from)
+    } else {
+        0
+    };
+    add_arrow(shapes, from, to, lane)
+}
+
 fn add_arrows(
     shapes: &mut Vec<Shape>,
     plan: &Plan<'_>,
     places: &[Place],
 ) -> Result<(), AllocError> {
     let mut taken = vec![in *shapes.allocator(); 0; plan.layers.layers.len()]?;
-    for (from, to) in &plan.layers.edges {
-        if let Some(from) = place_of(places, *from) {
-            if let Some(to) = place_of(places, *to) {
-                let lane = if passes(from, to) {
-                    next_lane(&mut taken, from)
-                } else {
-                    0
-                };
-                add_arrow(shapes, from, to, lane)?;
-            }
-        }
+    for edge in &plan.layers.edges {
+        add_edge(shapes, plan, places, &mut taken, edge)?;
     }
     Ok(())
 }
@@ -199,21 +213,52 @@ fn look_of(plan: &Plan<'_>, members: &[usize]) -> Look {
     }
 }
 
+/// How far the mark of a seal stands within its box.
+const INSET: u64 = 2;
+
+// Draws the mark of a seal behind its line, at this height of its box.
+fn add_seal(shapes: &mut Vec<Shape>, place: Place, down: u64) -> Result<(), AllocError> {
+    shapes.push(Shape::Rect {
+        look: Look::Seal,
+        at: Point {
+            x: place.at.x.saturating_add(INSET),
+            y: place.at.y.saturating_add(down).saturating_add(INSET),
+        },
+        extent: Point {
+            x: place.extent.x.saturating_sub(2 * INSET),
+            y: LINE.saturating_add(1),
+        },
+    })?;
+    Ok(())
+}
+
+/// How the line of a node looks.
+fn line_look(plan: &Plan<'_>, node: usize) -> Look {
+    if plan.closed.has(node) {
+        Look::Closed
+    } else {
+        Look::Plain
+    }
+}
+
 // Writes the lines of a box.
 fn add_lines(
     shapes: &mut Vec<Shape>,
     plan: &Plan<'_>,
     members: &[usize],
-    corner: Point,
+    place: Place,
 ) -> Result<(), AllocError> {
     for (line, node) in members.iter().enumerate() {
+        let down = LINE.saturating_mul(line as u64);
+        if plan.is_seal(*node) {
+            add_seal(shapes, place, down)?;
+        }
         let words = plan.shown(*shapes.allocator(), *node, members.len())?;
-        let down = LINE.saturating_mul(line as u64).saturating_add(FIRST);
         let at = Point {
-            x: corner.x.saturating_add(5),
-            y: corner.y.saturating_add(down),
+            x: place.at.x.saturating_add(5),
+            y: place.at.y.saturating_add(down).saturating_add(FIRST),
         };
-        add_words(shapes, Look::Plain, at, words)?;
+        add_words(shapes, line_look(plan, *node), at, words)?;
     }
     Ok(())
 }
@@ -243,7 +288,7 @@ fn add_all_lines(
 ) -> Result<(), AllocError> {
     for place in places {
         let members = plan.members(*shapes.allocator(), place.first)?;
-        add_lines(shapes, plan, &members, place.at)?;
+        add_lines(shapes, plan, &members, *place)?;
     }
     Ok(())
 }
@@ -264,11 +309,78 @@ fn add_graph(shapes: &mut Vec<Shape>, plan: &Plan<'_>, places: &[Place]) -> Resu
     add_all_lines(shapes, plan, places)
 }
 
+/// How high the key's line is.
+const KEY: u64 = 22;
+
+/// Whether some node is committed as a seal.
+fn has_seal(plan: &Plan<'_>) -> bool {
+    let mut has = false;
+    for node in 0..plan.reach.nodes().len() {
+        has = has || plan.is_seal(node);
+    }
+    has
+}
+
+/// Whether some node was answered `closed`.
+fn has_closed(plan: &Plan<'_>) -> bool {
+    let mut has = false;
+    for node in 0..plan.reach.nodes().len() {
+        has = has || plan.closed.has(node);
+    }
+    has
+}
+
+// Draws below the graph what the mark of a seal means.
+fn add_seal_meaning(shapes: &mut Vec<Shape>, y: u64) -> Result<(), AllocError> {
+    shapes.push(Shape::Rect {
+        look: Look::Seal,
+        at: Point {
+            x: EDGE,
+            y: y.saturating_sub(11),
+        },
+        extent: Point {
+            x: 30,
+            y: LINE.saturating_add(1),
+        },
+    })?;
+    let words = Vec::from_slice(
+        *shapes.allocator(),
+        b"a seal: it depends on all above it, and all below depends on it",
+    )?;
+    add_words(shapes, Look::Plain, Point { x: 54, y }, words)
+}
+
+// Draws below the graph what the line of what was answered `closed` means.
+fn add_closed_meaning(shapes: &mut Vec<Shape>, y: u64) -> Result<(), AllocError> {
+    let words = Vec::from_slice(
+        *shapes.allocator(),
+        b"-> closed: a seal was executed before it",
+    )?;
+    add_words(shapes, Look::Closed, Point { x: 510, y }, words)
+}
+
+// Draws a key below the graph, which ends at this y, of the marks that occur, and answers where it ends.
+fn add_key(shapes: &mut Vec<Shape>, plan: &Plan<'_>, y: u64) -> Result<u64, AllocError> {
+    let (seal, closed) = (has_seal(plan), has_closed(plan));
+    if seal {
+        add_seal_meaning(shapes, y.saturating_add(6))?;
+    }
+    if closed {
+        add_closed_meaning(shapes, y.saturating_add(6))?;
+    }
+    if seal || closed {
+        Ok(y.saturating_add(KEY))
+    } else {
+        Ok(y)
+    }
+}
+
 fn picture_of(alloc: Global, plan: &Plan<'_>) -> Result<Picture, AllocError> {
     let mut places = Vec::new(alloc);
-    let height = place_boxes(alloc, plan, &mut places)?;
+    let bottom = place_boxes(alloc, plan, &mut places)?;
     let mut shapes = Vec::new(alloc);
     add_graph(&mut shapes, plan, &places)?;
+    let height = add_key(&mut shapes, plan, bottom)?;
     Ok(Picture {
         width: width_of(&places),
         height,
@@ -339,7 +451,7 @@ fn drawn(alloc: Global, plan: &Plan<'_>) -> Result<Vec<u8>, AllocError>
 
 /// Draws the dependency graph of what the journals commit, an SVG file: a box a component of instances that depend on each
 /// other, in layers by the order of execution, with an arrow to what a component depends on, unless another one that it
-/// depends on lies between. Where several journals commit in an instance, it is as `Verdict::of` has it.
+/// depends on lies between, or one of them is a seal, above which all stands that it depends on, and below which all that depends on it. Where several journals commit in an instance, it is as `Verdict::of` has it.
 ///
 /// `TooMany` where more than 2,000 are committed or depended on.
 pub fn graph(alloc: Global, journals: &Journals) -> Result<Vec<u8>, GraphFault>
@@ -349,10 +461,14 @@ pub fn graph(alloc: Global, journals: &Journals) -> Result<Vec<u8>, GraphFault>
     let verdict = Verdict::of(alloc, journals)?;
     let reach = Reach::of(alloc, &verdict.committed, MOST)?;
     let layers = Layers::of(alloc, &reach)?;
+    let closed = closed_in(alloc, &reach, &verdict.history)?;
+    let sealed = sealed_in(alloc, &reach, &verdict.committed)?;
     let plan = Plan {
         committed: &verdict.committed,
         reach,
         layers,
+        closed,
+        sealed,
     };
     let text = drawn(alloc, &plan)?;
     Ok(text)

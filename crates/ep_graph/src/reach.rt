@@ -67,7 +67,7 @@ impl Reach {
     }
 
     /// The place of the instance among them.
-    fn node(&self, instance: InstanceId) -> Option<usize> {
+    pub fn node(&self, instance: InstanceId) -> Option<usize> {
         self.nodes().binary_search(&instance).ok()
     }
 

@@ -124,14 +124,16 @@ fn join(parts: &mut [usize], one: usize, other: usize) {
     }
 }
 
-/// The part of each node, named by a node of it: all nodes that arrows join are of one part.
+/// The part of each node, named by a node of it: all nodes that arrows join are of one part. A seal is a part of its own.
 fn parts_of(alloc: Global, plan: &Plan<'_>) -> Result<Vec<usize>, AllocError> {
     let mut parts = Vec::new(alloc);
     for node in 0..plan.layers.layers.len() {
         parts.push(plan.reach.first_of(node))?;
     }
     for (from, to) in &plan.layers.edges {
-        join(&mut parts, *from, *to);
+        if plan.is_drawn(*from, *to) {
+            join(&mut parts, *from, *to);
+        }
     }
     Ok(parts)
 }
@@ -242,7 +244,8 @@ fn layer_of(plan: &Plan<'_>, node: usize) -> usize {
 fn lanes_of(plan: &Plan<'_>, parts: &[usize], part: usize) -> u64 {
     let mut lanes = 0u64;
     for (from, to) in &plan.layers.edges {
-        if parts.get(*from) == Some(&part)
+        if plan.is_drawn(*from, *to)
+            && parts.get(*from) == Some(&part)
             && layer_of(plan, *from) > layer_of(plan, *to).saturating_add(1)
         {
             lanes = lanes.saturating_add(1).min(LANES);
@@ -284,9 +287,9 @@ struct Band {
 }
 
 impl Band {
-    /// Here, or in the next band where this one has no room for a part that is so wide.
-    fn fitted(self, width: u64) -> Band {
-        if self.at.x > EDGE && self.at.x.saturating_add(width) > RIGHT {
+    /// The next band, or this one where nothing stands in it.
+    fn next(self) -> Band {
+        if self.at.x > EDGE {
             Band {
                 at: Point {
                     x: EDGE,
@@ -294,6 +297,15 @@ impl Band {
                 },
                 bottom: self.bottom,
             }
+        } else {
+            self
+        }
+    }
+
+    /// Here, or in the next band where this one has no room for a part that is so wide.
+    fn fitted(self, width: u64) -> Band {
+        if self.at.x.saturating_add(width) > RIGHT {
+            self.next()
         } else {
             self
         }
@@ -340,26 +352,58 @@ fn move_from(places: &mut [Place], from: usize, by: Point, part: Part) {
     }
 }
 
-/// Places the boxes of all components, and answers the y below them.
+/// The turn of each part's last component.
+fn turns_of(alloc: Global, plan: &Plan<'_>, parts: &[usize]) -> Result<Vec<usize>, AllocError> {
+    let mut turns = vec![in alloc; 0; parts.len()]?;
+    for (node, part) in parts.iter().enumerate() {
+        if *part < turns.len() && plan.reach.first_of(node) == node {
+            turns[*part] = plan.turn(node).max(turns[*part]);
+        }
+    }
+    Ok(turns)
+}
+
+/// The parts, each with its turn, by turns and then by first nodes.
+fn in_turn(
+    alloc: Global,
+    plan: &Plan<'_>,
+    parts: &[usize],
+) -> Result<Vec<(usize, usize)>, AllocError> {
+    let turns = turns_of(alloc, plan, parts)?;
+    let mut order = Vec::new(alloc);
+    for (part, turn) in turns.iter().enumerate() {
+        if parts.get(part) == Some(&part) {
+            order.push((*turn, part))?;
+        }
+    }
+    order.sort()?;
+    Ok(order)
+}
+
+/// Places the boxes of all components, and answers the y below them. What comes before a seal stands above it, and what comes after it below.
 pub(crate) fn place_boxes(
     alloc: Global,
     plan: &Plan<'_>,
     places: &mut Vec<Place>,
 ) -> Result<u64, AllocError> {
     let parts = parts_of(alloc, plan)?;
+    let order = in_turn(alloc, plan, &parts)?;
     let mut band = Band {
         at: Point { x: EDGE, y: TOP },
         bottom: TOP,
     };
-    for first in 0..parts.len() {
-        if parts.get(first) == Some(&first) {
-            let from = places.len();
-            let part = place_part(alloc, plan, &parts, first, places)?;
-            let whole = part.whole();
-            band = band.fitted(whole.x);
-            move_from(places, from, band.at, part);
-            band = band.after(whole);
+    let mut last = 0;
+    for (turn, first) in &order {
+        if *turn != last {
+            band = band.next();
         }
+        last = *turn;
+        let from = places.len();
+        let part = place_part(alloc, plan, &parts, *first, places)?;
+        let whole = part.whole();
+        band = band.fitted(whole.x);
+        move_from(places, from, band.at, part);
+        band = band.after(whole);
     }
     Ok(band.bottom.saturating_add(EDGE))
 }

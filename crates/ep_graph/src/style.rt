@@ -10,6 +10,8 @@ text{font:11px ui-monospace,'DejaVu Sans Mono',Menlo,Consolas,monospace;fill:#22
 rect{fill:#fff;stroke:#222;stroke-width:1.5}
 .together{fill:#eef4fb;stroke-width:3}
 .missing{stroke-dasharray:5 4;stroke:#777}
+.seal{fill:#fff3bf;stroke:#222;stroke-width:1}
+.closed{fill:#777;font-style:italic}
 .life{stroke:#555;stroke-width:1.5}
 .needs{stroke:#555;stroke-width:1.5;marker-end:url(#head)}
 </style>

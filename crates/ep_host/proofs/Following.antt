@@ -12,7 +12,7 @@ use Rattle.ep_journal.specs.declared.event.Event.{Event}
 use Rattle.ep_journal.specs.declared.event.Event.TheVariants as event
 use Rattle.ep_journal.specs.declared.step_fault.StepFault.{StepFault}
 use Rattle.ep_replica.specs.Applied.{Applied}
-use Rattle.ep_replica.specs.Kept.{Kept}
+use Rattle.ep_replica.specs.Kept.{Kept, start_of}
 use Rattle.ep_host.specs.Acts.{Made}
 use Rattle.ep_host.specs.Fates.{frames_in, lost_in, Sends, Carries, counted_up}
 use Rattle.ep_host.specs.Follows.{Follows, Runs, Settles, Rounds}
@@ -65,6 +65,7 @@ follows_self a = record {
   works = record {
     faults = refl;
     me = refl;
+    start = refl;
     entries = [];
     journal = sym (append-nil a.replica.entries);
     used = [];
@@ -86,6 +87,7 @@ follows_follows a b c h k = record {
   works = record {
     faults = k.works.faults ∙ h.works.faults;
     me = k.works.me ∙ h.works.me;
+    start = k.works.start ∙ h.works.start;
     entries = h.works.entries ++ k.works.entries;
     journal = k.works.journal ∙ ap (λ (l : List Entry). l ++ k.works.entries) h.works.journal ∙ append_assoc a.replica.entries h.works.entries k.works.entries;
     used = h.works.used ++ k.works.used;
@@ -122,6 +124,7 @@ made_follows event lost a b m same is t =
       works = record {
         faults = ap (λ (k : Kept). k.faults) grown;
         me = ap (λ (k : Kept). k.me) grown;
+        start = ap start_of grown;
         entries = e ∷ [];
         journal = ap (λ (k : Kept). k.entries) grown;
         used = t.used;
@@ -143,6 +146,7 @@ idle_follows event dropped a b k l same is t = record {
   works = record {
     faults = ap (λ (k : Kept). k.faults) k;
     me = ap (λ (k : Kept). k.me) k;
+    start = ap start_of k;
     entries = [];
     journal = ap (λ (k : Kept). k.entries) k ∙ sym (append-nil a.replica.entries);
     used = t.used;
@@ -184,6 +188,7 @@ pops_follows place frame a ys low p = record {
   works = record {
     faults = refl;
     me = refl;
+    start = refl;
     entries = [];
     journal = sym (append-nil a.replica.entries);
     used = [];
@@ -243,6 +248,7 @@ executes_follows true a b h =
       works = record {
         faults = ap (λ (k : Kept). k.faults) p.appended;
         me = ap (λ (k : Kept). k.me) p.appended;
+        start = ap start_of p.appended;
         entries = e ∷ [];
         journal = ap (λ (k : Kept). k.entries) p.appended;
         used = [];
@@ -286,6 +292,7 @@ ends_follows a ended = record {
   works = record {
     faults = refl;
     me = refl;
+    start = refl;
     entries = [];
     journal = sym (append-nil a.replica.entries);
     used = [];

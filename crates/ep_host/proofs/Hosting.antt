@@ -6,8 +6,10 @@ use Rattle.std.proofs.lemmas.List.Elements.{All-nil, All-push}
 use Rattle.std.proofs.lemmas.Bool.{cases_lt}
 use Rattle.std.proofs.lemmas.Bool.Decides.{eqb_tells}
 use Rattle.ep_base.specs.Quorums.{size}
-use Rattle.ep_replica.specs.Kept.{Kept}
-use Rattle.ep_host.specs.Host.{IsHost, IsRoomy, IsFresh, Paired}
+use Rattle.ep_base.specs.declared.version.Version.{Version}
+use Rattle.ep_journal.specs.Openings.{Opening}
+use Rattle.ep_replica.specs.Kept.{Kept, start_of}
+use Rattle.ep_host.specs.Host.{IsHost, IsRoomy, IsFresh, StartsAs, Paired}
 use Rattle.ep_host.specs.Joins.{Joins, CanJoin}
 use Rattle.ep_host.specs.Node.{Node, fresh_node, with_link}
 use Rattle.ep_host.specs.Pointwise.{Each}
@@ -41,18 +43,20 @@ longer_paired :
 longer_paired a b a' b' la lb low low' p = λ d. rw (me_of a a' la, me_of b b' lb, still_at a a' (place a.replica.me b.replica.me) d la low, still_at b b' (place b.replica.me a.replica.me) d lb low') (p d)
 
 -- the nodes so far, each with a link to each other one
-pub record AreLinked (c f : ℕ) (nodes : List Node) : Type 0 where
+pub record AreLinked (c f : ℕ) (s : Version × Opening) (nodes : List Node) : Type 0 where
   pub faults : (i : ℕ) (d : Node) → i < length nodes → (get_or nodes i d).replica.faults ≡ f
   pub me : (i : ℕ) (d : Node) → i < length nodes → (get_or nodes i d).replica.me ≡ i
+  pub start : (i : ℕ) (d : Node) → i < length nodes → start_of (get_or nodes i d).replica ≡ s
   pub links : (i : ℕ) (d : Node) → i < length nodes → length (get_or nodes i d).links + 1 ≡ length nodes
   pub peers : (i : ℕ) (d : Node) → i < length nodes → ArePeers i (get_or nodes i d).links
   pub paired : (i j : ℕ) (d : Node) → j < i → i < length nodes → Paired (get_or nodes j d) (get_or nodes i d) × Paired (get_or nodes i d) (get_or nodes j d)
   pub fresh : (i : ℕ) (d : Node) → i < length nodes → IsFresh c (get_or nodes i d)
 
 -- the next node, joined to the first k of them
-pub record AreJoined (c f k : ℕ) (nodes : List Node) (node : Node) : Type 0 where
+pub record AreJoined (c f : ℕ) (s : Version × Opening) (k : ℕ) (nodes : List Node) (node : Node) : Type 0 where
   pub faults : (i : ℕ) (d : Node) → i < length nodes → (get_or nodes i d).replica.faults ≡ f
   pub me : (i : ℕ) (d : Node) → i < length nodes → (get_or nodes i d).replica.me ≡ i
+  pub start : (i : ℕ) (d : Node) → i < length nodes → start_of (get_or nodes i d).replica ≡ s
   pub done : (i : ℕ) (d : Node) → i < length nodes → i < k → length (get_or nodes i d).links ≡ length nodes
   pub left : (i : ℕ) (d : Node) → i < length nodes → k ≤ i → length (get_or nodes i d).links + 1 ≡ length nodes
   pub peers : (i : ℕ) (d : Node) → i < length nodes → ArePeers i (get_or nodes i d).links
@@ -60,25 +64,28 @@ pub record AreJoined (c f k : ℕ) (nodes : List Node) (node : Node) : Type 0 wh
   pub fresh : (i : ℕ) (d : Node) → i < length nodes → IsFresh c (get_or nodes i d)
   pub next_faults : node.replica.faults ≡ f
   pub next_me : node.replica.me ≡ length nodes
+  pub next_start : start_of node.replica ≡ s
   pub next_links : length node.links ≡ k
   pub next_peers : ArePeers (length nodes) node.links
   pub next_paired : (i : ℕ) (d : Node) → i < length nodes → i < k → Paired (get_or nodes i d) node × Paired node (get_or nodes i d)
   pub next_fresh : IsFresh c node
 
-pub linked_none : (c f : ℕ) → AreLinked c f []
-linked_none c f = record {
+pub linked_none : (c f : ℕ) (s : Version × Opening) → AreLinked c f s []
+linked_none c f s = record {
   faults = λ i d low. absurd (omega arith);
   me = λ i d low. absurd (omega arith);
+  start = λ i d low. absurd (omega arith);
   links = λ i d low. absurd (omega arith);
   peers = λ i d low. absurd (omega arith);
   paired = λ i j d less low. absurd (omega arith);
   fresh = λ i d low. absurd (omega arith);
 }
 
-pub joined_none : (c f : ℕ) (nodes : List Node) (k : Kept) → AreLinked c f nodes → k.faults ≡ f → k.me ≡ length nodes → k.entries ≡ [] → AreJoined c f 0 nodes (fresh_node k)
-joined_none c f nodes k h faults me none = record {
+pub joined_none : (c f : ℕ) (s : Version × Opening) (nodes : List Node) (k : Kept) → AreLinked c f s nodes → k.faults ≡ f → k.me ≡ length nodes → start_of k ≡ s → k.entries ≡ [] → AreJoined c f s 0 nodes (fresh_node k)
+joined_none c f s nodes k h faults me start none = record {
   faults = h.faults;
   me = h.me;
+  start = h.start;
   done = λ i d low below. absurd (omega arith);
   left = λ i d low above. h.links i d low;
   peers = h.peers;
@@ -86,6 +93,7 @@ joined_none c f nodes k h faults me none = record {
   fresh = h.fresh;
   next_faults = faults;
   next_me = me;
+  next_start = start;
   next_links = refl;
   next_peers = λ i d low. absurd (omega arith);
   next_paired = λ i d low below. absurd (omega arith);
@@ -104,8 +112,8 @@ peer_above k n less = grind (arith)
 peer_below : (k n l : ℕ) → k < n → l + 1 ≡ n → peer_at k l ≡ n
 peer_below k n l less e = grind (arith)
 
-pub can_join : (c f k : ℕ) (nodes : List Node) (node : Node) (d : Node) → AreJoined c f k nodes node → k < length nodes → CanJoin (get_or nodes k d) node
-can_join c f k nodes node d h low = let n = length nodes in
+pub can_join : (c f : ℕ) (s : Version × Opening) (k : ℕ) (nodes : List Node) (node : Node) (d : Node) → AreJoined c f s k nodes node → k < length nodes → CanJoin (get_or nodes k d) node
+can_join c f s k nodes node d h low = let n = length nodes in
     let links = h.left k d low (omega arith) in record {
       before = rw (h.me k d low, h.next_me) low;
       there = rw (h.me k d low, h.next_me) (place_below k n (length (get_or nodes k d).links) low links);
@@ -133,14 +141,14 @@ peers_with me a b l is peer was = subst (λ (n : Node). ArePeers me n.links) (sy
 
 -- one more of them is joined
 pub joined_more :
-    (c f k : ℕ) (nodes : List Node) (node : Node) (e a' b' : Node) → AreJoined c f k nodes node → k < length nodes → Joins c (get_or nodes k e) node a' b' → AreJoined c f (k + 1) (set nodes k a') b'
-joined_more c f k nodes node e a' b' h low j =
+    (c f : ℕ) (s : Version × Opening) (k : ℕ) (nodes : List Node) (node : Node) (e a' b' : Node) → AreJoined c f s k nodes node → k < length nodes → Joins c (get_or nodes k e) node a' b' → AreJoined c f s (k + 1) (set nodes k a') b'
+joined_more c f s k nodes node e a' b' h low j =
     let n = length nodes in let ys = set nodes k a' in
     let len : length ys ≡ n = length-set nodes k a' in
     let a = get_or nodes k e in
     let la : IsLonger a a' = longer_with a a' j.there j.a_is in
     let lb : IsLonger node b' = longer_with node b' j.here j.b_is in
-    let can = can_join c f k nodes node e h low in
+    let can = can_join c f s k nodes node e h low in
     let all : Each IsLonger nodes ys = each_set IsLonger nodes k a' e longer_self low la in
     let links_a : length a.links + 1 ≡ n = h.left k e low (omega arith) in
     let me_a : a.replica.me ≡ k = h.me k e low in
@@ -150,6 +158,7 @@ joined_more c f k nodes node e a' b' h low j =
     record {
       faults = λ i d b. let l : i < n = omega (arith, len) in ap (λ (q : Kept). q.faults) (all.at i d l).replica ∙ h.faults i d l;
       me = λ i d b. let l : i < n = omega (arith, len) in me_of (get_or nodes i d) (get_or ys i d) (all.at i d l) ∙ h.me i d l;
+      start = λ i d b. let l : i < n = omega (arith, len) in ap start_of (all.at i d l).replica ∙ h.start i d l;
       done = λ i d b below. let l : i < n = omega (arith, len) in ⊎_elim
           (λ (t : _). let is : i ≡ k = t.1 in rw (is, at d, len) more_a)
           (λ (t : _). let other = t.1 in let below' : i < k = grind (arith, other, below) in rw (away i d other, len) (h.done i d l below'))
@@ -176,6 +185,7 @@ joined_more c f k nodes node e a' b' h low j =
           (eqb_tells i k);
       next_faults = ap (λ (q : Kept). q.faults) lb.replica ∙ h.next_faults;
       next_me = me_of node b' lb ∙ h.next_me ∙ sym len;
+      next_start = ap start_of lb.replica ∙ h.next_start;
       next_links = (let g = ap (λ (x : Node). length x.links) j.b_is in let was = h.next_links in omega (arith, g, was, length-append node.links (j.here ∷ [])));
       next_peers = rw len (peers_with n node b' j.here j.b_is (j.here_peer ∙ me_a ∙ sym (peer_above k n low) ∙ ap (peer_at n) (sym h.next_links)) h.next_peers);
       next_paired = λ i d b below. let l : i < n = omega (arith, len) in ⊎_elim
@@ -202,8 +212,8 @@ joined_more c f k nodes node e a' b' h low j =
         (cases_lt i k)
 
 -- the nodes with the one that is joined to all of them
-pub linked_more : (c f k : ℕ) (nodes : List Node) (node : Node) → AreJoined c f k nodes node → k ≡ length nodes → AreLinked c f (nodes ++ node ∷ [])
-linked_more c f k nodes node h all =
+pub linked_more : (c f : ℕ) (s : Version × Opening) (k : ℕ) (nodes : List Node) (node : Node) → AreJoined c f s k nodes node → k ≡ length nodes → AreLinked c f s (nodes ++ node ∷ [])
+linked_more c f s k nodes node h all =
     let n = length nodes in let ys = nodes ++ node ∷ [] in
     let len : length ys ≡ n + 1 = length-append nodes (node ∷ []) in
     let first : (i : ℕ) (d : Node) → i < n → get_or ys i d ≡ get_or nodes i d = λ i d l. get_or_append_left nodes (node ∷ []) d i l in
@@ -211,6 +221,7 @@ linked_more c f k nodes node h all =
     record {
       faults = λ i d b. ⊎_elim (λ (l : i < n). rw (first i d l) (h.faults i d l)) (λ (l : n ≤ i). let is : i ≡ n = omega (arith, len) in rw (last i d is) h.next_faults) (cases_lt i n);
       me = λ i d b. ⊎_elim (λ (l : i < n). rw (first i d l) (h.me i d l)) (λ (l : n ≤ i). let is : i ≡ n = omega (arith, len) in rw (last i d is) (h.next_me ∙ sym is)) (cases_lt i n);
+      start = λ i d b. ⊎_elim (λ (l : i < n). rw (first i d l) (h.start i d l)) (λ (l : n ≤ i). let is : i ≡ n = omega (arith, len) in rw (last i d is) h.next_start) (cases_lt i n);
       links = λ i d b. ⊎_elim
           (λ (l : i < n). let below : i < k = omega (arith, all) in let was = h.done i d l below in rw (first i d l) (omega (arith, was, len)))
           (λ (l : n ≤ i). let is : i ≡ n = omega (arith, len) in let was = h.next_links in rw (last i d is) (omega (arith, was, all, len)))
@@ -226,8 +237,11 @@ linked_more c f k nodes node h all =
       fresh = λ i d b. ⊎_elim (λ (l : i < n). rw (first i d l) (h.fresh i d l)) (λ (l : n ≤ i). let is : i ≡ n = omega (arith, len) in rw (last i d is) h.next_fresh) (cases_lt i n);
     }
 
-pub linked_host : (c f : ℕ) (nodes : List Node) → AreLinked c f nodes → length nodes ≡ size f → IsHost f nodes
-linked_host c f nodes h count = record { count = count; faults = h.faults; me = h.me; links = h.links; peers = h.peers; paired = h.paired }
+pub linked_host : (c f : ℕ) (s : Version × Opening) (nodes : List Node) → AreLinked c f s nodes → length nodes ≡ size f → IsHost f nodes
+linked_host c f s nodes h count = record { count = count; faults = h.faults; me = h.me; start = λ i d low. h.start i d low ∙ sym (h.start 0 d (omega arith)); links = h.links; peers = h.peers; paired = h.paired }
 
-pub linked_fresh : (c f : ℕ) (nodes : List Node) → AreLinked c f nodes → All (IsFresh c) nodes
-linked_fresh c f nodes h = λ i d low. h.fresh i d low
+pub linked_fresh : (c f : ℕ) (s : Version × Opening) (nodes : List Node) → AreLinked c f s nodes → All (IsFresh c) nodes
+linked_fresh c f s nodes h = λ i d low. h.fresh i d low
+
+pub linked_start : (c f : ℕ) (s : Version × Opening) (nodes : List Node) → AreLinked c f s nodes → All (StartsAs s.0 s.1) nodes
+linked_start c f s nodes h = λ i d low. h.start i d low

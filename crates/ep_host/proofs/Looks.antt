@@ -1,6 +1,7 @@
 -- Turns, and looks after them.
 use Rattle.std.proofs.Common.{◌≡◌, ℕ, ◌+◌, ◌<◌, ◌≤◌, Bool, true, List, [], length, get_or, refl, sym, ap, ◌∙◌, subst, arith, add-one, All}
 use Rattle.std.proofs.lemmas.List.{append-nil}
+use Rattle.ep_replica.specs.Kept.{begun}
 use Rattle.ep_host.specs.Fates.{Carries}
 use Rattle.ep_host.specs.Follows.{Follows, Runs, Settles}
 use Rattle.ep_host.specs.Host.{IsHost, Quiet, Looked}
@@ -21,6 +22,7 @@ links_follow a links h = record {
   works = record {
     faults = refl;
     me = refl;
+    start = refl;
     entries = [];
     journal = sym (append-nil a.replica.entries);
     used = [];
@@ -104,5 +106,5 @@ pub all_passed :
     (lets : ℕ → Type 0) (seen nodes old : List Node) → seen ≡ nodes → length nodes ≡ length old → All (λ (n : Node). n.ended ≡ true) seen → WereLet lets nodes → (i : ℕ) → i < length old → lets i
 all_passed lets seen nodes old is len all were = λ i low.
     let l : i < length nodes = omega (arith, len) in
-    let b = fresh_node (record { faults = 0; me = 0; entries = [] }) in
+    let b = fresh_node (begun 0 0) in
     were i b l (subst (λ (ns : List Node). All (λ (n : Node). n.ended ≡ true) ns) is all i b l)

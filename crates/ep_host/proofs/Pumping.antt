@@ -8,7 +8,6 @@ use Rattle.ep_journal.specs.Events.{event_of}
 use Rattle.ep_journal.specs.Leaving.{state_left}
 use Rattle.ep_journal.specs.declared.entry.Entry.{Entry}
 use Rattle.ep_journal.specs.declared.event.Event.TheVariants.{Execute}
-use Rattle.ep_journal.specs.Openings.{no_opening}
 use Rattle.ep_replica.specs.Applied.{Applied}
 use Rattle.ep_replica.specs.Kept.{Kept}
 use Rattle.ep_replica.specs.Pending.{ExecutesNext}
@@ -37,7 +36,7 @@ no_messages [] e = refl
 no_messages (b ∷ bs) e = absurd (cc)
 
 pub no_frames : (k k' : Kept) (i : ℕ) (e : Entry) → Applied k (Execute i) e k' → e.frames ≡ []
-no_frames k k' i e a = no_messages e.frames (a.step.sent ∙ ap (λ (v : Event). sends k.faults k.me (state_left no_opening k.faults k.me k.entries) v) (ap event_of a.event))
+no_frames k k' i e a = no_messages e.frames (a.step.sent ∙ ap (λ (v : Event). sends k.faults k.me (state_left k.opening k.faults k.me k.entries) v) (ap event_of a.event))
 
 -- what the frame left
 record First (given : Option (List ℕ)) (old : Kept) (frames : List (List ℕ)) (lost : ℕ) (between : Kept) : Type 0 where

@@ -4,6 +4,7 @@ use Rattle.std.proofs.lemmas.List.{append-nil, get_or_default, take_at, set-get_
 use Rattle.std.proofs.lemmas.List.Elements.{All-nil, All-cons, All-head, All-tail, All-append, All-same, All-weaker}
 use Rattle.rtrb.specs.Ring.{sent, received}
 use Rattle.ep_journal.specs.declared.entry.Entry.{Entry}
+use Rattle.ep_replica.specs.Kept.{start_of}
 use Rattle.ep_host.specs.Fates.{Releases}
 use Rattle.ep_host.specs.Host.{IsHost}
 use Rattle.ep_host.specs.Node.{Node}
@@ -168,12 +169,13 @@ each_keep : (a b : List Link) → Each CountsAnew a b → Each KeepsLink a b
 each_keep a b h = each_weaker CountsAnew KeepsLink (λ x y is. subst (λ (l : Link). KeepsLink x l) (sym is) (keeps_counted x 0)) a b h
 
 pub weather_stays : (ws : List Weather) (a b : Node) → SetsWeather ws a b → Stays a b
-weather_stays ws a b s = subst (λ (n : Node). Stays a n) (sym s.is) record { faults = refl; me = refl; rings = each_keep a.links s.links s.counts }
+weather_stays ws a b s = subst (λ (n : Node). Stays a n) (sym s.is) record { faults = refl; me = refl; start = refl; rings = each_keep a.links s.links s.counts }
 
 pub released_stays : (a b : Node) → IsReleased a b → Stays a b
 released_stays a b r = record {
   faults = ap (λ (n : Node). n.replica.faults) r.is;
   me = ap (λ (n : Node). n.replica.me) r.is;
+  start = ap (λ (n : Node). start_of n.replica) r.is;
   rings = record { len = r.links.places; at = λ i d low. (r.links.at i d low).keeps };
 }
 

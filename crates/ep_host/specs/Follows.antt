@@ -3,6 +3,7 @@ use Rattle.std.specs.Prelude.{◌≡◌, ℕ, ◌+◌, ◌-◌, ◌<◌, ◌≤�
 use Rattle.ep_rules.specs.Journals.{asked_in}
 use Rattle.ep_journal.specs.Entries.{entries_of}
 use Rattle.ep_journal.specs.declared.entry.Entry.{Entry}
+use Rattle.ep_replica.specs.Kept.{start_of}
 use Rattle.ep_host.specs.Fates.{Fate, frames_in, lost_in, Carries, counted_up}
 use Rattle.ep_host.specs.Node.{Node}
 use Rattle.ep_host.specs.Pointwise.{Each}
@@ -13,6 +14,7 @@ use Rattle.ep_host.specs.Tasks.{Use, tasks_in, events_in, refusals_in, place_aft
 pub record Works (a b : Node) : Type 0 where
   pub faults : b.replica.faults ≡ a.replica.faults
   pub me : b.replica.me ≡ a.replica.me
+  pub start : start_of b.replica ≡ start_of a.replica
   pub entries : List Entry
   pub journal : b.replica.entries ≡ a.replica.entries ++ entries
   -- tasks from the agenda's head on are used up: each made its entry or was refused, in order

@@ -1,11 +1,9 @@
 -- The journals and the receipts of a host's nodes.
 use Rattle.std.specs.Prelude.{List, [], ◌∷◌, ◌++◌, slice_index_or}
-use Rattle.ep_base.specs.declared.version_kind.VersionKind.TheVariants.{V2}
 use Rattle.ep_rules.specs.Journals.{Journals}
 use Rattle.ep_rules.specs.declared.receipt.Receipt.{Receipt}
-use Rattle.ep_journal.specs.Entries.{entries_of, Log}
+use Rattle.ep_journal.specs.Entries.{entries_of}
 use Rattle.ep_journal.specs.declared.entry.Entry.{Entry}
-use Rattle.ep_journal.specs.Openings.{no_opening}
 use Rattle.ep_replica.specs.Kept.{Kept}
 use Rattle.ep_replica.specs.Receipts.{receipts_after}
 use Rattle.ep_host.specs.Node.{Node}
@@ -13,14 +11,6 @@ use Rattle.ep_host.specs.Node.{Node}
 abbrev pub replicas_in : List Node → List Kept
 replicas_in [] = []
 replicas_in (n ∷ ns) = n.replica ∷ replicas_in ns
-
--- its journal, which is of version 2 and opens with nothing
-abbrev pub log_of : Kept → Log
-log_of k = record { version = V2; faults = k.faults; me = k.me; opening = no_opening; entries = k.entries }
-
-abbrev pub logs_of : List Kept → List Log
-logs_of [] = []
-logs_of (k ∷ ks) = log_of k ∷ logs_of ks
 
 abbrev pub entries_in : List Kept → List (List Entry)
 entries_in [] = []

@@ -27,7 +27,7 @@ pub record KeepsLink (a b : Link) : Type 0 where
   pub to : SameProducer a.to b.to
   pub from : SameConsumer a.from b.from
 
--- the frame, which is of version 2, or none, was taken from the ring at a place, and no other link changed
+-- the frame, or none, was taken from the ring at a place, and no other link changed
 pub record PopsAt (place : ℕ) (frame : Option (List ℕ)) (xs ys : List Link) : Type 0 where
   pub link : Link
   pub versioned : IfSome frame IsHostFrame

@@ -10,7 +10,8 @@ ghost use Rattle.ep_host.specs.RingFinishing.{replicas_in, their_journals, their
 ghost use Rattle.ep_rules.specs.Audits.{IsAccepted};
 ghost use Rattle.ep_rules.specs.Verdicts.{AreOwn};
 ghost use Rattle.ep_rules.specs.declared.receipt.Receipt.{Receipt};
-ghost use Rattle.ep_rules.specs.OneMap.{opened, empty};
+ghost use Rattle.ep_journal.specs.Entries.{first_opening};
+ghost use Rattle.ep_journal.specs.Openings.{opens};
 
 use crate::link::Link;
 use crate::putting::place;
@@ -77,7 +78,9 @@ fn account(nodes: &mut [RingNode])
 fn know(node: &RingNode)
     ensures { Knows node.now }
 {
-    let _run = node.replica.journal().entries();
+    let journal = node.replica.journal();
+    let _run = journal.entries();
+    let _opening = journal.opening();
     let _faults = node.replica.size().faults();
 }
 
@@ -118,8 +121,8 @@ pub(crate) fn look_at_all(nodes: &mut [RingNode])
 /// are: a law, for which both ends of every ring are looked at.
 pub fn are_accepted(nodes: &mut [RingNode])
     requires { (f : ℕ) × IsHost f nodes.old }
-    ensures accepted { (f : ℕ) (receipts : List Receipt) → IsHost f nodes.old → AreOwn (opened empty) f (their_journals (replicas_in nodes.old)) receipts → IsAccepted (opened empty) f (their_journals (replicas_in nodes.old)) receipts }
-    ensures own { (f : ℕ) → IsHost f nodes.old → AreOwn (opened empty) f (their_journals (replicas_in nodes.old)) (their_receipts (replicas_in nodes.old)) }
+    ensures accepted { (f : ℕ) (receipts : List Receipt) → IsHost f nodes.old → AreOwn (opens (first_opening (replicas_in nodes.old))) f (their_journals (replicas_in nodes.old)) receipts → IsAccepted (opens (first_opening (replicas_in nodes.old))) f (their_journals (replicas_in nodes.old)) receipts }
+    ensures own { (f : ℕ) → IsHost f nodes.old → AreOwn (opens (first_opening (replicas_in nodes.old))) f (their_journals (replicas_in nodes.old)) (their_receipts (replicas_in nodes.old)) }
     ensures host { (f : ℕ) → IsHost f nodes.old → IsHost f nodes.new }
     ensures replicas { replicas_in nodes.new ≡ replicas_in nodes.old }
 {

@@ -2,8 +2,9 @@
 
 ghost use Rattle.std.specs.Prelude.{◌≡◌, IfOk, vec_len};
 ghost use Rattle.ep_base.specs.Quorums.{size};
-ghost use Rattle.ep_base.specs.declared.version_kind.VersionKind.TheVariants.{V2};
-ghost use Rattle.ep_host.specs.Finishing.{IsFinished, AreVersion2};
+ghost use Rattle.ep_journal.specs.Entries.{first_opening};
+ghost use Rattle.ep_replica.specs.Kept.{first_version};
+ghost use Rattle.ep_host.specs.Finishing.{IsFinished};
 
 use crate::finished::Finished;
 use ep_audit::{Refusal, audit};
@@ -16,6 +17,7 @@ fn audited(alloc: Global, journals: Journals, receipts: &[Receipt]) -> Result<Fi
     ensures audited { IfOk result (IsFinished receipts.now) }
     ensures size { IfOk result (λ f. f.journals.faults ≡ journals.faults) }
     ensures version { IfOk result (λ f. f.journals.version ≡ journals.version) }
+    ensures opening { IfOk result (λ f. f.journals.opening ≡ journals.opening) }
 {
     match audit(alloc, &journals, receipts) {
         Ok(verdict) => Ok(Finished {
@@ -30,16 +32,16 @@ fn audited(alloc: Global, journals: Journals, receipts: &[Receipt]) -> Result<Fi
     }
 }
 
-/// The same of version 2 journals of a cluster, one for each replica, in replica order. A host's always are these.
+/// The same of journals of a cluster, one for each replica, in replica order, which all start as the first one does. A host's always are these.
 pub fn finished(
     alloc: Global,
     journals: Vec<Journal>,
     receipts: &[Receipt],
 ) -> Result<Finished, AllocError>
-    requires { AreVersion2 journals.items }
     ensures audited { IfOk result (IsFinished receipts.now) }
     ensures size { IfOk result (λ f. size f.journals.faults ≡ vec_len journals) }
-    ensures version { IfOk result (λ f. f.journals.version ≡ V2) }
+    ensures version { IfOk result (λ f. f.journals.version ≡ first_version journals.items) }
+    ensures opening { IfOk result (λ f. f.journals.opening ≡ first_opening journals.items) }
 {
     match Journals::new(journals) {
         Ok(journals) => audited(alloc, journals, receipts),

@@ -1,13 +1,15 @@
 //! What hosts carry.
 
-ghost use Rattle.std.specs.Prelude.{◌≡◌, IfSome};
-ghost use Rattle.ep_host.specs.HostFrames.{IsHostFrame, NoneForVersion};
+ghost use Rattle.std.specs.Prelude.{◌≡◌, ◌↔◌, true, IfSome};
+ghost use Rattle.ep_frame.specs.Meaning.{version_at};
+ghost use Rattle.ep_host.specs.HostFrames.{IsHostFrame, IsOnly, NoneForVersion};
 
+use ep_base::Version;
 use ep_frame::{Frame, Origin};
 use std::alloc::AllocError;
 use std::marker::Model;
 
-/// A frame of version 2. What is in a ring or an inbox, or is held, is such a frame by its type.
+/// A frame of version 2 or of a generation, as replicas are. What is in a ring or an inbox, or is held, is such a frame by its type.
 #[derive(Drop)]
 pub struct HostFrame {
     frame: Frame,
@@ -29,7 +31,7 @@ impl HostFrame {
     ghost use Rattle.ep_frame.specs.Meaning.{origin_at};
     ghost use Rattle.ep_host.specs.HostFrames.{IsHostFrame};
 
-    /// The frame, which is of version 2.
+    /// The frame.
     pub fn new(frame: Frame) -> HostFrame
         requires { IsHostFrame frame }
         ensures { result ≡ frame }
@@ -80,7 +82,30 @@ pub fn frame_in(given: Option<HostFrame>) -> Option<Frame>
     }
 }
 
-/// No replica refuses a frame of version 2 for its version: a law, which costs nothing.
+/// Whether the frame is of this version.
+fn is_of(version: Version, frame: &Frame) -> bool
+    ensures { (result ≡ true) ↔ (version_at frame.now ≡ version) }
+{
+    frame.version() == version
+}
+
+/// The frame, if there is one and it is of this version.
+pub fn only_of(version: Version, given: Option<Frame>) -> Option<Frame>
+    ensures { IsOnly version given result }
+{
+    match given {
+        Some(frame) => {
+            if is_of(version, &frame) {
+                Some(frame)
+            } else {
+                None
+            }
+        }
+        None => None,
+    }
+}
+
+/// No replica refuses a frame of its own version for its version or generation: a law, which costs nothing.
 pub fn none_is_refused_for_its_version()
     ensures { NoneForVersion }
 {}

@@ -4,8 +4,8 @@
 //! hands it a frame of its inbox and lets it execute, `outcome` and `receipts_after` tell what came of it, and `finish` audits what
 //! the threads left. Start with specs/Tending.antt and `tending.rt`, which say exactly what one pump does to a replica, then
 //! specs/Asking.antt, which says what a call tells, and `lock_host.rt`.
-//! A `Replica` behind a lock is what its journal leaves, by its type, whatever threads do, and an inbox holds frames of
-//! version 2 alone, by the type of its items, in one order (`ep_inbox`). No lock of a replica is held while frames are sent. Whether the journals fit
+//! A replica behind a lock is what its journal leaves, and starts as all of its host do, by its type (`HostReplica`, `Start`), whatever threads do. An
+//! inbox holds frames of versions that replicas are of, by the type of its items, in one order (`ep_inbox`). No lock of a replica is held while frames are sent. Whether the journals fit
 //! together no lock knows: `finish` asks the audit. What a replica sends and receives by is a `Sender` behind a lock of its own: the weather of its
 //! frames, an outlet for each replica of the cluster, which puts, counts and holds them, and the port to its own inbox (specs/Outboxes.antt).
 //!
@@ -13,7 +13,7 @@
 //! `section` gives each of them its turns in a thread of its own, `settle` gives turns in rounds, and `finish` audits the nodes. Start with
 //! specs/Turns.antt (one turn, exactly), specs/Turned.antt and specs/Follows.antt (turns, and what they leave) and specs/Host.antt (the nodes of one host), then
 //! `ring_node.rt`. What a node put into a ring is a frame out of an entry of its journal, and what it handled it took from one of its rings,
-//! by its type; its rings hold frames of version 2 alone. Both ends of all rings together then say that all that was handled was sent, in its order, so
+//! by its type; its rings hold frames of such versions alone. Both ends of all rings together then say that all that was handled was sent, in its order, so
 //! `finish` never finds a fault; `section` and `settle` say it of the nodes that they hand back.
 //!
 //! A node, or a replica behind its lock, may have a weather (specs/Weathers.antt): frames for a peer are counted, and those that it names are
@@ -33,8 +33,10 @@ mod gate_unpassed;
 mod held;
 mod host_fault;
 mod host_frame;
+mod host_replica;
 mod link;
 mod lock_host;
+mod making;
 mod outlet;
 mod outlets;
 mod putting;
@@ -43,11 +45,13 @@ mod ring_host;
 mod ring_node;
 mod running;
 mod seat;
+mod second;
 pub mod sections;
 mod sender;
 mod sending;
 mod setting;
 mod settling;
+mod start;
 mod task;
 mod tended;
 mod tending;
@@ -68,7 +72,9 @@ pub use ring_finishing::{finish, finish_with};
 pub use ring_host::RingHost;
 pub use ring_node::RingNode;
 pub use seat::ReplicaCell;
+pub use second::Second;
 pub use settling::settle;
+pub use start::Start;
 pub use task::Task;
 pub use tended::Tended;
 pub use tending::tend;

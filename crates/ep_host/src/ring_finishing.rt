@@ -1,16 +1,15 @@
 //! The audit of the nodes of a host.
 
 ghost use Rattle.std.specs.Prelude.{◌≡◌, ◌++◌, [], ℕ, IfOk, IsOk, OnOk};
-ghost use Rattle.ep_base.specs.declared.version_kind.VersionKind.TheVariants.{V2};
 ghost use Rattle.ep_rules.specs.Audits.{IsAccepted};
-ghost use Rattle.ep_journal.specs.Entries.{journals_of};
+ghost use Rattle.ep_journal.specs.Entries.{first_opening, journals_of};
 ghost use Rattle.ep_journal.specs.Openings.{opens};
 ghost use Rattle.ep_audit.specs.Audited.{IsAudited};
 ghost use Rattle.ep_host.specs.Finishing.{IsFinished};
 ghost use Rattle.ep_host.specs.Host.{IsHost, AllBegin, AllFrom};
-ghost use Rattle.ep_host.specs.RingFinishing.{replicas_in, entries_in, their_journals, their_receipts, logs_of};
+ghost use Rattle.ep_host.specs.RingFinishing.{replicas_in, entries_in, their_journals, their_receipts};
 ghost use Rattle.ep_rules.specs.Verdicts.{AreOwn};
-ghost use Rattle.ep_rules.specs.OneMap.{opened, empty};
+ghost use Rattle.ep_replica.specs.Kept.{first_version};
 
 use crate::account::taken_was_sent;
 use crate::finished::Finished;
@@ -33,7 +32,7 @@ fn receipts_of(alloc: Global, nodes: &[RingNode]) -> Result<Vec<Receipt>, AllocE
 
 /// The journals of the nodes, in their order.
 fn collected(alloc: Global, nodes: Vec<RingNode>) -> Result<Vec<Journal>, AllocError>
-    ensures { IfOk result (λ journals. journals.items ≡ logs_of (replicas_in nodes.items)) }
+    ensures { IfOk result (λ journals. journals.items ≡ replicas_in nodes.items) }
 {
     let mut journals = Vec::new(alloc);
     for node in nodes {
@@ -57,7 +56,7 @@ fn accepted(alloc: Global, journals: &Journals, receipts: &[Receipt]) -> Result<
 /// The audit of the nodes of one host, with all their receipts. It never finds a fault. Want of memory drops the nodes.
 pub fn finish(alloc: Global, mut nodes: Vec<RingNode>) -> Result<Verdict, AllocError>
     requires { (f : ℕ) × IsHost f nodes.items }
-    ensures verdict { (f : ℕ) → IsHost f nodes.items → IfOk result (λ v. IsAudited (opened empty) f (their_journals (replicas_in nodes.items)) (their_receipts (replicas_in nodes.items)) v) }
+    ensures verdict { (f : ℕ) → IsHost f nodes.items → IfOk result (λ v. IsAudited (opens (first_opening (replicas_in nodes.items))) f (their_journals (replicas_in nodes.items)) (their_receipts (replicas_in nodes.items)) v) }
     ensures begins { AllBegin nodes.items }
     ensures from { AllFrom nodes.items }
 {
@@ -68,17 +67,18 @@ pub fn finish(alloc: Global, mut nodes: Vec<RingNode>) -> Result<Verdict, AllocE
     accepted(alloc, &journals, &receipts)
 }
 
-/// The journals of the nodes of one host, which are of version 2, and their audit with receipts of which each is one of a node's own. It never finds a fault. Want of
+/// The journals of the nodes of one host, and their audit with receipts of which each is one of a node's own. It never finds a fault. Want of
 /// memory drops the nodes.
 pub fn finish_with(
     alloc: Global,
     mut nodes: Vec<RingNode>,
     receipts: &[Receipt],
 ) -> Result<Finished, AllocError>
-    requires { (f : ℕ) × IsHost f nodes.items × AreOwn (opened empty) f (their_journals (replicas_in nodes.items)) receipts.now }
+    requires { (f : ℕ) × IsHost f nodes.items × AreOwn (opens (first_opening (replicas_in nodes.items))) f (their_journals (replicas_in nodes.items)) receipts.now }
     ensures finished { IfOk result (IsFinished receipts.now) }
     ensures accepted { IfOk result (λ r. IsOk r.verdict) }
-    ensures version { IfOk result (λ r. r.journals.version ≡ V2) }
+    ensures version { IfOk result (λ r. r.journals.version ≡ first_version (replicas_in nodes.items)) }
+    ensures opening { IfOk result (λ r. r.journals.opening ≡ first_opening (replicas_in nodes.items)) }
     ensures journals { (f : ℕ) → IsHost f nodes.items → IfOk result (λ r. (r.journals.faults ≡ f) × (r.journals.entries ≡ entries_in (replicas_in nodes.items))) }
     ensures begins { AllBegin nodes.items }
     ensures from { AllFrom nodes.items }

@@ -2,16 +2,19 @@
 
 ghost use Rattle.std.specs.Prelude.{◌≡◌, ◌≤◌, ◌<◌, IfOk, OnOk};
 ghost use Rattle.ep_base.specs.Quorums.{size};
+ghost use Rattle.ep_base.specs.declared.version_kind.VersionKind.TheVariants.{V2, V3};
+ghost use Rattle.ep_journal.specs.Openings.{no_opening};
 ghost use Rattle.ep_host.specs.Joins.{Joins, CanJoin};
 
 use crate::held::Held;
 use crate::host_fault::HostFault;
 use crate::link::Link;
+use crate::making;
 use crate::ring_node::RingNode;
 use crate::task::Task;
 use crate::weather::Weather;
-use ep_base::{ReplicaId, Size};
-use ep_replica::Replica;
+use ep_base::{Generation, Size};
+use ep_journal::Opening;
 use rtrb::RingBuffer;
 use std::alloc::{AllocError, Global};
 
@@ -50,21 +53,47 @@ pub struct RingHost;
 
 impl RingHost {
     ghost use Rattle.std.specs.Prelude.{◌≤◌, ◌<◌, ◌≡◌, ℕ, length, IfOk, IfErr, OnOk, OnErr, All};
-    ghost use Rattle.ep_host.specs.Host.{IsHost, IsFresh};
+    ghost use Rattle.ep_host.specs.Host.{IsHost, IsFresh, StartsAs};
     ghost use Rattle.ep_host.specs.Pointwise.{Each};
     ghost use Rattle.ep_host.specs.Setting.{SetsWeatherAt, IsUnsetAt, IsReleased};
     ghost use Rattle.ep_host.specs.Turns.{AssignsAt};
 
-    /// The nodes of a cluster of this size, before any event and without tasks. Each ring has room for so many frames.
+    /// The nodes of a cluster of this size, of version 2, before any event and without tasks. Each ring has room for so many frames.
     pub fn new(alloc: Global, cluster: Size, capacity: usize) -> Result<Vec<RingNode>, AllocError>
         requires { (1 ≤ capacity) × (capacity ≤ 4096) }
         ensures host { IfOk result (λ nodes. IsHost cluster nodes.items) }
         ensures fresh { IfOk result (λ nodes. All (IsFresh capacity) nodes.items) }
+        ensures start { IfOk result (λ nodes. All (StartsAs V2 no_opening) nodes.items) }
     {
         let mut nodes = Vec::new(alloc);
         for index in 0..cluster.count() {
-            let me = ReplicaId::new(index).unwrap();
-            let mut node = RingNode::new(alloc, Replica::new(alloc, cluster, me).unwrap());
+            let mut node = RingNode::new(alloc, making::second(alloc, cluster, index));
+            for place in 0..nodes.len() {
+                join_nodes(alloc, &mut nodes[place], &mut node, capacity)?;
+            }
+            nodes.push(node)?;
+        }
+        Ok(nodes)
+    }
+
+    /// The nodes of a cluster of this size, of version 3 and this generation, all with this opening, before any event and without tasks. Each ring has
+    /// room for so many frames.
+    pub fn opened(
+        alloc: Global,
+        cluster: Size,
+        capacity: usize,
+        generation: Generation,
+        opening: &Opening,
+    ) -> Result<Vec<RingNode>, AllocError>
+        requires { (1 ≤ capacity) × (capacity ≤ 4096) }
+        ensures host { IfOk result (λ nodes. IsHost cluster nodes.items) }
+        ensures fresh { IfOk result (λ nodes. All (IsFresh capacity) nodes.items) }
+        ensures start { IfOk result (λ nodes. All (StartsAs (V3 generation) opening.now) nodes.items) }
+    {
+        let mut nodes = Vec::new(alloc);
+        for number in 0..cluster.count() {
+            let replica = making::opened(alloc, cluster, number, generation, opening)?;
+            let mut node = RingNode::new(alloc, replica);
             for place in 0..nodes.len() {
                 join_nodes(alloc, &mut nodes[place], &mut node, capacity)?;
             }

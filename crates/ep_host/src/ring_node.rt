@@ -1,7 +1,6 @@
 //! A node of a ring host.
 
 ghost use Rattle.std.specs.Prelude.{◌≡◌};
-ghost use Rattle.ep_rules.specs.OneMap.{opened, empty};
 
 use crate::acting::{act, handle, pop};
 use crate::host_fault::HostFault;
@@ -39,10 +38,12 @@ pub struct RingNode {
 impl Model for RingNode {
     ghost use Rattle.std.specs.Prelude.{◌+◌, ◌≤◌, vec_len, vec_capacity};
     ghost use Rattle.std.specs.VecDeque.{deque_len};
-    ghost use Rattle.ep_host.specs.Node.{Node};
+    ghost use Rattle.ep_host.specs.Node.{Node, node_code};
     ghost use Rattle.ep_host.specs.Rings.{IsBooked};
 
     ghost Value = { Node };
+
+    ghost coded = { node_code };
 
     ghost view = { λ n. record { replica = n.replica; links = n.links.items; weather = n.weather.items; agenda = n.agenda.items; refused = n.refused.items; used = n.used; lost = n.lost; ended = n.ended } };
 
@@ -51,9 +52,8 @@ impl Model for RingNode {
 
 impl RingNode {
     ghost use Rattle.std.specs.Prelude.{◌≡◌, ◌<◌, ◌++◌, ◌∷◌, [], false, length, IfOk, IfErr, OnOk, OnErr};
-    ghost use Rattle.ep_base.specs.declared.version_kind.VersionKind.TheVariants.{V2};
     ghost use Rattle.ep_journal.specs.Entries.{entries_of};
-    ghost use Rattle.ep_journal.specs.Openings.{no_opening};
+    ghost use Rattle.ep_journal.specs.Openings.{opens};
     ghost use Rattle.ep_replica.specs.Receipts.{receipts_after};
     ghost use Rattle.ep_rules.specs.Verdicts.{IsOwn};
     ghost use Rattle.ep_rules.specs.Worlds.{In};
@@ -118,13 +118,9 @@ impl RingNode {
         self.refused.as_slice()
     }
 
-    /// The journal alone, which is of version 2 and opens with nothing.
+    /// The journal alone.
     pub fn into_journal(self) -> Journal
-        ensures version { result.version ≡ V2 }
-        ensures opening { result.opening ≡ no_opening }
-        ensures entries { result.entries ≡ self.replica.entries }
-        ensures faults { result.faults ≡ self.replica.faults }
-        ensures me { result.me ≡ self.replica.me }
+        ensures { result ≡ self.replica }
     {
         let RingNode {
             replica,
@@ -263,7 +259,7 @@ impl RingNode {
     /// The receipts that the replica gave after this entry, in order: of what was proposed and executed here.
     pub fn receipts_after(&self, alloc: Global, entry: u32) -> Result<Vec<Receipt>, AllocError>
         ensures told { IfOk result (λ ts. ts.items ≡ receipts_after self.now.replica.me entry (entries_of self.now.replica.entries)) }
-        ensures own { IfOk result (λ ts. (t : Told) → In t ts.items → IsOwn (opened empty) self.now.replica.faults self.now.replica.me (entries_of self.now.replica.entries) t) }
+        ensures own { IfOk result (λ ts. (t : Told) → In t ts.items → IsOwn (opens self.now.replica.opening) self.now.replica.faults self.now.replica.me (entries_of self.now.replica.entries) t) }
     {
         // Nothing is done with these: that the entries are a run, and that some replica may fail, is known by asking.
         let _run = self.replica.journal().entries();

@@ -1,6 +1,7 @@
 //! What the replicas of a generation open with.
 
-ghost use Rattle.std.specs.Prelude.{◌≡◌, ◌≤◌, ◌↔◌, IsTrue, IsOk, IfOk};
+ghost use Rattle.std.specs.Prelude.{◌≡◌, ◌≤◌, ◌↔◌, length, IsTrue, IsOk, IfOk};
+ghost use Rattle.std.specs.FinMap.{entries};
 ghost use Rattle.ep_journal.specs.Openings.{no_opening};
 
 use ep_base::OutOfRange;
@@ -8,7 +9,8 @@ use ep_exec::Contents;
 use std::alloc::{AllocError, Global};
 use std::marker::Model;
 
-/// What the replicas of a generation open with: a map, and the stamp that their clocks go on from, from 0 to 281,474,976,710,655.
+/// What the replicas of a generation open with: a map of at most 4,000,000,000 keys, and the stamp that their clocks go on from, from 0 to
+/// 281,474,976,710,655.
 #[derive(Drop)]
 pub struct Opening {
     contents: Contents,
@@ -16,7 +18,8 @@ pub struct Opening {
 }
 
 impl Model for Opening {
-    ghost use Rattle.std.specs.Prelude.{◌≤◌};
+    ghost use Rattle.std.specs.Prelude.{◌≤◌, length};
+    ghost use Rattle.std.specs.FinMap.{entries};
     ghost use Rattle.ep_journal.specs.Openings as openings;
     ghost use Rattle.ep_journal.specs.Openings.{opening_code};
 
@@ -26,7 +29,7 @@ impl Model for Opening {
 
     ghost view = { λ o. record { contents = o.contents; since = o.since } };
 
-    ghost invariant = { λ o. o.since ≤ 281474976710655 };
+    ghost invariant = { λ o. (o.since ≤ 281474976710655) × (length (entries o.contents) ≤ 4000000000) };
 }
 
 impl Opening {
@@ -40,12 +43,14 @@ impl Opening {
         }
     }
 
-    /// This map, with clocks that go on from this stamp; `OutOfRange` where the stamp is above 281,474,976,710,655.
+    /// This map, with clocks that go on from this stamp; `OutOfRange` where the stamp is above 281,474,976,710,655, or more than 4,000,000,000
+    /// keys have a value.
     pub fn new(contents: Contents, since: u64) -> Result<Opening, OutOfRange>
-        ensures in_range { IsOk result ↔ (since ≤ 281474976710655) }
+        ensures in_range { IsOk result ↔ ((since ≤ 281474976710655) × (length (entries contents) ≤ 4000000000)) }
         ensures value { IfOk result (λ o. o ≡ record { contents = contents; since = since }) }
     {
-        if since > 281_474_976_710_655 {
+        let keys = contents.entries().len();
+        if since > 281_474_976_710_655 || keys > 4_000_000_000 {
             return Err(OutOfRange);
         }
         Ok(Opening { contents, since })
@@ -53,7 +58,8 @@ impl Opening {
 
     /// What the keys have.
     pub fn contents(&self) -> &Contents
-        ensures { result.now ≡ self.now.contents }
+        ensures value { result.now ≡ self.now.contents }
+        ensures in_range { length (entries self.now.contents) ≤ 4000000000 }
     {
         &self.contents
     }

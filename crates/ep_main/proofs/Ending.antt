@@ -1,14 +1,27 @@
 -- How the program ends, by what became of what it was asked for.
-use Rattle.std.proofs.Common.{◌≡◌, inl, inr, ℕ, List, Option, Result, Ok, Err, sym, ◌∙◌, subst, string_bytes}
+use Rattle.std.proofs.Common.{◌≡◌, ◌⊎◌, ◌≤◌, ◌<◌, inl, inr, ℕ, List, Option, Result, Ok, Err, sym, ap, ◌∙◌, subst, map, string_bytes, arith, ⊎_elim}
+use Rattle.std.proofs.lemmas.Bool.{cases_lt}
+use Rattle.ep_base.specs.Versions.{version_number}
 use Rattle.std.specs.Prelude.{IfOk, IsErrAnd}
 use Rattle.ep_base.specs.Devices.{FailsAsTold}
 use Rattle.ep_main.specs.Faults.{of_bundle, is_read, is_write}
 use Rattle.ep_main.specs.Outputs.{Input, Output, WroteNothing}
-use Rattle.ep_bundle.specs.Journals.{ReadsBundle, Finds}
+use Rattle.ep_bundle.specs.Journals.{Contents, Finds}
+use Rattle.ep_bundle.specs.Reading.{Left, Reading}
+use Rattle.ep_journal.specs.Entries.{Collected}
+use Rattle.ep_rules.specs.declared.receipt.Receipt.{Receipt}
+use Rattle.ep_main.specs.Chains.{ChainsFiles}
+use Rattle.ep_main.specs.Tasks as tasks
+use Rattle.ep_main.specs.Tasks.{EndsBy, EndsSo, Works}
+use Rattle.ep_main.specs.Upgrades.{IsThirdFault, IsUnread, IsUnupgraded, Reads, ReadsEarly}
 use Rattle.ep_bundle.specs.declared.bundle_fault.BundleFault.{BundleFault}
 use Rattle.ep_bundle.specs.declared.bundle_fault.BundleFault.TheVariants as bundle
-use Rattle.ep_main.specs.Runs.{Plays, Leaves, Runs, RunsInThreads, Finishes, Rewrites, Prints, Does, Concludes, Declines, Ends, IsVerdict, Replays, Emits, Audits, Upgrades, Versions, Helps, IsHelped, IsOutOfMemory, Performs, TellsWhy, version_line}
-use Rattle.ep_main.specs.Words.{AskFor, IsHelp}
+use Rattle.ep_main.specs.Runs.{Plays, Leaves, Runs, RunsInThreads, Finishes, Rewrites, StopsBy, Prints, Does, Concludes, Declines, Ends, IsVerdict, Replays, Emits, Audits, Upgrades, Versions, Helps, IsHelped, IsOutOfMemory, Performs, TellsWhy, version_line}
+use Rattle.ep_main.specs.Words.{AskFor, IsAsked, IsChainAsked, IsHelp, IsHelpTask, IsTask}
+use Rattle.ep_main.specs.declared.target.Target.{Target}
+use Rattle.ep_main.specs.declared.target.Target.TheVariants.{Second, Third}
+use Rattle.ep_main.specs.declared.task.Task.{Task}
+use Rattle.ep_main.specs.declared.task.Task.TheVariants.{Streams, Chain}
 use Rattle.ep_main.specs.declared.asked.Asked.{Asked}
 use Rattle.ep_main.specs.declared.asked.Asked.TheVariants.{Replay, Run, Audit, Upgrade, Version, Help}
 use Rattle.ep_main.specs.declared.declined.Declined.{Declined}
@@ -77,16 +90,17 @@ audits (Err Memory) status zs reader out fault p t c = subst (λ s. Audits s zs 
 audits (Err Read) status zs reader out fault p t c = subst (λ s. Audits s zs reader out fault) (sym c.0) (inl ((t.read, t.written), p, c.1))
 audits (Err Write) status zs reader out fault p t c = subst (λ s. Audits s zs reader out fault) (sym c.0) (inr ((t.read, t.written), c.1))
 
-upgrades : (outcome : Result Status Fault) (status : Status) (zs : List ℕ) (reader : Input) (out fault : Output) → Rewrites outcome zs out → IsTold outcome reader out → Concludes outcome status fault → Upgrades status zs reader out fault
-upgrades (Ok said) status zs reader out fault p t c = subst (λ s. Upgrades s zs reader out fault) (sym (c.0 ∙ p.0)) (p.1, c.1)
-upgrades (Err (Script line)) status zs reader out fault p t c = absurd p
-upgrades (Err (BadBundle offset)) status zs reader out fault p t c =
-    subst (λ s. Upgrades s zs reader out fault) (sym c.0) (inl (record { offset = offset; read = p.0; silent = p.1; told = c.1 }))
-upgrades (Err (NotARun replica entry)) status zs reader out fault p t c =
-    subst (λ s. Upgrades s zs reader out fault) (sym c.0) (inr (record { replica = replica; entry = entry; read = p.0; silent = p.1; told = c.1 }))
-upgrades (Err Memory) status zs reader out fault p t c = subst (λ s. Upgrades s zs reader out fault) (sym c.0) (record { silent = p; told = c.1 })
-upgrades (Err Read) status zs reader out fault p t c = subst (λ s. Upgrades s zs reader out fault) (sym c.0) (inl ((t.read, t.written), p, c.1))
-upgrades (Err Write) status zs reader out fault p t c = subst (λ s. Upgrades s zs reader out fault) (sym c.0) (inr ((t.read, t.written), c.1))
+upgrades :
+    (target : Target) (outcome : Result Status Fault) (status : Status) (zs : List ℕ) (reader : Input) (out fault : Output) → Rewrites target outcome zs out → IsTold outcome reader out → Concludes outcome status fault → Upgrades target status zs reader out fault
+upgrades target (Ok said) status zs reader out fault p t c = subst (λ s. Upgrades target s zs reader out fault) (sym (c.0 ∙ p.0)) (p.1, c.1)
+upgrades target (Err (Script line)) status zs reader out fault p t c = absurd p
+upgrades target (Err (BadBundle offset)) status zs reader out fault p t c =
+    subst (λ s. Upgrades target s zs reader out fault) (sym c.0) (inl (record { offset = offset; read = p.0; silent = p.1; told = c.1 }))
+upgrades target (Err (NotARun replica entry)) status zs reader out fault p t c =
+    subst (λ s. Upgrades target s zs reader out fault) (sym c.0) (inr (record { replica = replica; entry = entry; read = p.0; silent = p.1; told = c.1 }))
+upgrades target (Err Memory) status zs reader out fault p t c = subst (λ s. Upgrades target s zs reader out fault) (sym c.0) (record { silent = p; told = c.1 })
+upgrades target (Err Read) status zs reader out fault p t c = subst (λ s. Upgrades target s zs reader out fault) (sym c.0) (inl ((t.read, t.written), p, c.1))
+upgrades target (Err Write) status zs reader out fault p t c = subst (λ s. Upgrades target s zs reader out fault) (sym c.0) (inr ((t.read, t.written), c.1))
 
 helps : (outcome : Result Status Fault) (status : Status) (text : List ℕ) (out fault : Output) → Prints outcome text out → FailsAsTold is_write outcome out.had_failed out.failed → Concludes outcome status fault → Helps status text out fault
 helps (Ok said) status text out fault p t c = subst (λ s. Helps s text out fault) (sym (c.0 ∙ p.0)) (p.1, c.1)
@@ -113,7 +127,7 @@ performs (Replay Report) outcome status zs reader out fault d t c = replays outc
 performs (Replay Bundle) outcome status zs reader out fault d t c = emits outcome status zs reader out fault d t c
 performs (Run options) outcome status zs reader out fault d t c = runs options outcome status zs reader out fault d t c
 performs Audit outcome status zs reader out fault d t c = audits outcome status zs reader out fault d t c
-performs Upgrade outcome status zs reader out fault d t c = upgrades outcome status zs reader out fault d t c
+performs (Upgrade target) outcome status zs reader out fault d t c = upgrades target outcome status zs reader out fault d t c
 performs Version outcome status zs reader out fault d t c = versions outcome status out fault d t.written c
 performs (Help text) outcome status zs reader out fault d t c = helps outcome status (string_bytes text) out fault d t.written c
 
@@ -121,7 +135,7 @@ pub is_helped : (asked : Asked) (status : Status) (zs : List ℕ) (reader : Inpu
 is_helped (Replay emit) status zs reader out fault help p = absurd help
 is_helped (Run options) status zs reader out fault help p = absurd help
 is_helped Audit status zs reader out fault help p = absurd help
-is_helped Upgrade status zs reader out fault help p = absurd help
+is_helped (Upgrade target) status zs reader out fault help p = absurd help
 is_helped Version status zs reader out fault help p = absurd help
 is_helped (Help text) Accepted zs reader out fault help p = ((string_bytes text, p.0), p.1)
 is_helped (Help text) AuditRefused zs reader out fault help p = absurd p
@@ -134,36 +148,76 @@ pub performs_asked :
     Performs want status zs reader out fault
 performs_asked asked want status zs reader out fault is p = subst (λ a. Performs a status zs reader out fault) is p
 
-finds : (b : BundleFault) (zs : List ℕ) (place : ℕ) (left : Option (List ℕ)) (out : Output) →
-    Finds (ReadsBundle (record { at = 0; bytes = zs })) (Err b) place left → WroteNothing out → Finishes (Err (of_bundle b)) zs out
-finds bundle.Memory zs place left out found silent = silent
-finds bundle.ReadFailed zs place left out found silent = silent
-finds (bundle.BadBundle offset) zs place left out found silent = (found, silent)
-finds (bundle.NotARun replica entry) zs place left out found silent = (found, silent)
+-- what stops the reading of a bundle
+
+finds :
+    (R : Reading Contents → Type 0) (b : BundleFault) (place : ℕ) (left : Option (List ℕ)) (out : Output) → Finds R (Err b) place left → WroteNothing out →
+    StopsBy (λ e. R (Err e)) (of_bundle b) out
+finds R bundle.Memory place left out found silent = silent
+finds R bundle.ReadFailed place left out found silent = silent
+finds R (bundle.BadBundle offset) place left out found silent = (found, silent)
+finds R (bundle.NotARun replica entry) place left out found silent = (found, silent)
+
+-- where there are more faults
+stops_more : (P Q : BundleFault → Type 0) (e : Fault) (out : Output) → ((b : BundleFault) → P b → Q b) → StopsBy P e out → StopsBy Q e out
+stops_more P Q (Script line) out more stop = absurd stop
+stops_more P Q (BadBundle offset) out more stop = (more (bundle.BadBundle offset) stop.0, stop.1)
+stops_more P Q (NotARun replica entry) out more stop = (more (bundle.NotARun replica entry) stop.0, stop.1)
+stops_more P Q Memory out more stop = stop
+stops_more P Q Read out more stop = stop
+stops_more P Q Write out more stop = stop
 
 pub finishes :
     (b : BundleFault) (r : Result Status Fault) (zs : List ℕ) (place : ℕ) (left : Option (List ℕ)) (out : Output) → IsErrAnd r (λ e. e ≡ of_bundle b) →
-    Finds (ReadsBundle (record { at = 0; bytes = zs })) (Err b) place left → WroteNothing out → Finishes r zs out
+    Finds (Reads zs) (Err b) place left → WroteNothing out → Finishes r zs out
 finishes b (Ok status) zs place left out is found silent = absurd is
-finishes b (Err e) zs place left out is found silent =
-    subst (λ x. Finishes (Err x) zs out) (sym is) (finds b zs place left out found silent)
+finishes b (Err e) zs place left out is found silent = subst (λ x. StopsBy (IsUnread zs) x out) (sym is) (finds (Reads zs) b place left out found silent)
 
 -- want of memory
 pub stops : (e : Fault) (r : Result Status Fault) (zs : List ℕ) (out : Output) → IsErrAnd r (λ x. x ≡ e) → e ≡ Memory → WroteNothing out → Finishes r zs out
 stops e (Ok status) zs out is memory silent = absurd is
-stops e (Err x) zs out is memory silent = subst (λ y. Finishes (Err y) zs out) (sym (is ∙ memory)) silent
+stops e (Err x) zs out is memory silent = subst (λ y. StopsBy (IsUnread zs) y out) (sym (is ∙ memory)) silent
 
 -- the same of an upgrade
 
-pub not_read :
+pub second_not_read :
     (b : BundleFault) (r : Result Status Fault) (zs : List ℕ) (place : ℕ) (left : Option (List ℕ)) (out : Output) → IsErrAnd r (λ e. e ≡ of_bundle b) →
-    Finds (ReadsBundle (record { at = 0; bytes = zs })) (Err b) place left → WroteNothing out → Rewrites r zs out
-not_read b (Ok status) zs place left out is found silent = absurd is
-not_read b (Err e) zs place left out is found silent = finishes b (Err e) zs place left out is found silent
+    Finds (ReadsEarly zs) (Err b) place left → WroteNothing out → Rewrites Second r zs out
+second_not_read b (Ok status) zs place left out is found silent = absurd is
+second_not_read b (Err e) zs place left out is found silent =
+    subst (λ x. StopsBy (IsUnupgraded Second zs) x out) (sym is) (finds (ReadsEarly zs) b place left out found silent)
 
-pub not_upgraded : (e : Fault) (r : Result Status Fault) (zs : List ℕ) (out : Output) → IsErrAnd r (λ x. x ≡ e) → e ≡ Memory → WroteNothing out → Rewrites r zs out
-not_upgraded e (Ok status) zs out is memory silent = absurd is
-not_upgraded e (Err x) zs out is memory silent = stops e (Err x) zs out is memory silent
+pub third_not_read :
+    (b : BundleFault) (r : Result Status Fault) (zs : List ℕ) (place : ℕ) (left : Option (List ℕ)) (out : Output) → IsErrAnd r (λ e. e ≡ of_bundle b) →
+    Finds (Reads zs) (Err b) place left → WroteNothing out → Rewrites Third r zs out
+third_not_read b (Ok status) zs place left out is found silent = absurd is
+third_not_read b (Err e) zs place left out is found silent =
+    subst (λ x. StopsBy (IsUnupgraded Third zs) x out) (sym is)
+    (stops_more (IsUnread zs) (IsUnupgraded Third zs) (of_bundle b) out (λ x h. inl h) (finds (Reads zs) b place left out found silent))
+
+pub not_upgraded : (target : Target) (e : Fault) (r : Result Status Fault) (zs : List ℕ) (out : Output) → IsErrAnd r (λ x. x ≡ e) → e ≡ Memory → WroteNothing out → Rewrites target r zs out
+not_upgraded target e (Ok status) zs out is memory silent = absurd is
+not_upgraded target e (Err x) zs out is memory silent = subst (λ y. StopsBy (IsUnupgraded target zs) y out) (sym (is ∙ memory)) silent
+
+-- there is none in version 3
+no_third :
+    (e : Fault) (zs : List ℕ) (c : Collected) (rs : List Receipt) (end : Left) (out : Output) → Reads zs (Ok ((c, rs), end)) → version_number c.version ≤ 2 → IsThirdFault c rs e →
+    WroteNothing out → StopsBy (IsUnupgraded Third zs) e out
+no_third (Script line) zs c rs end out read early fault silent = absurd fault
+no_third (BadBundle offset) zs c rs end out read early fault silent = (inr (record { journals = c; receipts = rs; end = end; read = read; early = early; refused = fault }), silent)
+no_third (NotARun replica entry) zs c rs end out read early fault silent = (inr (record { journals = c; receipts = rs; end = end; read = read; early = early; refused = fault }), silent)
+no_third Memory zs c rs end out read early fault silent = silent
+no_third Read zs c rs end out read early fault silent = absurd fault
+no_third Write zs c rs end out read early fault silent = absurd fault
+
+pub third_refused :
+    (e : Fault) (r : Result Status Fault) (zs : List ℕ) (c : Collected) (rs : List Receipt) (end : Left) (out : Output) → IsErrAnd r (λ x. x ≡ e) → Reads zs (Ok ((c, rs), end)) →
+    (version_number c.version ≤ 2 → IsThirdFault c rs e) → (3 ≤ version_number c.version → e ≡ Memory) → WroteNothing out → Rewrites Third r zs out
+third_refused e (Ok status) zs c rs end out is read early late silent = absurd is
+third_refused e (Err x) zs c rs end out is read early late silent = subst (λ y. StopsBy (IsUnupgraded Third zs) y out) (sym is) (⊎_elim
+    (λ (low : version_number c.version < 3). no_third e zs c rs end out read (omega arith) (early (omega arith)) silent)
+    (λ (high : 3 ≤ version_number c.version). subst (λ y. StopsBy (IsUnupgraded Third zs) y out) (sym (late high)) silent)
+    (cases_lt (version_number c.version) 3))
 
 -- The devices, whatever was read.
 
@@ -193,7 +247,7 @@ out_of_memory (Replay Report) zs reader out fault words ask memory = memory
 out_of_memory (Replay Bundle) zs reader out fault words ask memory = memory
 out_of_memory (Run options) zs reader out fault words ask memory = memory
 out_of_memory Audit zs reader out fault words ask memory = memory
-out_of_memory Upgrade zs reader out fault words ask memory = memory
+out_of_memory (Upgrade target) zs reader out fault words ask memory = memory
 out_of_memory Version zs reader out fault words ask memory = memory
 out_of_memory (Help text) zs reader out fault words ask memory = absurd ask
 
@@ -214,3 +268,41 @@ pub ends_declined :
     Ends status reader out fault
 ends_declined (declined.Words text) status reader out fault told r o = subst (λ s. Ends s reader out fault) (sym told.0) (r, o)
 ends_declined declined.Memory status reader out fault told r o = subst (λ s. Ends s reader out fault) (sym told.0) (r, o)
+
+-- Tasks.
+
+pub works_as :
+    (task other : Task) (status : Status) (zs : List ℕ) (reader : Input) (out fault : Output) → task ≡ other → Works other status zs reader out fault →
+    Works task status zs reader out fault
+works_as task other status zs reader out fault is works = subst (λ t. Works t status zs reader out fault) (sym is) works
+
+pub ends_as :
+    (task other : Task) (status : Status) (reader : Input) (out fault : Output) → task ≡ other → EndsBy other status reader out fault → EndsBy task status reader out fault
+ends_as task other status reader out fault is ends = subst (λ t. EndsBy t status reader out fault) (sym is) ends
+
+-- of the same names
+pub files_as :
+    {S : Type 0} (text : S → List ℕ) (slice files : List S) (status : Status) (out fault : Output) → slice ≡ files → ChainsFiles (map text slice) status out fault →
+    ChainsFiles (map text files) status out fault
+files_as {S} text slice files status out fault same chains = subst (λ (l : List S). ChainsFiles (map text l) status out fault) same chains
+
+pub works_asked :
+    (task : Task) (want : Asked) (status : Status) (zs : List ℕ) (reader : Input) (out fault : Output) → task ≡ Streams want → Works task status zs reader out fault →
+    Performs want status zs reader out fault
+works_asked task want status zs reader out fault is works = subst (λ t. Works t status zs reader out fault) is works
+
+pub task_helped : (task : Task) (status : Status) (zs : List ℕ) (reader : Input) (out fault : Output) → IsHelpTask task → Works task status zs reader out fault → IsHelped status out fault
+task_helped (Streams asked) status zs reader out fault help works = is_helped asked status zs reader out fault help works
+task_helped (Chain files) status zs reader out fault help works = absurd help
+
+pub task_done :
+    (task : Task) (words : List (List ℕ)) (status : Status) (zs : List ℕ) (reader : Input) (out fault : Output) → IsTask task words → Works task status zs reader out fault →
+    tasks.Does words status zs reader out fault
+task_done (Streams asked) words status zs reader out fault is works = inl (asked, is, works)
+task_done (Chain files) words status zs reader out fault is works = inr (map string_bytes files.items, is, works)
+
+pub task_ends :
+    (task : Task) (words : List (List ℕ)) (status : Status) (reader : Input) (out fault : Output) → IsTask task words → EndsBy task status reader out fault →
+    EndsSo words status reader out fault
+task_ends (Streams asked) words status reader out fault is ends = inl ends
+task_ends (Chain files) words status reader out fault is ends = inr (map string_bytes files.items, is, ends.0, ends.1)

@@ -43,7 +43,7 @@ write_of_bundle (bundle.BadBundle offset) = refl
 write_of_bundle (bundle.NotARun replica entry) = refl
 
 -- an answer tells the fault e, of which `is_its` says this
-as_told : {A : Type 0} (is_its : Fault → Bool) (e : Fault) (told had has : Bool) (r : Result A Fault) → IsErrAnd r (λ x. x ≡ e) → is_its e ≡ told → has ≡ (told || had) → FailsAsTold is_its r had has
+pub as_told : {A : Type 0} (is_its : Fault → Bool) (e : Fault) (told had has : Bool) (r : Result A Fault) → IsErrAnd r (λ x. x ≡ e) → is_its e ≡ told → has ≡ (told || had) → FailsAsTold is_its r had has
 as_told is_its e told had has (Ok a) is same flag = absurd is
 as_told is_its e told had has (Err x) is same flag = flag ∙ ap (λ (b : Bool). b || had) (sym (ap is_its is ∙ same))
 

@@ -1,9 +1,11 @@
 mod Bundling
+mod Linked
 mod Choosing
 pub mod Ending
 mod Flags
 mod Judging
 mod Puts
+mod Ranges
 mod Rewriting
 mod Verdicts
 pub mod Literals

@@ -1,7 +1,7 @@
 -- What `clap` makes of the words that ask for something.
-use Rattle.std.proofs.Common.{◌≡◌, ◌⊎◌, inl, inr, List, [], ◌∷◌, Option, Some, None, Result, Ok, Err, MatchResult, IfOk, true, codes, refl, sym, ap, ap₂, subst, ◌∙◌, option_map}
+use Rattle.std.proofs.Common.{◌≡◌, ◌⊎◌, inl, inr, List, [], ◌∷◌, map, string_bytes, Option, Some, None, Result, Ok, Err, MatchResult, IfOk, Bool, true, false, codes, refl, sym, ap, ap₂, subst, ◌∙◌, option_map}
 use Rattle.clap.specs.Matches.{found_of, subcommand_name_of}
-use Rattle.clap.specs.Walk.{Row, Text, first_of, rows_of}
+use Rattle.clap.specs.Walk.{Row, Text, all_of, first_of, rows_of}
 use Rattle.clap.specs.declared.parser.matches.ArgMatches.{ArgMatches}
 use Rattle.clap.specs.declared.parser.matches.ArgMatches.TheViews.{out-ArgMatches, out-SubCommand}
 use Rattle.clap.specs.declared.parser.matches.SubCommand.{SubCommand}
@@ -15,13 +15,17 @@ use Rattle.clap.specs.Kinds.{IsAmong}
 use Rattle.clap.specs.Takes.{takes}
 use Rattle.clap.proofs.OnLiterals.{clap_on_literals}
 use Rattle.ep_main.specs.Options.{Options, plain}
-use Rattle.ep_main.specs.Words.{AskFor, AskForHelp, Chooses, IsAsked, IsHelp, IsMet, IsShown, MetReplay, MetRun, MetAudit, MetUpgrade, Names, NamesHost, RunWords, emit_word, epaxos, host_word, met, met_with, run_words}
+use Rattle.ep_main.specs.Words.{AskFor, AskForHelp, Chooses, IsAsked, IsHelp, IsMet, IsShown, AuditWords, IsAuditTask, IsBundleAudit, IsChainAudit, IsChainOf, IsHelpTask, IsMetTask, IsShownTask, IsTask, MetReplay, MetRun, MetAudit, MetChain, MetUpgrade, Names, NamesHost, NamesTarget, RunWords, audit_words, emit_word, epaxos, host_word, met, met_audit, met_to, met_with, run_words}
 use Rattle.ep_main.specs.declared.asked.Asked.{Asked}
 use Rattle.ep_main.specs.declared.asked.Asked.TheVariants.{Replay, Run, Audit, Upgrade, Version, Help}
 use Rattle.ep_main.specs.declared.asked.Emit.TheVariants.{Report, Bundle}
 use Rattle.ep_main.specs.declared.asked.Emit.{Emit}
 use Rattle.ep_main.specs.declared.host.Host.{Host}
 use Rattle.ep_main.specs.declared.host.Host.TheVariants.{Lock, Ring}
+use Rattle.ep_main.specs.declared.target.Target.{Target}
+use Rattle.ep_main.specs.declared.target.Target.TheVariants.{Second, Third}
+use Rattle.ep_main.specs.declared.task.Task.{Task}
+use Rattle.ep_main.specs.declared.task.Task.TheVariants.{Streams, Chain}
 use Rattle.ep_main.specs.declared.declined.Declined.{Declined}
 use Rattle.ep_main.specs.declared.declined.Declined.TheVariants.{Memory}
 
@@ -73,17 +77,40 @@ met_bundle : (name : Text) → met (subcommand_of epaxos (name ∷ codes "replay
 unfolding clap_on_literals
 met_bundle name = refl
 
-met_audit : (name : Text) → option_map (λ p. p.0) (subcommand_of epaxos (name ∷ codes "audit" ∷ [])) ≡ Some (codes "audit")
+-- the words after the options of `audit`, where none is given
+abbrev no_words : AuditWords
+no_words = record { chain = Some (codes "false"); files = None }
+
+met_bare : (name : Text) → met_audit (subcommand_of epaxos (name ∷ codes "audit" ∷ [])) ≡ Some (codes "audit", no_words)
 unfolding clap_on_literals
-met_audit name = refl
+met_bare name = refl
+
+no_chain : no_words.chain ≡ Some (codes "true") → ⊥
+no_chain bad = let e : Some (codes "false") ≡ Some (codes "true") = bad in cc
 
 takes_upgrade : (name : Text) → takes epaxos (name ∷ codes "upgrade" ∷ []) ≡ true
 unfolding clap_on_literals
 takes_upgrade name = refl
 
-met_upgrade : (name : Text) → option_map (λ p. p.0) (subcommand_of epaxos (name ∷ codes "upgrade" ∷ [])) ≡ Some (codes "upgrade")
+met_upgrade : (name : Text) → met_to (subcommand_of epaxos (name ∷ codes "upgrade" ∷ [])) ≡ Some (codes "upgrade", None)
 unfolding clap_on_literals
 met_upgrade name = refl
+
+takes_second : (name : Text) → takes epaxos (name ∷ codes "upgrade" ∷ codes "--to" ∷ codes "2" ∷ []) ≡ true
+unfolding clap_on_literals
+takes_second name = refl
+
+met_second : (name : Text) → met_to (subcommand_of epaxos (name ∷ codes "upgrade" ∷ codes "--to" ∷ codes "2" ∷ [])) ≡ Some (codes "upgrade", Some (codes "2"))
+unfolding clap_on_literals
+met_second name = refl
+
+takes_third : (name : Text) → takes epaxos (name ∷ codes "upgrade" ∷ codes "--to" ∷ codes "3" ∷ []) ≡ true
+unfolding clap_on_literals
+takes_third name = refl
+
+met_third : (name : Text) → met_to (subcommand_of epaxos (name ∷ codes "upgrade" ∷ codes "--to" ∷ codes "3" ∷ [])) ≡ Some (codes "upgrade", Some (codes "3"))
+unfolding clap_on_literals
+met_third name = refl
 
 takes_run : (name : Text) → takes epaxos (name ∷ codes "run" ∷ []) ≡ true
 unfolding clap_on_literals
@@ -154,7 +181,7 @@ abbrev pub IsMatched : Asked → Type 0
 IsMatched (Replay emit) = Unit {0}
 IsMatched (Run options) = Unit {0}
 IsMatched Audit = Unit {0}
-IsMatched Upgrade = Unit {0}
+IsMatched (Upgrade target) = Unit {0}
 IsMatched Version = ⊥
 IsMatched (Help text) = ⊥
 
@@ -169,7 +196,9 @@ taken (Run options) words matched (name, inr (inl (same, is))) = subst (λ (ws :
 taken (Run options) words matched (name, inr (inr (inl (same, is)))) = subst (λ (ws : List Text). takes epaxos ws ≡ true) (sym is) (takes_emitting options.emit name)
 taken (Run options) words matched (name, inr (inr (inr (same, is)))) = subst (λ (ws : List Text). takes epaxos ws ≡ true) (sym is) (takes_both options.host options.emit name)
 taken Audit words matched (name, is) = subst (λ (ws : List Text). takes epaxos ws ≡ true) (sym is) (takes_audit name)
-taken Upgrade words matched (name, is) = subst (λ (ws : List Text). takes epaxos ws ≡ true) (sym is) (takes_upgrade name)
+taken (Upgrade Second) words matched (name, inl is) = subst (λ (ws : List Text). takes epaxos ws ≡ true) (sym is) (takes_upgrade name)
+taken (Upgrade Second) words matched (name, inr is) = subst (λ (ws : List Text). takes epaxos ws ≡ true) (sym is) (takes_second name)
+taken (Upgrade Third) words matched (name, is) = subst (λ (ws : List Text). takes epaxos ws ≡ true) (sym is) (takes_third name)
 taken Version words matched ask = absurd matched
 taken (Help text) words matched ask = absurd matched
 
@@ -194,8 +223,10 @@ is_met (Run options) words matched (name, inr (inr (inr (same, is)))) =
       met_both options.host options.emit name,
       record { host = host_named options.host; capacity = refl; turns = refl; emit = emit_named options.emit },
     )
-is_met Audit words matched (name, is) = subst (λ (ws : List Text). MetAudit (subcommand_of epaxos ws)) (sym is) (met_audit name)
-is_met Upgrade words matched (name, is) = subst (λ (ws : List Text). MetUpgrade (subcommand_of epaxos ws)) (sym is) (met_upgrade name)
+is_met Audit words matched (name, is) = subst (λ (ws : List Text). MetAudit (subcommand_of epaxos ws)) (sym is) (no_words, met_bare name, record { chain = no_chain; files = refl })
+is_met (Upgrade Second) words matched (name, inl is) = subst (λ (ws : List Text). MetUpgrade Second (subcommand_of epaxos ws)) (sym is) (None, met_upgrade name, inl refl)
+is_met (Upgrade Second) words matched (name, inr is) = subst (λ (ws : List Text). MetUpgrade Second (subcommand_of epaxos ws)) (sym is) (Some (codes "2"), met_second name, inr refl)
+is_met (Upgrade Third) words matched (name, is) = subst (λ (ws : List Text). MetUpgrade Third (subcommand_of epaxos ws)) (sym is) (Some (codes "3"), met_third name, refl)
 is_met Version words matched ask = absurd matched
 is_met (Help text) words matched ask = absurd matched
 
@@ -210,24 +241,26 @@ free : is_simple_and_free epaxos ≡ true
 unfolding clap_on_literals
 free = refl
 
-pub asked_of_met :
-    {X : Type 0} (app : App) (words : List Text) (found : Option (Text × List Row)) (r : Result Asked Declined) → app ≡ epaxos →
-    (is_simple app ≡ true → X × (found ≡ subcommand_of app words)) → IfOk r (λ a. IsMet a found) → IfOk r (λ a. IsAsked a words)
-asked_of_met {X} app words found (Ok (Replay emit)) is has met =
+-- what is met is what is asked for
+met_is_asked : (asked : Asked) (words : List Text) → IsMet asked (subcommand_of epaxos words) → IsAsked asked words
+met_is_asked (Replay emit) words met = met
+met_is_asked (Run options) words met = met
+met_is_asked Audit words met = met
+met_is_asked (Upgrade target) words met = met
+met_is_asked Version words met = absurd met
+met_is_asked (Help text) words met = absurd met
+
+task_met : (task : Task) (words : List Text) → IsMetTask task (subcommand_of epaxos words) → IsTask task words
+task_met (Streams asked) words met = met_is_asked asked words met
+task_met (Chain files) words met = met
+
+pub task_of_met :
+    {X : Type 0} (app : App) (words : List Text) (found : Option (Text × List Row)) (r : Result Task Declined) → app ≡ epaxos →
+    (is_simple app ≡ true → X × (found ≡ subcommand_of app words)) → IfOk r (λ t. IsMetTask t found) → IfOk r (λ t. IsTask t words)
+task_of_met {X} app words found (Ok task) is has met =
     let same : found ≡ subcommand_of epaxos words = (subst (λ a. is_simple a ≡ true → X × (found ≡ subcommand_of a words)) is has simple).1 in
-    subst (MetReplay emit) same met
-asked_of_met {X} app words found (Ok (Run options)) is has met =
-    let same : found ≡ subcommand_of epaxos words = (subst (λ a. is_simple a ≡ true → X × (found ≡ subcommand_of a words)) is has simple).1 in
-    subst (MetRun options) same met
-asked_of_met {X} app words found (Ok Audit) is has met =
-    let same : found ≡ subcommand_of epaxos words = (subst (λ a. is_simple a ≡ true → X × (found ≡ subcommand_of a words)) is has simple).1 in
-    subst MetAudit same met
-asked_of_met {X} app words found (Ok Upgrade) is has met =
-    let same : found ≡ subcommand_of epaxos words = (subst (λ a. is_simple a ≡ true → X × (found ≡ subcommand_of a words)) is has simple).1 in
-    subst MetUpgrade same met
-asked_of_met {X} app words found (Ok Version) is has met = absurd met
-asked_of_met {X} app words found (Ok (Help text)) is has met = absurd met
-asked_of_met {X} app words found (Err e) is has met = tt
+    task_met task words (subst (IsMetTask task) same met)
+task_of_met {X} app words found (Err e) is has met = tt
 
 help_is_no_memory : DisplayHelp ≡ OutOfMemory → ⊥
 help_is_no_memory bad = cc
@@ -241,20 +274,22 @@ among :
 among words kind wanted other is (inl memory) = absurd (other (sym is ∙ memory))
 among words kind wanted other is (inr known) = subst (λ k. IsAmong k (fault_of epaxos words)) is known
 
-pub asked_of_shown :
-    (app : App) (words : List Text) (kind : ErrorKind) (r : Result Asked Declined) → app ≡ epaxos →
-    (is_simple_and_free app ≡ true → (kind ≡ OutOfMemory) ⊎ IsAmong kind (fault_of app words)) → IfOk r (λ a. IsShown a kind) → IfOk r (λ a. IsAsked a words)
-asked_of_shown app words kind (Ok (Replay emit)) is has shown = absurd shown
-asked_of_shown app words kind (Ok (Run options)) is has shown = absurd shown
-asked_of_shown app words kind (Ok Audit) is has shown = absurd shown
-asked_of_shown app words kind (Ok Upgrade) is has shown = absurd shown
-asked_of_shown app words kind (Ok Version) is has shown =
-    among words kind DisplayVersion version_is_no_memory shown
-    (subst (λ a. is_simple_and_free a ≡ true → (kind ≡ OutOfMemory) ⊎ IsAmong kind (fault_of a words)) is has free)
-asked_of_shown app words kind (Ok (Help text)) is has shown =
-    among words kind DisplayHelp help_is_no_memory shown
-    (subst (λ a. is_simple_and_free a ≡ true → (kind ≡ OutOfMemory) ⊎ IsAmong kind (fault_of a words)) is has free)
-asked_of_shown app words kind (Err e) is has shown = tt
+shown_is_asked :
+    (asked : Asked) (words : List Text) (kind : ErrorKind) → (kind ≡ OutOfMemory) ⊎ IsAmong kind (fault_of epaxos words) → IsShown asked kind → IsAsked asked words
+shown_is_asked (Replay emit) words kind known shown = absurd shown
+shown_is_asked (Run options) words kind known shown = absurd shown
+shown_is_asked Audit words kind known shown = absurd shown
+shown_is_asked (Upgrade target) words kind known shown = absurd shown
+shown_is_asked Version words kind known shown = among words kind DisplayVersion version_is_no_memory shown known
+shown_is_asked (Help text) words kind known shown = among words kind DisplayHelp help_is_no_memory shown known
+
+pub task_of_shown :
+    (app : App) (words : List Text) (kind : ErrorKind) (r : Result Task Declined) → app ≡ epaxos →
+    (is_simple_and_free app ≡ true → (kind ≡ OutOfMemory) ⊎ IsAmong kind (fault_of app words)) → IfOk r (λ t. IsShownTask t kind) → IfOk r (λ t. IsTask t words)
+task_of_shown app words kind (Ok (Streams asked)) is has shown =
+    shown_is_asked asked words kind (subst (λ a. is_simple_and_free a ≡ true → (kind ≡ OutOfMemory) ⊎ IsAmong kind (fault_of a words)) is has free) shown
+task_of_shown app words kind (Ok (Chain files)) is has shown = absurd shown
+task_of_shown app words kind (Err e) is has shown = tt
 
 help_alone : (name : Text) → fault_of epaxos (name ∷ codes "--help" ∷ []) ≡ DisplayHelp ∷ []
 unfolding clap_on_literals
@@ -328,50 +363,51 @@ help_is_no_match {X} app words is none ask =
     cc
 
 helps_by :
-    (kind : ErrorKind) (kinds : List ErrorKind) (r : Result Asked Declined) → kinds ≡ DisplayHelp ∷ [] → (kind ≡ OutOfMemory) ⊎ IsAmong kind kinds → (kind ≡ OutOfMemory → r ≡ Err Memory) →
-    (kind ≡ DisplayHelp → MatchResult r IsHelp (λ d. d ≡ Memory)) → MatchResult r IsHelp (λ d. d ≡ Memory)
-helps_by kind kinds r is (inl none) memory help = subst (λ r. MatchResult r IsHelp (λ d. d ≡ Memory)) (sym (memory none)) refl
+    (kind : ErrorKind) (kinds : List ErrorKind) (r : Result Task Declined) → kinds ≡ DisplayHelp ∷ [] → (kind ≡ OutOfMemory) ⊎ IsAmong kind kinds → (kind ≡ OutOfMemory → r ≡ Err Memory) →
+    (kind ≡ DisplayHelp → MatchResult r IsHelpTask (λ d. d ≡ Memory)) → MatchResult r IsHelpTask (λ d. d ≡ Memory)
+helps_by kind kinds r is (inl none) memory help = subst (λ r. MatchResult r IsHelpTask (λ d. d ≡ Memory)) (sym (memory none)) refl
 helps_by kind kinds r is (inr known) memory help =
     let among : (kind ≡ DisplayHelp) ⊎ ⊥ = subst (λ ks. IsAmong kind ks) is known in
     help (elim among [ inl h ↦ h | inr h ↦ absurd h ])
 
 pub help_is_met :
-    (app : App) (words : List Text) (kind : ErrorKind) (r : Result Asked Declined) → app ≡ epaxos →
+    (app : App) (words : List Text) (kind : ErrorKind) (r : Result Task Declined) → app ≡ epaxos →
     (is_simple_and_free app ≡ true → (kind ≡ OutOfMemory) ⊎ IsAmong kind (fault_of app words)) → (kind ≡ OutOfMemory → r ≡ Err Memory) →
-    (kind ≡ DisplayHelp → MatchResult r IsHelp (λ d. d ≡ Memory)) → AskForHelp words → MatchResult r IsHelp (λ d. d ≡ Memory)
+    (kind ≡ DisplayHelp → MatchResult r IsHelpTask (λ d. d ≡ Memory)) → AskForHelp words → MatchResult r IsHelpTask (λ d. d ≡ Memory)
 help_is_met app words kind r is has memory help ask =
     helps_by kind (fault_of epaxos words) r (help_known words ask)
     (subst (λ a. is_simple_and_free a ≡ true → (kind ≡ OutOfMemory) ⊎ IsAmong kind (fault_of a words)) is has free) memory help
 
-asks : (want : Asked) (r : Result Asked Declined) → r ≡ Ok want → MatchResult r (λ a. a ≡ want) (λ d. d ≡ Memory)
-asks want r is = subst (λ r. MatchResult r (λ a. a ≡ want) (λ d. d ≡ Memory)) (sym is) refl
+asks : (want : Asked) (r : Result Task Declined) → r ≡ Ok (Streams want) → MatchResult r (λ t. t ≡ Streams want) (λ d. d ≡ Memory)
+asks want r is = subst (λ r. MatchResult r (λ t. t ≡ Streams want) (λ d. d ≡ Memory)) (sym is) refl
 
-has_no_memory : (want : Asked) (r : Result Asked Declined) → r ≡ Err Memory → MatchResult r (λ a. a ≡ want) (λ d. d ≡ Memory)
-has_no_memory want r is = subst (λ r. MatchResult r (λ a. a ≡ want) (λ d. d ≡ Memory)) (sym is) refl
+has_no_memory : (want : Asked) (r : Result Task Declined) → r ≡ Err Memory → MatchResult r (λ t. t ≡ Streams want) (λ d. d ≡ Memory)
+has_no_memory want r is = subst (λ r. MatchResult r (λ t. t ≡ Streams want) (λ d. d ≡ Memory)) (sym is) refl
 
 answers :
-    (want : Asked) (r : Result Asked Declined) (found : Option (Text × List Row)) → ((emit : Emit) → MetReplay emit found → r ≡ Ok (Replay emit)) →
-    ((options : Options) → MetRun options found → r ≡ Ok (Run options)) → (MetAudit found → r ≡ Ok Audit) → (MetUpgrade found → r ≡ Ok Upgrade) → IsMet want found →
-    MatchResult r (λ a. a ≡ want) (λ d. d ≡ Memory)
+    (want : Asked) (r : Result Task Declined) (found : Option (Text × List Row)) → ((emit : Emit) → MetReplay emit found → r ≡ Ok (Streams (Replay emit))) →
+    ((options : Options) → MetRun options found → r ≡ Ok (Streams (Run options))) → (MetAudit found → r ≡ Ok (Streams Audit)) → ((target : Target) → MetUpgrade target found → r ≡ Ok (Streams (Upgrade target))) → IsMet want found →
+    MatchResult r (λ t. t ≡ Streams want) (λ d. d ≡ Memory)
 answers (Replay emit) r found replay run audit upgrade is = asks (Replay emit) r (replay emit is)
 answers (Run options) r found replay run audit upgrade is = asks (Run options) r (run options is)
 answers Audit r found replay run audit upgrade is = asks Audit r (audit is)
-answers Upgrade r found replay run audit upgrade is = asks Upgrade r (upgrade is)
+answers (Upgrade target) r found replay run audit upgrade is = asks (Upgrade target) r (upgrade target is)
 answers Version r found replay run audit upgrade is = absurd is
 answers (Help text) r found replay run audit upgrade is = absurd is
 
 -- the answer where `clap` finds a match
 pub asked_in_match :
-    {X : Type 0} (want : Asked) (app : App) (words : List Text) (found : Option (Text × List Row)) (r : Result Asked Declined) → app ≡ epaxos →
+    {X : Type 0} (want : Asked) (app : App) (words : List Text) (found : Option (Text × List Row)) (r : Result Task Declined) → app ≡ epaxos →
     (is_simple app ≡ true → X × (found ≡ subcommand_of app words)) → (is_simple_and_free app ≡ true → fault_of app words ≡ []) →
-    ((emit : Emit) → MetReplay emit found → r ≡ Ok (Replay emit)) → ((options : Options) → MetRun options found → r ≡ Ok (Run options)) → (MetAudit found → r ≡ Ok Audit) →
-    (MetUpgrade found → r ≡ Ok Upgrade) → AskFor want words → MatchResult r (λ a. a ≡ want) (λ d. d ≡ Memory)
+    ((emit : Emit) → MetReplay emit found → r ≡ Ok (Streams (Replay emit))) → ((options : Options) → MetRun options found → r ≡ Ok (Streams (Run options))) → (MetAudit found → r ≡ Ok (Streams Audit)) →
+    ((target : Target) → MetUpgrade target found → r ≡ Ok (Streams (Upgrade target))) → AskFor want words → MatchResult r (λ t. t ≡ Streams want) (λ d. d ≡ Memory)
 asked_in_match (Replay emit) app words found r is has none replay run audit upgrade ask =
     answers (Replay emit) r found replay run audit upgrade (found_met (Replay emit) app words found tt is has ask)
 asked_in_match (Run options) app words found r is has none replay run audit upgrade ask =
     answers (Run options) r found replay run audit upgrade (found_met (Run options) app words found tt is has ask)
 asked_in_match Audit app words found r is has none replay run audit upgrade ask = answers Audit r found replay run audit upgrade (found_met Audit app words found tt is has ask)
-asked_in_match Upgrade app words found r is has none replay run audit upgrade ask = answers Upgrade r found replay run audit upgrade (found_met Upgrade app words found tt is has ask)
+asked_in_match (Upgrade target) app words found r is has none replay run audit upgrade ask =
+    answers (Upgrade target) r found replay run audit upgrade (found_met (Upgrade target) app words found tt is has ask)
 asked_in_match Version app words found r is has none replay run audit upgrade ask =
     let empty : fault_of epaxos words ≡ [] = subst (λ a. is_simple_and_free a ≡ true → fault_of a words ≡ []) is none free in
     let bad : DisplayVersion ∷ [] ≡ [] = sym (version_known words ask) ∙ empty in
@@ -379,14 +415,14 @@ asked_in_match Version app words found r is has none replay run audit upgrade as
 asked_in_match (Help text) app words found r is has none replay run audit upgrade ask = absurd ask
 
 no_match :
-    (want : Asked) (app : App) (words : List Text) (kind : ErrorKind) (r : Result Asked Declined) → IsMatched want → app ≡ epaxos → (takes app words ≡ true → kind ≡ OutOfMemory) →
-    (kind ≡ OutOfMemory → r ≡ Err Memory) → AskFor want words → MatchResult r (λ a. a ≡ want) (λ d. d ≡ Memory)
+    (want : Asked) (app : App) (words : List Text) (kind : ErrorKind) (r : Result Task Declined) → IsMatched want → app ≡ epaxos → (takes app words ≡ true → kind ≡ OutOfMemory) →
+    (kind ≡ OutOfMemory → r ≡ Err Memory) → AskFor want words → MatchResult r (λ t. t ≡ Streams want) (λ d. d ≡ Memory)
 no_match want app words kind r matched is passes memory ask =
     has_no_memory want r (memory (passes (subst (λ a. takes a words ≡ true) (sym is) (taken want words matched ask))))
 
 versions_by :
-    (kind : ErrorKind) (kinds : List ErrorKind) (r : Result Asked Declined) → kinds ≡ DisplayVersion ∷ [] → (kind ≡ OutOfMemory) ⊎ IsAmong kind kinds → (kind ≡ OutOfMemory → r ≡ Err Memory) →
-    (kind ≡ DisplayVersion → r ≡ Ok Version) → MatchResult r (λ a. a ≡ Version) (λ d. d ≡ Memory)
+    (kind : ErrorKind) (kinds : List ErrorKind) (r : Result Task Declined) → kinds ≡ DisplayVersion ∷ [] → (kind ≡ OutOfMemory) ⊎ IsAmong kind kinds → (kind ≡ OutOfMemory → r ≡ Err Memory) →
+    (kind ≡ DisplayVersion → r ≡ Ok (Streams Version)) → MatchResult r (λ t. t ≡ Streams Version) (λ d. d ≡ Memory)
 versions_by kind kinds r is (inl none) memory version = has_no_memory Version r (memory none)
 versions_by kind kinds r is (inr known) memory version =
     let among : (kind ≡ DisplayVersion) ⊎ ⊥ = subst (λ ks. IsAmong kind ks) is known in
@@ -394,13 +430,13 @@ versions_by kind kinds r is (inr known) memory version =
 
 -- the answer where it finds none
 pub asked_in_place :
-    (want : Asked) (app : App) (words : List Text) (kind : ErrorKind) (r : Result Asked Declined) → app ≡ epaxos → (takes app words ≡ true → kind ≡ OutOfMemory) →
+    (want : Asked) (app : App) (words : List Text) (kind : ErrorKind) (r : Result Task Declined) → app ≡ epaxos → (takes app words ≡ true → kind ≡ OutOfMemory) →
     (is_simple_and_free app ≡ true → (kind ≡ OutOfMemory) ⊎ IsAmong kind (fault_of app words)) → (kind ≡ OutOfMemory → r ≡ Err Memory) →
-    (kind ≡ DisplayVersion → r ≡ Ok Version) → AskFor want words → MatchResult r (λ a. a ≡ want) (λ d. d ≡ Memory)
+    (kind ≡ DisplayVersion → r ≡ Ok (Streams Version)) → AskFor want words → MatchResult r (λ t. t ≡ Streams want) (λ d. d ≡ Memory)
 asked_in_place (Replay emit) app words kind r is passes has memory version ask = no_match (Replay emit) app words kind r tt is passes memory ask
 asked_in_place (Run options) app words kind r is passes has memory version ask = no_match (Run options) app words kind r tt is passes memory ask
 asked_in_place Audit app words kind r is passes has memory version ask = no_match Audit app words kind r tt is passes memory ask
-asked_in_place Upgrade app words kind r is passes has memory version ask = no_match Upgrade app words kind r tt is passes memory ask
+asked_in_place (Upgrade target) app words kind r is passes has memory version ask = no_match (Upgrade target) app words kind r tt is passes memory ask
 asked_in_place Version app words kind r is passes has memory version ask =
     versions_by kind (fault_of epaxos words) r (version_known words ask)
     (subst (λ a. is_simple_and_free a ≡ true → (kind ≡ OutOfMemory) ⊎ IsAmong kind (fault_of a words)) is has free) memory version
@@ -459,29 +495,95 @@ module _ {Z : Type 0} where
 name_by : (m : ArgMatches) → option_map (λ p. p.0) (subcommand_rows_of m) ≡ subcommand_name_of m
 name_by m = name_in (out-ArgMatches m).subcommand
 
-pub audit_met : (m : ArgMatches) → subcommand_name_of m ≡ Some (codes "audit") → MetAudit (subcommand_rows_of m)
-audit_met m named = name_by m ∙ named
+-- what the subcommand's options say, by its name and its rows
+module _ {W : Type 0} (f : List Row → W) where
+  abbrev pub said : Option (Text × List Row) → Option (Text × W)
+  said = option_map (λ (p : Text × List Row). (p.0, f p.1))
+
+  said_in :
+      {Z : Type 0} (o : Option (Box SubCommand Z)) (name : Text) (rows : List Row) → option_map (λ b. (out-SubCommand (box_value b)).name.now) o ≡ Some name →
+      option_map (λ p. p.1) (subcommand_rows o) ≡ Some rows → said (subcommand_rows o) ≡ Some (name, f rows)
+  said_in {Z} None name rows named has = let bad : None ≡ Some name = named in cc
+  said_in {Z} (Some b) name rows named has =
+      let same : (out-SubCommand (box_value b)).name.now ≡ name = (let e : Some (out-SubCommand (box_value b)).name.now ≡ Some name = named in cc) in
+      let same_rows : rows_of (found_of (out-SubCommand (box_value b)).matches) ≡ rows =
+      (let e : Some (rows_of (found_of (out-SubCommand (box_value b)).matches)) ≡ Some rows = has in cc) in
+      ap₂ (λ (n : Text) (r : List Row). Some (n, f r)) same same_rows
+
+  pub said_by :
+      (m : ArgMatches) (name : Text) (rows : List Row) → subcommand_name_of m ≡ Some name → option_map (λ p. p.1) (subcommand_rows_of m) ≡ Some rows →
+      said (subcommand_rows_of m) ≡ Some (name, f rows)
+  said_by m name rows named has = said_in (out-ArgMatches m).subcommand name rows named has
+
+  said_name : (found : Option (Text × List Row)) → option_map (λ (p : Text × W). p.0) (said found) ≡ option_map (λ p. p.0) found
+  said_name None = refl
+  said_name (Some p) = refl
+
+  pub said_named : (m : ArgMatches) (name : Text) (w : W) → said (subcommand_rows_of m) ≡ Some (name, w) → subcommand_name_of m ≡ Some name
+  said_named m name w found = sym (name_by m) ∙ sym (said_name (subcommand_rows_of m)) ∙ ap (option_map (λ (p : Text × W). p.0)) found
+
+  said_as : (a b : Text) (x y : W) → ◌≡◌ {A = Option (Text × W)} (Some (a, x)) (Some (b, y)) → x ≡ y
+  said_as a b x y same = let e : Some x ≡ Some y = ap (option_map (λ (p : Text × W). p.1)) same in cc
+
+  pub said_is :
+      (m : ArgMatches) (name other : Text) (rows : List Row) (w : W) → subcommand_name_of m ≡ Some name → option_map (λ p. p.1) (subcommand_rows_of m) ≡ Some rows →
+      said (subcommand_rows_of m) ≡ Some (other, w) → f rows ≡ w
+  said_is m name other rows w named has found = said_as name other (f rows) w (sym (said_by m name rows named has) ∙ found)
+
+abbrev to_word : List Row → Option Text
+to_word rows = first_of (codes "to") rows
 
 pub audit_named : (m : ArgMatches) → MetAudit (subcommand_rows_of m) → subcommand_name_of m ≡ Some (codes "audit")
-audit_named m found = sym (name_by m) ∙ found
+audit_named m (words, found, is) = said_named audit_words m (codes "audit") words found
 
-pub upgrade_met : (m : ArgMatches) → subcommand_name_of m ≡ Some (codes "upgrade") → MetUpgrade (subcommand_rows_of m)
-upgrade_met m named = name_by m ∙ named
+pub chain_named : (m : ArgMatches) (names : List Text) → MetChain names (subcommand_rows_of m) → subcommand_name_of m ≡ Some (codes "audit")
+chain_named m names (words, found, is) = said_named audit_words m (codes "audit") words found
 
-pub upgrade_named : (m : ArgMatches) → MetUpgrade (subcommand_rows_of m) → subcommand_name_of m ≡ Some (codes "upgrade")
-upgrade_named m found = sym (name_by m) ∙ found
+pub upgrade_named : (m : ArgMatches) (target : Target) → MetUpgrade target (subcommand_rows_of m) → subcommand_name_of m ≡ Some (codes "upgrade")
+upgrade_named m target (what, found, names) = said_named to_word m (codes "upgrade") what found
 
-pub replay_no_upgrade : (m : ArgMatches) → subcommand_name_of m ≡ Some (codes "replay") → MetUpgrade (subcommand_rows_of m) → ⊥
-replay_no_upgrade m named found = let bad : Some (codes "replay") ≡ Some (codes "upgrade") = sym named ∙ upgrade_named m found in cc
+pub replay_named : (m : ArgMatches) (emit : Emit) → MetReplay emit (subcommand_rows_of m) → subcommand_name_of m ≡ Some (codes "replay")
+replay_named m emit (what, found, names) = said_named (first_of (codes "emit")) m (codes "replay") what found
 
-pub run_no_upgrade : (m : ArgMatches) → subcommand_name_of m ≡ Some (codes "run") → MetUpgrade (subcommand_rows_of m) → ⊥
-run_no_upgrade m named found = let bad : Some (codes "run") ≡ Some (codes "upgrade") = sym named ∙ upgrade_named m found in cc
+-- the words after the options of `audit`
+pub bundle_met :
+    (m : ArgMatches) (rows : List Row) → subcommand_name_of m ≡ Some (codes "audit") → option_map (λ p. p.1) (subcommand_rows_of m) ≡ Some rows →
+    MetAudit (subcommand_rows_of m) → IsBundleAudit (audit_words rows)
+bundle_met m rows named has (words, found, is) = subst IsBundleAudit (sym (said_is audit_words m (codes "audit") (codes "audit") rows words named has found)) is
 
-pub audit_no_upgrade : (m : ArgMatches) → subcommand_name_of m ≡ Some (codes "audit") → MetUpgrade (subcommand_rows_of m) → ⊥
-audit_no_upgrade m named found = let bad : Some (codes "audit") ≡ Some (codes "upgrade") = sym named ∙ upgrade_named m found in cc
+pub chain_met :
+    (m : ArgMatches) (rows : List Row) (names : List Text) → subcommand_name_of m ≡ Some (codes "audit") → option_map (λ p. p.1) (subcommand_rows_of m) ≡ Some rows →
+    MetChain names (subcommand_rows_of m) → IsChainAudit names (audit_words rows)
+chain_met m rows names named has (words, found, is) = subst (IsChainAudit names) (sym (said_is audit_words m (codes "audit") (codes "audit") rows words named has found)) is
 
-pub replay_no_audit : (m : ArgMatches) → subcommand_name_of m ≡ Some (codes "replay") → MetAudit (subcommand_rows_of m) → ⊥
-replay_no_audit m named found = let bad : Some (codes "replay") ≡ Some (codes "audit") = sym named ∙ audit_named m found in cc
+pub met_audit_by :
+    (m : ArgMatches) (rows : List Row) → subcommand_name_of m ≡ Some (codes "audit") → option_map (λ p. p.1) (subcommand_rows_of m) ≡ Some rows →
+    met_audit (subcommand_rows_of m) ≡ Some (codes "audit", audit_words rows)
+met_audit_by m rows named has = said_by audit_words m (codes "audit") rows named has
+
+-- the word after `--to`
+pub met_to_by :
+    (m : ArgMatches) (rows : List Row) → subcommand_name_of m ≡ Some (codes "upgrade") → option_map (λ p. p.1) (subcommand_rows_of m) ≡ Some rows →
+    met_to (subcommand_rows_of m) ≡ Some (codes "upgrade", first_of (codes "to") rows)
+met_to_by m rows named has = said_by to_word m (codes "upgrade") rows named has
+
+pub target_met :
+    (m : ArgMatches) (rows : List Row) (target : Target) → subcommand_name_of m ≡ Some (codes "upgrade") → option_map (λ p. p.1) (subcommand_rows_of m) ≡ Some rows →
+    MetUpgrade target (subcommand_rows_of m) → NamesTarget (first_of (codes "to") rows) target
+target_met m rows target named has (what, found, names) =
+    subst (λ o. NamesTarget o target) (sym (said_is to_word m (codes "upgrade") (codes "upgrade") rows what named has found)) names
+
+pub replay_no_upgrade : (m : ArgMatches) (target : Target) → subcommand_name_of m ≡ Some (codes "replay") → MetUpgrade target (subcommand_rows_of m) → ⊥
+replay_no_upgrade m target named found = let bad : Some (codes "replay") ≡ Some (codes "upgrade") = sym named ∙ upgrade_named m target found in cc
+
+pub run_no_upgrade : (m : ArgMatches) (target : Target) → subcommand_name_of m ≡ Some (codes "run") → MetUpgrade target (subcommand_rows_of m) → ⊥
+run_no_upgrade m target named found = let bad : Some (codes "run") ≡ Some (codes "upgrade") = sym named ∙ upgrade_named m target found in cc
+
+pub audit_no_upgrade : (m : ArgMatches) (target : Target) → subcommand_name_of m ≡ Some (codes "audit") → MetUpgrade target (subcommand_rows_of m) → ⊥
+audit_no_upgrade m target named found = let bad : Some (codes "audit") ≡ Some (codes "upgrade") = sym named ∙ upgrade_named m target found in cc
+
+pub audit_no_replay : (m : ArgMatches) (emit : Emit) → subcommand_name_of m ≡ Some (codes "audit") → MetReplay emit (subcommand_rows_of m) → ⊥
+audit_no_replay m emit named found = let bad : Some (codes "audit") ≡ Some (codes "replay") = sym named ∙ replay_named m emit found in cc
 
 pub as_replay : (e emit : Emit) (r : Result Emit Declined) (x : Result Asked Declined) → r ≡ Ok e → x ≡ Ok (Replay e) → r ≡ Ok emit → x ≡ Ok (Replay emit)
 as_replay e emit r x is gives wants =
@@ -535,11 +637,82 @@ replay_no_run m options named found = let bad : Some (codes "replay") ≡ Some (
 pub audit_no_run : (m : ArgMatches) (options : Options) → subcommand_name_of m ≡ Some (codes "audit") → MetRun options (subcommand_rows_of m) → ⊥
 audit_no_run m options named found = let bad : Some (codes "audit") ≡ Some (codes "run") = sym named ∙ run_named m options found in cc
 
-pub run_no_audit : (m : ArgMatches) → subcommand_name_of m ≡ Some (codes "run") → MetAudit (subcommand_rows_of m) → ⊥
-run_no_audit m named found = let bad : Some (codes "run") ≡ Some (codes "audit") = sym named ∙ audit_named m found in cc
-
 pub as_run : (o options : Options) (r : Result Options Declined) (x : Result Asked Declined) → r ≡ Ok o → x ≡ Ok (Run o) → r ≡ Ok options → x ≡ Ok (Run options)
 as_run o options r x is gives wants =
     let same : Ok o ≡ Ok options = sym is ∙ wants in
     let equal : o ≡ options = cc in
     gives ∙ ap (λ (y : Options). Ok (Run y)) equal
+
+pub as_upgrade : (t target : Target) (r : Result Target Declined) (x : Result Asked Declined) → r ≡ Ok t → x ≡ Ok (Upgrade t) → r ≡ Ok target → x ≡ Ok (Upgrade target)
+as_upgrade t target r x is gives wants =
+    let same : Ok t ≡ Ok target = sym is ∙ wants in
+    let equal : t ≡ target = cc in
+    gives ∙ ap (λ (y : Target). Ok (Upgrade y)) equal
+
+-- of what is asked for streams serve
+pub as_streams : (a want : Asked) (r : Result Asked Declined) (x : Result Task Declined) → r ≡ Ok a → x ≡ Ok (Streams a) → r ≡ Ok want → x ≡ Ok (Streams want)
+as_streams a want r x is gives wants =
+    let same : Ok a ≡ Ok want = sym is ∙ wants in
+    let equal : a ≡ want = cc in
+    gives ∙ ap (λ (y : Asked). Ok (Streams y)) equal
+
+-- the word after `--to`
+
+is_second : (what : Text) (o : Option Text) → Some what ≡ o → NamesTarget o Second → what ≡ codes "2"
+is_second what o is (inl none) = let e : Some what ≡ None = is ∙ none in cc
+is_second what o is (inr some) = let e : Some what ≡ Some (codes "2") = is ∙ some in cc
+
+pub target_as :
+    (target : Target) (what : Text) (o : Option Text) (r : Result Target Declined) → Some what ≡ o → (what ≡ codes "2" → r ≡ Ok Second) → (what ≡ codes "3" → r ≡ Ok Third) →
+    NamesTarget o target → r ≡ Ok target
+target_as Second what o r is second third names = second (is_second what o is names)
+target_as Third what o r is second third names = third (let e : Some what ≡ Some (codes "3") = is ∙ names in cc)
+
+none_targets : (target : Target) (o : Option Text) → None ≡ o → NamesTarget o target → Second ≡ target
+none_targets Second o is names = refl
+none_targets Third o is names = let bad : None ≡ Some (codes "3") = is ∙ names in cc
+
+pub no_target : (target : Target) (o : Option Text) (r : Result Target Declined) → r ≡ Ok Second → None ≡ o → NamesTarget o target → r ≡ Ok target
+no_target target o r seconds is names = subst (λ t. r ≡ Ok t) (none_targets target o is names) seconds
+
+-- the word that was found
+
+pub some_is : (word wanted : Text) (o : Option Text) → Some word ≡ o → o ≡ Some wanted → word ≡ wanted
+some_is word wanted o is given = let e : Some word ≡ Some wanted = is ∙ given in cc
+
+pub none_isnt : {A : Type 0} (wanted : A) (o : Option A) → None ≡ o → o ≡ Some wanted → ⊥
+none_isnt {A} wanted o is given = let bad : None ≡ Some wanted = is ∙ given in cc
+
+pub all_is : (words wanted : List Text) (o : Option (List Text)) → Some words ≡ o → o ≡ Some wanted → words ≡ wanted
+all_is words wanted o is given = let e : Some words ≡ Some wanted = is ∙ given in cc
+
+-- the files of a chain that was copied
+
+pub chain_copied : (words names copies : List Text) (o : Option (List Text)) → Some words ≡ o → copies ≡ words → o ≡ Some names → copies ≡ names
+chain_copied words names copies o is copied given = copied ∙ all_is words names o is given
+
+pub chain_found : (words copies : List Text) (o : Option (List Text)) → Some words ≡ o → copies ≡ words → o ≡ Some copies
+chain_found words copies o is copied = sym is ∙ ap (λ (ws : List Text). Some ws) (sym copied)
+
+-- The task that the options of `audit` ask for.
+
+pub chain_isnt_bundle : (words : AuditWords) → words.chain ≡ Some (codes "true") → IsBundleAudit words → ⊥
+chain_isnt_bundle words chain h = h.chain chain
+
+pub met_audit_task :
+    (m : ArgMatches) (rows : List Row) (t : Task) → subcommand_name_of m ≡ Some (codes "audit") → option_map (λ p. p.1) (subcommand_rows_of m) ≡ Some rows →
+    IsAuditTask t (audit_words rows) → IsMetTask t (subcommand_rows_of m)
+met_audit_task m rows (Streams asked) named has is = subst (λ (a : Asked). IsMet a (subcommand_rows_of m)) (sym is.0) (audit_words rows, met_audit_by m rows named has, is.1)
+met_audit_task m rows (Chain files) named has is = (audit_words rows, met_audit_by m rows named has, is)
+
+pub met_audit_tasks :
+    (m : ArgMatches) (rows : List Row) (r : Result Task Declined) → subcommand_name_of m ≡ Some (codes "audit") → option_map (λ p. p.1) (subcommand_rows_of m) ≡ Some rows →
+    IfOk r (λ t. IsAuditTask t (audit_words rows)) → IfOk r (λ t. IsMetTask t (subcommand_rows_of m))
+met_audit_tasks m rows (Ok t) named has is = met_audit_task m rows t named has is
+met_audit_tasks m rows (Err e) named has is = tt
+
+pub some_isnt : {A : Type 0} (given : A) (o : Option A) → Some given ≡ o → o ≡ None → ⊥
+some_isnt {A} given o is none = let bad : Some given ≡ None = is ∙ none in cc
+
+pub not_both : (b : Bool) → b ≡ false → b ≡ true → ⊥
+not_both b isnt is = let bad : false ≡ true = sym isnt ∙ is in cc

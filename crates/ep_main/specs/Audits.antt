@@ -11,6 +11,7 @@ use Rattle.ep_report.specs.Reports.{text_of, accepted_lines, run_lines, refusal_
 use Rattle.ep_run.specs.declared.ran.Ran.{Ran}
 use Rattle.ep_verdict.specs.declared.verdict.Verdict.{Verdict}
 use Rattle.ep_audit.specs.Audited.{IsAudited}
+use Rattle.ep_main.specs.Lives.{life_in}
 use Rattle.ep_main.specs.Outputs.{Output, Wrote}
 use Rattle.ep_main.specs.declared.asked.Emit.{Emit}
 use Rattle.ep_main.specs.declared.asked.Emit.TheVariants.{Report, Bundle}
@@ -33,12 +34,12 @@ refusal_text fault = text_of (refusal_lines fault)
 -- of a bundle: its verdict and the receipts, or the first fault
 abbrev pub Says : Collected → List Receipt → Status → List ℕ → Type 0
 Says journals receipts status text =
-    Judges journals receipts (λ v. text_of (accepted_lines v.committed.items v.history.items receipts)) refusal_text status text
+    Judges journals receipts (λ v. text_of (accepted_lines (life_in journals v) v.committed.items v.history.items receipts)) refusal_text status text
 
 -- of a run: its report, or the first fault; or, whatever the audit says, the bundle of what the run left
 abbrev pub SaysOfRun : Emit → Ran → Status → List ℕ → Type 0
 SaysOfRun Report ran status text =
-    Judges ran.finished.journals ran.receipts.items (λ v. text_of (run_lines v.committed.items v.history.items ran.receipts.items ran.refused.items ran.lost)) refusal_text
+    Judges ran.finished.journals ran.receipts.items (λ v. text_of (run_lines (life_in ran.finished.journals v) v.committed.items v.history.items ran.receipts.items ran.refused.items ran.lost)) refusal_text
     status text
 SaysOfRun Bundle ran status text =
     Judges ran.finished.journals ran.receipts.items (λ v. bundle_bytes ran.finished.journals ran.receipts.items) (λ f. bundle_bytes ran.finished.journals ran.receipts.items)

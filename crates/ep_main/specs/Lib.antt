@@ -1,10 +1,14 @@
 pub mod Audits
 pub mod Bundled
+pub mod ChainLines
+pub mod Chains
 pub mod Faults
 pub mod Hosts
+pub mod Lives
 pub mod Options
 pub mod Outputs
 pub mod Reported
 pub mod Runs
+pub mod Tasks
 pub mod Upgrades
 pub mod Words

@@ -6,6 +6,7 @@ use Rattle.ep_report.specs.Reports.{text_of, accepted_lines, refused_lines}
 use Rattle.ep_script.specs.Plan.{Plan}
 use Rattle.ep_verdict.specs.declared.verdict.Verdict.{Verdict}
 use Rattle.ep_audit.specs.Audited.{IsAudited}
+use Rattle.ep_main.specs.Lives.{life_in}
 use Rattle.ep_replay.specs.Outcome.{IsReplay}
 use Rattle.ep_replay.specs.declared.replayed.Replayed.{Replayed}
 
@@ -13,7 +14,7 @@ use Rattle.ep_replay.specs.declared.replayed.Replayed.{Replayed}
 pub record IsReportOf (played : Replayed) (text : List ℕ) : Type 0 where
   pub verdict : Verdict
   pub audited : IsAudited (opens played.journals.opening) played.journals.faults (journals_of played.journals) played.receipts.items verdict
-  pub printed : text ≡ text_of (accepted_lines verdict.committed.items verdict.history.items played.receipts.items ++ refused_lines played.refused.items)
+  pub printed : text ≡ text_of (accepted_lines (life_in played.journals verdict) verdict.committed.items verdict.history.items played.receipts.items ++ refused_lines played.refused.items)
 
 -- The text is the report of what the protocol plays of the script.
 pub record IsReport (plan : Plan) (text : List ℕ) : Type 0 where

@@ -1,6 +1,6 @@
 -- What the program does, by the status that it answers: of the bytes zs that it reads, its reader, its output and its fault output.
 use Rattle.std.specs.Prelude.{◌≡◌, ◌⊎◌, ◌++◌, ℕ, true, List, Result, Ok, Err, codes, string_bytes}
-use Rattle.ep_bundle.specs.Journals.{ReadsBundle}
+use Rattle.ep_bundle.specs.declared.bundle_fault.BundleFault.{BundleFault}
 use Rattle.ep_bundle.specs.declared.bundle_fault.BundleFault.TheVariants as bundle
 use Rattle.ep_script.specs.Plan.{Plan, RunPlan, script_of, run_of}
 use Rattle.ep_main.specs.Audits.{IsAudit, SaysOfRun}
@@ -10,14 +10,16 @@ use Rattle.ep_main.specs.Hosts.{Promises}
 use Rattle.ep_main.specs.Options.{Options}
 use Rattle.ep_main.specs.Outputs.{Input, Output, Wrote, WroteNothing, Told, NoneFailed, InputFailed, OutputFailed}
 use Rattle.ep_main.specs.Reported.{IsReport}
-use Rattle.ep_main.specs.Upgrades.{IsRewritten}
+use Rattle.ep_main.specs.Upgrades.{IsUnread, IsRewritten, IsUnupgraded}
 use Rattle.ep_main.specs.declared.asked.Asked.{Asked}
 use Rattle.ep_main.specs.declared.asked.Asked.TheVariants.{Replay, Run, Audit, Upgrade, Version, Help}
 use Rattle.ep_main.specs.declared.declined.Declined.{Declined}
 use Rattle.ep_main.specs.declared.declined.Declined.TheVariants as declined
 use Rattle.ep_main.specs.declared.asked.Emit.TheVariants.{Report, Bundle}
 use Rattle.ep_main.specs.declared.host.Host.{Host}
+use Rattle.ep_main.specs.declared.target.Target.{Target}
 use Rattle.ep_main.specs.declared.host.Host.TheVariants.{Lock, Ring}
+use Rattle.ep_run.specs.Rings.{IsBegun, begun_of}
 use Rattle.ep_run.specs.declared.ran.Ran.{Ran}
 use Rattle.ep_main.specs.declared.fault.Fault.{Fault}
 use Rattle.ep_main.specs.declared.fault.Fault.TheVariants.{Script, BadBundle, NotARun, Memory, Read, Write}
@@ -38,6 +40,8 @@ pub record IsRan (options : Options) (status : Status) (zs : List ℕ) (out : Ou
   pub plan : RunPlan
   pub script : run_of zs ≡ Ok plan
   pub ran : Ran
+  -- the journals are of the script's version, and have its opening
+  pub begun : IsBegun (begun_of plan.head) ran.finished.journals
   pub promised : Promises options.host options.turns plan.sections ran
   pub text : List ℕ
   pub says : SaysOfRun options.emit ran status text
@@ -55,18 +59,18 @@ pub record IsScriptRefused {P : Type 0} (read : Result P ℕ) (out fault : Outpu
   pub silent : WroteNothing out
   pub told : Told fault (script_refused line)
 
--- The bytes are no bundle, and this is the first field at fault: it is told, and nothing was written on the output.
-pub record IsBadBundle (zs : List ℕ) (out fault : Output) : Type 0 where
+-- There is no bundle, for a first field at fault: it is told, and nothing was written on the output.
+pub record IsBadBundle (Q : BundleFault → Type 0) (out fault : Output) : Type 0 where
   pub offset : ℕ
-  pub read : ReadsBundle (record { at = 0; bytes = zs }) (Err (bundle.BadBundle offset))
+  pub read : Q (bundle.BadBundle offset)
   pub silent : WroteNothing out
   pub told : Told fault (bad_bundle offset)
 
--- The bytes are no bundle, and this is the first entry that isn't its replica's next step: it is told, and nothing was written on the output.
-pub record IsNotARun (zs : List ℕ) (out fault : Output) : Type 0 where
+-- There is no bundle, for a first entry that isn't its replica's next step: it is told, and nothing was written on the output.
+pub record IsNotARun (Q : BundleFault → Type 0) (out fault : Output) : Type 0 where
   pub replica : ℕ
   pub entry : ℕ
-  pub read : ReadsBundle (record { at = 0; bytes = zs }) (Err (bundle.NotARun replica entry))
+  pub read : Q (bundle.NotARun replica entry)
   pub silent : WroteNothing out
   pub told : Told fault (not_a_run replica entry)
 
@@ -107,17 +111,17 @@ RunsInThreads options Failed zs reader out fault = HasFailed reader out fault
 abbrev pub Audits : Status → List ℕ → Input → Output → Output → Type 0
 Audits Accepted zs reader out fault = IsAudit Accepted zs out × WroteNothing fault
 Audits AuditRefused zs reader out fault = IsAudit AuditRefused zs out × WroteNothing fault
-Audits Refused zs reader out fault = IsBadBundle zs out fault ⊎ IsNotARun zs out fault
+Audits Refused zs reader out fault = IsBadBundle (IsUnread zs) out fault ⊎ IsNotARun (IsUnread zs) out fault
 Audits OutOfMemory zs reader out fault = IsOutOfMemory out fault
 Audits Failed zs reader out fault = HasFailed reader out fault
 
--- an upgrade of a bundle: it doesn't audit
-abbrev pub Upgrades : Status → List ℕ → Input → Output → Output → Type 0
-Upgrades Accepted zs reader out fault = IsRewritten zs out × WroteNothing fault
-Upgrades AuditRefused zs reader out fault = ⊥
-Upgrades Refused zs reader out fault = IsBadBundle zs out fault ⊎ IsNotARun zs out fault
-Upgrades OutOfMemory zs reader out fault = IsOutOfMemory out fault
-Upgrades Failed zs reader out fault = HasFailed reader out fault
+-- an upgrade of a bundle to this version: it doesn't audit
+abbrev pub Upgrades : Target → Status → List ℕ → Input → Output → Output → Type 0
+Upgrades target Accepted zs reader out fault = IsRewritten target zs out × WroteNothing fault
+Upgrades target AuditRefused zs reader out fault = ⊥
+Upgrades target Refused zs reader out fault = IsBadBundle (IsUnupgraded target zs) out fault ⊎ IsNotARun (IsUnupgraded target zs) out fault
+Upgrades target OutOfMemory zs reader out fault = IsOutOfMemory out fault
+Upgrades target Failed zs reader out fault = HasFailed reader out fault
 
 -- the program's name and its version
 abbrev pub version_line : List ℕ
@@ -152,7 +156,7 @@ Performs (Replay Report) status zs reader out fault = Replays status zs reader o
 Performs (Replay Bundle) status zs reader out fault = Emits status zs reader out fault
 Performs (Run options) status zs reader out fault = RunsInThreads options status zs reader out fault
 Performs Audit status zs reader out fault = Audits status zs reader out fault
-Performs Upgrade status zs reader out fault = Upgrades status zs reader out fault
+Performs (Upgrade target) status zs reader out fault = Upgrades target status zs reader out fault
 Performs Version status zs reader out fault = Versions status out fault
 Performs (Help text) status zs reader out fault = Helps status (string_bytes text) out fault
 
@@ -214,19 +218,22 @@ Runs options (Err Memory) zs out = WroteNothing out
 Runs options (Err Read) zs out = WroteNothing out
 Runs options (Err Write) zs out = Unit {0}
 
+-- what stops the reading of a bundle, where it has such faults
+abbrev pub StopsBy : (BundleFault → Type 0) → Fault → Output → Type 0
+StopsBy Q (Script line) out = ⊥
+StopsBy Q (BadBundle offset) out = Q (bundle.BadBundle offset) × WroteNothing out
+StopsBy Q (NotARun replica entry) out = Q (bundle.NotARun replica entry) × WroteNothing out
+StopsBy Q Memory out = WroteNothing out
+StopsBy Q Read out = WroteNothing out
+StopsBy Q Write out = Unit {0}
+
 abbrev pub Finishes : Result Status Fault → List ℕ → Output → Type 0
 Finishes (Ok status) zs out = IsAudit status zs out
-Finishes (Err (Script line)) zs out = ⊥
-Finishes (Err (BadBundle offset)) zs out = ReadsBundle (record { at = 0; bytes = zs }) (Err (bundle.BadBundle offset)) × WroteNothing out
-Finishes (Err (NotARun replica entry)) zs out = ReadsBundle (record { at = 0; bytes = zs }) (Err (bundle.NotARun replica entry)) × WroteNothing out
-Finishes (Err Memory) zs out = WroteNothing out
-Finishes (Err Read) zs out = WroteNothing out
-Finishes (Err Write) zs out = Unit {0}
+Finishes (Err e) zs out = StopsBy (IsUnread zs) e out
 
--- an upgrade has the faults of an audit
-abbrev pub Rewrites : Result Status Fault → List ℕ → Output → Type 0
-Rewrites (Ok status) zs out = (status ≡ Accepted) × IsRewritten zs out
-Rewrites (Err e) zs out = Finishes (Err e) zs out
+abbrev pub Rewrites : Target → Result Status Fault → List ℕ → Output → Type 0
+Rewrites target (Ok status) zs out = (status ≡ Accepted) × IsRewritten target zs out
+Rewrites target (Err e) zs out = StopsBy (IsUnupgraded target zs) e out
 
 abbrev pub Prints : Result Status Fault → List ℕ → Output → Type 0
 Prints (Ok status) text out = (status ≡ Accepted) × Wrote out text
@@ -242,7 +249,7 @@ Does (Replay Report) outcome zs out = Plays outcome zs out
 Does (Replay Bundle) outcome zs out = Leaves outcome zs out
 Does (Run options) outcome zs out = Runs options outcome zs out
 Does Audit outcome zs out = Finishes outcome zs out
-Does Upgrade outcome zs out = Rewrites outcome zs out
+Does (Upgrade target) outcome zs out = Rewrites target outcome zs out
 Does Version outcome zs out = Prints outcome version_line out
 Does (Help text) outcome zs out = Prints outcome (string_bytes text) out
 

@@ -1,6 +1,6 @@
 -- The words of the command line.
-use Rattle.std.specs.Prelude.{ℕ, ◌≡◌, ◌⊎◌, List, [], ◌∷◌, Option, Some, None, true, codes, option_map}
-use Rattle.clap.specs.Walk.{Row, Rule, Text, first_of}
+use Rattle.std.specs.Prelude.{ℕ, ◌≡◌, ◌⊎◌, List, [], ◌∷◌, Option, Some, None, true, codes, map, option_map, string_bytes}
+use Rattle.clap.specs.Walk.{Row, Rule, Text, all_of, first_of}
 use Rattle.clap.specs.Faults.{fault_of}
 use Rattle.clap.specs.Kinds.{IsAmong}
 use Rattle.clap.specs.Simple.{App, new_app, new_rule, on_top, subcommand_of, with_rule, with_subcommand}
@@ -12,7 +12,11 @@ use Rattle.ep_main.specs.declared.asked.Emit.{Emit}
 use Rattle.ep_main.specs.declared.asked.Emit.TheVariants.{Report, Bundle}
 use Rattle.ep_main.specs.declared.host.Host.{Host}
 use Rattle.ep_main.specs.declared.host.Host.TheVariants.{Lock, Ring}
-use Rattle.clap.specs.declared.builder.action.ArgAction.TheVariants.{Set}
+use Rattle.ep_main.specs.declared.target.Target.{Target}
+use Rattle.ep_main.specs.declared.target.Target.TheVariants.{Second, Third}
+use Rattle.ep_main.specs.declared.task.Task.{Task}
+use Rattle.ep_main.specs.declared.task.Task.TheVariants.{Streams, Chain}
+use Rattle.clap.specs.declared.builder.action.ArgAction.TheVariants.{Set, SetTrue, Append}
 use Rattle.clap.specs.declared.error.kind.ErrorKind.{ErrorKind}
 use Rattle.clap.specs.declared.error.kind.ErrorKind.TheVariants.{DisplayHelp, DisplayVersion}
 
@@ -28,7 +32,7 @@ emit_word Bundle = codes "bundle"
 
 -- the words ask for this. The first one is the program's own name, and then: for a report `replay`, and perhaps `--emit report` or `--emit=report`;
 -- for a bundle `replay`, and `--emit bundle` or `--emit=bundle`; for a run, with the limits that hold where none are given, `run`, perhaps `--host` and a
--- host, and then perhaps `--emit` and what is printed; for an audit `audit`; for an upgrade `upgrade`; for the version `--version` or `-V`
+-- host, and then perhaps `--emit` and what is printed; for an audit `audit`; for an upgrade `upgrade`, perhaps with `--to` and a version; for the version `--version` or `-V`
 abbrev pub AskFor : Asked → List Text → Type 0
 AskFor (Replay Report) words =
     (name : Text)
@@ -44,7 +48,8 @@ AskFor (Run options) words =
     ⊎ ((options ≡ plain options.host options.emit)
     × (words ≡ name ∷ codes "run" ∷ codes "--host" ∷ host_word options.host ∷ codes "--emit" ∷ emit_word options.emit ∷ [])))))
 AskFor Audit words = (name : Text) × (words ≡ name ∷ codes "audit" ∷ [])
-AskFor Upgrade words = (name : Text) × (words ≡ name ∷ codes "upgrade" ∷ [])
+AskFor (Upgrade Second) words = (name : Text) × ((words ≡ name ∷ codes "upgrade" ∷ []) ⊎ (words ≡ name ∷ codes "upgrade" ∷ codes "--to" ∷ codes "2" ∷ []))
+AskFor (Upgrade Third) words = (name : Text) × (words ≡ name ∷ codes "upgrade" ∷ codes "--to" ∷ codes "3" ∷ [])
 AskFor Version words = (name : Text) × ((words ≡ name ∷ codes "--version" ∷ []) ⊎ (words ≡ name ∷ codes "-V" ∷ []))
 AskFor (Help text) words = ⊥
 
@@ -80,8 +85,11 @@ turned = with_rule bounded (value_option (codes "turns"))
 abbrev pub run : App
 run = with_rule turned emit
 
+abbrev pub chained : App
+chained = with_rule (new_app (codes "audit")) (record (new_rule (codes "chain")) { long = Some (codes "chain"); action = Some SetTrue })
+
 abbrev pub audit : App
-audit = new_app (codes "audit")
+audit = with_rule chained (record (new_rule (codes "FILE")) { action = Some Append })
 
 abbrev pub replaying : App
 replaying = with_subcommand (on_top (λ s. record s { subcommand_required = true; has_version = true }) (new_app (codes "epaxos"))) replay.top
@@ -90,7 +98,7 @@ abbrev pub auditing : App
 auditing = with_subcommand (with_subcommand replaying run.top) audit.top
 
 abbrev pub upgrade : App
-upgrade = new_app (codes "upgrade")
+upgrade = with_rule (new_app (codes "upgrade")) (value_option (codes "to"))
 
 abbrev pub epaxos : App
 epaxos = with_subcommand auditing upgrade.top
@@ -148,18 +156,51 @@ met_with = option_map (λ p. (p.0, run_words p.1))
 abbrev pub MetRun : Options → Option (Text × List Row) → Type 0
 MetRun options found = (words : RunWords) × (met_with found ≡ Some (codes "run", words)) × Chooses words options
 
-abbrev pub MetAudit : Option (Text × List Row) → Type 0
-MetAudit found = option_map (λ p. p.0) found ≡ Some (codes "audit")
+-- the words after the options of `audit`: that of `--chain`, which is `true` where it is given, and the others
+pub record AuditWords : Type 0 where
+  pub chain : Option Text
+  pub files : Option (List Text)
 
-abbrev pub MetUpgrade : Option (Text × List Row) → Type 0
-MetUpgrade found = option_map (λ p. p.0) found ≡ Some (codes "upgrade")
+abbrev pub audit_words : List Row → AuditWords
+audit_words rows = record { chain = first_of (codes "chain") rows; files = all_of (codes "FILE") rows }
+
+-- the audit of a bundle
+pub record IsBundleAudit (words : AuditWords) : Type 0 where
+  pub chain : words.chain ≡ Some (codes "true") → ⊥
+  pub files : words.files ≡ None
+
+-- the audit of a chain, of these files
+pub record IsChainAudit (names : List Text) (words : AuditWords) : Type 0 where
+  pub chain : words.chain ≡ Some (codes "true")
+  pub files : words.files ≡ Some names
+
+abbrev pub met_audit : Option (Text × List Row) → Option (Text × AuditWords)
+met_audit = option_map (λ p. (p.0, audit_words p.1))
+
+abbrev pub MetAudit : Option (Text × List Row) → Type 0
+MetAudit found = (words : AuditWords) × (met_audit found ≡ Some (codes "audit", words)) × IsBundleAudit words
+
+abbrev pub MetChain : List Text → Option (Text × List Row) → Type 0
+MetChain names found = (words : AuditWords) × (met_audit found ≡ Some (codes "audit", words)) × IsChainAudit names words
+
+-- `--to 2`, or nothing; or `--to 3`
+abbrev pub NamesTarget : Option Text → Target → Type 0
+NamesTarget what Second = (what ≡ None) ⊎ (what ≡ Some (codes "2"))
+NamesTarget what Third = what ≡ Some (codes "3")
+
+-- the subcommand that was met, and the word after `--to`
+abbrev pub met_to : Option (Text × List Row) → Option (Text × Option Text)
+met_to = option_map (λ p. (p.0, first_of (codes "to") p.1))
+
+abbrev pub MetUpgrade : Target → Option (Text × List Row) → Type 0
+MetUpgrade target found = (what : Option Text) × (met_to found ≡ Some (codes "upgrade", what)) × NamesTarget what target
 
 -- what was met is this
 abbrev pub IsMet : Asked → Option (Text × List Row) → Type 0
 IsMet (Replay emit) found = MetReplay emit found
 IsMet (Run options) found = MetRun options found
 IsMet Audit found = MetAudit found
-IsMet Upgrade found = MetUpgrade found
+IsMet (Upgrade target) found = MetUpgrade target found
 IsMet Version found = ⊥
 IsMet (Help text) found = ⊥
 
@@ -168,7 +209,7 @@ abbrev pub IsAsked : Asked → List Text → Type 0
 IsAsked (Replay emit) words = MetReplay emit (subcommand_of epaxos words)
 IsAsked (Run options) words = MetRun options (subcommand_of epaxos words)
 IsAsked Audit words = MetAudit (subcommand_of epaxos words)
-IsAsked Upgrade words = MetUpgrade (subcommand_of epaxos words)
+IsAsked (Upgrade target) words = MetUpgrade target (subcommand_of epaxos words)
 IsAsked Version words = IsAmong DisplayVersion (fault_of epaxos words)
 IsAsked (Help text) words = IsAmong DisplayHelp (fault_of epaxos words)
 
@@ -176,7 +217,7 @@ abbrev pub IsHelp : Asked → Type 0
 IsHelp (Replay emit) = ⊥
 IsHelp (Run options) = ⊥
 IsHelp Audit = ⊥
-IsHelp Upgrade = ⊥
+IsHelp (Upgrade target) = ⊥
 IsHelp Version = ⊥
 IsHelp (Help text) = Unit {0}
 
@@ -185,6 +226,44 @@ abbrev pub IsShown : Asked → ErrorKind → Type 0
 IsShown (Replay emit) kind = ⊥
 IsShown (Run options) kind = ⊥
 IsShown Audit kind = ⊥
-IsShown Upgrade kind = ⊥
+IsShown (Upgrade target) kind = ⊥
 IsShown Version kind = kind ≡ DisplayVersion
 IsShown (Help text) kind = kind ≡ DisplayHelp
+
+-- Tasks: what streams serve for, or a chain.
+
+-- the chain of files with these names
+abbrev pub IsChainOf : List Text → Task → Type 0
+IsChainOf names (Streams asked) = ⊥
+IsChainOf names (Chain files) = map string_bytes files.items ≡ names
+
+-- that of the files that were found
+abbrev pub IsChainFound : Task → Option (List Text) → Type 0
+IsChainFound (Streams asked) found = ⊥
+IsChainFound (Chain files) found = found ≡ Some (map string_bytes files.items)
+
+-- these words after the options of `audit` ask for this
+abbrev pub IsAuditTask : Task → AuditWords → Type 0
+IsAuditTask (Streams asked) words = (asked ≡ Audit) × IsBundleAudit words
+IsAuditTask (Chain files) words = IsChainAudit (map string_bytes files.items) words
+
+-- what was met is this
+abbrev pub IsMetTask : Task → Option (Text × List Row) → Type 0
+IsMetTask (Streams asked) found = IsMet asked found
+IsMetTask (Chain files) found = MetChain (map string_bytes files.items) found
+
+-- in the words the chain of files with these names is met
+abbrev pub IsChainAsked : List Text → List Text → Type 0
+IsChainAsked names words = MetChain names (subcommand_of epaxos words)
+
+abbrev pub IsTask : Task → List Text → Type 0
+IsTask (Streams asked) words = IsAsked asked words
+IsTask (Chain files) words = IsChainAsked (map string_bytes files.items) words
+
+abbrev pub IsHelpTask : Task → Type 0
+IsHelpTask (Streams asked) = IsHelp asked
+IsHelpTask (Chain files) = ⊥
+
+abbrev pub IsShownTask : Task → ErrorKind → Type 0
+IsShownTask (Streams asked) kind = IsShown asked kind
+IsShownTask (Chain files) kind = ⊥

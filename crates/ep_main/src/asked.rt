@@ -1,6 +1,7 @@
 //! What the program is asked for.
 
 use crate::run_options::RunOptions;
+use crate::target::Target;
 
 /// What the words of the command line ask for.
 #[derive(Drop)]
@@ -11,8 +12,8 @@ pub enum Asked {
     Run(RunOptions),
     /// To audit a bundle.
     Audit,
-    /// To upgrade a bundle to version 2.
-    Upgrade,
+    /// To upgrade a bundle to this version.
+    Upgrade(Target),
     /// The program's name and its version.
     Version,
     /// Help: this text.

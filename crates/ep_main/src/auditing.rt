@@ -10,11 +10,12 @@ ghost use Rattle.ep_main.specs.declared.fault.Fault.TheVariants.{Memory};
 
 use crate::fault::Fault;
 use crate::judged::Judged;
+use crate::life::life_of;
 use crate::status::Status;
 use ep_audit::{Refusal, audit};
 use ep_base::{Sink, Source};
 use ep_bundle::{Bundle, read_bundle};
-use ep_report::{accepted, refusal};
+use ep_report::{Findings, accepted, refusal};
 use std::alloc::Global;
 use std::mem::forget;
 
@@ -45,12 +46,14 @@ fn judge_bundle(alloc: Global, bundle: &Bundle) -> Result<Judged, Fault>
 {
     match audit(alloc, &bundle.journals, bundle.receipts.as_slice()) {
         Ok(verdict) => {
-            let text = accepted(
-                alloc,
-                verdict.committed.as_slice(),
-                verdict.history.as_slice(),
-                bundle.receipts.as_slice(),
-            )?;
+            let life = life_of(&bundle.journals, &verdict);
+            let found = Findings {
+                life: life.as_ref(),
+                committed: verdict.committed.as_slice(),
+                history: verdict.history.as_slice(),
+                receipts: bundle.receipts.as_slice(),
+            };
+            let text = accepted(alloc, &found)?;
             forget(verdict);
             Ok(Judged {
                 status: Status::Accepted,

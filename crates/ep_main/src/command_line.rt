@@ -1,14 +1,14 @@
 //! The words of the command line.
 
-ghost use Rattle.std.specs.Prelude.{◌≡◌, ◌≤◌, ℕ, Some, Ok, Err, IfErr, IfOk, IsOk, OnOk, MatchResult, codes, false, map};
+ghost use Rattle.std.specs.Prelude.{◌≡◌, ◌≤◌, ℕ, List, Some, Ok, Err, IfErr, IfOk, IsOk, OnOk, MatchResult, codes, true, false, map, string_bytes};
 ghost use Rattle.clap.specs.Values.{kind_of};
 ghost use Rattle.clap.specs.declared.error.ErrorKind.TheVariants.{DisplayHelp, DisplayVersion, OutOfMemory};
-ghost use Rattle.clap.specs.Walk.{first_of, rows_of, rule_of};
+ghost use Rattle.clap.specs.Walk.{Text, all_of, first_of, rows_of, rule_of, texts};
 ghost use Rattle.clap.specs.Matches.{found_of};
 ghost use Rattle.clap.specs.Simple.{app_of, subcommand_rows_of};
 ghost use Rattle.clap.specs.declared.builder.command.Command.TheViews.{out-Command as fields_of};
 ghost use Rattle.ep_main.specs.Options.{Options};
-ghost use Rattle.ep_main.specs.Words.{AskFor, AskForHelp, Chooses, IsAsked, IsHelp, IsMet, IsShown, MetReplay, MetRun, MetAudit, MetUpgrade, Names, NamesHost, auditing, bounded, emit as emit_rule, hosted, limit_in, replay as replay_app, replaying, run as run_app, run_words, epaxos, turned};
+ghost use Rattle.ep_main.specs.Words.{AskFor, AskForHelp, Chooses, IsAuditTask, IsBundleAudit, IsChainAudit, IsChainFound, IsChainOf, IsHelp, IsHelpTask, IsMet, IsMetTask, IsShown, IsShownTask, IsTask, MetReplay, MetRun, MetAudit, MetChain, MetUpgrade, Names, NamesHost, NamesTarget, audit as audit_app, audit_words, auditing, bounded, chained, emit as emit_rule, hosted, limit_in, replay as replay_app, replaying, run as run_app, run_words, epaxos, turned, upgrade as upgrade_app};
 ghost use Rattle.ep_main.specs.declared.asked.Asked.{Asked};
 ghost use Rattle.ep_main.specs.declared.asked.Asked.TheVariants.{Replay, Run, Audit, Upgrade, Version};
 ghost use Rattle.ep_main.specs.declared.declined.Declined.TheVariants.{Memory};
@@ -16,12 +16,17 @@ ghost use Rattle.ep_main.specs.declared.asked.Emit.{Emit};
 ghost use Rattle.ep_main.specs.declared.asked.Emit.TheVariants.{Report, Bundle};
 ghost use Rattle.ep_main.specs.declared.host.Host.{Host};
 ghost use Rattle.ep_main.specs.declared.host.Host.TheVariants.{Lock, Ring};
+ghost use Rattle.ep_main.specs.declared.target.Target.{Target};
+ghost use Rattle.ep_main.specs.declared.target.Target.TheVariants.{Second, Third};
+ghost use Rattle.ep_main.specs.declared.task.Task.TheVariants.{Streams};
 ghost use Rattle.ep_script.specs.Grammar.{number_in as number_between};
 
 use crate::asked::{Asked, Emit};
 use crate::declined::Declined;
 use crate::host::Host;
 use crate::run_options::RunOptions;
+use crate::target::Target;
+use crate::task::Task;
 use clap::error::ErrorKind;
 use clap::{Arg, ArgAction, ArgMatches, Command, Error};
 use ep_script::number_in;
@@ -67,43 +72,136 @@ const AFTER_AUDIT: &str = "\
 Standard input, to its end, is a bundle: the journals of all replicas, and receipts, as `replay --emit bundle` writes them.
 Nothing is printed before the end is read.
 
+With --chain each FILE is such a bundle of version 3: generations, each of which opens with the map that the one before left.
+Each is audited, and then that its number, its opening and its clocks go on from the one before. Standard input is not read.
+
 Example:
   epaxos replay --emit bundle < examples/one_put.script | epaxos audit
+  epaxos audit --chain first.bundle second.bundle
 
 Exit status:
-  0  the audit accepts: the verdict, what is committed, the history and the receipts are printed
-  1  the audit refuses: the verdict and the first fault are printed
-  2  the command line or the bundle is refused; standard error says where
+  0  the audit accepts: the verdict, what is committed, the history and the receipts are printed; of a chain, a line a bundle
+  1  the audit refuses: the verdict and the first fault are printed; of a chain, of which generation
+  2  the command line or a bundle is refused; standard error says where
   3  memory was refused
-  4  reading or writing failed";
+  4  a file could not be opened or read, or reading or writing failed";
 
 /// What the help of `upgrade` says at its end.
 const AFTER_UPGRADE: &str = "\
 Standard input, to its end, is a bundle of version 1 or 2. Standard output is the bundle of version 2 that says the same: each
 frame is spelled in version 2, and an audit of it says what an audit of the old one says. A bundle of version 2 stays as it is.
+With --to 3 it is the bundle of version 3 of generation 1, which opens with nothing; a bundle of version 3 stays as it is.
 Nothing is audited: journals and receipts that don't fit together are written as they are.
 Nothing is printed before the end is read.
 
 Example:
   epaxos upgrade < old.bundle > new.bundle
+  epaxos upgrade --to 3 < old.bundle > new.bundle
 
 Exit status:
-  0  the bundle of version 2 is written
+  0  the bundle is written
   2  the command line or the bundle is refused; standard error says where
   3  memory was refused
   4  reading or writing failed";
 
 /// What the words ask for, of which the first is the program's own name. `Words` where they are none that the program knows.
-pub(crate) fn read_words<T: AsStr>(alloc: Global, words: &[T]) -> Result<Asked, Declined>
-    ensures asked { (asked : Asked) → AskFor asked (map T.text words.now) → MatchResult result (λ a. a ≡ asked) (λ d. d ≡ Memory) }
-    ensures help { AskForHelp (map T.text words.now) → MatchResult result IsHelp (λ d. d ≡ Memory) }
-    ensures only { IfOk result (λ a. IsAsked a (map T.text words.now)) }
+pub(crate) fn read_words<T: AsStr>(alloc: Global, words: &[T]) -> Result<Task, Declined>
+    ensures asked { (asked : Asked) → AskFor asked (map T.text words.now) → MatchResult result (λ t. t ≡ Streams asked) (λ d. d ≡ Memory) }
+    ensures help { AskForHelp (map T.text words.now) → MatchResult result IsHelpTask (λ d. d ≡ Memory) }
+    ensures only { IfOk result (λ t. IsTask t (map T.text words.now)) }
 {
     let command = program(alloc)?;
     match command.try_get_matches_from(words) {
-        Ok(matches) => asked_by(alloc, &matches),
-        Err(error) => asked_instead(alloc, &error),
+        Ok(matches) => task_by(alloc, &matches),
+        Err(error) => task_instead(alloc, &error),
     }
+}
+
+/// What is to be done where `clap` finds no matches.
+fn task_instead(alloc: Global, error: &Error) -> Result<Task, Declined>
+    ensures memory { kind_of error.now ≡ OutOfMemory → result ≡ Err Memory }
+    ensures version { kind_of error.now ≡ DisplayVersion → result ≡ Ok (Streams Version) }
+    ensures help { kind_of error.now ≡ DisplayHelp → MatchResult result IsHelpTask (λ d. d ≡ Memory) }
+    ensures only { IfOk result (λ t. IsShownTask t (kind_of error.now)) }
+{
+    let asked = asked_instead(alloc, error)?;
+    Ok(Task::Streams(asked))
+}
+
+/// What is to be done by the subcommand that was met.
+fn task_by(alloc: Global, matches: &ArgMatches<'_>) -> Result<Task, Declined>
+    ensures replay { (emit : Emit) → MetReplay emit (subcommand_rows_of matches.now) → result ≡ Ok (Streams (Replay emit)) }
+    ensures run { (options : Options) → MetRun options (subcommand_rows_of matches.now) → result ≡ Ok (Streams (Run options)) }
+    ensures audit { MetAudit (subcommand_rows_of matches.now) → result ≡ Ok (Streams Audit) }
+    ensures chain { (names : List Text) → MetChain names (subcommand_rows_of matches.now) → MatchResult result (IsChainOf names) (λ d. d ≡ Memory) }
+    ensures upgrade { (target : Target) → MetUpgrade target (subcommand_rows_of matches.now) → result ≡ Ok (Streams (Upgrade target)) }
+    ensures only { IfOk result (λ t. IsMetTask t (subcommand_rows_of matches.now)) }
+{
+    match matches.subcommand_matches("audit") {
+        Some(options) => audit_of(alloc, options),
+        None => {
+            let asked = asked_by(alloc, matches)?;
+            Ok(Task::Streams(asked))
+        }
+    }
+}
+
+/// Which audit is asked for, by its options.
+fn audit_of(alloc: Global, options: &ArgMatches<'_>) -> Result<Task, Declined>
+    ensures audit { IsBundleAudit (audit_words (rows_of (found_of options.now))) → result ≡ Ok (Streams Audit) }
+    ensures chain { (names : List Text) → IsChainAudit names (audit_words (rows_of (found_of options.now))) → MatchResult result (IsChainOf names) (λ d. d ≡ Memory) }
+    ensures only { IfOk result (λ t. IsAuditTask t (audit_words (rows_of (found_of options.now)))) }
+{
+    if is_chain(options) {
+        return chain_of(alloc, options);
+    }
+    match options.get_raw("FILE") {
+        None => Ok(Task::Streams(Asked::Audit)),
+        Some(_) => Err(Declined::Words(String::from_str(
+            alloc,
+            "error: a FILE stands with '--chain' alone\n\nFor more information, try '--help'.\n",
+        )?)),
+    }
+}
+
+/// Whether the audit of a chain is asked for.
+fn is_chain(options: &ArgMatches<'_>) -> bool
+    ensures yes { result ≡ true → first_of (codes "chain") (rows_of (found_of options.now)) ≡ Some (codes "true") }
+    ensures other { first_of (codes "chain") (rows_of (found_of options.now)) ≡ Some (codes "true") → result ≡ true }
+{
+    match options.get_str("chain") {
+        Some(word) => word == "true",
+        None => false,
+    }
+}
+
+/// The chain of the files that are named.
+fn chain_of(alloc: Global, options: &ArgMatches<'_>) -> Result<Task, Declined>
+    ensures named { (names : List Text) → all_of (codes "FILE") (rows_of (found_of options.now)) ≡ Some names → MatchResult result (IsChainOf names) (λ d. d ≡ Memory) }
+    ensures only { IfOk result (λ t. IsChainFound t (all_of (codes "FILE") (rows_of (found_of options.now)))) }
+{
+    match options.get_raw("FILE") {
+        Some(words) => {
+            let names = copied(alloc, words)?;
+            Ok(Task::Chain(names))
+        }
+        None => Err(Declined::Words(String::from_str(
+            alloc,
+            "error: '--chain' takes one FILE or more\n\nFor more information, try '--help'.\n",
+        )?)),
+    }
+}
+
+/// These words again.
+fn copied(alloc: Global, words: &[&str]) -> Result<Vec<String>, AllocError>
+    ensures { IfOk result (λ copy. map string_bytes copy.items ≡ texts words.now) }
+{
+    let mut copy = Vec::new(alloc);
+    for word in words {
+        let text = String::from_str(alloc, word)?;
+        copy.push(text)?;
+    }
+    Ok(copy)
 }
 
 /// What is asked for where `clap` finds no matches: the version or help at most.
@@ -124,8 +222,7 @@ fn asked_instead(alloc: Global, error: &Error) -> Result<Asked, Declined>
 fn asked_by(alloc: Global, matches: &ArgMatches<'_>) -> Result<Asked, Declined>
     ensures replay { (emit : Emit) → MetReplay emit (subcommand_rows_of matches.now) → result ≡ Ok (Replay emit) }
     ensures run { (options : Options) → MetRun options (subcommand_rows_of matches.now) → result ≡ Ok (Run options) }
-    ensures audit { MetAudit (subcommand_rows_of matches.now) → result ≡ Ok Audit }
-    ensures upgrade { MetUpgrade (subcommand_rows_of matches.now) → result ≡ Ok Upgrade }
+    ensures upgrade { (target : Target) → MetUpgrade target (subcommand_rows_of matches.now) → result ≡ Ok (Upgrade target) }
     ensures only { IfOk result (λ a. IsMet a (subcommand_rows_of matches.now)) }
 {
     match matches.subcommand_matches("replay") {
@@ -136,13 +233,12 @@ fn asked_by(alloc: Global, matches: &ArgMatches<'_>) -> Result<Asked, Declined>
 
 fn run_by(alloc: Global, matches: &ArgMatches<'_>) -> Result<Asked, Declined>
     ensures run { (options : Options) → MetRun options (subcommand_rows_of matches.now) → result ≡ Ok (Run options) }
-    ensures audit { MetAudit (subcommand_rows_of matches.now) → result ≡ Ok Audit }
-    ensures upgrade { MetUpgrade (subcommand_rows_of matches.now) → result ≡ Ok Upgrade }
+    ensures upgrade { (target : Target) → MetUpgrade target (subcommand_rows_of matches.now) → result ≡ Ok (Upgrade target) }
     ensures only { IfOk result (λ a. IsMet a (subcommand_rows_of matches.now)) }
 {
     match matches.subcommand_matches("run") {
         Some(options) => Ok(Asked::Run(options_of(alloc, options)?)),
-        None => audit_by(alloc, matches),
+        None => upgrade_by(alloc, matches),
     }
 }
 
@@ -217,24 +313,40 @@ fn limit_named(alloc: Global, word: &str, name: &str, most: u64) -> Result<u64, 
     }
 }
 
-fn audit_by(alloc: Global, matches: &ArgMatches<'_>) -> Result<Asked, Declined>
-    ensures audit { MetAudit (subcommand_rows_of matches.now) → result ≡ Ok Audit }
-    ensures upgrade { MetUpgrade (subcommand_rows_of matches.now) → result ≡ Ok Upgrade }
+fn upgrade_by(alloc: Global, matches: &ArgMatches<'_>) -> Result<Asked, Declined>
+    ensures upgrade { (target : Target) → MetUpgrade target (subcommand_rows_of matches.now) → result ≡ Ok (Upgrade target) }
     ensures only { IfOk result (λ a. IsMet a (subcommand_rows_of matches.now)) }
 {
-    match matches.subcommand_matches("audit") {
-        Some(_) => Ok(Asked::Audit),
-        None => upgrade_by(alloc, matches),
+    match matches.subcommand_matches("upgrade") {
+        Some(options) => Ok(Asked::Upgrade(target_of(alloc, options)?)),
+        None => Err(Declined::Words(String::new(alloc))),
     }
 }
 
-fn upgrade_by(alloc: Global, matches: &ArgMatches<'_>) -> Result<Asked, Declined>
-    ensures asked { MetUpgrade (subcommand_rows_of matches.now) → result ≡ Ok Upgrade }
-    ensures only { IfOk result (λ a. (a ≡ Upgrade) × MetUpgrade (subcommand_rows_of matches.now)) }
+/// The version that a bundle is upgraded to.
+fn target_of(alloc: Global, options: &ArgMatches<'_>) -> Result<Target, Declined>
+    ensures named { (target : Target) → NamesTarget (first_of (codes "to") (rows_of (found_of options.now))) target → result ≡ Ok target }
+    ensures only { IfOk result (NamesTarget (first_of (codes "to") (rows_of (found_of options.now)))) }
 {
-    match matches.subcommand_matches("upgrade") {
-        Some(_) => Ok(Asked::Upgrade),
-        None => Err(Declined::Words(String::new(alloc))),
+    match options.get_str("to") {
+        Some(name) => target_named(alloc, name),
+        None => Ok(Target::Second),
+    }
+}
+
+fn target_named(alloc: Global, name: &str) -> Result<Target, Declined>
+    ensures second { name.now ≡ codes "2" → result ≡ Ok Second }
+    ensures third { name.now ≡ codes "3" → result ≡ Ok Third }
+    ensures only { IfOk result (NamesTarget (Some name.now)) }
+{
+    if name == "2" {
+        Ok(Target::Second)
+    } else if name == "3" {
+        Ok(Target::Third)
+    } else {
+        Err(Declined::Words(format!(in alloc;
+            "error: invalid value {name:?} for '--to <VERSION>'\n  [possible values: 2, 3]\n\nFor more information, try '--help'.\n"
+        )?))
     }
 }
 
@@ -268,12 +380,24 @@ fn program<'a>(alloc: Global) -> Result<Command<'a>, AllocError>
     ensures { IfOk result (λ c. app_of c ≡ epaxos) }
 {
     let command = auditing_program(alloc)?;
-    let upgrade = Command::new(alloc, "upgrade")
+    let upgrade = upgrade_command(alloc)?;
+    command.subcommand(upgrade)
+}
+
+fn upgrade_command<'a>(alloc: Global) -> Result<Command<'a>, AllocError>
+    ensures { IfOk result (λ c. (app_of c ≡ upgrade_app) × ((fields_of c).has_globals ≡ false)) }
+{
+    let to = Arg::new(alloc, "to")
+        .long("to")
+        .value_name("VERSION")
+        .help("Which version the bundle is to be of: 2 (the default) or 3")
+        .action(ArgAction::Set);
+    let command = Command::new(alloc, "upgrade")
         .about(
-            "Reads a bundle on standard input, and writes the bundle of version 2 that says the same",
+            "Reads a bundle on standard input, and writes the bundle of version 2, or 3, that says the same",
         )
         .after_help(AFTER_UPGRADE);
-    command.subcommand(upgrade)
+    command.arg(to)
 }
 
 /// The program without its subcommand `upgrade`.
@@ -282,10 +406,40 @@ fn auditing_program<'a>(alloc: Global) -> Result<Command<'a>, AllocError>
 {
     let command = replaying_program(alloc)?;
     let run = run_command(alloc)?;
-    let audit = Command::new(alloc, "audit")
+    let audit = audit_command(alloc)?;
+    command.subcommand(run)?.subcommand(audit)
+}
+
+fn audit_command<'a>(alloc: Global) -> Result<Command<'a>, AllocError>
+    ensures { IfOk result (λ c. (app_of c ≡ audit_app) × ((fields_of c).has_globals ≡ false)) }
+{
+    let chained = chained_command(alloc)?;
+    filed_command(alloc, chained)
+}
+
+/// The command `audit` with its option `--chain` alone.
+fn chained_command<'a>(alloc: Global) -> Result<Command<'a>, AllocError>
+    ensures { IfOk result (λ c. (app_of c ≡ chained) × ((fields_of c).has_globals ≡ false)) }
+{
+    let chain = Arg::new(alloc, "chain")
+        .long("chain")
+        .help("Audits a chain: the bundles of generations, one after the other, each in a FILE")
+        .action(ArgAction::SetTrue);
+    let command = Command::new(alloc, "audit")
         .about("Reads a bundle on standard input, audits it, and prints what the audit says")
         .after_help(AFTER_AUDIT);
-    command.subcommand(run)?.subcommand(audit)
+    command.arg(chain)
+}
+
+/// The same with the names of files, the last words.
+fn filed_command<'a>(alloc: Global, command: Command<'a>) -> Result<Command<'a>, AllocError>
+    requires { (app_of command ≡ chained) × ((fields_of command).has_globals ≡ false) }
+    ensures { IfOk result (λ c. (app_of c ≡ audit_app) × ((fields_of c).has_globals ≡ false)) }
+{
+    let files = Arg::new(alloc, "FILE")
+        .help("The bundle of a generation, of version 3; with --chain, from the first one on")
+        .action(ArgAction::Append);
+    command.arg(files)
 }
 
 /// The program with its subcommand `replay` alone.

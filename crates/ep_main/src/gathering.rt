@@ -2,7 +2,6 @@
 
 ghost use Rattle.std.specs.Prelude.{◌≡◌, ◌<◌, ◌^◌, length, IfOk, IfErr};
 ghost use Rattle.ep_bundle.specs.Bytes.{bundle_bytes};
-ghost use Rattle.ep_bundle.specs.Writing.{HasBundles};
 ghost use Rattle.ep_main.specs.declared.fault.Fault.TheVariants.{Memory};
 
 use crate::fault::Fault;
@@ -12,13 +11,12 @@ use ep_journal::Journals;
 use ep_rules::Receipt;
 use std::alloc::Global;
 
-/// The bytes of a bundle, of version 1 or 2. They are gathered first and then put in one go, as a report's are.
+/// The bytes of a bundle. They are gathered first and then put in one go, as a report's are.
 pub(crate) fn gather_bundle(
     alloc: Global,
     journals: &Journals,
     receipts: &[Receipt],
 ) -> Result<Vec<u8>, Fault>
-    requires early { HasBundles journals.now.version }
     requires receipts { length receipts.now < 2 ^ 32 }
     ensures value { IfOk result (λ bytes. bytes.items ≡ bundle_bytes journals.now receipts.now) }
     ensures memory { IfErr result (λ e. e ≡ Memory) }

@@ -5,7 +5,7 @@
 //!
 //! Start with `program.rt`, `command_line.rt` (the words, by `clap`) and specs/Runs.antt (what is done, by status).
 //!
-//! It does no more than call `ep_replay`, `ep_run`, `ep_audit` and `ep_bundle`, and `Journals::into_upgraded`. A fault has one
+//! It does no more than call `ep_replay`, `ep_run`, `ep_audit`, `ep_bundle` and `ep_upgrade`, and `Journals::into_upgraded`. A fault has one
 //! line on the fault output and one status (`fault.rt`, `declined.rt`, `telling.rt`, `status.rt`), as docs/FORMATS.md, section 6,
 //! lists them.
 #![tactic(auto)]
@@ -13,17 +13,22 @@
 mod ahead;
 mod asked;
 mod auditing;
+mod chain_files;
+mod chaining;
 mod command_line;
 mod declined;
 mod fault;
 mod gathering;
 mod host;
 mod judged;
+mod life;
 mod program;
 mod replaying;
 mod run_options;
 mod running;
 mod status;
+mod target;
+mod task;
 mod telling;
 mod upgrading;
 
@@ -35,7 +40,7 @@ use ep_base::{Noted, Sink};
 use std::io::{ErrorKind, Read};
 use std::marker::Sync;
 use std::process::ExitCode;
-use std::rt::Env;
+use std::rt::{Env, Files};
 use std::sync::Wait;
 use std::thread::Threads;
 
@@ -50,7 +55,7 @@ fn main(rt: HostRuntime) -> ExitCode {
 }
 
 /// Runs the program, unless its words, or memory to read ahead, can't be had.
-fn run<R: Env + AllocGlobal + Threads + Wait + Sync, I: Read + Drop, W: Sink, F: Sink>(
+fn run<R: Env + Files + AllocGlobal + Threads + Wait + Sync, I: Read + Drop, W: Sink, F: Sink>(
     rt: &R,
     input: I,
     writer: &mut W,

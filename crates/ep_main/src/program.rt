@@ -4,24 +4,28 @@ ghost use Rattle.std.specs.Prelude.{◌≡◌, ◌⊎◌, ℕ, List, Some, IfOk,
 ghost use Rattle.ep_base.specs.Devices.{FailsAsTold};
 ghost use Rattle.ep_main.specs.Faults.{is_read, is_write};
 ghost use Rattle.ep_main.specs.Outputs.{input, output};
-ghost use Rattle.ep_main.specs.Runs.{Performs, IsHelped, Declines, Ends, Does, Concludes, IsVerdict, TellsWhy};
-ghost use Rattle.ep_main.specs.Words.{AskFor, AskForHelp, IsAsked};
+ghost use Rattle.ep_main.specs.Runs.{Performs, IsHelped, Declines, Ends, Does as Attempts, Concludes, IsVerdict, TellsWhy};
+ghost use Rattle.ep_main.specs.Tasks.{Does, EndsBy, EndsSo, Works};
+ghost use Rattle.ep_main.specs.Words.{AskFor, AskForHelp};
 ghost use Rattle.ep_main.specs.declared.asked.Asked.{Asked};
 
 use crate::asked::{Asked, Emit};
 use crate::auditing::print_audit;
+use crate::chaining::print_chain;
 use crate::command_line::read_words;
 use crate::declined::Declined;
 use crate::fault::Fault;
 use crate::replaying::{emit_bundle, print_replay};
 use crate::running::print_run;
 use crate::status::Status;
+use crate::task::Task;
 use crate::telling::{tell, tell_words};
 use crate::upgrading::print_upgraded;
 use ep_base::{Sink, Source};
 use std::alloc::Global;
 use std::convert::AsStr;
 use std::marker::Sync;
+use std::rt::Files;
 use std::sync::Wait;
 use std::thread::Threads;
 
@@ -30,10 +34,18 @@ use std::thread::Threads;
 /// `replay` reads a script to its end, plays it, audits what it leaves, and writes the report in one go, or, with `--emit
 /// bundle`, the bundle of that. `run` reads a script, runs it in threads, audits what they leave (with `--host ring` the audit
 /// never refuses it), and writes the report, or the bundle, in one go. `audit` reads a bundle to its end, audits it, and writes
-/// what the audit says in one go. `upgrade` reads a bundle to its end and writes it in version 2, in one go.
+/// what the audit says in one go; with `--chain` it reads bundles of version 3 from files, each to its end, audits them one after the
+/// other, and writes what the audit of the chain says in one go. `upgrade` reads a bundle to its end and writes it in version 2, or 3,
+/// in one go.
 /// What stops it (a refused script or bundle, want of memory, a reader or a writer that fails) is told by one line on the
 /// fault output; a refused command line by one, and what is wrong with it after that. Where telling fails, the status stays.
-pub fn engine<R: Threads + Wait + Sync, T: AsStr, S: Source, W: Sink, F: Sink>(
+pub fn engine<
+    R: Files + AllocGlobal + Threads + Wait + Sync,
+    T: AsStr,
+    S: Source,
+    W: Sink,
+    F: Sink,
+>(
     rt: &R,
     alloc: Global,
     words: &[T],
@@ -55,18 +67,40 @@ pub fn engine<R: Threads + Wait + Sync, T: AsStr, S: Source, W: Sink, F: Sink>(
     ensures other { (zs : List ℕ) → S.left reader.old ≡ Some zs → Declines result
         (output (W.held writer.old) (W.held writer.new) (W.has_failed writer.old) (W.has_failed writer.new))
         (output (F.held fault_writer.old) (F.held fault_writer.new) (F.has_failed fault_writer.old) (F.has_failed fault_writer.new))
-        ⊎ ((asked : Asked) × IsAsked asked (map T.text words.now) × Performs asked result zs (input (S.has_failed reader.old) (S.has_failed reader.new))
+        ⊎ Does (map T.text words.now) result zs (input (S.has_failed reader.old) (S.has_failed reader.new))
         (output (W.held writer.old) (W.held writer.new) (W.has_failed writer.old) (W.has_failed writer.new))
-        (output (F.held fault_writer.old) (F.held fault_writer.new) (F.has_failed fault_writer.old) (F.has_failed fault_writer.new))) }
+        (output (F.held fault_writer.old) (F.held fault_writer.new) (F.has_failed fault_writer.old) (F.has_failed fault_writer.new)) }
 
-    // whatever the words and the bytes are, status 4 is that of a device that failed in this run
-    ensures ends { Ends result (input (S.has_failed reader.old) (S.has_failed reader.new))
+    // whatever the words and the bytes are, status 4 is that of a device that failed in this run; or, where they ask for a chain, of a file of it
+    ensures ends { EndsSo (map T.text words.now) result (input (S.has_failed reader.old) (S.has_failed reader.new))
         (output (W.held writer.old) (W.held writer.new) (W.has_failed writer.old) (W.has_failed writer.new))
         (output (F.held fault_writer.old) (F.held fault_writer.new) (F.has_failed fault_writer.old) (F.has_failed fault_writer.new)) }
 {
     match read_words(alloc, words) {
-        Ok(asked) => perform(rt, alloc, asked, reader, writer, fault_writer),
+        Ok(task) => work(rt, alloc, task, reader, writer, fault_writer),
         Err(why) => decline(why, fault_writer),
+    }
+}
+
+/// Does what there is to do, and answers how the program ends.
+fn work<R: Files + AllocGlobal + Threads + Wait + Sync, S: Source, W: Sink, F: Sink>(
+    rt: &R,
+    alloc: Global,
+    task: Task,
+    reader: &mut S,
+    writer: &mut W,
+    fault_writer: &mut F,
+) -> Status
+    ensures works { (zs : List ℕ) → S.left reader.old ≡ Some zs → Works task result zs (input (S.has_failed reader.old) (S.has_failed reader.new))
+        (output (W.held writer.old) (W.held writer.new) (W.has_failed writer.old) (W.has_failed writer.new))
+        (output (F.held fault_writer.old) (F.held fault_writer.new) (F.has_failed fault_writer.old) (F.has_failed fault_writer.new)) }
+    ensures ends { EndsBy task result (input (S.has_failed reader.old) (S.has_failed reader.new))
+        (output (W.held writer.old) (W.held writer.new) (W.has_failed writer.old) (W.has_failed writer.new))
+        (output (F.held fault_writer.old) (F.held fault_writer.new) (F.has_failed fault_writer.old) (F.has_failed fault_writer.new)) }
+{
+    match task {
+        Task::Streams(asked) => perform(rt, alloc, asked, reader, writer, fault_writer),
+        Task::Chain(names) => print_chain(rt, &names, writer, fault_writer),
     }
 }
 
@@ -111,7 +145,7 @@ fn attempt<R: Threads + Wait + Sync, S: Source, W: Sink>(
     reader: &mut S,
     writer: &mut W,
 ) -> Result<Status, Fault>
-    ensures done { (zs : List ℕ) → S.left reader.old ≡ Some zs → Does asked result zs
+    ensures done { (zs : List ℕ) → S.left reader.old ≡ Some zs → Attempts asked result zs
         (output (W.held writer.old) (W.held writer.new) (W.has_failed writer.old) (W.has_failed writer.new)) }
     ensures verdict { IfOk result IsVerdict }
     ensures read { FailsAsTold is_read result (S.has_failed reader.old) (S.has_failed reader.new) }
@@ -122,7 +156,7 @@ fn attempt<R: Threads + Wait + Sync, S: Source, W: Sink>(
         Asked::Replay(Emit::Bundle) => emit_bundle(alloc, reader, writer),
         Asked::Run(options) => print_run(rt, alloc, &options, reader, writer),
         Asked::Audit => print_audit(alloc, reader, writer),
-        Asked::Upgrade => print_upgraded(alloc, reader, writer),
+        Asked::Upgrade(target) => print_upgraded(alloc, target, reader, writer),
         Asked::Version => {
             writer.put(b"epaxos 0.1.0\n")?;
             Ok(Status::Accepted)
@@ -135,7 +169,7 @@ fn attempt<R: Threads + Wait + Sync, S: Source, W: Sink>(
 }
 
 /// How the program ends. A fault is told on the fault output; where that fails, the status stays.
-fn concluded<F: Sink>(outcome: Result<Status, Fault>, fault_writer: &mut F) -> Status
+pub(crate) fn concluded<F: Sink>(outcome: Result<Status, Fault>, fault_writer: &mut F) -> Status
     ensures { Concludes outcome result (output (F.held fault_writer.old) (F.held fault_writer.new) (F.has_failed fault_writer.old) (F.has_failed fault_writer.new)) }
 {
     match outcome {

@@ -3,7 +3,6 @@
 ghost use Rattle.std.specs.Prelude.{◌≡◌, ◌<◌, ◌^◌, ℕ, List, Some, length, IfOk, IfErr};
 ghost use Rattle.ep_base.specs.Devices.{FailsAsTold};
 ghost use Rattle.ep_bundle.specs.Bytes.{bundle_bytes};
-ghost use Rattle.ep_bundle.specs.Writing.{HasBundles};
 ghost use Rattle.ep_main.specs.Faults.{is_read, is_write};
 ghost use Rattle.ep_main.specs.Outputs.{output};
 ghost use Rattle.ep_main.specs.Reported.{IsReportOf};
@@ -15,11 +14,12 @@ ghost use Rattle.ep_main.specs.declared.fault.Fault.TheVariants.{Memory};
 
 use crate::fault::Fault;
 use crate::gathering::gather_bundle;
+use crate::life::life_of;
 use crate::status::Status;
 use ep_audit::{Refusal, audit};
 use ep_base::{Sink, Source};
 use ep_replay::{Replayed, replay};
-use ep_report::report;
+use ep_report::{Findings, report};
 use ep_script::read_script;
 use std::alloc::Global;
 use std::mem::forget;
@@ -68,7 +68,6 @@ pub(crate) fn emit_bundle<S: Source, W: Sink>(
 
 /// The bytes of the bundle of what a script's run left.
 fn bundle_of(alloc: Global, played: &Replayed) -> Result<Vec<u8>, Fault>
-    requires early { HasBundles played.now.journals.version }
     requires receipts { length played.now.receipts.items < 2 ^ 32 }
     ensures value { IfOk result (λ bytes. bytes.items ≡ bundle_bytes played.now.journals played.now.receipts.items) }
     ensures memory { IfErr result (λ e. e ≡ Memory) }
@@ -84,13 +83,14 @@ fn report_of(alloc: Global, played: &Replayed) -> Result<Vec<u8>, Fault>
 {
     match audit(alloc, &played.journals, played.receipts.as_slice()) {
         Ok(verdict) => {
-            let text = report(
-                alloc,
-                verdict.committed.as_slice(),
-                verdict.history.as_slice(),
-                played.receipts.as_slice(),
-                played.refused.as_slice(),
-            )?;
+            let life = life_of(&played.journals, &verdict);
+            let found = Findings {
+                life: life.as_ref(),
+                committed: verdict.committed.as_slice(),
+                history: verdict.history.as_slice(),
+                receipts: played.receipts.as_slice(),
+            };
+            let text = report(alloc, &found, played.refused.as_slice())?;
             forget(verdict);
             Ok(text)
         }

@@ -2,15 +2,14 @@
 
 ghost use Rattle.std.specs.Prelude.{◌≡◌, ◌<◌, ◌^◌, ℕ, List, Some, length, IfOk, IfErr, IsOk};
 ghost use Rattle.ep_base.specs.Devices.{FailsAsTold};
-ghost use Rattle.ep_base.specs.declared.version_kind.VersionKind.TheVariants.{V2};
 ghost use Rattle.ep_bundle.specs.Bytes.{bundle_bytes};
-ghost use Rattle.ep_bundle.specs.Writing.{HasBundles};
 ghost use Rattle.ep_host.specs.Finishing.{IsFinished};
 ghost use Rattle.ep_main.specs.Audits.{SaysOfRun};
 ghost use Rattle.ep_main.specs.Faults.{is_read, is_write};
 ghost use Rattle.ep_main.specs.Hosts.{Promises};
 ghost use Rattle.ep_main.specs.Outputs.{output};
 ghost use Rattle.ep_main.specs.Runs.{IsVerdict, Runs};
+ghost use Rattle.ep_run.specs.Rings.{IsBegun, begun_of};
 ghost use Rattle.ep_main.specs.declared.asked.Emit.TheVariants.{Report, Bundle};
 ghost use Rattle.ep_main.specs.declared.fault.Fault.TheVariants.{Memory};
 ghost use Rattle.ep_main.specs.declared.status.Status.TheVariants.{Accepted};
@@ -20,10 +19,11 @@ use crate::fault::Fault;
 use crate::gathering::gather_bundle;
 use crate::host::Host;
 use crate::judged::Judged;
+use crate::life::life_of;
 use crate::run_options::RunOptions;
 use crate::status::Status;
 use ep_base::{Sink, Source};
-use ep_report::{Losses, refusal, run_report};
+use ep_report::{Findings, Losses, refusal, run_report};
 use ep_run::{Ran, RunFault, run, run_rings};
 use ep_script::{RunScript, read_run};
 use std::alloc::Global;
@@ -63,7 +63,7 @@ fn run_on_host<R: Threads + Wait + Sync>(
     script: &RunScript,
 ) -> Result<Ran, RunFault>
     ensures finished { IfOk result (λ r. IsFinished r.receipts.items r.finished) }
-    ensures version { IfOk result (λ r. r.finished.journals.version ≡ V2) }
+    ensures begun { IfOk result (λ r. IsBegun (begun_of script.now.head) r.finished.journals) }
     ensures promised { IfOk result (Promises options.now.host options.now.turns script.now.sections) }
 {
     let limits = options.limits();
@@ -75,7 +75,6 @@ fn run_on_host<R: Threads + Wait + Sync>(
 
 /// What is printed of a run, and the status by what the audit says of it.
 fn judge_run(alloc: Global, emit: Emit, ran: &Ran) -> Result<Judged, Fault>
-    requires early { HasBundles ran.now.finished.journals.version }
     requires finished { IsFinished ran.now.receipts.items ran.now.finished }
     ensures value { IfOk result (λ j. SaysOfRun emit ran.now j.status j.text.items) }
     ensures accepted { IsOk ran.now.finished.verdict → IfOk result (λ j. j.status ≡ Accepted) }
@@ -100,13 +99,14 @@ fn judge_reported(alloc: Global, ran: &Ran) -> Result<Judged, Fault>
                 refused: ran.refused.as_slice(),
                 lost: ran.lost,
             };
-            let text = run_report(
-                alloc,
-                verdict.committed.as_slice(),
-                verdict.history.as_slice(),
-                ran.receipts.as_slice(),
-                losses,
-            )?;
+            let life = life_of(&ran.finished.journals, verdict);
+            let found = Findings {
+                life: life.as_ref(),
+                committed: verdict.committed.as_slice(),
+                history: verdict.history.as_slice(),
+                receipts: ran.receipts.as_slice(),
+            };
+            let text = run_report(alloc, &found, losses)?;
             Ok(Judged {
                 status: Status::Accepted,
                 text,
@@ -121,7 +121,6 @@ fn judge_reported(alloc: Global, ran: &Ran) -> Result<Judged, Fault>
 
 /// The bundle of a run, whatever the audit says of it.
 fn judge_bundled(alloc: Global, ran: &Ran) -> Result<Judged, Fault>
-    requires early { HasBundles ran.now.finished.journals.version }
     requires finished { IsFinished ran.now.receipts.items ran.now.finished }
     ensures value { IfOk result (λ j. SaysOfRun Bundle ran.now j.status j.text.items) }
     ensures accepted { IsOk ran.now.finished.verdict → IfOk result (λ j. j.status ≡ Accepted) }
@@ -142,7 +141,6 @@ fn judge_bundled(alloc: Global, ran: &Ran) -> Result<Judged, Fault>
 
 /// The bytes of the bundle of what a run left.
 fn bundle_of(alloc: Global, ran: &Ran) -> Result<Vec<u8>, Fault>
-    requires { HasBundles ran.now.finished.journals.version }
     ensures value { IfOk result (λ bytes. bytes.items ≡ bundle_bytes ran.now.finished.journals ran.now.receipts.items) }
     ensures memory { IfErr result (λ e. e ≡ Memory) }
 {

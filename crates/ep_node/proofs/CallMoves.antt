@@ -8,36 +8,42 @@ use Rattle.ep_journal.specs.declared.event.Event.{Event as Happening}
 use Rattle.ep_log.specs.Crashing.{AreFirst}
 use Rattle.ep_replica.specs.Applied.{Applied}
 use Rattle.ep_replica.specs.Kept.{Kept}
-use Rattle.ep_rules.specs.Journals.{IsAmong, IsEntry, left, last_stamp, heard}
+use Rattle.ep_rules.specs.Journals.{IsAmong, IsEntry, left, stamp_after, heard}
 use Rattle.ep_rules.specs.Journals as rules
 use Rattle.ep_rules.specs.States.{fresh_state}
-use Rattle.ep_node.specs.Calls.{CallsAreMoves, IsNode, Makes}
-use Rattle.ep_node.specs.Crashes.{Cluster, no_start, IsTaken, Move, Take, HandOut, ComeBack, mover, moved}
+use Rattle.ep_node.specs.Calls.{CallsAreMoves, IsNode, Makes, StartsFrom}
+use Rattle.ep_node.specs.Crashes.{Cluster, Start, IsTaken, Move, Take, HandOut, ComeBack, mover, moved}
 use Rattle.ep_node.proofs.CrashMoves.{at_same}
 use Rattle.ep_node.proofs.CrashTraces.{at_other}
 use Rattle.ep_node.proofs.Opened.{entries_of-take, length-entries_of}
-use Rattle.ep_rules.specs.OneMap.{opened, empty}
+use Rattle.ep_rules.specs.OneMap.{Contents, opened}
 
 entries_of-push : (es : List Entry) (e : Entry) → entries_of (es ++ e ∷ []) ≡ entries_of es ++ (entry_of e ∷ [])
 entries_of-push [] e = refl
 entries_of-push (x ∷ es) e = ap (λ (l : List rules.Entry). entry_of x ∷ l) (entries_of-push es e)
 
-module _ (f n : ℕ) (c : Cluster) (k : Kept) (h : IsNode f c k n) where
+module _ (start : Start) (f n : ℕ) (c : Cluster) (k : Kept) (h : IsNode start f c k n) where
   count : length (c.journal k.me) ≡ length k.entries
   count = ap (λ (es : List rules.Entry). length es) h.journal ∙ length-entries_of k.entries
 
-  taken : (event : Happening) (e : Entry) (k' : Kept) → Applied k event e k' → IsTaken no_start f k.me (c.journal k.me) (entry_of e)
+  taken : (event : Happening) (e : Entry) (k' : Kept) → Applied k event e k' → IsTaken start f k.me (c.journal k.me) (entry_of e)
   taken event e k' a = record {
-    entry = subst (λ (es : List rules.Entry). IsEntry f k.me (left f k.me (fresh_state (opened empty)) es) (entry_of e)) (sym h.journal)
-        (subst (λ (g : ℕ). IsEntry g k.me (left g k.me (fresh_state (opened empty)) (entries_of k.entries)) (entry_of e)) h.faults a.step);
+    entry = subst (λ (es : List rules.Entry). IsEntry f k.me (left f k.me (fresh_state (opened start.map)) es) (entry_of e)) (sym h.journal)
+        (subst (λ (g : ℕ). IsEntry g k.me (left g k.me (fresh_state (opened start.map)) (entries_of k.entries)) (entry_of e)) h.faults
+        (subst (λ (m : Contents). IsEntry k.faults k.me (left k.faults k.me (fresh_state (opened m)) (entries_of k.entries)) (entry_of e)) h.opening.map a.step));
     number = a.number ∙ ap (λ (m : ℕ). m + 1) (sym count);
-    stamp = subst (λ (es : List rules.Entry). e.stamp ≡ 1 + max (last_stamp es) (heard (event_of e.event))) (sym h.journal)
-        (subst (λ (z : Happening). e.stamp ≡ 1 + max (last_stamp (entries_of k.entries)) (heard (event_of z))) (sym a.event) a.stamp);
+    stamp = subst (λ (es : List rules.Entry). e.stamp ≡ 1 + max (stamp_after (start.since k.me) es) (heard (event_of e.event))) (sym h.journal)
+        (subst (λ (z : Happening). e.stamp ≡ 1 + max (stamp_after (start.since k.me) (entries_of k.entries)) (heard (event_of z))) (sym a.event)
+        (subst (λ (m : ℕ). e.stamp ≡ 1 + max (stamp_after m (entries_of k.entries)) (heard (event_of event))) h.opening.since a.stamp));
     marked = a.marked;
   }
 
-  grown : (e : Entry) → IsNode f (moved c (Take k.me (entry_of e))) (record k { entries = k.entries ++ e ∷ [] }) n
+  of_entries : (es : List Entry) → StartsFrom start (record k { entries = es })
+  of_entries es = record { map = h.opening.map; since = h.opening.since }
+
+  grown : (e : Entry) → IsNode start f (moved c (Take k.me (entry_of e))) (record k { entries = k.entries ++ e ∷ [] }) n
   grown e = record {
+    opening = of_entries (k.entries ++ e ∷ []);
     faults = h.faults;
     member = h.member;
     journal = at_same k.me (c.journal k.me ++ (entry_of e ∷ [])) c.journal ∙ ap (λ (es : List rules.Entry). es ++ (entry_of e ∷ [])) h.journal ∙ sym (entries_of-push k.entries e);
@@ -45,14 +51,15 @@ module _ (f n : ℕ) (c : Cluster) (k : Kept) (h : IsNode f c k n) where
     synced = let more = length-append k.entries (e ∷ []) in let within = h.synced in omega (arith, more, within);
   }
 
-  takes_lem : (k' : Kept) (event : Happening) (e : Entry) → IsAmong c.given (event_of event) → Applied k event e k' → Makes f c (Take k.me (entry_of e)) k' n
+  takes_lem : (k' : Kept) (event : Happening) (e : Entry) → IsAmong c.given (event_of event) → Applied k event e k' → Makes start f c (Take k.me (entry_of e)) k' n
   takes_lem k' event e among a = record {
     move = (h.member, taken event e k' a, subst (λ (z : Happening). IsAmong c.given (event_of z)) (sym a.event) among);
-    node = subst (λ (z : Kept). IsNode f (moved c (Take k.me (entry_of e))) z n) (sym a.appended) (grown e);
+    node = subst (λ (z : Kept). IsNode start f (moved c (Take k.me (entry_of e))) z n) (sym a.appended) (grown e);
   }
 
-  syncs_lem : IsNode f c k (length k.entries)
+  syncs_lem : IsNode start f c k (length k.entries)
   syncs_lem = record {
+    opening = h.opening;
     faults = h.faults;
     member = h.member;
     journal = h.journal;
@@ -60,10 +67,11 @@ module _ (f n : ℕ) (c : Cluster) (k : Kept) (h : IsNode f c k n) where
     synced = omega arith;
   }
 
-  lends_lem : n ≡ length k.entries → Makes f c (HandOut k.me (length k.entries)) k (length k.entries)
+  lends_lem : n ≡ length k.entries → Makes start f c (HandOut k.me (length k.entries)) k (length k.entries)
   lends_lem all = record {
     move = (h.member, record { least = (let out = h.out in omega (arith, out, all)); most = omega (arith, count) });
     node = record {
+      opening = h.opening;
       faults = h.faults;
       member = h.member;
       journal = h.journal;
@@ -75,7 +83,7 @@ module _ (f n : ℕ) (c : Cluster) (k : Kept) (h : IsNode f c k n) where
   first : (es : List Entry) (a : AreFirst n k.entries es) → length es ≡ a.count
   first es a = ap (λ (l : List Entry). length l) a.are ∙ length-take-le a.count k.entries a.most
 
-  comes_back_lem : (es : List Entry) → AreFirst n k.entries es → Makes f c (ComeBack k.me (length es)) (record k { entries = es }) (length es)
+  comes_back_lem : (es : List Entry) → AreFirst n k.entries es → Makes start f c (ComeBack k.me (length es)) (record k { entries = es }) (length es)
   comes_back_lem es a =
       let long = first es a in
       let out = h.out in
@@ -84,6 +92,7 @@ module _ (f n : ℕ) (c : Cluster) (k : Kept) (h : IsNode f c k n) where
       record {
         move = (h.member, record { least = omega (arith, long, out, least); most = omega (arith, long, most, count) });
         node = record {
+          opening = of_entries es;
           faults = h.faults;
           member = h.member;
           journal = at_same k.me (take (length es) (c.journal k.me)) c.journal
@@ -96,8 +105,9 @@ module _ (f n : ℕ) (c : Cluster) (k : Kept) (h : IsNode f c k n) where
         };
       }
 
-  others_lem : (m : Move) → (mover m ≡ k.me → ⊥) → IsNode f (moved c m) k n
+  others_lem : (m : Move) → (mover m ≡ k.me → ⊥) → IsNode start f (moved c m) k n
   others_lem (Take r e) other = record {
+    opening = h.opening;
     faults = h.faults;
     member = h.member;
     journal = at_other r k.me (c.journal r ++ (e ∷ [])) c.journal other ∙ h.journal;
@@ -105,6 +115,7 @@ module _ (f n : ℕ) (c : Cluster) (k : Kept) (h : IsNode f c k n) where
     synced = h.synced;
   }
   others_lem (HandOut r j) other = record {
+    opening = h.opening;
     faults = h.faults;
     member = h.member;
     journal = h.journal;
@@ -112,6 +123,7 @@ module _ (f n : ℕ) (c : Cluster) (k : Kept) (h : IsNode f c k n) where
     synced = h.synced;
   }
   others_lem (ComeBack r j) other = record {
+    opening = h.opening;
     faults = h.faults;
     member = h.member;
     journal = at_other r k.me (take j (c.journal r)) c.journal other ∙ h.journal;
@@ -121,10 +133,11 @@ module _ (f n : ℕ) (c : Cluster) (k : Kept) (h : IsNode f c k n) where
 
 pub calls_are_moves_lem : CallsAreMoves
 calls_are_moves_lem = record {
-  begins = λ f me member. record { faults = refl; member = member; journal = refl; out = omega arith; synced = omega arith };
-  takes = λ f n c k k' event e h among a. takes_lem f n c k h k' event e among a;
-  syncs = λ f n c k h. syncs_lem f n c k h;
-  lends = λ f c k h. lends_lem f (length k.entries) c k h refl;
-  comes_back = λ f n c k es h a. comes_back_lem f n c k h es a;
-  others = λ f n c k m h other. others_lem f n c k h m other;
+  begins = λ f me member. record { opening = record { map = refl; since = refl }; faults = refl; member = member; journal = refl; out = omega arith; synced = omega arith };
+  opens = λ start k opening member none. record { opening = opening; faults = refl; member = member; journal = sym (ap entries_of none); out = omega arith; synced = omega arith };
+  takes = λ start f n c k k' event e h among a. takes_lem start f n c k h k' event e among a;
+  syncs = λ start f n c k h. syncs_lem start f n c k h;
+  lends = λ start f c k h. lends_lem start f (length k.entries) c k h refl;
+  comes_back = λ start f n c k es h a. comes_back_lem start f n c k h es a;
+  others = λ start f n c k m h other. others_lem start f n c k h m other;
 }

@@ -17,10 +17,14 @@ button,input{font:inherit}
 header{display:flex;flex-wrap:wrap;align-items:center;gap:6px 12px;padding:6px 10px;border-bottom:1px solid #ccd2d9;background:#f5f7f9}
 h1{font-size:15px;margin:0}
 #find{flex:1 1 180px;min-width:120px;max-width:380px;padding:3px 7px;border:1px solid #9aa4af;border-radius:4px}
-#count{color:#4b5560}
+#count,#edition{color:#4b5560}
+#edition{max-width:36em;overflow:hidden;text-overflow:ellipsis;white-space:nowrap}
+#edition:empty{display:none}
 #key{display:flex;flex-wrap:wrap;gap:2px 12px;color:#333}
 #key i{display:inline-block;width:16px;height:0;border-top:3px solid;vertical-align:middle;margin-right:4px}
 #key b{display:inline-block;width:9px;height:9px;transform:rotate(45deg);margin:0 5px 0 2px}
+#key u{display:inline-block;width:11px;height:11px;margin:0 5px 0 2px;vertical-align:middle;border:1px solid #222;background:#fff3bf}
+#key u.closed{border:1px dashed #666;background:#ddd}
 main{flex:1;min-height:0;display:flex}
 #side{width:min(380px,34vw);min-width:250px;display:flex;flex-direction:column;border-right:1px solid #ccd2d9}
 #head,.row{display:grid;grid-template-columns:3.4em minmax(0,1.5fr) 3.2em 5.2em minmax(0,1fr);gap:6px;padding:0 8px;height:24px;align-items:center;white-space:nowrap}
@@ -30,6 +34,7 @@ main{flex:1;min-height:0;display:flex}
 .row{position:absolute;left:0;right:0;cursor:pointer;font-family:ui-monospace,'DejaVu Sans Mono',monospace;font-size:12px}
 .row:hover{background:#eef3f8}
 .row.on{background:#d7e8fb}
+.seal{background:#fff3bf}.closed{color:#666;font-style:italic}
 .fast{color:#0a7a4b}.slow{color:#a04a00}.recovered{color:#7a2ea0}.open{color:#777}
 #right{flex:1;min-width:0;display:flex;flex-direction:column}
 #stage{flex:1;min-height:0;position:relative}
@@ -47,6 +52,7 @@ canvas.held{cursor:grabbing}
 <input id=\"find\" type=\"search\" placeholder=\"words of events: put x, NEVER HANDLED, Accept ..\" aria-label=\"words of events\">
 <button id=\"all\" type=\"button\">All events</button>
 <span id=\"count\" role=\"status\"></span>
+<span id=\"edition\"></span>
 <span id=\"key\"></span>
 </header>
 <main>
@@ -66,9 +72,9 @@ canvas.held{cursor:grabbing}
 pub(crate) const TAIL: &[u8] = b"</script>
 <script>
 'use strict';
-// What the page has is what `epaxos show` writes: a line an entry. All else is read off its words.
+// What the page has is what `epaxos show` writes: in version 3 the line of the edition, and then a line an entry. All else is read off its words.
 const told = JSON.parse(document.getElementById('shown').textContent).split('\\n').filter(line => line);
-const lines = told.filter(line => line.startsWith('stamp '));
+const lines = told.filter(line => line.startsWith('stamp ')), edition = told.find(line => line.startsWith('version ')) || '';
 const colors = {PreAccept: '#0b62a8', PreAcceptOK: '#0b62a8', Accept: '#a04a00', AcceptOK: '#a04a00', Commit: '#0a7a4b', Prepare: '#7a2ea0', PrepareOK: '#7a2ea0', Nack: '#444'};
 const letters = {PreAccept: 'PA', PreAcceptOK: 'PAok', Accept: 'A', AcceptOK: 'Aok', Commit: 'C', Prepare: 'P', PrepareOK: 'Pok', Nack: 'N'};
 const pathColors = {fast: '#0a7a4b', slow: '#a04a00', recovered: '#7a2ea0', open: '#777'};
@@ -83,11 +89,13 @@ class Reader {
   ballot() { return [parseInt(this.next().slice(1)), parseInt(this.next())]; }
   command() {
     const op = this.next();
-    if (op === 'noop') return {op, keys: [], text: op};
-    const count = op === 'put' || op === 'swap' ? 2 : 1;
+    let count = {noop: 0, put: 2, swap: 2, cas: 3, ask: 2, act: 2}[op] ?? 1;
+    // (an ask or act has one key or two, and then its body. Behind a command stands seq or (client, and a number behind that, so one of the two
+    // stands here exactly where there are two keys)
+    if ((op === 'ask' || op === 'act') && ['seq', '(client'].includes(this.words[this.at + 3])) count = 3;
     const words = [];
     for (let k = 0; k < count; k++) words.push(this.next());
-    return {op, keys: op === 'swap' ? words : words.slice(0, 1), text: [op, ...words].join(' ')};
+    return {op, text: [op, ...words].join(' ')};
   }
   attributes() { this.next(); this.next(); this.next(); this.bare(); }
   message() {
@@ -169,7 +177,14 @@ for (const it of entries) {
     const from = placeOf.get(`${it.from[0]}:${it.from[1]}`);
     if (from !== undefined) arrows.push({from, to: it.index, kind: it.message.kind, instance: it.message.instance});
   }
-  for (const sent of it.sent) if (sent.lost) arrows.push({from: it.index, to: -1, column: sent.to, kind: sent.message.kind, instance: sent.message.instance});
+  // a message to several replicas on one side has one label there, and another message one below it
+  const named = {'-1': [], '1': []};
+  for (const sent of it.sent) if (sent.lost) {
+    const {kind, instance} = sent.message, words = `${kind} ${instance}`, side = named[Math.sign(sent.to - it.replica)];
+    const isNew = !side.includes(words);
+    if (isNew) side.push(words);
+    arrows.push({from: it.index, to: -1, column: sent.to, kind, instance, label: isNew ? side.length : 0});
+  }
 }
 
 // An instance is committed by the first entry that sends a Commit of it: fast if that replica sent no Accept of it, recovered if it sent a Prepare.
@@ -200,7 +215,16 @@ for (const it of entries) {
     if (!one.reply || done.instance.startsWith(it.replica + '.')) one.reply = done.answer;
   }
 }
-for (const it of entries) if (it.message && it.message.kind === 'Commit' && instanceOf(it.message.instance).path === 'open') instanceOf(it.message.instance).path = 'fast';
+for (const it of entries) if (it.message && it.message.kind === 'Commit') {
+  const one = instanceOf(it.message.instance);
+  if (one.path === 'open') Object.assign(one, {path: 'fast', command: it.message.command.text});
+}
+// An entry is about a seal if it proposes, commits or executes one; it closes if it answers `closed`.
+const isSeal = name => instances.get(name).command.startsWith('seal ');
+for (const it of entries) {
+  it.seals = [it.took, it.commits, ...it.done.map(one => one.instance)].some(name => name && isSeal(name));
+  it.closes = it.done.some(one => one.answer === 'closed');
+}
 const ordered = [...instances.values()].sort((a, b) => {
   const [r, n] = a.name.split('.').map(Number), [q, m] = b.name.split('.').map(Number);
   return r - q || n - m;
@@ -239,6 +263,14 @@ function clamp() {
   view.x = Math.min(0, Math.max(view.x, -wide));
 }
 
+// The mark of a seal, or of what was answered `closed`
+function square(x, y, reach, inside, edge, dashes) {
+  const c = draw2d;
+  c.fillStyle = inside; c.fillRect(x - reach, y - reach, 2 * reach, 2 * reach);
+  c.strokeStyle = edge; c.lineWidth = 1; c.setLineDash(dashes); c.strokeRect(x - reach, y - reach, 2 * reach, 2 * reach);
+  c.setLineDash([]);
+}
+
 let asked = false;
 function paint() {
   if (asked) return;
@@ -274,7 +306,7 @@ function draw() {
       const end = x + way * Math.min(60, columnWidth * 0.4) * zoom, low = y + (far > 1 ? -4 * far : 11) * zoom, s = 4 * Math.max(zoom, 0.4);
       path.path.moveTo(x, y); path.path.lineTo(end, low);
       path.heads.moveTo(end - s, low - s); path.heads.lineTo(end + s, low + s); path.heads.moveTo(end - s, low + s); path.heads.lineTo(end + s, low - s);
-      if (zoom >= 0.8) labels.push([it, end + way * 26 * zoom, low + (far > 1 ? -4 : 4) * zoom]);
+      if (zoom >= 0.8 && it.label) labels.push([it, end + way * 8 * zoom, y + (2 + 14 * (it.label - 1)) * zoom, way]);
       continue;
     }
     const a = X(entries[it.to].replica), b = Y(to), long = Math.hypot(a - x, b - y) || 1, ux = (a - x) / long, uy = (b - y) / long;
@@ -283,7 +315,7 @@ function draw() {
     if (zoom > 0.2) {
       path.heads.moveTo(ex - s * ux + s * 0.45 * uy, ey - s * uy - s * 0.45 * ux); path.heads.lineTo(ex, ey); path.heads.lineTo(ex - s * ux - s * 0.45 * uy, ey - s * uy + s * 0.45 * ux);
     }
-    if (zoom >= 0.8) { const back = Math.min(long * 0.5, 52 * zoom); labels.push([it, ex - ux * back, ey - uy * back]); }
+    if (zoom >= 0.8) { const back = Math.min(long * 0.5, 52 * zoom); labels.push([it, ex - ux * back, ey - uy * back, 0]); }
   }
   c.globalAlpha = zoom < 0.1 ? 0.25 : 1;
   for (const kind in paths) {
@@ -296,9 +328,9 @@ function draw() {
   // names of frames
   c.font = `${11 * Math.min(1.2, Math.max(0.8, zoom))}px ui-monospace,'DejaVu Sans Mono',monospace`;
   c.textAlign = 'center'; c.textBaseline = 'middle';
-  for (const [it, x, y] of labels) {
+  for (const [it, at, y, way] of labels) {
     const text = `${letters[it.kind]} ${it.instance}`;
-    const wide = text.length * 6.7 * Math.min(1.2, Math.max(0.8, zoom));
+    const wide = text.length * 6.7 * Math.min(1.2, Math.max(0.8, zoom)), x = at + way * wide / 2;
     c.fillStyle = '#ffffffe0'; c.fillRect(x - wide / 2, y - 7, wide, 14);
     c.fillStyle = colors[it.kind]; c.fillText(text, x, y);
   }
@@ -306,6 +338,8 @@ function draw() {
   const right = X(count - 1) + across(zoom) * 0.5 + 10;
   for (let k = first; k <= last; k++) {
     const it = rows[k], x = X(it.replica), y = Y(k);
+    if (it.seals) square(x, y, dot + 8 * Math.min(1, 2 * zoom), '#fff3bf', '#222', []);
+    if (it.closes) square(x, y, dot + 5 * Math.min(1, 2 * zoom), '#ddd', '#666', [3, 2]);
     if (it.commits) {
       const s = dot + 3.5 * Math.min(1, 2 * zoom);
       c.fillStyle = pathColors[instances.get(it.commits).path];
@@ -385,7 +419,7 @@ function listRows() {
     row.className = it.name === chosen ? 'row on' : 'row';
     row.style.top = `${k * HIGH}px`;
     row.dataset.name = it.name;
-    for (const [text, of] of [[it.name], [it.command], [it.client], [it.path === 'open' ? 'open' : it.path, it.path], [it.reply]]) {
+    for (const [text, of] of [[it.name], [it.command, isSeal(it.name) ? 'seal' : ''], [it.client], [it.path, it.path], [it.reply, it.reply === 'closed' ? 'closed' : '']]) {
       const cell = document.createElement('span');
       cell.textContent = text; cell.title = text;
       if (of) cell.className = of;
@@ -473,10 +507,17 @@ for (const path of ['fast', 'slow', 'recovered']) if (ordered.some(it => it.path
   item.append(mark, `committed, ${path}`);
   key.append(item);
 }
+for (const [occurs, name, text] of [[ordered.some(it => isSeal(it.name)), 'seal', 'a seal'], [entries.some(it => it.closes), 'closed', 'answered closed']]) if (occurs) {
+  const item = document.createElement('span'), mark = document.createElement('u');
+  mark.className = name;
+  item.append(mark, text);
+  key.append(item);
+}
 if (arrows.some(it => it.to < 0)) key.append('\\u2715 never handled');
 
-// Where no entry is kept, `show` says of how many.
-if (!lines.length && told.length) words.textContent = told[0];
+// The edition, and where no entry is kept, what `show` says of how many.
+document.getElementById('edition').textContent = document.getElementById('edition').title = edition;
+if (!lines.length && told.length > (edition ? 1 : 0)) words.textContent = told[told.length - 1];
 
 new ResizeObserver(resize).observe(stage);
 resize();

@@ -180,7 +180,7 @@ played_all ls i s s' over done = ends PlayAll (λ p. refl) ls i s s' over done
 
 -- All lines.
 
-pub replayed : (plan : Plan) (s s' : Player) (d : Replayed) → IsOpening plan.faults (told s [] []) → Tells s [] [] → Leads (λ p q. PlayAll p plan.lines q) s s'
+pub replayed : (plan : Plan) (s s' : Player) (d : Replayed) → IsOpening plan.head (told s [] []) → Tells s [] [] → Leads (λ p q. PlayAll p plan.lines q) s s'
     → d.journals ≡ collected s'.world → d.receipts.items ≡ s'.receipts.items → d.refused.items ≡ s'.refused.items → IsReplay plan d
 replayed plan s s' d opening t leads journals receipts refused =
     let r = leads [] [] t in

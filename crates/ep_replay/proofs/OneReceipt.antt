@@ -25,7 +25,7 @@ use Rattle.ep_rules.proofs.Places.{Once, once-append, once_filter, has_cons, has
 use Rattle.ep_replica.specs.Receipts.{own_proposal, proposal_of, receipt_of, receipts_for, receipts_of}
 use Rattle.ep_replica.specs.declared.proposal.Proposal.{Proposal}
 use Rattle.ep_replay.specs.Told.{instances_of}
-use Rattle.ep_rules.specs.OneMap.{Store, opened, empty}
+use Rattle.ep_rules.specs.OneMap.{Store}
 
 -- Lists.
 
@@ -66,30 +66,30 @@ its_own me es i h = go (eqb (leader_of i) me) refl h
 
 -- Each instance has one receipt at most, which its leader gave, and executed it.
 
-abbrev executed_by : ℕ → Journals → ℕ → List ℕ
-executed_by f journal r = (left f r (fresh_state (opened empty)) (journal r)).executed
+abbrev executed_by : Store → ℕ → Journals → ℕ → List ℕ
+executed_by base f journal r = (left f r (fresh_state base) (journal r)).executed
 
-pub record Sole (f : ℕ) (journal : Journals) (ts : List Receipt) : Type 0 where
-  pub steps : (r : ℕ) → AreSteps f r (fresh_state (opened empty)) (journal r)
-  pub done : (i : ℕ) → Has (instances_of ts) i → Has (executed_by f journal (leader_of i)) i
+pub record Sole (base : Store) (f : ℕ) (journal : Journals) (ts : List Receipt) : Type 0 where
+  pub steps : (r : ℕ) → AreSteps f r (fresh_state base) (journal r)
+  pub done : (i : ℕ) → Has (instances_of ts) i → Has (executed_by base f journal (leader_of i)) i
   pub once : Once (instances_of ts)
 
-pub none_sole : (f : ℕ) (journal : Journals) → ((r : ℕ) → journal r ≡ []) → Sole f journal []
-none_sole f journal none = record { steps = λ r. subst (λ es. AreSteps f r (fresh_state (opened empty)) es) (sym (none r)) tt; done = λ i h. absurd (omega arith); once = tt }
+pub none_sole : (base : Store) (f : ℕ) (journal : Journals) → ((r : ℕ) → journal r ≡ []) → Sole base f journal []
+none_sole base f journal none = record { steps = λ r. subst (λ es. AreSteps f r (fresh_state base) es) (sym (none r)) tt; done = λ i h. absurd (omega arith); once = tt }
 
 -- one entry more, with its receipts
-module _ (f : ℕ) (old new : Journals) (ts : List Receipt) (r : ℕ) (e : Entry) (here : new r ≡ old r ++ (e ∷ [])) (other : (q : ℕ) → r ≢ q → new q ≡ old q) (step : IsEntry f r (left f r (fresh_state (opened empty)) (old r)) e) (s : Sole f old ts) where
+module _ (base : Store) (f : ℕ) (old new : Journals) (ts : List Receipt) (r : ℕ) (e : Entry) (here : new r ≡ old r ++ (e ∷ [])) (other : (q : ℕ) → r ≢ q → new q ≡ old q) (step : IsEntry f r (left f r (fresh_state base) (old r)) e) (s : Sole base f old ts) where
   abbrev told : List ℕ
   told = instances_of (receipts_of r (new r) e)
 
   told_is : told ≡ filter (gives r (new r)) (order_of e.done)
   told_is = these_told r (new r) e e.done
 
-  executes : executed_by f new r ≡ executed_by f old r ++ order_of e.done
-  executes = ap (λ es. (left f r (fresh_state (opened empty)) es).executed) here ∙ ap (λ (t : State). t.executed) (left_grows f r (fresh_state (opened empty)) (old r) e)
+  executes : executed_by base f new r ≡ executed_by base f old r ++ order_of e.done
+  executes = ap (λ es. (left f r (fresh_state base) es).executed) here ∙ ap (λ (t : State). t.executed) (left_grows f r (fresh_state base) (old r) e)
 
-  once_here : Once (executed_by f old r ++ order_of e.done)
-  once_here = event_once (left f r (fresh_state (opened empty)) (old r)) e.event e.done step.step.executes (steps_once f r (fresh_state (opened empty)) (old r) (s.steps r) tt)
+  once_here : Once (executed_by base f old r ++ order_of e.done)
+  once_here = event_once (left f r (fresh_state base) (old r)) e.event e.done step.step.executes (steps_once f r (fresh_state base) (old r) (s.steps r) tt)
 
   told_here : (i : ℕ) → Has told i → Has (order_of e.done) i × (leader_of i ≡ r)
   told_here i h =
@@ -99,32 +99,32 @@ module _ (f : ℕ) (old new : Journals) (ts : List Receipt) (r : ℕ) (e : Entry
   not_before : (i : ℕ) → Has (instances_of ts) i → ¬ Has told i
   not_before i h k =
       let t = told_here i k in
-      once_apart (executed_by f old r) (order_of e.done) i once_here (subst (λ q. Has (executed_by f old q) i) t.1 (s.done i h)) t.0
+      once_apart (executed_by base f old r) (order_of e.done) i once_here (subst (λ q. Has (executed_by base f old q) i) t.1 (s.done i h)) t.0
 
-  steps_after : (q : ℕ) → AreSteps f q (fresh_state (opened empty)) (new q)
+  steps_after : (q : ℕ) → AreSteps f q (fresh_state base) (new q)
   steps_after q = elim (cases_eq r q) [
-    | inl is ↦ subst (λ z. AreSteps f z (fresh_state (opened empty)) (new z)) is (subst (λ es. AreSteps f r (fresh_state (opened empty)) es) (sym here) (steps_grow f r (fresh_state (opened empty)) (old r) e (s.steps r) step))
-    | inr ne ↦ subst (λ es. AreSteps f q (fresh_state (opened empty)) es) (sym (other q ne)) (s.steps q)
+    | inl is ↦ subst (λ z. AreSteps f z (fresh_state base) (new z)) is (subst (λ es. AreSteps f r (fresh_state base) es) (sym here) (steps_grow f r (fresh_state base) (old r) e (s.steps r) step))
+    | inr ne ↦ subst (λ es. AreSteps f q (fresh_state base) es) (sym (other q ne)) (s.steps q)
   ]
 
-  still_done : (q i : ℕ) → Has (executed_by f old q) i → Has (executed_by f new q) i
+  still_done : (q i : ℕ) → Has (executed_by base f old q) i → Has (executed_by base f new q) i
   still_done q i h = elim (cases_eq r q) [
-    | inl is ↦ subst (λ z. Has (executed_by f new z) i) is (subst (λ l. Has l i) (sym executes) (has_left (executed_by f old r) (order_of e.done) i (subst (λ z. Has (executed_by f old z) i) (sym is) h)))
-    | inr ne ↦ subst (λ es. Has (left f q (fresh_state (opened empty)) es).executed i) (sym (other q ne)) h
+    | inl is ↦ subst (λ z. Has (executed_by base f new z) i) is (subst (λ l. Has l i) (sym executes) (has_left (executed_by base f old r) (order_of e.done) i (subst (λ z. Has (executed_by base f old z) i) (sym is) h)))
+    | inr ne ↦ subst (λ es. Has (left f q (fresh_state base) es).executed i) (sym (other q ne)) h
   ]
 
-  now_done : (i : ℕ) → Has told i → Has (executed_by f new (leader_of i)) i
+  now_done : (i : ℕ) → Has told i → Has (executed_by base f new (leader_of i)) i
   now_done i h =
       let t = told_here i h in
-      subst (λ q. Has (executed_by f new q) i) (sym t.1) (subst (λ l. Has l i) (sym executes) (has_right (executed_by f old r) (order_of e.done) i t.0))
+      subst (λ q. Has (executed_by base f new q) i) (sym t.1) (subst (λ l. Has l i) (sym executes) (has_right (executed_by base f old r) (order_of e.done) i t.0))
 
-  pub more_sole : Sole f new (ts ++ receipts_of r (new r) e)
+  pub more_sole : Sole base f new (ts ++ receipts_of r (new r) e)
   more_sole = record {
     steps = steps_after;
     done = λ i h. elim (has_split (instances_of ts) told i (subst (λ is. Has is i) (both_told ts (receipts_of r (new r) e)) h)) [ inl k ↦ still_done (leader_of i) i (s.done i k) | inr k ↦ now_done i k ];
     once = subst Once (sym (both_told ts (receipts_of r (new r) e)))
         (once-append (instances_of ts) told s.once
-        (subst Once (sym told_is) (once_filter (gives r (new r)) (order_of e.done) (once_right (executed_by f old r) (order_of e.done) once_here))) not_before);
+        (subst Once (sym told_is) (once_filter (gives r (new r)) (order_of e.done) (once_right (executed_by base f old r) (order_of e.done) once_here))) not_before);
   }
 
 -- There are at most as many receipts as instances.

@@ -8,6 +8,7 @@ use Rattle.ep_rules.specs.declared.receipt.Receipt.{Receipt}
 use Rattle.ep_rules.proofs.Merged.{in_split}
 use Rattle.ep_rules.proofs.OwnReceipts.{own_stays_lem}
 use Rattle.ep_journal.specs.Entries.{entry_of, entries_of}
+use Rattle.ep_journal.specs.Openings.{opens}
 use Rattle.ep_journal.specs.declared.entry.Entry.{Entry}
 use Rattle.ep_replica.specs.Kept.{Kept}
 use Rattle.ep_replica.specs.Receipts.{receipts_of, receipts_for, receipts_by, receipts_after}
@@ -15,7 +16,6 @@ use Rattle.ep_world.specs.Played.{Played, entries_in, replica_in, journals_in}
 use Rattle.ep_world.specs.Playing.{Happens, with_entry}
 use Rattle.ep_world.specs.declared.world_event.WorldEvent.{WorldEvent}
 use Rattle.ep_replay.specs.Tables.{AreOwn}
-use Rattle.ep_rules.specs.OneMap.{opened, empty}
 
 pub entries_append : (xs ys : List Entry) → entries_of (xs ++ ys) ≡ entries_of xs ++ entries_of ys
 entries_append [] ys = refl
@@ -71,8 +71,8 @@ last_step w v event h steps p same at =
 pub some_step : (w v : Played) (event : WorldEvent) → Happens w event v → v.steps ≡ [] → ⊥
 some_step w v event h none = let is : length v.steps ≡ length (w.steps ++ (h.replica, h.entry.number) ∷ []) = ap (λ (u : Played). length u.steps) h.becomes in let more : length (w.steps ++ (h.replica, h.entry.number) ∷ []) ≡ length w.steps + 1 = length-append w.steps ((h.replica, h.entry.number) ∷ []) in let zero : length v.steps ≡ 0 = ap length none in omega arith
 
-pub own_here : (v : Played) (r : ℕ) (k : Kept) (rs : List Receipt) → k ≡ replica_in v r → ((t : Receipt) → In t rs → IsOwn (opened empty) k.faults k.me (entries_of k.entries) t) → AreOwn v rs
-own_here v r k rs is own t h = (r, subst (λ (z : Kept). IsOwn (opened empty) z.faults z.me (entries_of z.entries) t) is (own t h))
+pub own_here : (v : Played) (r : ℕ) (k : Kept) (rs : List Receipt) → k ≡ replica_in v r → ((t : Receipt) → In t rs → IsOwn (opens k.opening) k.faults k.me (entries_of k.entries) t) → AreOwn v rs
+own_here v r k rs is own t h = (r, subst (λ (z : Kept). IsOwn (opens z.opening) z.faults z.me (entries_of z.entries) t) is (own t h))
 
 -- Receipts stay own.
 
@@ -85,10 +85,10 @@ with_more (xs ∷ es) (suc r) e zero = ([], sym (append-nil xs))
 with_more (xs ∷ es) (suc r) e (suc q) = with_more es r e q
 
 pub own_still : (w v : Played) (event : WorldEvent) (ts : List Receipt) → Happens w event v → AreOwn w ts → AreOwn v ts
-own_still w v event ts h own t in_ts = subst (λ (u : Played). (r : ℕ) × IsOwn (opened empty) u.faults r (journals_in u r) t) (sym h.becomes) (
+own_still w v event ts h own t in_ts = subst (λ (u : Played). (r : ℕ) × IsOwn (opens u.opening) u.faults r (journals_in u r) t) (sym h.becomes) (
     let o = own t in_ts in
     let more = with_more w.entries h.replica h.entry o.0 in
-    (o.0, subst (λ (es : List rules.Entry). IsOwn (opened empty) w.faults o.0 es t) (sym (ap entries_of more.1 ∙ entries_append (entries_in w o.0) more.0)) (own_stays_lem (opened empty) w.faults o.0 (journals_in w o.0) (entries_of more.0) t o.1)))
+    (o.0, subst (λ (es : List rules.Entry). IsOwn (opens w.opening) w.faults o.0 es t) (sym (ap entries_of more.1 ∙ entries_append (entries_in w o.0) more.0)) (own_stays_lem (opens w.opening) w.faults o.0 (journals_in w o.0) (entries_of more.0) t o.1)))
 
 pub own_all : (v : Played) (ts us : List Receipt) → AreOwn v ts → AreOwn v us → AreOwn v (ts ++ us)
 own_all v ts us a b t h = elim (in_split t ts us h) [ inl before ↦ a t before | inr after ↦ b t after ]

@@ -1,5 +1,6 @@
 pub mod Causes
 pub mod Clients
+pub mod Heads
 pub mod Replays
 pub mod Tables
 pub mod Outcome

@@ -9,7 +9,7 @@ use Rattle.ep_replay.specs.declared.replayed.Replayed.{Replayed}
 pub record IsReplay (script : Plan) (d : Replayed) : Type 0 where
   pub first : Replay
   pub last : Replay
-  pub opening : IsOpening script.faults first
+  pub opening : IsOpening script.head first
   pub played : PlayAll first script.lines last
   pub journals : d.journals ≡ collected last.world
   pub receipts : d.receipts.items ≡ last.receipts

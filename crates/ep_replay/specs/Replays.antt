@@ -8,6 +8,7 @@ use Rattle.ep_journal.specs.Entries.{entry_of}
 use Rattle.ep_journal.specs.declared.step_fault.StepFault.TheVariants.{Memory}
 use Rattle.ep_replica.specs.Receipts.{receipts_of}
 use Rattle.ep_report.specs.declared.cause.Cause.{Cause}
+use Rattle.ep_script.specs.Heads.{Head}
 use Rattle.ep_script.specs.declared.line.Line.{Line}
 use Rattle.ep_script.specs.declared.line.Line.TheVariants.{Propose, GiveUp, Recover, Execute, Deliver, Flush}
 use Rattle.ep_world.specs.Played.{Played, entries_in, journals_in}
@@ -18,6 +19,7 @@ use Rattle.ep_world.specs.declared.world_event.WorldEvent.{WorldEvent}
 use Rattle.ep_world.specs.declared.world_event.WorldEvent.TheVariants as event
 use Rattle.ep_replay.specs.Causes.{cause_of}
 use Rattle.ep_replay.specs.Clients.{times, greatest}
+use Rattle.ep_replay.specs.Heads.{opening_of}
 
 -- how far a script has been replayed
 pub record Replay : Type 0 where
@@ -30,9 +32,11 @@ pub record Replay : Type 0 where
   -- the refused events, each with the number of its line
   pub refused : List (ℕ × Cause)
 
--- nothing was replayed yet
-pub record IsOpening (faults : ℕ) (p : Replay) : Type 0 where
-  pub size : p.world.faults ≡ faults
+-- nothing was replayed yet: the world is as the script's head says
+pub record IsOpening (head : Head) (p : Replay) : Type 0 where
+  pub version : p.world.version ≡ head.version
+  pub size : p.world.faults ≡ head.faults
+  pub opening : p.world.opening ≡ opening_of head.opening
   pub entries : (r : ℕ) → entries_in p.world r ≡ []
   pub steps : p.world.steps ≡ []
   pub messages : p.world.messages ≡ []

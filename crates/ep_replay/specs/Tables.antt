@@ -1,6 +1,7 @@
 -- What a player's tables tell of a replay.
 use Rattle.std.specs.Prelude.{◌≡◌, ◌↔◌, ℕ, suc, ◌≤◌, nat_eq, true, false, Option, Some, None, List, slice_index_or as get_or}
 use Rattle.indexmap.specs.IndexMap.{get}
+use Rattle.ep_journal.specs.Openings.{opens}
 use Rattle.ep_rules.specs.Verdicts.{IsOwn}
 use Rattle.ep_rules.specs.Worlds.{In}
 use Rattle.ep_rules.specs.declared.receipt.Receipt.{Receipt}
@@ -11,7 +12,6 @@ use Rattle.ep_replay.specs.declared.clients.Client.{Client}
 use Rattle.ep_replay.specs.declared.clients.Clients.{Clients}
 use Rattle.ep_replay.specs.declared.given.Given.{Given}
 use Rattle.ep_replay.specs.declared.player.Player.{Player}
-use Rattle.ep_rules.specs.OneMap.{opened, empty}
 
 -- Clients.
 
@@ -38,7 +38,7 @@ pub record AreFlagged (flags : Given) (given : List ℕ) : Type 0 where
 
 -- each is of a command that its replica proposed and executed
 abbrev pub AreOwn : Played → List Receipt → Type 0
-AreOwn w receipts = (t : Receipt) → In t receipts → (r : ℕ) × IsOwn (opened empty) w.faults r (journals_in w r) t
+AreOwn w receipts = (t : Receipt) → In t receipts → (r : ℕ) × IsOwn (opens w.opening) w.faults r (journals_in w r) t
 
 -- Players.
 

@@ -3,7 +3,8 @@
 //! `ep_main` calls `replay`. It numbers each client's requests, hands in the greatest stamp that the client was told, gives
 //! messages by their numbers, and lists what was refused. What it leaves, the audit accepts: that is in its contract.
 //!
-//! Start with `player.rt`, then specs/Replays.antt (what each line plays) and specs/Clients.antt.
+//! Start with `player.rt`, then specs/Replays.antt (what each line plays), specs/Clients.antt, and `heads.rt` (what a script's
+//! head makes of a world before any line).
 //!
 //! All of it is the meaning of a script, as docs/FORMATS.md, sections 4.3 and 4.4, tells it; the protocol is in `ep_world`
 //! and below.
@@ -12,10 +13,12 @@
 mod causes;
 mod clients;
 mod given;
+mod heads;
 mod player;
 mod replayed;
 
 pub use causes::step_cause;
 pub use clients::{Client, Clients};
+pub use heads::{begun, opening_of};
 pub use player::replay;
 pub use replayed::Replayed;

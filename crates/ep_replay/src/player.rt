@@ -1,7 +1,6 @@
 //! Replays of scripts.
 
 ghost use Rattle.std.specs.Prelude.{◌≡◌, ℕ, ◌≤◌, ◌++◌, List, [], false, length, OnOk, IfOk};
-ghost use Rattle.ep_base.specs.declared.version_kind.VersionKind.TheVariants.{V2};
 ghost use Rattle.ep_rules.specs.Audits.{IsAccepted};
 ghost use Rattle.ep_rules.specs.Counts.{AreOnce};
 ghost use Rattle.ep_rules.specs.declared.receipt.Receipt.{Receipt as Told};
@@ -11,6 +10,7 @@ ghost use Rattle.ep_replica.specs.Receipts.{receipts_of};
 ghost use Rattle.ep_world.specs.Played.{Played, collected, journals_in};
 ghost use Rattle.ep_world.specs.Playing.{Happens};
 ghost use Rattle.ep_world.specs.declared.world_event.WorldEvent.{WorldEvent as Event};
+ghost use Rattle.ep_replay.specs.Heads.{opening_of};
 ghost use Rattle.ep_replay.specs.Outcome.{IsReplay};
 ghost use Rattle.ep_replay.specs.Replays.{was_sent};
 ghost use Rattle.ep_replay.specs.Tables.{AreCounted, AreOwn};
@@ -19,11 +19,12 @@ ghost use Rattle.ep_replay.specs.Told.{instances_of};
 use crate::causes::list;
 use crate::clients::Clients;
 use crate::given::Given;
+use crate::heads::begun;
 use crate::replayed::Replayed;
-use ep_base::{Command, ReplicaId, Size};
+use ep_base::{Command, ReplicaId};
 use ep_report::Cause;
 use ep_rules::Receipt;
-use ep_script::{Line, Messages, Script};
+use ep_script::{Head, Line, Messages, Script};
 use ep_world::{World, WorldEvent};
 use std::alloc::{AllocError, Global};
 
@@ -106,12 +107,12 @@ impl Player {
     ghost use Rattle.ep_replay.specs.Replays.{IsOpening, Tries, Gives, Plays, PlayAll, proposal, with_proposer, with_given};
     ghost use Rattle.ep_replay.specs.Tables.{AreOwn, Tells, told, Leads};
 
-    /// A player before any line, with a cluster of this size.
-    fn new(alloc: Global, size: Size) -> Result<Player, AllocError>
-        ensures opening { IfOk result (λ s. IsOpening size (told s [] [])) }
+    /// A player before any line, with the world of this head.
+    fn new(alloc: Global, head: &Head) -> Result<Player, AllocError>
+        ensures opening { IfOk result (λ s. IsOpening head.now (told s [] [])) }
         ensures tells { IfOk result (λ s. Tells s [] []) }
     {
-        let world = World::new(alloc, size)?;
+        let world = begun(alloc, head)?;
         Ok(Player {
             world,
             clients: Clients::new(alloc),
@@ -308,20 +309,21 @@ impl Player {
     }
 }
 
-/// Plays the script in a world of its size. An event that is refused is listed, and the script goes on; want of memory
-/// ends the replay.
+/// Plays the script in a world of its size and version, which opens as its head says. An event that is refused is listed, and the
+/// script goes on; want of memory ends the replay.
 ///
 /// A client's requests are numbered from 1 in the script's order, refused ones included. What it has seen is the
 /// greatest stamp of its receipts so far. After each event the replica that took it gives its receipts: one at most for
 /// each instance, so at most 14,000 in all. The audit accepts what a replay leaves.
 pub fn replay(alloc: Global, script: &Script) -> Result<Replayed, AllocError>
     ensures value { IfOk result (λ d. IsReplay script.now d) }
-    ensures version { IfOk result (λ d. d.journals.version ≡ V2) }
+    ensures version { IfOk result (λ d. d.journals.version ≡ script.now.head.version) }
+    ensures opening { IfOk result (λ d. d.journals.opening ≡ opening_of script.now.head.opening) }
     ensures accepted { IfOk result (λ d. IsAccepted (opens d.journals.opening) d.journals.faults (journals_of d.journals) d.receipts.items) }
     ensures once { IfOk result (λ d. AreOnce (instances_of d.receipts.items)) }
     ensures few { IfOk result (λ d. length d.receipts.items ≤ 14000) }
 {
-    let mut player = Player::new(alloc, script.size())?;
+    let mut player = Player::new(alloc, script.head())?;
     player.play_all(script.lines())?;
     let left = player.end(alloc)?;
     left.journals.are_local_runs();

@@ -10,7 +10,7 @@ use Rattle.ep_journal.specs.declared.entry.Entry.{Entry}
 use Rattle.ep_journal.specs.declared.event.Event.{Event as Happening}
 use Rattle.ep_replica.specs.Applied.{Applied}
 use Rattle.ep_replica.specs.Firsts.{or_spot, first_among, first_done, spot_at, AreFirsts, told_done, told_in, told_at}
-use Rattle.ep_replica.specs.Kept.{Kept, kept_of}
+use Rattle.ep_replica.specs.Kept.{Kept}
 use Rattle.ep_replica.specs.Outcomes.{receipt, or_this, told_among, told_by}
 use Rattle.ep_replica.specs.Receipts.{proposal_of, own_proposal, outcome_of}
 use Rattle.ep_replica.specs.declared.proposal.Proposal.{Proposal}
@@ -45,7 +45,7 @@ firsts_more me n es e old new count firsts noted number low =
     ∙ ap (λ m. or_spot (first_done 0 es (instance_of me number)) (first_among m 0 e.done (instance_of me number))) at
     ∙ sym (done_grows 0 es e (instance_of me number))
 
-pub firsts_next : (j j' : Log) (event : Happening) (r : Entry) (me n : ℕ) (old mid new : List (Option Spot)) → Applied (kept_of j) event r (kept_of j') → me ≡ j'.me → n ≡ length j.entries → AreFirsts j.me j.entries old
+pub firsts_next : (j j' : Log) (event : Happening) (r : Entry) (me n : ℕ) (old mid new : List (Option Spot)) → Applied j event r j' → me ≡ j'.me → n ≡ length j.entries → AreFirsts j.me j.entries old
     → ((number : ℕ) → spot_at mid number ≡ spot_at old number) → ((es : List Entry) → length es ≡ n → AreFirsts me es mid → AreFirsts me (es ++ r ∷ []) new) → AreFirsts j'.me j'.entries new
 firsts_next j j' event r me n old mid new a is count h same marked =
     let em : j'.me ≡ j.me = ap (λ (k : Kept). k.me) a.appended in
@@ -157,7 +157,7 @@ found_first me i n es spots p firsts own at low =
     let this : instance_of me n ≡ i = omega (arith, leads, at) in
     firsts n (omega (arith, at, low)) ∙ ap (first_done 0 es) this
 
-pub searched_none : (l : Log) (k : Kept) (i n : ℕ) (spots : List (Option Spot)) (p : Proposal) → kept_of l ≡ k → AreFirsts l.me l.entries spots → n ≡ number_of i → number_of i ≤ highest_number → None ≡ spot_at spots n
+pub searched_none : (l : Log) (k : Kept) (i n : ℕ) (spots : List (Option Spot)) (p : Proposal) → l ≡ k → AreFirsts l.me l.entries spots → n ≡ number_of i → number_of i ≤ highest_number → None ≡ spot_at spots n
     → Some p ≡ own_proposal k.me (entries_of k.entries) i → None ≡ outcome_of k.me (entries_of k.entries) i
 searched_none l k i n spots p same firsts at low none =
     subst (λ (z : Kept). Some p ≡ own_proposal z.me (entries_of z.entries) i → None ≡ outcome_of z.me (entries_of z.entries) i) same
@@ -165,7 +165,7 @@ searched_none l k i n spots p same firsts at low none =
     let es = entries_of l.entries in
     sym (told_first l.me i es p es (sym own) ∙ told_none l.me i 0 p l.entries (sym (none ∙ found_first l.me i n l.entries spots p firsts own at low))))
 
-pub searched_some : (l : Log) (k : Kept) (i n : ℕ) (spots : List (Option Spot)) (p : Proposal) (s : Spot) → kept_of l ≡ k → AreFirsts l.me l.entries spots → n ≡ number_of i → number_of i ≤ highest_number → Some s ≡ spot_at spots n
+pub searched_some : (l : Log) (k : Kept) (i n : ℕ) (spots : List (Option Spot)) (p : Proposal) (s : Spot) → l ≡ k → AreFirsts l.me l.entries spots → n ≡ number_of i → number_of i ≤ highest_number → Some s ≡ spot_at spots n
     → Some p ≡ own_proposal k.me (entries_of k.entries) i → told_at l.me i p l.entries s ≡ outcome_of k.me (entries_of k.entries) i
 searched_some l k i n spots p s same firsts at low some =
     subst (λ (z : Kept). Some p ≡ own_proposal z.me (entries_of z.entries) i → told_at l.me i p l.entries s ≡ outcome_of z.me (entries_of z.entries) i) same

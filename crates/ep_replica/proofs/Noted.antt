@@ -76,3 +76,8 @@ proposal_is e client request command seen b j is first about i = ap (λ (v : Hap
     go (f ∷ fs) first =
         let same : b ≡ f = (let s : Some b ≡ Some f = first in cc) in
         ap (λ n. cond (eqb n i) (Some (record { client = client; request = request; seen = seen })) None) (sym (about ∙ ap (λ (x : List ℕ). instance_of_message (message_at x)) same))
+
+-- before any entry
+pub nothing_told : (me : ℕ) (es : List Entry) (slots : List (Option Proposal)) → es ≡ [] → slots ≡ [] → Tells me es slots
+nothing_told me es slots none empty number low =
+    ap (λ (xs : List (Option Proposal)). found xs number) empty ∙ sym (ap (λ (xs : List Entry). proposal_of (entries_of xs) (instance_of me number)) none)

@@ -14,7 +14,7 @@ use Rattle.ep_rules.proofs.Merged.{in_split}
 use Rattle.ep_rules.proofs.OneProposal.{proposals_tell_lem}
 use Rattle.ep_replica.specs.Receipts.{proposed_by, proposal_of, or_else, own_proposal, receipt_of, receipts_for, receipts_by, receipts_after}
 use Rattle.ep_replica.specs.declared.proposal.Proposal.{Proposal}
-use Rattle.ep_rules.specs.OneMap.{opened, empty}
+use Rattle.ep_rules.specs.OneMap.{Store}
 
 -- the entry proposes the instance for this request
 pub record Proposer (e : Entry) (i : ℕ) (p : Proposal) : Type 0 where
@@ -84,19 +84,19 @@ in_drop zero es e h = h
 in_drop (suc n) [] e h = absurd h
 in_drop (suc n) (x ∷ es) e h = inr (in_drop n es e h)
 
-proposes : (f me : ℕ) (es : List Entry) (i : ℕ) (p : Proposal) → 0 < f → AreSteps f me (fresh_state (opened empty)) es → proposal_of es i ≡ Some p → (q : Proposes (opened empty) f me es i p.client p.request) × (q.seen ≡ p.seen)
-proposes f me es i p some steps is =
+proposes : (base : Store) (f me : ℕ) (es : List Entry) (i : ℕ) (p : Proposal) → 0 < f → AreSteps f me (fresh_state base) es → proposal_of es i ≡ Some p → (q : Proposes base f me es i p.client p.request) × (q.seen ≡ p.seen)
+proposes base f me es i p some steps is =
     let r = proposer_in es i p is in
-    let q = (proposals_tell_lem (opened empty) f me es some steps i p.client p.request).1 r.0 r.1 r.2.tells in
+    let q = (proposals_tell_lem base f me es some steps i p.client p.request).1 r.0 r.1 r.2.tells in
     let same : Propose p.client p.request q.0.command q.0.seen ≡ Propose p.client p.request r.2.tells.command r.2.tells.seen = sym q.0.event ∙ ap (λ (e : Entry). e.event) q.1 ∙ r.2.tells.event in
     (q.0, (cc) ∙ r.2.same)
 
-pub receipts_are_own : (f me n : ℕ) (es : List Entry) → 0 < f → AreSteps f me (fresh_state (opened empty)) es → (t : Receipt) → In t (receipts_after me n es) → IsOwn (opened empty) f me es t
-receipts_are_own f me n es some steps t h =
+pub receipts_are_own : (base : Store) (f me n : ℕ) (es : List Entry) → 0 < f → AreSteps f me (fresh_state base) es → (t : Receipt) → In t (receipts_after me n es) → IsOwn base f me es t
+receipts_are_own base f me n es some steps t h =
     let r = entry_of_receipt me es (drop n es) t h in
     let o = r.4 in
-    let q = proposes f me es r.1.0 o.proposal some steps o.proposed in
-    subst (λ (t : Receipt). IsOwn (opened empty) f me es t) o.is (record {
+    let q = proposes base f me es r.1.0 o.proposal some steps o.proposed in
+    subst (λ (t : Receipt). IsOwn base f me es t) o.is (record {
       replica = refl;
       leader = o.leads;
       proposed = q.0;

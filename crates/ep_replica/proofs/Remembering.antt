@@ -28,14 +28,13 @@ use Rattle.ep_journal.specs.Events.{event_of}
 use Rattle.ep_journal.specs.declared.entry.Entry.{Entry}
 use Rattle.ep_journal.specs.declared.event.Event.{Event as Happening}
 use Rattle.ep_journal.specs.Leaving.{state_left}
-use Rattle.ep_journal.specs.Openings.{no_opening}
+use Rattle.ep_journal.specs.Openings.{opens}
 use Rattle.ep_journal.proofs.Growing.{state_grows}
 use Rattle.ep_replica.specs.Applied.{Applied}
 use Rattle.ep_replica.specs.Blockers.{is_due, blocker_of, IsBlockedBy, Remembers, about, Grows, Wakes, MayBeSetAside}
 use Rattle.ep_replica.specs.Kept.{Kept}
 use Rattle.ep_replica.specs.Pending.{state_of, IsPending, IsWaiting}
 use Rattle.ep_replica.proofs.Waking.{wakes_more}
-use Rattle.ep_rules.specs.OneMap.{opened, empty}
 
 -- Which instance a step may commit.
 
@@ -85,7 +84,7 @@ commits_about f me s (Execute root) done j = inr refl
 -- the state that the entry leaves
 after : (k : Kept) (taken : Happening) (e : Entry) (k' : Kept) → Applied k taken e k' → state_of k' ≡ leaves k.faults k.me (state_of k) (event_of taken) e.done
 after k taken e k' a =
-    ap state_of a.appended ∙ state_grows no_opening k.faults k.me k.entries e ∙ ap (λ (h : Happening). leaves k.faults k.me (state_of k) (event_of h) e.done) a.event
+    ap state_of a.appended ∙ state_grows k.opening k.faults k.me k.entries e ∙ ap (λ (h : Happening). leaves k.faults k.me (state_of k) (event_of h) e.done) a.event
 
 pub grown : (k : Kept) (taken : Happening) (e : Entry) (k' : Kept) (subject : Option ℕ) → Applied k taken e k' → ((i : ℕ) → about (event_of taken) ≡ Some i → committed_in (state_of k).records i ≡ None → subject ≡ Some i) → Grows k k' subject
 grown k taken e k' subject a named =
@@ -265,8 +264,8 @@ nothing_yet k due blockers new no_due no_blockers = record {
   blocked = λ n le. subst (λ bs. IfSome (blocker_of bs n) (IsBlockedBy k (instance_of k.me n))) (sym no_blockers) tt;
   found = λ n some le p. absurd (
       let i : ℕ = instance_of k.me n in
-      let fresh : committed_in (state_of k).records i ≡ committed_in (fresh_state (opened empty)).records i = ap (λ es. committed_in (state_left no_opening k.faults k.me es).records i) new in
-      let nothing : committed_in (fresh_state (opened empty)).records i ≡ None = ap (λ o. committed_decree (record_or_fresh i o).vote) (none_there i) in
+      let fresh : committed_in (state_of k).records i ≡ committed_in (fresh_state (opens k.opening)).records i = ap (λ es. committed_in (state_left k.opening k.faults k.me es).records i) new in
+      let nothing : committed_in (fresh_state (opens k.opening)).records i ≡ None = ap (λ o. committed_decree (record_or_fresh i o).vote) (none_there i) in
       let e : None ≡ Some p.decree = sym (fresh ∙ nothing) ∙ p.committed in
       cc);
 }

@@ -1,29 +1,23 @@
--- A replica: its journal, which is of version 2 and opens with nothing, and the state that this leaves.
-use Rattle.std.specs.Prelude.{ℕ, List, refl}
-use Rattle.std.specs.Coded.{Coded, code_by, coded×, coded_ℕ, coded_list}
+-- A replica is seen as its journal: its version and opening, the cluster, its number, and its entries. What it knows is what this leaves.
+use Rattle.std.specs.Prelude.{ℕ, List, [], ◌∷◌}
+use Rattle.ep_base.specs.declared.version.Version.{Version}
 use Rattle.ep_base.specs.declared.version_kind.VersionKind.TheVariants.{V2}
 use Rattle.ep_journal.specs.Entries.{Log}
-use Rattle.ep_journal.specs.Leaving as journals
-use Rattle.ep_journal.specs.Openings.{no_opening}
-use Rattle.ep_journal.specs.Standing.{Standing}
-use Rattle.ep_journal.specs.contracts.entry.Entry as entry_facts
-use Rattle.ep_journal.specs.declared.entry.Entry.{Entry}
+use Rattle.ep_journal.specs.Openings.{Opening, no_opening}
 
--- a replica of a cluster in which `faults` may fail, and its journal's entries
-pub record Kept : Type 0 where
-  pub faults : ℕ
-  pub me : ℕ
-  pub entries : List Entry
+-- a replica of a cluster in which `faults` may fail
+abbrev pub Kept : Type 0
+Kept = Log
 
-abbrev pub kept_code : Coded Kept
-kept_code =
-    code_by (ℕ × (ℕ × List Entry)) (coded× coded_ℕ (coded× coded_ℕ (coded_list entry_facts.the_row.coded)))
-    (λ k. (k.faults, (k.me, k.entries))) (λ p. record { faults = p.0; me = p.1.0; entries = p.1.1 }) (λ _. refl)
+-- a replica of version 2, before any event
+abbrev pub begun : ℕ → ℕ → Kept
+begun f me = record { version = V2; faults = f; me = me; opening = no_opening; entries = [] }
 
--- what the replica knows, has executed and stores
-abbrev pub standing : Kept → Standing
-standing k = journals.standing (record { version = V2; faults = k.faults; me = k.me; opening = no_opening; entries = k.entries })
+-- what it starts as: its version, and what it opens with
+abbrev pub start_of : Kept → Version × Opening
+start_of k = (k.version, k.opening)
 
--- the replica whose journal it is
-abbrev pub kept_of : Log → Kept
-kept_of l = record { faults = l.faults; me = l.me; entries = l.entries }
+-- the version of the first of several; all replicas of a cluster have one
+abbrev pub first_version : List Kept → Version
+first_version [] = V2
+first_version (k ∷ ks) = k.version

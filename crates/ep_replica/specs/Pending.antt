@@ -13,7 +13,6 @@ use Rattle.ep_journal.specs.declared.event.Event.TheVariants.{Execute}
 use Rattle.ep_journal.specs.declared.step_fault.StepFault.{StepFault}
 use Rattle.ep_journal.specs.declared.step_fault.StepFault.TheVariants.{Memory, StampFull}
 use Rattle.ep_journal.specs.Leaving.{state_left}
-use Rattle.ep_journal.specs.Openings.{no_opening}
 use Rattle.ep_replica.specs.Applied.{Applied, IsDeclined}
 use Rattle.ep_replica.specs.Kept.{Kept}
 use Rattle.ep_replica.specs.declared.pending.Tried.{Tried}
@@ -21,7 +20,7 @@ use Rattle.ep_replica.specs.declared.pending.Tried.TheVariants.{Executed, Passed
 
 -- the state that the replica's journal leaves
 abbrev pub state_of : Kept → State
-state_of k = state_left no_opening k.faults k.me k.entries
+state_of k = state_left k.opening k.faults k.me k.entries
 
 -- an own instance that is committed and not executed
 pub record IsPending (k : Kept) (i : ℕ) : Type 0 where

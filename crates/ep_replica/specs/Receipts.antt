@@ -8,7 +8,7 @@ use Rattle.ep_rules.specs.Steps.{Frame, Event, Propose, Handle, GiveUp, Recover,
 use Rattle.ep_rules.specs.Verdicts.{Proposes, HasDone}
 use Rattle.ep_rules.specs.declared.receipt.Receipt.{Receipt}
 use Rattle.ep_replica.specs.declared.proposal.Proposal.{Proposal}
-use Rattle.ep_rules.specs.OneMap.{opened, empty}
+use Rattle.ep_rules.specs.OneMap.{Store}
 
 -- the proposal of instance i that an event with these frames is: the first frame is about the instance
 abbrev pub proposed_by : Event → List Frame → ℕ → Option Proposal
@@ -64,12 +64,12 @@ first_about i (t ∷ ts) = cond (eqb t.instance i) (Some t) (first_about i ts)
 abbrev pub outcome_of : ℕ → List Entry → ℕ → Option Receipt
 outcome_of me es i = first_about i (receipts_after me 0 es)
 
--- replica me proposed its own instance i, and executed it
-pub record IsSettled (f me : ℕ) (es : List Entry) (i : ℕ) : Type 0 where
+-- replica me proposed its own instance i, and executed it, from this map on
+pub record IsSettled (base : Store) (f me : ℕ) (es : List Entry) (i : ℕ) : Type 0 where
   pub leader : leader_of i ≡ me
   pub client : ℕ
   pub request : ℕ
-  pub proposed : Proposes (opened empty) f me es i client request
+  pub proposed : Proposes base f me es i client request
   pub number : ℕ
   pub stamp : ℕ
   pub answer : Answer

@@ -1,6 +1,6 @@
 -- Which journal a replica can go on from.
-use Rattle.std.specs.Prelude.{◌≡◌, ◌≢◌, ◌+◌, ◌==◌, ℕ, max, cond, List, [], ◌∷◌, Option, Some, None}
-use Rattle.ep_base.specs.declared.version_kind.VersionKind.TheVariants.{V2}
+use Rattle.std.specs.Prelude.{◌≡◌, ◌+◌, ◌==◌, ℕ, max, cond, List, [], ◌∷◌, Option, Some, None}
+use Rattle.ep_base.specs.declared.version_kind.VersionKind.TheVariants.{V1}
 use Rattle.ep_rules.specs.Journals.{heard}
 use Rattle.ep_rules.specs.Journals as rules
 use Rattle.ep_journal.specs.Entries.{Log, entries_of}
@@ -15,5 +15,5 @@ first_unclocked last (e ∷ es) = cond (e.stamp == 1 + max last (heard e.event))
 -- why no replica goes on from the journal
 abbrev pub IsNoReplica : Log → ResumeFault → Type 0
 IsNoReplica j Memory = Unit {0}
-IsNoReplica j OtherVersion = j.version ≢ V2
-IsNoReplica j (NotClocked number) = first_unclocked 0 (entries_of j.entries) ≡ Some number
+IsNoReplica j OtherVersion = j.version ≡ V1
+IsNoReplica j (NotClocked number) = first_unclocked j.opening.since (entries_of j.entries) ≡ Some number

@@ -2,10 +2,13 @@
 
 use crate::replica::Replica;
 use ep_base::{InstanceId, Key, Value};
+use ep_exec::{Contents, ContentsFault};
 use ep_phase::LeadPhase;
 
 impl Replica {
-    ghost use Rattle.std.specs.Prelude.{◌≡◌, option_copied};
+    ghost use Rattle.std.specs.FinMap.{entries};
+    ghost use Rattle.std.specs.Prelude.{◌≡◌, option_copied, IfOk, IfErr};
+    ghost use Rattle.ep_exec.specs.Sorting.{IsBad};
     ghost use Rattle.ep_phase.specs.Progress.{progress_in};
     ghost use Rattle.ep_rules.specs.Maps as maps;
     ghost use Rattle.ep_rules.specs.OneMap.{value_at};
@@ -19,6 +22,22 @@ impl Replica {
         ensures { option_copied result ≡ value_at (state_of self.now).store.contents key.now }
     {
         self.journal().value(key)
+    }
+
+    /// What the keys of its map have, after all that it executed, in rising order of keys: a copy. `OutOfRange` where a key isn't of 1 to 255 bytes,
+    /// as each command's are.
+    pub fn contents(&self) -> Result<Contents, ContentsFault>
+        ensures ok { IfOk result (λ c. c ≡ (state_of self.now).store.contents) }
+        ensures refused { IfErr result (λ fault. IsBad (entries (state_of self.now).store.contents) fault) }
+    {
+        self.journal().contents()
+    }
+
+    /// The value of the seal that closed its map, if it executed one.
+    pub fn seal(&self) -> Option<&Value>
+        ensures { option_copied result ≡ (state_of self.now).store.seal }
+    {
+        self.journal().seal()
     }
 
     /// The phase in which it leads the instance, and how many other replicas answered in it, 0 to 6; none where it doesn't lead it.

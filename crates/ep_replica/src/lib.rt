@@ -8,8 +8,8 @@
 //! program asks beside is in `asking.rt`; where instances were first executed, in `firsts.rt`.
 //!
 //! It keeps to `ep_journal`'s step, with the number and the stamp of its own clock, and its state is what its journal leaves,
-//! by its type. It is of version 2, which is said in `Replica::new` and specs/Kept.antt. No disk, no socket, no time and no
-//! thread is in here; leave those to the program.
+//! by its type. `Replica::new` makes one of version 2, and `Replica::opened` one of a generation, with an opening; both are one
+//! type, and every clause is over both. No disk, no socket, no time and no thread is in here; leave those to the program.
 #![tactic(auto)]
 
 mod asking;
@@ -18,6 +18,7 @@ mod clock;
 mod due;
 mod entry_receipts;
 mod firsts;
+mod opening_fault;
 mod pending;
 mod proposal;
 mod proposing;
@@ -31,6 +32,7 @@ mod span;
 mod spot;
 
 pub use ep_phase::LeadPhase;
+pub use opening_fault::OpeningFault;
 pub use proposal::Proposal;
 pub use receipt_view::ReceiptView;
 pub use replica::Replica;

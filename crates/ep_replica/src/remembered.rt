@@ -4,10 +4,9 @@ ghost use Rattle.std.specs.Prelude.{◌≡◌, ◌≤◌, ◌<◌, ℕ, [], Some
 ghost use Rattle.ep_base.specs.Instances.{highest_number, instance_of};
 ghost use Rattle.ep_journal.specs.Events.{event_of};
 ghost use Rattle.ep_journal.specs.Leaving.{standing};
-ghost use Rattle.ep_journal.specs.Openings.{no_opening};
 ghost use Rattle.ep_rules.specs.States.{committed_in};
 ghost use Rattle.ep_replica.specs.Blockers.{is_due, blocker_of, about, Grows, Remembers, MayBeSetAside};
-ghost use Rattle.ep_replica.specs.Kept.{Kept, kept_of};
+ghost use Rattle.ep_replica.specs.Kept.{Kept};
 
 use crate::blockers::Blockers;
 use crate::due::Due;
@@ -78,7 +77,7 @@ impl Remembered {
     /// Notes that the instance was committed, if it was: it is due where it is the replica's own, and so is what it blocked.
     pub(crate) fn note(&mut self, journal: &Journal, subject: Option<InstanceId>)
         requires room { (highest_number < length self.old.due) × (highest_number < length self.old.blockers) }
-        ensures { (k : Kept) → journal.now.opening ≡ no_opening → Grows k (kept_of journal.now) subject → Remembers k self.old.due self.old.blockers → Remembers (kept_of journal.now) self.new.due self.new.blockers }
+        ensures { (k : Kept) → Grows k journal.now subject → Remembers k self.old.due self.old.blockers → Remembers journal.now self.new.due self.new.blockers }
     {
         let Some(instance) = subject else {
             return;

@@ -8,12 +8,12 @@ use ep_frame::FrameFault;
 use ep_journal::StepFault;
 use thiserror::Error;
 
-/// Why an event was not applied: the bytes are no frame of version 2; or a `StepFault`, whose instance is told by its two numbers. The replica is then as it was.
+/// Why an event was not applied: the bytes are no frame of the replica's version and generation; or a `StepFault`, whose instance is told by its two numbers. The replica is then as it was.
 #[derive(Clone, Copy, Debug, PartialEq, Eq, Error)]
 pub enum ReplicaFault {
     #[error("E1 memory")]
     Memory,
-    /// The bytes to be handled are no frame; or, with `Version`, the frame is of version 1.
+    /// The bytes to be handled are no frame; or, with `Version` or `Generation`, the frame is of another one.
     #[error("E14 bad frame")]
     BadFrame(FrameFault),
     /// A replica's number is not below the cluster's size, a no-op is proposed, or a client or a request is 0.
@@ -22,7 +22,7 @@ pub enum ReplicaFault {
     /// The frame is for another replica.
     #[error("E13 not mine")]
     NotMine,
-    /// The entry's stamp or number would pass its limit.
+    /// The entry's stamp or number would pass its limit; or, in a generation, the event tells of a stamp more than 2^40 above the last one.
     #[error("E15 stamp full")]
     StampFull,
     /// The replica has a record of each of its 2,000 instances.

@@ -11,7 +11,7 @@ use thiserror::Error;
 pub enum ResumeFault {
     #[error("E1 memory")]
     Memory,
-    /// The journal is of version 1, and has to be upgraded first; or of version 3. These replicas are of version 2.
+    /// The journal is of version 1, and has to be upgraded first.
     #[error("the journal is of another version")]
     OtherVersion,
     /// The stamp of the entry of this number is not the one that a replica's clock gives it: one more than the greatest stamp that the replica knew.

@@ -19,11 +19,34 @@ text_of_append (l ∷ ls) more =
 pub longer_text : (a b : List ℕ) (ls more : List (List ℕ)) → a ≡ text_of ls → b ≡ a ++ text_of more → b ≡ text_of (ls ++ more)
 longer_text a b ls more e f = f ∙ ap (λ (t : List ℕ). t ++ text_of more) e ∙ sym (text_of_append ls more)
 
--- three parts below a first line
-pub text_of_parts : (first : List ℕ) (p q r : List (List ℕ)) (a b c d : List ℕ) →
-    a ≡ first ++ codes "\n" → b ≡ a ++ text_of p → c ≡ b ++ text_of q → d ≡ c ++ text_of r → d ≡ text_of (first ∷ p ++ q ++ r)
-text_of_parts first p q r a b c d e f g h =
-    longer_text c d (first ∷ p ++ q) r (longer_text b c (first ∷ p) q (longer_text a b (first ∷ []) p (e ∙ sym (append-nil (first ++ codes "\n"))) f) g) h
+-- one part more
+pub and_more : (o a b x y : List ℕ) → x ≡ o ++ a → y ≡ x ++ b → y ≡ o ++ (a ++ b)
+and_more o a b x y e f = f ∙ ap (λ (t : List ℕ). t ++ b) e ∙ append_assoc o a b
+
+-- the parts of a generation's line in a chain
+pub link_told : (o g c cs h hs blank closing contents : List ℕ) (t1 t2 t3 t4 t5 t6 t7 t8 t9 whole : List ℕ) →
+    t1 ≡ o ++ g → t2 ≡ t1 ++ c → t3 ≡ t2 ++ cs → t4 ≡ t3 ++ h → t5 ≡ t4 ++ hs → t6 ≡ t5 ++ blank → t7 ≡ t6 ++ closing → t8 ≡ t7 ++ blank → t9 ≡ t8 ++ contents → whole ≡ t9 ++ codes "\n" →
+    whole ≡ o ++ (g ++ c ++ cs ++ h ++ hs ++ blank ++ closing ++ blank ++ contents) ++ codes "\n"
+link_told o g c cs h hs blank closing contents t1 t2 t3 t4 t5 t6 t7 t8 t9 whole is1 is2 is3 is4 is5 is6 is7 is8 is9 last =
+    last
+    ∙ ap (λ (t : List ℕ). t ++ codes "\n") (
+    and_more o (g ++ c ++ cs ++ h ++ hs ++ blank ++ closing ++ blank) contents t8 t9
+    (and_more o (g ++ c ++ cs ++ h ++ hs ++ blank ++ closing) blank t7 t8
+    (and_more o (g ++ c ++ cs ++ h ++ hs ++ blank) closing t6 t7
+    (and_more o (g ++ c ++ cs ++ h ++ hs) blank t5 t6
+    (and_more o (g ++ c ++ cs ++ h) hs t4 t5 (and_more o (g ++ c ++ cs) h t3 t4 (and_more o (g ++ c) cs t2 t3 (and_more o g c t1 t2 is1 is2) is3) is4) is5)
+    is6)
+    is7)
+    is8)
+    is9)
+
+-- five parts below a first line
+pub text_of_parts : (first : List ℕ) (p q r s t : List (List ℕ)) (a b c d e f : List ℕ) →
+    a ≡ first ++ codes "\n" → b ≡ a ++ text_of p → c ≡ b ++ text_of q → d ≡ c ++ text_of r → e ≡ d ++ text_of s → f ≡ e ++ text_of t → f ≡ text_of (first ∷ p ++ q ++ r ++ s ++ t)
+text_of_parts first p q r s t a b c d e f is1 is2 is3 is4 is5 is6 =
+    longer_text e f (first ∷ p ++ q ++ r ++ s) t
+    (longer_text d e (first ∷ p ++ q ++ r) s (longer_text c d (first ∷ p ++ q) r (longer_text b c (first ∷ p) q (longer_text a b (first ∷ []) p (is1 ∙ sym (append-nil (first ++ codes "\n"))) is2) is3) is4) is5)
+    is6
 
 -- what follows a text is of one piece
 one_piece : (o a b c d e : List ℕ) → o ++ a ++ b ++ c ++ d ++ e ≡ o ++ (a ++ b ++ c ++ d ++ e)

@@ -1,3 +1,5 @@
 pub mod Parts
+pub mod Contents
+pub mod Lives
 pub mod Refusals
 pub mod Reports

@@ -4,6 +4,9 @@ use Rattle.ep_report.specs.Parts.{instance_text}
 use Rattle.ep_report.specs.declared.cause.Cause.{Cause}
 use Rattle.ep_report.specs.declared.cause.Cause.TheVariants.{Memory, OutOfRange, SpaceFull, SeqExhausted, NotLeading, TooFewAnswers, AlreadyCommitted, BallotsExhausted, NotCommitted, NotMine, BadFrame, StampFull, NoSuchMessage}
 use Rattle.ep_report.specs.declared.audit_fault.AuditFault.{AuditFault}
+use Rattle.ep_report.specs.declared.chain_fault.ChainFault.{ChainFault}
+use Rattle.ep_report.specs.declared.chain_fault.ChainFault.TheVariants as chain
+use Rattle.ep_script.specs.Word.{word_of}
 use Rattle.ep_rules.specs.Audits.{Fault, UnsentFrame, ChangedFrame, StampOrder, UnknownReceipt, CallerOrder}
 
 -- why an event was refused
@@ -41,3 +44,11 @@ fault_of (AuditFault.ChangedFrame replica entry) = ChangedFrame replica entry
 fault_of (AuditFault.StampOrder replica entry) = StampOrder replica entry
 fault_of (AuditFault.UnknownReceipt place) = UnknownReceipt place
 fault_of (AuditFault.CallerOrder place) = CallerOrder place
+
+-- why the audit refuses a generation of a chain
+abbrev pub chain_fault_text : ChainFault → List ℕ
+chain_fault_text (chain.Audit fault) = fault_text (fault_of fault)
+chain_fault_text chain.NotConsecutive = codes "A6 not consecutive"
+chain_fault_text (chain.OpeningDiffers key) = codes "A7 opening differs at key " ++ word_of key
+chain_fault_text chain.StampsGoBack = codes "A8 stamps go back"
+chain_fault_text chain.NotClosed = codes "A9 not closed"

@@ -1,11 +1,13 @@
 -- What the program prints of a run.
-use Rattle.std.specs.Prelude.{ℕ, ◌+◌, List, [], ◌∷◌, ◌++◌, length, map, codes, decimal}
+use Rattle.std.specs.Prelude.{ℕ, ◌+◌, List, [], ◌∷◌, ◌++◌, Option, length, map, codes, decimal}
 use Rattle.ep_base.specs.declared.decree.Decree.{Decree}
 use Rattle.ep_rules.specs.Audits.{Fault}
 use Rattle.ep_rules.specs.declared.receipt.Receipt.{Receipt}
+use Rattle.ep_report.specs.Lives.{Life, generation_lines, closing_lines}
 use Rattle.ep_report.specs.Parts.{instance_text, deps_text, command_text, reply_text, answer_text}
-use Rattle.ep_report.specs.Refusals.{cause_text, fault_text}
+use Rattle.ep_report.specs.Refusals.{cause_text, fault_text, chain_fault_text}
 use Rattle.ep_report.specs.declared.cause.Cause.{Cause}
+use Rattle.ep_report.specs.declared.chain_fault.ChainFault.{ChainFault}
 use Rattle.ep_report.specs.declared.happening.Happening.{Happening}
 
 -- each line ends by a line feed
@@ -38,12 +40,15 @@ receipt_line t = codes "client " ++ decimal t.client ++ codes " request " ++ dec
 abbrev pub refused_line : ℕ × Cause → List ℕ
 refused_line e = codes "line " ++ decimal e.0 ++ codes " " ++ cause_text e.1
 
--- what the audit accepts: what is committed, the history, and the receipts
-abbrev pub accepted_lines : List (ℕ × Decree) → List Happening → List Receipt → List (List ℕ)
-accepted_lines committed history receipts =
+-- what the audit accepts: in version 3 which generation it is, what is committed, the history, in version 3 the first seal and what the keys then have, and
+-- the receipts
+abbrev pub accepted_lines : Option Life → List (ℕ × Decree) → List Happening → List Receipt → List (List ℕ)
+accepted_lines life committed history receipts =
     codes "verdict accepted"
-    ∷ counted (codes "committed") (map committed_line committed)
+    ∷ generation_lines life
+    ++ counted (codes "committed") (map committed_line committed)
     ++ counted (codes "history") (history_lines 1 history)
+    ++ closing_lines life
     ++ counted (codes "receipts") (map receipt_line receipts)
 
 -- the events that were refused
@@ -55,13 +60,17 @@ abbrev pub lost_line : ℕ → List ℕ
 lost_line lost = codes "lost " ++ decimal lost
 
 -- what a replay prints
-abbrev pub replay_lines : List (ℕ × Decree) → List Happening → List Receipt → List (ℕ × Cause) → List (List ℕ)
-replay_lines committed history receipts refused = accepted_lines committed history receipts ++ refused_lines refused
+abbrev pub replay_lines : Option Life → List (ℕ × Decree) → List Happening → List Receipt → List (ℕ × Cause) → List (List ℕ)
+replay_lines life committed history receipts refused = accepted_lines life committed history receipts ++ refused_lines refused
 
 -- what a run prints: the same, and how many frames were lost
-abbrev pub run_lines : List (ℕ × Decree) → List Happening → List Receipt → List (ℕ × Cause) → ℕ → List (List ℕ)
-run_lines committed history receipts refused lost = replay_lines committed history receipts refused ++ lost_line lost ∷ []
+abbrev pub run_lines : Option Life → List (ℕ × Decree) → List Happening → List Receipt → List (ℕ × Cause) → ℕ → List (List ℕ)
+run_lines life committed history receipts refused lost = replay_lines life committed history receipts refused ++ lost_line lost ∷ []
 
 -- the audit's refusal
 abbrev pub refusal_lines : Fault → List (List ℕ)
 refusal_lines fault = codes "verdict refused" ∷ fault_text fault ∷ []
+
+-- the audit's refusal of a chain: its first generation that has a fault, and that fault
+abbrev pub chain_refusal_lines : ℕ → ChainFault → List (List ℕ)
+chain_refusal_lines generation fault = codes "verdict refused" ∷ (codes "generation " ++ decimal generation) ∷ chain_fault_text fault ∷ []

@@ -1,17 +1,23 @@
 //! Whole reports.
 
 ghost use Rattle.std.specs.Prelude.{◌≡◌, ◌++◌, OnOk, IfOk, codes, map};
+ghost use Rattle.std.specs.Option.{option_copied};
+ghost use Rattle.ep_report.specs.Lives.{generation_lines, closing_lines};
 ghost use Rattle.ep_report.specs.Refusals.{fault_of};
-ghost use Rattle.ep_report.specs.Reports.{text_of, counted, committed_line, history_lines, receipt_line, accepted_lines, refused_lines, run_lines, refusal_lines};
+ghost use Rattle.ep_report.specs.Reports.{text_of, counted, committed_line, history_lines, receipt_line, accepted_lines, refused_lines, replay_lines, run_lines, refusal_lines, chain_refusal_lines};
 
 use crate::audit_fault::AuditFault;
 use crate::cause::Cause;
+use crate::chain_fault::{ChainFault, push_chain_fault};
+use crate::findings::Findings;
 use crate::happening::Happening;
+use crate::life::Life;
 use crate::lines::{
-    push_committed_line, push_heading, push_history_line, push_lost_line, push_receipt_line,
-    push_refused_line,
+    push_closing, push_committed_line, push_contents_line, push_generation, push_heading,
+    push_history_line, push_lost_line, push_receipt_line, push_refused_line,
 };
 use crate::losses::Losses;
+use crate::parts::push_number;
 use ep_base::{Decree, InstanceId};
 use ep_rules::Receipt;
 use std::alloc::{AllocError, Global};
@@ -67,20 +73,43 @@ fn push_refused(
     Ok(())
 }
 
-/// The report of what an audit accepts: the committed instances with their decrees, the history, and the receipts, each
-/// in the order given.
-pub fn accepted(
-    alloc: Global,
-    committed: &[(InstanceId, Decree)],
-    history: &[Happening],
-    receipts: &[Receipt],
-) -> Result<Vec<u8>, AllocError>
-    ensures { IfOk result (λ t. t.items ≡ text_of (accepted_lines committed.now history.now receipts.now)) }
+// Appends which generation it is, in version 3.
+fn push_generation_lines(text: &mut Vec<u8>, life: Option<&Life<'_>>) -> Result<(), AllocError>
+    ensures { OnOk result (text.new.items ≡ text.old.items ++ text_of (generation_lines (option_copied life.entry))) }
+{
+    let Some(life) = life else {
+        return Ok(());
+    };
+    push_generation(text, life)?;
+    text.push(b'\n')?;
+    Ok(())
+}
+
+// Appends the first seal and what the keys have after the history, in version 3.
+fn push_closing_lines(text: &mut Vec<u8>, life: Option<&Life<'_>>) -> Result<(), AllocError>
+    ensures { OnOk result (text.new.items ≡ text.old.items ++ text_of (closing_lines (option_copied life.entry))) }
+{
+    let Some(life) = life else {
+        return Ok(());
+    };
+    push_closing(text, life.closing())?;
+    text.push(b'\n')?;
+    push_contents_line(text, life.contents())?;
+    text.push(b'\n')?;
+    Ok(())
+}
+
+/// The report of what an audit accepts: in version 3 its generation, the committed instances with their decrees, the history, in version 3 the
+/// first seal and what the keys have after the history, and the receipts.
+pub fn accepted(alloc: Global, found: &Findings<'_>) -> Result<Vec<u8>, AllocError>
+    ensures { IfOk result (λ t. t.items ≡ text_of (accepted_lines (option_copied found.now.life) found.now.committed.now found.now.history.now found.now.receipts.now)) }
 {
     let mut text = Vec::from_slice(alloc, b"verdict accepted\n")?;
-    push_committed(&mut text, committed)?;
-    push_history(&mut text, history)?;
-    push_receipts(&mut text, receipts)?;
+    push_generation_lines(&mut text, found.life)?;
+    push_committed(&mut text, found.committed)?;
+    push_history(&mut text, found.history)?;
+    push_closing_lines(&mut text, found.life)?;
+    push_receipts(&mut text, found.receipts)?;
     Ok(text)
 }
 
@@ -88,14 +117,12 @@ pub fn accepted(
 /// refused, each with its cause, in the order given.
 pub fn report(
     alloc: Global,
-    committed: &[(InstanceId, Decree)],
-    history: &[Happening],
-    receipts: &[Receipt],
+    found: &Findings<'_>,
     refused: &[(u32, Cause)],
 ) -> Result<Vec<u8>, AllocError>
-    ensures { IfOk result (λ t. t.items ≡ text_of (accepted_lines committed.now history.now receipts.now ++ refused_lines refused.now)) }
+    ensures { IfOk result (λ t. t.items ≡ text_of (replay_lines (option_copied found.now.life) found.now.committed.now found.now.history.now found.now.receipts.now refused.now)) }
 {
-    let mut text = accepted(alloc, committed, history, receipts)?;
+    let mut text = accepted(alloc, found)?;
     push_refused(alloc, &mut text, refused)?;
     Ok(text)
 }
@@ -104,14 +131,12 @@ pub fn report(
 /// counts the frames that were lost.
 pub fn run_report(
     alloc: Global,
-    committed: &[(InstanceId, Decree)],
-    history: &[Happening],
-    receipts: &[Receipt],
+    found: &Findings<'_>,
     losses: Losses<'_>,
 ) -> Result<Vec<u8>, AllocError>
-    ensures { IfOk result (λ t. t.items ≡ text_of (run_lines committed.now history.now receipts.now losses.entry.refused.now losses.entry.lost)) }
+    ensures { IfOk result (λ t. t.items ≡ text_of (run_lines (option_copied found.now.life) found.now.committed.now found.now.history.now found.now.receipts.now losses.entry.refused.now losses.entry.lost)) }
 {
-    let mut text = report(alloc, committed, history, receipts, losses.refused)?;
+    let mut text = report(alloc, found, losses.refused)?;
     push_lost_line(&mut text, losses.lost)?;
     Ok(text)
 }
@@ -122,6 +147,22 @@ pub fn refusal(alloc: Global, fault: AuditFault) -> Result<Vec<u8>, AllocError>
 {
     let mut text = Vec::from_slice(alloc, b"verdict refused\n")?;
     text.extend_from_slice(fault.to_string(alloc)?.as_bytes())?;
+    text.push(b'\n')?;
+    Ok(text)
+}
+
+/// The report of what an audit refuses in a chain: the number of the first generation that has a fault, and its first fault.
+pub fn chain_refusal(
+    alloc: Global,
+    generation: u32,
+    fault: &ChainFault,
+) -> Result<Vec<u8>, AllocError>
+    ensures { IfOk result (λ t. t.items ≡ text_of (chain_refusal_lines generation fault.now)) }
+{
+    let mut text = Vec::from_slice(alloc, b"verdict refused\ngeneration ")?;
+    push_number(&mut text, u64::from(generation))?;
+    text.push(b'\n')?;
+    push_chain_fault(&mut text, fault)?;
     text.push(b'\n')?;
     Ok(text)
 }

@@ -17,7 +17,7 @@ use Rattle.ep_rules.specs.declared.receipt.Receipt.{Receipt}
 use Rattle.ep_script.specs.Plan.{SectionPlan}
 use Rattle.ep_run.specs.Asking.{asked_in}
 use Rattle.ep_run.specs.Lines.{left, Line, asks, event_made, made_at, refused_in, AreBeginnings, AreDone}
-use Rattle.ep_run.specs.Rings.{fate_of, next_fate, without_next, lines_of, tasks_at, HasRun}
+use Rattle.ep_run.specs.Rings.{fate_of, next_fate, without_next, lines_of, tasks_at, Begun, HasRun}
 use Rattle.ep_run.specs.declared.ran.Ran.{Ran}
 use Rattle.ep_run.specs.declared.ring_run.RingRun.{RingRun}
 use Rattle.ep_run.proofs.Running.{blank}
@@ -124,9 +124,9 @@ Refuses sections told nodes =
 
 -- what the lines became
 pub are_done :
-    (f turns : ℕ) (sections : List SectionPlan) (s : RingRun) (ran : Ran) → HasRun f turns sections s → ran.finished.journals.entries ≡ entries_in (replicas_in s.nodes.items) → ran.receipts.items ≡ s.receipts.items →
+    (b : Begun) (turns : ℕ) (sections : List SectionPlan) (s : RingRun) (ran : Ran) → HasRun b turns sections s → ran.finished.journals.entries ≡ entries_in (replicas_in s.nodes.items) → ran.receipts.items ≡ s.receipts.items →
     (nodes : List Node) → nodes ≡ s.nodes.items → Refuses sections ran.refused.items nodes → AreDone turns sections ran
-are_done f turns sections s ran h journals receipts from same refuses =
+are_done b turns sections s ran h journals receipts from same refuses =
     let told : Refuses sections ran.refused.items s.nodes.items = subst (λ (l : List Node). Refuses sections ran.refused.items l) same refuses in
     let uses : ℕ → List Use = λ r. (h.used r).used in
     let asked = asked_in [] sections h.before in

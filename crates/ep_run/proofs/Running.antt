@@ -7,7 +7,7 @@ use Rattle.std.proofs.lemmas.Bool.{cases_lt}
 use Rattle.std.proofs.lemmas.Bool.Decides.{eqb_tells}
 use mathlib.Core.List.{IsPrefix}
 use Rattle.ep_host.specs.Follows.{Works}
-use Rattle.ep_host.specs.Host.{IsHost, IsFresh}
+use Rattle.ep_host.specs.Host.{IsHost, IsFresh, StartsAs}
 use Rattle.ep_host.specs.Node.{Node, fresh_node}
 use Rattle.ep_host.specs.Pointwise.{Each}
 use Rattle.ep_host.specs.RingFinishing.{replicas_in, their_journals}
@@ -15,10 +15,10 @@ use Rattle.ep_host.specs.Tasks.{Use, tasks_in, events_in, refusals_in, place_aft
 use Rattle.ep_host.specs.Turns.{AssignsAt}
 use Rattle.ep_host.specs.declared.task.Task.{Task}
 use Rattle.ep_host.proofs.Following.{tasks_both, events_both, asked_both, refusals_both, places_both, entries_both}
-use Rattle.ep_journal.specs.Entries.{entries_of}
+use Rattle.ep_journal.specs.Entries.{entries_of, first_opening}
 use Rattle.ep_journal.specs.declared.entry.Entry.{Entry}
 use Rattle.ep_journal.specs.declared.step_fault.StepFault.{StepFault}
-use Rattle.ep_replica.specs.Kept.{Kept}
+use Rattle.ep_replica.specs.Kept.{Kept, first_version, start_of}
 use Rattle.ep_replay.specs.Tables.{AreCounted}
 use Rattle.ep_replay.specs.declared.clients.Clients.{Clients}
 use Rattle.ep_rules.specs.Journals as rules
@@ -34,10 +34,12 @@ use Rattle.ep_script.specs.declared.agenda_line.AgendaLine.{AgendaLine}
 use Rattle.ep_script.specs.declared.agenda_line.AgendaLine.TheVariants.{Propose, GiveUp, Recover}
 use Rattle.ep_run.specs.Asking.{asked_of, asked_by, asked_in, proposers_after, proposers_of}
 use Rattle.ep_run.specs.Lines.{AreBeginnings, HaveAtMost, count_for, replica_of}
-use Rattle.ep_run.specs.Rings.{tasks_at, AreAssigned, AreOf, Collects, HasUsed, UsesUp, proposers_in, HasRun}
+use Rattle.ep_run.specs.Rings.{tasks_at, AreAssigned, AreOf, Begun, Collects, HasUsed, UsesUp, proposers_in, HasRun}
 use Rattle.ep_run.specs.declared.ring_run.RingRun.{RingRun}
 use Rattle.ep_run.proofs.Turning.{Passes}
-use Rattle.ep_rules.specs.OneMap.{opened, empty}
+use Rattle.ep_journal.specs.Openings.{Opening, no_opening, opens}
+use Rattle.ep_base.specs.declared.version.Version.{Version}
+use Rattle.ep_base.specs.declared.version_kind.VersionKind.TheVariants.{V2}
 
 -- What is asked.
 
@@ -155,15 +157,17 @@ beginnings_more (b ∷ c ∷ cs) xs h = (h.0, beginnings_more (c ∷ cs) xs h.1)
 
 -- Receipts.
 
-own_works : (a b : Node) (t : Receipt) → Works a b → IsOwn (opened empty) a.replica.faults a.replica.me (entries_of a.replica.entries) t → IsOwn (opened empty) b.replica.faults b.replica.me (entries_of b.replica.entries) t
+own_works : (a b : Node) (t : Receipt) → Works a b → IsOwn (opens a.replica.opening) a.replica.faults a.replica.me (entries_of a.replica.entries) t → IsOwn (opens b.replica.opening) b.replica.faults b.replica.me (entries_of b.replica.entries) t
 own_works a b t h own =
     let grown : entries_of b.replica.entries ≡ entries_of a.replica.entries ++ entries_of h.entries = ap entries_of h.journal ∙ entries_both a.replica.entries h.entries in
-    subst (λ (f : ℕ). IsOwn (opened empty) f b.replica.me (entries_of b.replica.entries) t) (sym h.faults)
-    (subst (λ (r : ℕ). IsOwn (opened empty) a.replica.faults r (entries_of b.replica.entries) t) (sym h.me)
-    (subst (λ (es : List rules.Entry). IsOwn (opened empty) a.replica.faults a.replica.me es t) (sym grown) (own_stays_lem (opened empty) a.replica.faults a.replica.me (entries_of a.replica.entries) (entries_of h.entries) t own)))
+    let base = opens a.replica.opening in
+    subst (λ (o : Opening). IsOwn (opens o) b.replica.faults b.replica.me (entries_of b.replica.entries) t) (sym (ap (λ (s : Version × Opening). s.1) h.start))
+    (subst (λ (f : ℕ). IsOwn base f b.replica.me (entries_of b.replica.entries) t) (sym h.faults)
+    (subst (λ (r : ℕ). IsOwn base a.replica.faults r (entries_of b.replica.entries) t) (sym h.me)
+    (subst (λ (es : List rules.Entry). IsOwn base a.replica.faults a.replica.me es t) (sym grown) (own_stays_lem base a.replica.faults a.replica.me (entries_of a.replica.entries) (entries_of h.entries) t own))))
 
 -- the receipts of nodes are still theirs after what the nodes do
-pub of_related : (R : Node → Node → Type 0) (xs ys : List Node) (ts : List Receipt) → ((a b : Node) (t : Receipt) → R a b → IsOwn (opened empty) a.replica.faults a.replica.me (entries_of a.replica.entries) t → IsOwn (opened empty) b.replica.faults b.replica.me (entries_of b.replica.entries) t) →
+pub of_related : (R : Node → Node → Type 0) (xs ys : List Node) (ts : List Receipt) → ((a b : Node) (t : Receipt) → R a b → IsOwn (opens a.replica.opening) a.replica.faults a.replica.me (entries_of a.replica.entries) t → IsOwn (opens b.replica.opening) b.replica.faults b.replica.me (entries_of b.replica.entries) t) →
     Each R xs ys → AreOf xs ts → AreOf ys ts
 of_related R xs ys ts keeps each own t h =
     let o = own t h in (o.0, omega (arith, o.1, each.len), λ d. keeps (get_or xs o.0 d) (get_or ys o.0 d) t (each.at o.0 d o.1) (o.2 d))
@@ -176,7 +180,7 @@ of_assigned asked xs ys ts h own t is =
     let o = own t is in (
       o.0,
       omega (arith, o.1, h.len),
-      λ d. subst (λ (k : Kept). IsOwn (opened empty) k.faults k.me (entries_of k.entries) t) (sym (ap (λ (n : Node). n.replica) (h.at o.0 d o.1))) (o.2 d),
+      λ d. subst (λ (k : Kept). IsOwn (opens k.opening) k.faults k.me (entries_of k.entries) t) (sym (ap (λ (n : Node). n.replica) (h.at o.0 d o.1))) (o.2 d),
     )
 
 in_both : (t : Receipt) (xs ys : List Receipt) → In t (xs ++ ys) → In t xs ⊎ In t ys
@@ -223,7 +227,7 @@ used_more used left ts a b c u is h = (
 
 -- a node that there isn't
 abbrev pub blank : Node
-blank = fresh_node (record { faults = 0; me = 0; entries = [] })
+blank = fresh_node (record { version = V2; faults = 0; me = 0; opening = no_opening; entries = [] })
 
 pub uses_more :
     (r turns : ℕ) (tasks : List Task) (asked : List (ℕ × (ℕ × Task))) (xs ys zs : List Node) → UsesUp r tasks xs → AreAssigned asked xs ys → Each (Passes turns) ys zs →
@@ -258,9 +262,12 @@ uses_more r turns tasks asked xs ys zs u given each none = ⊎_elim
 
 -- Before any section.
 
-pub has_begun : (c f turns : ℕ) (s : RingRun) → IsHost f s.nodes.items → All (IsFresh c) s.nodes.items → s.receipts.items ≡ [] → AreCounted s.clients [] [] → HasRun f turns [] s
-has_begun c f turns s host fresh none counted = record {
+pub has_begun :
+    (c : ℕ) (b : Begun) (turns : ℕ) (s : RingRun) → IsHost b.faults s.nodes.items → All (IsFresh c) s.nodes.items → All (StartsAs b.version b.opening) s.nodes.items →
+    s.receipts.items ≡ [] → AreCounted s.clients [] [] → HasRun b turns [] s
+has_begun c b turns s host fresh start none counted = record {
   host = host;
+  start = start;
   own = subst (λ (l : List Receipt). AreOf s.nodes.items l) (sym none) (λ t h. absurd h);
   counted = subst (λ (l : List Receipt). AreCounted s.clients [] l) (sym none) counted;
   before = [];
@@ -295,11 +302,11 @@ most_last : (turns : ℕ) (ss : List SectionPlan) (s : SectionPlan) → HaveAtMo
 most_last turns ss s h r = h s (Contains-push ss s) r
 
 pub has_run :
-    (f turns : ℕ) (done : List SectionPlan) (s : SectionPlan) (old new : RingRun) (middle : List Node) (clients : Clients) → HasRun f turns done old →
+    (b : Begun) (turns : ℕ) (done : List SectionPlan) (s : SectionPlan) (old new : RingRun) (middle : List Node) (clients : Clients) → HasRun b turns done old →
     All (λ (e : ℕ × AgendaLine). FitsCluster (length old.nodes.items) e.1) s.lines → AreAssigned (asked_by (proposers_in [] done) old.receipts.items s.lines) old.nodes.items middle →
-    AreCounted clients (proposers_of (proposers_in [] done) s.lines) old.receipts.items → Each (Passes turns) middle new.nodes.items → IsHost f new.nodes.items →
-    Collects new.nodes.items clients old.receipts.items new.clients new.receipts.items → HasRun f turns (done ++ s ∷ []) new
-has_run f turns done s old new middle clients h fit given counted each host collects =
+    AreCounted clients (proposers_of (proposers_in [] done) s.lines) old.receipts.items → Each (Passes turns) middle new.nodes.items → IsHost b.faults new.nodes.items →
+    Collects new.nodes.items clients old.receipts.items new.clients new.receipts.items → HasRun b turns (done ++ s ∷ []) new
+has_run b turns done s old new middle clients h fit given counted each host collects =
     let ps = proposers_in [] done in
     let ts = old.receipts.items in
     let asked = asked_by ps ts s.lines in
@@ -308,6 +315,10 @@ has_run f turns done s old new middle clients h fit given counted each host coll
     let of : AreOf new.nodes.items ts = of_passes middle new.nodes.items ts turns each (of_assigned asked old.nodes.items middle ts given h.own) in
     let all : asked_in [] (done ++ s ∷ []) before ≡ asked_in [] done h.before ++ asked = asked_more [] done s h.before ts len in record {
       host = host;
+      start = λ i d low.
+          let low' : i < length middle = omega (arith, low, each.len) in
+          let low'' : i < length old.nodes.items = omega (arith, low', given.len) in
+          (each.at i d low').works.start ∙ ap (λ (n : Node). start_of n.replica) (given.at i d low'') ∙ h.start i d low'';
       own = subst (λ (l : List Receipt). AreOf new.nodes.items l) (sym collects.is) (of_both new.nodes.items ts collects.more of collects.own);
       counted = collects.counted (proposers_in [] (done ++ s ∷ [])) (subst (λ (l : List ℕ). AreCounted clients l ts) (sym (proposers_in_more [] done s)) counted);
       before = before;
@@ -334,11 +345,33 @@ entries_at [] r d low = absurd (omega (arith, low))
 entries_at (n ∷ ns) zero d low = refl
 entries_at (n ∷ ns) (suc r) d low = entries_at ns r d (omega (arith, low))
 
-pub of_own : (f : ℕ) (nodes : List Node) (ts : List Receipt) → IsHost f nodes → AreOf nodes ts → AreOwn (opened empty) f (their_journals (replicas_in nodes)) ts
+first_opens : (nodes : List Node) (d : Node) → 0 < length nodes → first_opening (replicas_in nodes) ≡ (get_or nodes 0 d).replica.opening
+first_opens [] d some = absurd (omega (arith, some))
+first_opens (n ∷ ns) d some = refl
+
+first_is : (nodes : List Node) (d : Node) → 0 < length nodes → first_version (replicas_in nodes) ≡ (get_or nodes 0 d).replica.version
+first_is [] d some = absurd (omega (arith, some))
+first_is (n ∷ ns) d some = refl
+
+some_node : (f : ℕ) (nodes : List Node) → IsHost f nodes → 0 < length nodes
+some_node f nodes host = let count = host.count in omega arith
+
+-- the journals are of the version, and have the opening, that the run began with
+pub version_is : (b : Begun) (turns : ℕ) (ss : List SectionPlan) (s : RingRun) → HasRun b turns ss s → first_version (replicas_in s.nodes.items) ≡ b.version
+version_is b turns ss s h = let some = some_node b.faults s.nodes.items h.host in first_is s.nodes.items blank some ∙ ap (λ (p : Version × Opening). p.0) (h.start 0 blank some)
+
+pub opening_is : (b : Begun) (turns : ℕ) (ss : List SectionPlan) (s : RingRun) → HasRun b turns ss s → first_opening (replicas_in s.nodes.items) ≡ b.opening
+opening_is b turns ss s h = let some = some_node b.faults s.nodes.items h.host in first_opens s.nodes.items blank some ∙ ap (λ (p : Version × Opening). p.1) (h.start 0 blank some)
+
+pub of_own : (f : ℕ) (nodes : List Node) (ts : List Receipt) → IsHost f nodes → AreOf nodes ts → AreOwn (opens (first_opening (replicas_in nodes))) f (their_journals (replicas_in nodes)) ts
 of_own f nodes ts host of t is =
     let o = of t is in
-    let n = get_or nodes o.0 blank in (
+    let n = get_or nodes o.0 blank in
+    let some : 0 < length nodes = some_node f nodes host in
+    let same : n.replica.opening ≡ first_opening (replicas_in nodes) = ap (λ (p : Version × Opening). p.1) (host.start o.0 blank o.1) ∙ sym (first_opens nodes blank some) in
+    let base = opens (first_opening (replicas_in nodes)) in
+    let own : IsOwn base n.replica.faults n.replica.me (entries_of n.replica.entries) t = subst (λ (q : Opening). IsOwn (opens q) n.replica.faults n.replica.me (entries_of n.replica.entries) t) same (o.2 blank) in (
       o.0,
-      subst (λ (es : List rules.Entry). IsOwn (opened empty) f o.0 es t) (sym (entries_at nodes o.0 blank o.1))
-          (subst (λ (q : ℕ). IsOwn (opened empty) f q (entries_of n.replica.entries) t) (host.me o.0 blank o.1) (subst (λ (q : ℕ). IsOwn (opened empty) q n.replica.me (entries_of n.replica.entries) t) (host.faults o.0 blank o.1) (o.2 blank))),
+      subst (λ (es : List rules.Entry). IsOwn base f o.0 es t) (sym (entries_at nodes o.0 blank o.1))
+          (subst (λ (q : ℕ). IsOwn base f q (entries_of n.replica.entries) t) (host.me o.0 blank o.1) (subst (λ (q : ℕ). IsOwn base q n.replica.me (entries_of n.replica.entries) t) (host.faults o.0 blank o.1) own)),
     )

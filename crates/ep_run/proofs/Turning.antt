@@ -13,7 +13,7 @@ use Rattle.ep_host.proofs.Places.{each_each, each_weaker}
 use Rattle.ep_journal.specs.Entries.{entries_of}
 use Rattle.ep_journal.specs.declared.entry.Entry.{Entry}
 use Rattle.ep_journal.specs.declared.step_fault.StepFault.{StepFault}
-use Rattle.ep_replica.specs.Kept.{Kept}
+use Rattle.ep_replica.specs.Kept.{Kept, start_of}
 use Rattle.ep_rules.specs.Journals.{asked_in as asked_in_entries}
 use Rattle.ep_rules.specs.Steps.{Event}
 use Rattle.ep_run.specs.Rings.{Turns}
@@ -26,6 +26,7 @@ pub record Passes (turns : ℕ) (a b : Node) : Type 0 where
 
 works_works : (a b c : Node) → Works a b → Works b c → Works a c
 works_works a b c h k = record {
+  start = k.start ∙ h.start;
   faults = k.faults ∙ h.faults;
   me = k.me ∙ h.me;
   entries = h.entries ++ k.entries;
@@ -46,6 +47,7 @@ passes_passes n m a b c h k = record { works = works_works a b c h.works k.works
 passes_same : (a b : Node) → b.replica ≡ a.replica → b.agenda ≡ a.agenda → b.refused ≡ a.refused → b.used ≡ a.used → Passes 0 a b
 passes_same a b k agenda refused used = record {
   works = record {
+    start = ap start_of k;
     faults = ap (λ (k : Kept). k.faults) k;
     me = ap (λ (k : Kept). k.me) k;
     entries = [];

@@ -1,5 +1,6 @@
 pub mod Asking
 pub mod Lines
+pub mod Locks
 pub mod Rings
 pub mod Walks
 pub mod Weathers

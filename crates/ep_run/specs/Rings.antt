@@ -1,7 +1,7 @@
 -- How a run over rings gets on.
 use Rattle.std.specs.Prelude.{◌≡◌, ℕ, ◌<◌, ◌≤◌, eqb, cond, List, [], ◌∷◌, ◌++◌, length, drop, Option, Some, None, slice_index_or as get_or}
 use Rattle.ep_host.specs.Follows.{Follows, Settles}
-use Rattle.ep_host.specs.Host.{IsHost}
+use Rattle.ep_host.specs.Host.{IsHost, StartsAs}
 use Rattle.ep_host.specs.Node.{Node}
 use Rattle.ep_host.specs.Pointwise.{Each}
 use Rattle.ep_host.specs.Setting.{IsReleased}
@@ -9,7 +9,11 @@ use Rattle.ep_host.specs.Tasks.{Use, tasks_in, events_in, refusals_in, place_aft
 use Rattle.ep_host.specs.declared.task.Task.{Task}
 use Rattle.ep_host.specs.declared.weather.Weather.{Weather}
 use Rattle.ep_journal.specs.declared.step_fault.StepFault.{StepFault}
-use Rattle.ep_journal.specs.Entries.{entries_of}
+use Rattle.ep_journal.specs.Entries.{Collected, entries_of}
+use Rattle.ep_journal.specs.Openings.{Opening, opens}
+use Rattle.ep_base.specs.declared.version.Version.{Version}
+use Rattle.ep_replay.specs.Heads.{opening_of}
+use Rattle.ep_script.specs.Heads.{Head}
 use Rattle.ep_replay.specs.Tables.{AreCounted}
 use Rattle.ep_replay.specs.declared.clients.Clients.{Clients}
 use Rattle.ep_rules.specs.Journals.{asked_in as asked_in_entries}
@@ -21,7 +25,6 @@ use Rattle.ep_run.specs.Asking.{asked_in, proposers_of}
 use Rattle.ep_run.specs.Lines.{Fate, made, refused, left, Line, AreBeginnings, HaveAtMost}
 use Rattle.ep_run.specs.Weathers.{SetsOwn}
 use Rattle.ep_run.specs.declared.ring_run.RingRun.{RingRun}
-use Rattle.ep_rules.specs.OneMap.{opened, empty}
 
 abbrev pub fate_of : Option StepFault → Fate
 fate_of None = made
@@ -72,7 +75,8 @@ pub record Turns (turns : ℕ) (xs ys : List Node) : Type 0 where
 -- each is a receipt of one of the nodes' own
 abbrev pub AreOf : List Node → List Receipt → Type 0
 AreOf nodes receipts =
-    (t : Receipt) → In t receipts → (i : ℕ) × (i < length nodes) × ((d : Node) → IsOwn (opened empty) (get_or nodes i d).replica.faults (get_or nodes i d).replica.me (entries_of (get_or nodes i d).replica.entries) t)
+    (t : Receipt) → In t receipts → (i : ℕ) × (i < length nodes)
+    × ((d : Node) → IsOwn (opens (get_or nodes i d).replica.opening) (get_or nodes i d).replica.faults (get_or nodes i d).replica.me (entries_of (get_or nodes i d).replica.entries) t)
 
 -- receipts of the nodes' own are collected, and their clients have seen them
 pub record Collects (nodes : List Node) (clients : Clients) (receipts : List Receipt) (clients' : Clients) (receipts' : List Receipt) : Type 0 where
@@ -101,9 +105,25 @@ abbrev pub proposers_in : List ℕ → List SectionPlan → List ℕ
 proposers_in proposers [] = proposers
 proposers_in proposers (s ∷ ss) = proposers_in (proposers_of proposers s.lines) ss
 
--- how far the run of a cluster in which f may fail has come, after these sections
-pub record HasRun (f turns : ℕ) (sections : List SectionPlan) (s : RingRun) : Type 0 where
-  pub host : IsHost f s.nodes.items
+-- what the nodes of a run begin as: how many may fail, their version, and what they open with
+pub record Begun : Type 0 where
+  pub faults : ℕ
+  pub version : Version
+  pub opening : Opening
+
+abbrev pub begun_of : Head → Begun
+begun_of h = record { faults = h.faults; version = h.version; opening = opening_of h.opening }
+
+-- journals of such nodes
+pub record IsBegun (b : Begun) (c : Collected) : Type 0 where
+  pub faults : c.faults ≡ b.faults
+  pub version : c.version ≡ b.version
+  pub opening : c.opening ≡ b.opening
+
+-- how far a run that began so has come, after these sections
+pub record HasRun (b : Begun) (turns : ℕ) (sections : List SectionPlan) (s : RingRun) : Type 0 where
+  pub host : IsHost b.faults s.nodes.items
+  pub start : (i : ℕ) (d : Node) → i < length s.nodes.items → StartsAs b.version b.opening (get_or s.nodes.items i d)
   pub own : AreOf s.nodes.items s.receipts.items
   pub counted : AreCounted s.clients (proposers_in [] sections) s.receipts.items
   -- the receipts that had been given before each section

@@ -9,6 +9,9 @@ ghost use Rattle.ep_script.specs.Fits.{FitsCluster, FitsSection};
 ghost use Rattle.ep_script.specs.declared.agenda_line.AgendaLine.{AgendaLine as Line};
 ghost use Rattle.ep_run.specs.Asking.{asked_by as asks_of, asked_of, proposers_after, proposers_of};
 ghost use Rattle.ep_run.specs.Rings.{AreAssigned, Begins, SettlesReleased, Turns, Collects, HasRun};
+ghost use Rattle.ep_host.specs.Host.{IsFresh, StartsAs};
+ghost use Rattle.ep_replay.specs.Heads.{opening_of};
+ghost use Rattle.ep_base.specs.declared.version_kind.VersionKind.TheVariants.{V3};
 ghost use Rattle.ep_run.specs.Lines.{AreDone};
 ghost use Rattle.ep_run.specs.Weathers.{weather_in, HasOwn};
 
@@ -17,11 +20,11 @@ use crate::collecting::{last_entry, none_collected, note_last};
 use crate::ran::Ran;
 use crate::refusals::refused_lines;
 use crate::ring_weather::set_weather;
-use ep_base::Size;
+use ep_base::{Generation, VersionKind};
 use ep_host::{Finished, Gate, RingHost, RingNode, finish_with, section as turn_all, settle};
-use ep_replay::Clients;
+use ep_replay::{Clients, opening_of};
 use ep_rules::Receipt;
-use ep_script::{AgendaLine, Section};
+use ep_script::{AgendaLine, Head, Section};
 use std::alloc::{AllocError, Global};
 use std::marker::Sync;
 use std::mem;
@@ -128,22 +131,55 @@ fn turned<R: Threads + Sync>(rt: &R, nodes: Vec<RingNode>, turns: u32) -> Vec<Ri
     nodes
 }
 
+/// The nodes that the head tells of, before any event and without tasks.
+fn nodes_of(alloc: Global, head: &Head, capacity: usize) -> Result<Vec<RingNode>, AllocError>
+    requires { (1 ≤ capacity) × (capacity ≤ 4096) }
+    ensures host { IfOk result (λ nodes. IsHost head.now.faults nodes.items) }
+    ensures fresh { IfOk result (λ nodes. All (IsFresh capacity) nodes.items) }
+    ensures start { IfOk result (λ nodes. All (StartsAs head.now.version (opening_of head.now.opening)) nodes.items) }
+{
+    match head.version().kind() {
+        VersionKind::V1 => unreachable!(),
+        VersionKind::V2 => RingHost::new(alloc, head.size(), capacity),
+        VersionKind::V3(number) => nodes_in(alloc, head, number, capacity),
+    }
+}
+
+/// The nodes of this generation, which open as the head says.
+fn nodes_in(
+    alloc: Global,
+    head: &Head,
+    number: u32,
+    capacity: usize,
+) -> Result<Vec<RingNode>, AllocError>
+    requires number { 1 ≤ number }
+    requires capacity { (1 ≤ capacity) × (capacity ≤ 4096) }
+    ensures host { IfOk result (λ nodes. IsHost head.now.faults nodes.items) }
+    ensures fresh { IfOk result (λ nodes. All (IsFresh capacity) nodes.items) }
+    ensures start { IfOk result (λ nodes. All (StartsAs (V3 number) (opening_of head.now.opening)) nodes.items) }
+{
+    let Ok(generation) = Generation::new(number) else {
+        unreachable!()
+    };
+    let opening = opening_of(alloc, head.opening())?;
+    RingHost::opened(alloc, head.size(), capacity, generation, &opening)
+}
+
 impl RingRun {
     ghost use Rattle.std.specs.Prelude.{◌≡◌, ◌++◌, ◌∷◌, [], ◌≤◌, ◌<◌, length, ℕ, List, All, IfOk, OnOk, IsOk};
-    ghost use Rattle.ep_base.specs.declared.version_kind.VersionKind.TheVariants.{V2};
     ghost use Rattle.ep_host.specs.Finishing.{IsFinished};
     ghost use Rattle.ep_script.specs.Fits.{FitsSection};
     ghost use Rattle.ep_script.specs.Plan.{SectionPlan};
     ghost use Rattle.ep_run.specs.Lines.{AreDone};
-    ghost use Rattle.ep_run.specs.Rings.{Collects, HasRun};
+    ghost use Rattle.ep_run.specs.Rings.{Begun, Collects, HasRun, IsBegun, begun_of};
     ghost use Rattle.ep_run.specs.Weathers.{weather_in, HasOwn};
 
     /// A run before any section.
-    pub(crate) fn new(alloc: Global, cluster: Size, capacity: usize) -> Result<RingRun, AllocError>
+    pub(crate) fn new(alloc: Global, head: &Head, capacity: usize) -> Result<RingRun, AllocError>
         requires { (1 ≤ capacity) × (capacity ≤ 4096) }
-        ensures { IfOk result (λ s. (turns : ℕ) → HasRun cluster turns [] s) }
+        ensures { IfOk result (λ s. (turns : ℕ) → HasRun (begun_of head.now) turns [] s) }
     {
-        let nodes = RingHost::new(alloc, cluster, capacity)?;
+        let nodes = nodes_of(alloc, head, capacity)?;
         let collected = none_collected(alloc, nodes.len())?;
         Ok(RingRun {
             nodes,
@@ -161,9 +197,9 @@ impl RingRun {
         section: &Section,
         turns: u32,
     ) -> Result<(), AllocError>
-        requires run { (f : ℕ) × (done : List SectionPlan) × HasRun f turns done self.old }
+        requires run { (b : Begun) × (done : List SectionPlan) × HasRun b turns done self.old }
         requires fits { FitsSection (length self.old.nodes.items) section.now }
-        ensures run { OnOk result ((f : ℕ) (done : List SectionPlan) → HasRun f turns done self.old → HasRun f turns (done ++ section.now ∷ []) self.new) }
+        ensures run { OnOk result ((b : Begun) (done : List SectionPlan) → HasRun b turns done self.old → HasRun b turns (done ++ section.now ∷ []) self.new) }
         ensures weather { OnOk result (All (HasOwn (weather_in section.now.weather)) self.new.nodes.items) }
     {
         begin(
@@ -210,11 +246,11 @@ impl RingRun {
 
     /// What the run leaves, of these sections.
     pub(crate) fn end(self, sections: &[Section]) -> Result<Ran, AllocError>
-        requires { (f : ℕ) × (turns : ℕ) × HasRun f turns sections.now self }
+        requires { (b : Begun) × (turns : ℕ) × HasRun b turns sections.now self }
         ensures finished { IfOk result (λ r. IsFinished r.receipts.items r.finished) }
         ensures accepted { IfOk result (λ r. IsOk r.finished.verdict) }
-        ensures version { IfOk result (λ r. r.finished.journals.version ≡ V2) }
-        ensures lines { IfOk result (λ r. (f turns : ℕ) → HasRun f turns sections.now self → AreDone turns sections.now r) }
+        ensures begun { IfOk result (λ r. (b : Begun) (turns : ℕ) → HasRun b turns sections.now self → IsBegun b r.finished.journals) }
+        ensures lines { IfOk result (λ r. (b : Begun) (turns : ℕ) → HasRun b turns sections.now self → AreDone turns sections.now r) }
     {
         let RingRun {
             nodes,

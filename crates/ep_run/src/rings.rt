@@ -1,9 +1,9 @@
 //! Runs over nodes with rings.
 
 ghost use Rattle.std.specs.Prelude.{◌≡◌, IfOk, IsOk};
-ghost use Rattle.ep_base.specs.declared.version_kind.VersionKind.TheVariants.{V2};
 ghost use Rattle.ep_host.specs.Finishing.{IsFinished};
 ghost use Rattle.ep_run.specs.Lines.{AreDone};
+ghost use Rattle.ep_run.specs.Rings.{IsBegun, begun_of};
 
 use crate::limits::Limits;
 use crate::ran::Ran;
@@ -23,7 +23,7 @@ use std::thread::Threads;
 /// run goes on; what the turns leave of a node's lines stays for the next section. Elsewhere want of memory ends the run. Where no thread can be
 /// started, the nodes turn on the calling one.
 ///
-/// The journals are of version 2. The audit accepts what a run leaves: no rings are needed to know it, and none of the journals.
+/// The journals are of the script's version, and have its opening. The audit accepts what a run leaves: no rings are needed to know it, and none of the journals.
 pub fn run_rings<R: Threads + Sync>(
     rt: &R,
     alloc: Global,
@@ -32,10 +32,10 @@ pub fn run_rings<R: Threads + Sync>(
 ) -> Result<Ran, RunFault>
     ensures finished { IfOk result (λ r. IsFinished r.receipts.items r.finished) }
     ensures accepted { IfOk result (λ r. IsOk r.finished.verdict) }
-    ensures version { IfOk result (λ r. r.finished.journals.version ≡ V2) }
+    ensures begun { IfOk result (λ r. IsBegun (begun_of script.now.head) r.finished.journals) }
     ensures lines { IfOk result (AreDone limits.now.turns script.now.sections) }
 {
-    let mut run = RingRun::new(alloc, script.size(), limits.capacity)?;
+    let mut run = RingRun::new(alloc, script.head(), limits.capacity)?;
     for section in script.sections() {
         run.run(rt, section, limits.turns)?;
     }

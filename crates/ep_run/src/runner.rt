@@ -1,13 +1,16 @@
 //! Runs.
 
-ghost use Rattle.std.specs.Prelude.{◌≡◌, ℕ, List, IfOk, OnOk};
+ghost use Rattle.std.specs.Prelude.{◌≡◌, ◌≤◌, ℕ, List, IfOk, OnOk};
 ghost use Rattle.ep_base.specs.Quorums.{size as size_with};
-ghost use Rattle.ep_base.specs.declared.version_kind.VersionKind.TheVariants.{V2};
+ghost use Rattle.ep_base.specs.declared.version_kind.VersionKind.TheVariants.{V3};
 ghost use Rattle.ep_host.specs.Finishing.{IsFinished};
 ghost use Rattle.ep_replay.specs.Tables.{AreCounted};
 ghost use Rattle.ep_rules.specs.declared.receipt.Receipt.{Receipt as Told};
 ghost use Rattle.ep_script.specs.Fits.{FitsSection};
+ghost use Rattle.ep_replay.specs.Heads.{opening_of};
 ghost use Rattle.ep_run.specs.Asking.{AreSubmissions, proposers_of};
+ghost use Rattle.ep_run.specs.Locks.{HasBegun, IsOfHost};
+ghost use Rattle.ep_run.specs.Rings.{IsBegun, begun_of};
 
 use crate::collecting::{last_entry, none_collected, note_last};
 use crate::lane::{lanes, run_lanes};
@@ -16,21 +19,21 @@ use crate::ran::Ran;
 use crate::run_fault::RunFault;
 use crate::submission::Submission;
 use crate::weather::{want_of_memory, weather_in};
-use ep_base::{ReplicaId, Size};
-use ep_host::{LockHost, Turn};
-use ep_replay::Clients;
+use ep_base::{Generation, ReplicaId, VersionKind};
+use ep_host::{LockHost, Start, Turn};
+use ep_replay::{Clients, opening_of};
 use ep_report::Cause;
 use ep_rules::Receipt;
-use ep_script::{RunScript, Section};
+use ep_script::{Head, RunScript, Section};
 use std::alloc::{AllocError, Global};
-use std::marker::Sync;
+use std::marker::{Brand, Send, Sync};
 use std::sync::Wait;
 use std::thread::Threads;
 
 /// Runs the sections of a script.
 #[derive(Drop)]
-struct Runner {
-    host: LockHost,
+struct Runner<S: Start> {
+    host: LockHost<S>,
     clients: Clients,
     receipts: Vec<Receipt>,
     refused: Vec<(u32, Cause)>,
@@ -55,17 +58,54 @@ fn submissions_of(
     Ok(tasks)
 }
 
-impl Runner {
+/// The replicas that the head tells of, before any event.
+fn host_of<S: Start>(alloc: Global, head: &Head, limits: &Limits) -> Result<LockHost<S>, AllocError>
+    requires { S.start ≡ (head.now.version, opening_of head.now.opening) }
+    ensures { IfOk result (λ host. HasBegun head.now host.cluster host.version host.opening) }
+{
+    let capacity = limits.capacity;
+    match head.version().kind() {
+        VersionKind::V1 => unreachable!(),
+        VersionKind::V2 => LockHost::new(alloc, head.size(), capacity),
+        VersionKind::V3(number) => host_in(alloc, head, number, capacity),
+    }
+}
+
+/// The replicas of this generation, which open as the head says.
+fn host_in<S: Start>(
+    alloc: Global,
+    head: &Head,
+    number: u32,
+    capacity: usize,
+) -> Result<LockHost<S>, AllocError>
+    requires start { S.start ≡ (V3 number, opening_of head.now.opening) }
+    requires number { 1 ≤ number }
+    requires capacity { (1 ≤ capacity) × (capacity ≤ 4096) }
+    ensures cluster { IfOk result (λ host. host.cluster ≡ head.now.faults) }
+    ensures version { IfOk result (λ host. host.version ≡ V3 number) }
+    ensures opening { IfOk result (λ host. host.opening ≡ opening_of head.now.opening) }
+{
+    let Ok(generation) = Generation::new(number) else {
+        unreachable!()
+    };
+    let opening = opening_of(alloc, head.opening())?;
+    LockHost::opened(alloc, head.size(), capacity, generation, &opening)
+}
+
+impl<S: Start + Send + Sync> Runner<S> {
     /// A runner before any section.
-    fn new(alloc: Global, cluster: Size, limits: &Limits) -> Result<Runner, AllocError>
-        ensures { IfOk result (λ runner. runner.host.cluster ≡ cluster) }
+    fn new(alloc: Global, head: &Head, limits: &Limits) -> Result<Runner<S>, AllocError>
+        requires { S.start ≡ (head.now.version, opening_of head.now.opening) }
+        ensures { IfOk result (λ runner. HasBegun head.now runner.host.cluster runner.host.version runner.host.opening) }
     {
+        let collected = none_collected(alloc, head.size().count() as usize)?;
+        let host = host_of(alloc, head, limits)?;
         Ok(Runner {
-            host: LockHost::new(alloc, cluster, limits.capacity)?,
+            host,
             clients: Clients::new(alloc),
             receipts: Vec::new(alloc),
             refused: Vec::new(alloc),
-            collected: none_collected(alloc, cluster.count() as usize)?,
+            collected,
             alloc,
         })
     }
@@ -171,7 +211,7 @@ impl Runner {
     /// What the run leaves.
     fn end<R: Wait>(self, rt: &R) -> Result<Ran, AllocError>
         ensures finished { IfOk result (λ r. IsFinished r.receipts.items r.finished) }
-        ensures version { IfOk result (λ r. r.finished.journals.version ≡ V2) }
+        ensures begun { IfOk result (λ r. IsOfHost self.host.cluster self.host.version self.host.opening r.finished.journals) }
     {
         let Runner {
             host,
@@ -192,6 +232,25 @@ impl Runner {
     }
 }
 
+/// Runs the script over replicas that start so.
+fn run_as<S: Start + Send + Sync, R: Threads + Wait + Sync>(
+    rt: &R,
+    alloc: Global,
+    script: &RunScript,
+    limits: &Limits,
+) -> Result<Ran, RunFault>
+    requires { S.start ≡ (script.now.head.version, opening_of script.now.head.opening) }
+    ensures finished { IfOk result (λ r. IsFinished r.receipts.items r.finished) }
+    ensures begun { IfOk result (λ r. IsBegun (begun_of script.now.head) r.finished.journals) }
+{
+    let mut runner = Runner::<S>::new(alloc, script.head(), limits)?;
+    for section in script.sections() {
+        runner.run(rt, section, limits.turns)?;
+    }
+    let ran = runner.end(rt)?;
+    Ok(ran)
+}
+
 /// Runs the script in threads, over replicas behind locks.
 ///
 /// The sections are run one after another, each in its own weather. In each, every replica has a thread that submits its lines,
@@ -202,7 +261,7 @@ impl Runner {
 /// before the section. A line that its replica refuses is listed, and the run goes on; so it does where a thread finds no
 /// memory. Elsewhere want of memory ends the run, and so does a thread that can't be started.
 ///
-/// The journals are of version 2. The audit's verdict of them and of the receipts, or its first fault, is part of what a run leaves.
+/// The journals are of the script's version, and have its opening. The audit's verdict of them and of the receipts, or its first fault, is part of what a run leaves.
 pub fn run<R: Threads + Wait + Sync>(
     rt: &R,
     alloc: Global,
@@ -210,12 +269,7 @@ pub fn run<R: Threads + Wait + Sync>(
     limits: &Limits,
 ) -> Result<Ran, RunFault>
     ensures finished { IfOk result (λ r. IsFinished r.receipts.items r.finished) }
-    ensures version { IfOk result (λ r. r.finished.journals.version ≡ V2) }
+    ensures begun { IfOk result (λ r. IsBegun (begun_of script.now.head) r.finished.journals) }
 {
-    let mut runner = Runner::new(alloc, script.size(), limits)?;
-    for section in script.sections() {
-        runner.run(rt, section, limits.turns)?;
-    }
-    let ran = runner.end(rt)?;
-    Ok(ran)
+    run_as::<Brand, R>(rt, alloc, script, limits)
 }

@@ -4,3 +4,5 @@ pub mod Steps
 pub mod LinesFit
 pub mod FrameSets
 pub mod Splitting
+pub mod KeySets
+pub mod Powers

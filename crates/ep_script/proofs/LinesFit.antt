@@ -9,6 +9,7 @@ use Rattle.std.proofs.lemmas.Bool.Decides.{nat_tests}
 use Rattle.std.proofs.lemmas.List.Elements.{All-nil, All-push}
 use Rattle.std.proofs.lemmas.Map.Keys.{IsDistinct-push}
 use Rattle.ep_base.specs.Instances.{instance_of, leader_of, highest_number}
+use Rattle.ep_base.specs.declared.version.Version.{Version}
 use Rattle.ep_script.specs.Parts.{number_of}
 use Rattle.ep_script.specs.Grammar.{number_in, count_of, replica_of, instance_parts, parts_of, place_of, command_of, propose_of, agenda_line, section_of, weather_between, weather_of, kind_of, plain_run_line, run_line}
 use Rattle.ep_script.specs.Plan.{SectionPlan, no_section, with_agenda, with_weather, same_frame, has_frame}
@@ -81,18 +82,18 @@ place_fits n (r ∷ i ∷ []) =
     (λ replica h. if_mapped (λ instance. (replica, instance)) (λ x. leader_of x < n) (λ p. (p.0 < n) × (leader_of p.1 < n)) (instance_parts n (parts_of i)) (instance_fits n (parts_of i)) (λ x k. (h, k)))
 place_fits n (r ∷ i ∷ w ∷ more) = tt
 
-propose_fits : (n : ℕ) (ws : List (List ℕ)) → IfSome (propose_of n ws) (FitsCluster n)
-propose_fits n [] = tt
-propose_fits n (r ∷ []) = tt
-propose_fits n (r ∷ c ∷ command) =
-    if_then (λ replica. option_and_then (λ client. option_map (λ x. Propose replica client x) (command_of command)) (count_of c)) (λ replica. replica < n) (FitsCluster n) (replica_of n r) (replica_fits n r)
-    (λ replica h. if_then (λ client. option_map (λ x. Propose replica client x) (command_of command)) (λ client. 1 ≤ client) (FitsCluster n) (count_of c) (count_fits c)
-    (λ client k. if_mapped (λ x. Propose replica client x) (λ _. Unit {0}) (FitsCluster n) (command_of command) (if_any (command_of command)) (λ x _. (h, k))))
+propose_fits : (n : ℕ) (v : Version) (ws : List (List ℕ)) → IfSome (propose_of n v ws) (FitsCluster n)
+propose_fits n v [] = tt
+propose_fits n v (r ∷ []) = tt
+propose_fits n v (r ∷ c ∷ command) =
+    if_then (λ replica. option_and_then (λ client. option_map (λ x. Propose replica client x) (command_of v command)) (count_of c)) (λ replica. replica < n) (FitsCluster n) (replica_of n r) (replica_fits n r)
+    (λ replica h. if_then (λ client. option_map (λ x. Propose replica client x) (command_of v command)) (λ client. 1 ≤ client) (FitsCluster n) (count_of c) (count_fits c)
+    (λ client k. if_mapped (λ x. Propose replica client x) (λ _. Unit {0}) (FitsCluster n) (command_of v command) (if_any (command_of v command)) (λ x _. (h, k))))
 
-agenda_fits : (n : ℕ) (ws : List (List ℕ)) → IfSome (agenda_line n ws) (FitsCluster n)
-agenda_fits n [] = tt
-agenda_fits n (w ∷ ws) =
-    if_either (FitsCluster n) (bytes_eq w (codes "propose")) _ _ (propose_fits n ws)
+agenda_fits : (n : ℕ) (v : Version) (ws : List (List ℕ)) → IfSome (agenda_line n v ws) (FitsCluster n)
+agenda_fits n v [] = tt
+agenda_fits n v (w ∷ ws) =
+    if_either (FitsCluster n) (bytes_eq w (codes "propose")) _ _ (propose_fits n v ws)
     (if_either (FitsCluster n) (bytes_eq w (codes "giveup")) _ _
     (if_mapped (λ p. GiveUp p.0 p.1) (λ p. (p.0 < n) × (leader_of p.1 < n)) (FitsCluster n) (place_of n ws) (place_fits n ws) (λ p h. h))
     (if_either (FitsCluster n) (bytes_eq w (codes "recover")) _ None
@@ -123,19 +124,19 @@ section_fits : (n : ℕ) (ws : List (List ℕ)) → IfSome (section_of ws) (Fits
 section_fits n [] = tt
 section_fits n (w ∷ ws) = tt
 
-plain_fits : (n : ℕ) (ws : List (List ℕ)) → IfSome (plain_run_line n ws) (FitsRun n)
-plain_fits n [] = tt
-plain_fits n (w ∷ ws) =
+plain_fits : (n : ℕ) (v : Version) (ws : List (List ℕ)) → IfSome (plain_run_line n v ws) (FitsRun n)
+plain_fits n v [] = tt
+plain_fits n v (w ∷ ws) =
     if_either (FitsRun n) (bytes_eq w (codes "section")) _ _ (section_fits n ws)
-    (if_mapped (λ l. Agenda l) (FitsCluster n) (FitsRun n) (agenda_line n (w ∷ ws)) (agenda_fits n (w ∷ ws)) (λ l h. h))
+    (if_mapped (λ l. Agenda l) (FitsCluster n) (FitsRun n) (agenda_line n v (w ∷ ws)) (agenda_fits n v (w ∷ ws)) (λ l h. h))
 
 -- a line that was read fits
-pub run_fits : (n : ℕ) (ws : List (List ℕ)) → IfSome (run_line n ws) (FitsRun n)
-run_fits n [] = tt
-run_fits n (w ∷ ws) = go (kind_of w)
+pub run_fits : (n : ℕ) (v : Version) (ws : List (List ℕ)) → IfSome (run_line n v ws) (FitsRun n)
+run_fits n v [] = tt
+run_fits n v (w ∷ ws) = go (kind_of w)
   where
-    go : (o : Option WeatherKind) → IfSome (option_map_or (λ kind. option_map (λ l. Weather l) (weather_of n kind ws)) o (plain_run_line n (w ∷ ws))) (FitsRun n)
-    go None = plain_fits n (w ∷ ws)
+    go : (o : Option WeatherKind) → IfSome (option_map_or (λ kind. option_map (λ l. Weather l) (weather_of n kind ws)) o (plain_run_line n v (w ∷ ws))) (FitsRun n)
+    go None = plain_fits n v (w ∷ ws)
     go (Some kind) = if_mapped (λ l. Weather l) (FitsWeather n) (FitsRun n) (weather_of n kind ws) (weather_fits n kind ws) (λ l h. h)
 
 frames_equal : IsEquivalence same_frame

@@ -5,6 +5,8 @@ use Rattle.ep_base.specs.Instances.{leader_of}
 use Rattle.ep_script.specs.Plan.{SectionPlan, same_frame}
 use Rattle.ep_script.specs.declared.agenda_line.AgendaLine.{AgendaLine}
 use Rattle.ep_script.specs.declared.agenda_line.AgendaLine.TheVariants.{Propose, GiveUp, Recover}
+use Rattle.ep_script.specs.declared.opening_line.OpeningLine.{OpeningLine}
+use Rattle.ep_script.specs.declared.opening_line.OpeningLine.TheVariants as opening
 use Rattle.ep_script.specs.declared.run_line.RunLine.{RunLine}
 use Rattle.ep_script.specs.declared.run_line.RunLine.TheVariants.{Agenda, Weather, Section}
 use Rattle.ep_script.specs.declared.weather_line.WeatherLine.{WeatherLine}
@@ -35,3 +37,8 @@ pub record FitsSection (n : ℕ) (s : SectionPlan) : Type 0 where
 
 abbrev pub AllFit : ℕ → List SectionPlan → Type 0
 AllFit n sections = All (FitsSection n) sections
+
+-- the stamp is below the greatest one, or 0
+abbrev pub IsOfOpening : OpeningLine → Type 0
+IsOfOpening (opening.Since s) = s ≤ 281474976710654
+IsOfOpening (opening.Entry k v) = Unit {0}

@@ -1,17 +1,22 @@
--- What the words of a line say, in a cluster of n replicas. Lines of agendas stand in scripts for a replay and for a run alike.
-use Rattle.std.specs.Prelude.{ℕ, ◌==◌, ◌&&◌, nat_le, nat_lt, Bool, false, List, [], ◌∷◌, ◌++◌, Option, Some, None, length, if◌then◌else◌, codes, option_map, option_and_then}
+-- What the words of a line say, in a cluster of n replicas of version v. Lines of agendas stand in scripts for a replay and for a run alike.
+use Rattle.std.specs.Prelude.{ℕ, ◌==◌, ◌&&◌, ◌||◌, nat_le, nat_lt, Bool, true, false, List, [], ◌∷◌, ◌++◌, Option, Some, None, length, if◌then◌else◌, codes, option_map, option_and_then}
 use Rattle.std.specs.Str.{bytes_eq}
 use Rattle.std.specs.List.{slice_split}
 use Rattle.std.specs.Option.{option_map_or}
 use Rattle.ep_base.specs.Attributes.{same_list}
 use Rattle.ep_base.specs.Instances.{instance_of, highest_number}
-use Rattle.ep_base.specs.Commands.{Command, Get, Put, Del, Swap}
+use Rattle.ep_base.specs.Commands.{Command, Get, Put, Del, Swap, Cas, Seal, Opaque}
+use Rattle.ep_base.specs.Values.{most_value}
+use Rattle.ep_base.specs.Versions.{knows}
+use Rattle.ep_base.specs.declared.version.Version.{Version}
 use Rattle.ep_script.specs.Word.{bytes_of}
-use Rattle.ep_script.specs.Parts.{number_of}
+use Rattle.ep_script.specs.Parts.{number_of, digits_of}
 use Rattle.ep_script.specs.declared.agenda_line.AgendaLine.{AgendaLine}
 use Rattle.ep_script.specs.declared.agenda_line.AgendaLine.TheVariants as agenda
 use Rattle.ep_script.specs.declared.line.Line.{Line}
 use Rattle.ep_script.specs.declared.line.Line.TheVariants.{Propose, GiveUp, Recover, Execute, Deliver, Flush}
+use Rattle.ep_script.specs.declared.opening_line.OpeningLine.{OpeningLine}
+use Rattle.ep_script.specs.declared.opening_line.OpeningLine.TheVariants.{Since, Entry}
 use Rattle.ep_script.specs.declared.run_line.RunLine.{RunLine}
 use Rattle.ep_script.specs.declared.run_line.RunLine.TheVariants.{Agenda, Weather, Section}
 use Rattle.ep_script.specs.declared.weather_kind.WeatherKind.{WeatherKind}
@@ -57,12 +62,12 @@ instance_parts n (r ∷ i ∷ w ∷ more) = None
 abbrev pub parts_of : List ℕ → List (List ℕ)
 parts_of w = slice_split (λ b. b == 46) w
 
--- bytes that can be a key, and a script's value
+-- bytes that can be a key, and a value
 abbrev pub key_of : List ℕ → Option (List ℕ)
 key_of k = if nat_le 1 (length k) && nat_le (length k) 255 then Some k else None
 
 abbrev pub value_of : List ℕ → Option (List ℕ)
-value_of v = if nat_le (length v) 1024 then Some v else None
+value_of v = if nat_le (length v) most_value then Some v else None
 
 abbrev pub key_word : List ℕ → Option (List ℕ)
 key_word w = option_and_then key_of (bytes_of w)
@@ -101,20 +106,71 @@ swap_of (k ∷ []) = None
 swap_of (k ∷ l ∷ []) = option_and_then (λ first. option_and_then (swap_with first) (key_word l)) (key_word k)
 swap_of (k ∷ l ∷ w ∷ more) = None
 
-abbrev pub command_of : List (List ℕ) → Option Command
-command_of [] = None
-command_of (w ∷ ws) =
+-- a value, or that there is none
+abbrev pub option_word : List ℕ → Option (Option (List ℕ))
+option_word w = if bytes_eq w (codes "%!") then Some None else option_map (λ v. Some v) (value_word w)
+
+-- `cas K E N`
+abbrev pub cas_of : List (List ℕ) → Option Command
+cas_of [] = None
+cas_of (k ∷ []) = None
+cas_of (k ∷ e ∷ []) = None
+cas_of (k ∷ e ∷ n ∷ []) = option_and_then (λ key. option_and_then (λ expected. option_map (λ new. Cas key expected new) (option_word n)) (option_word e)) (key_word k)
+cas_of (k ∷ e ∷ n ∷ w ∷ more) = None
+
+-- the command of a machine outside on one key, and on two that differ
+abbrev pub opaque_with : Bool → List ℕ → List ℕ → Command
+opaque_with reads k b = Opaque (record { first = k; second = None; reads = reads }) b
+
+abbrev pub opaque_with_two : Bool → List ℕ → List ℕ → List ℕ → Option Command
+opaque_with_two reads k l b = if same_list k l then None else Some (Opaque (record { first = k; second = Some l; reads = reads }) b)
+
+-- `ask K B`, `ask K K B`, `act K B` and `act K K B`: an ask only reads
+abbrev pub opaque_of : Bool → List (List ℕ) → Option Command
+opaque_of reads [] = None
+opaque_of reads (k ∷ []) = None
+opaque_of reads (k ∷ b ∷ []) = option_and_then (λ key. option_map (opaque_with reads key) (value_word b)) (key_word k)
+opaque_of reads (k ∷ l ∷ b ∷ []) = option_and_then (λ first. option_and_then (λ second. option_and_then (opaque_with_two reads first second) (value_word b)) (key_word l)) (key_word k)
+opaque_of reads (k ∷ l ∷ b ∷ w ∷ more) = None
+
+-- `seal V`
+abbrev pub seal_of : List (List ℕ) → Option Command
+seal_of [] = None
+seal_of (v ∷ []) = option_map (λ value. Seal value) (value_word v)
+seal_of (v ∷ w ∷ more) = None
+
+-- a command that version 3 alone knows
+abbrev pub late_command_of : List (List ℕ) → Option Command
+late_command_of [] = None
+late_command_of (w ∷ ws) =
+    if bytes_eq w (codes "cas") then cas_of ws
+    else if bytes_eq w (codes "ask") then opaque_of true ws
+    else if bytes_eq w (codes "act") then opaque_of false ws
+    else if bytes_eq w (codes "seal") then seal_of ws
+    else None
+
+-- a command of any version
+abbrev pub any_command_of : List (List ℕ) → Option Command
+any_command_of [] = None
+any_command_of (w ∷ ws) =
     if bytes_eq w (codes "get") then get_of ws
     else if bytes_eq w (codes "put") then put_of ws
     else if bytes_eq w (codes "del") then del_of ws
     else if bytes_eq w (codes "swap") then swap_of ws
-    else None
+    else late_command_of (w ∷ ws)
+
+-- one that version v knows
+abbrev pub known_in : Version → Command → Option Command
+known_in v c = if knows v c then Some c else None
+
+abbrev pub command_of : Version → List (List ℕ) → Option Command
+command_of v ws = option_and_then (known_in v) (any_command_of ws)
 
 -- `propose R C` and a command
-abbrev pub propose_of : ℕ → List (List ℕ) → Option AgendaLine
-propose_of n [] = None
-propose_of n (r ∷ []) = None
-propose_of n (r ∷ c ∷ command) = option_and_then (λ replica. option_and_then (λ client. option_map (λ x. agenda.Propose replica client x) (command_of command)) (count_of c)) (replica_of n r)
+abbrev pub propose_of : ℕ → Version → List (List ℕ) → Option AgendaLine
+propose_of n v [] = None
+propose_of n v (r ∷ []) = None
+propose_of n v (r ∷ c ∷ command) = option_and_then (λ replica. option_and_then (λ client. option_map (λ x. agenda.Propose replica client x) (command_of v command)) (count_of c)) (replica_of n r)
 
 -- a replica and an instance
 abbrev pub place_of : ℕ → List (List ℕ) → Option (ℕ × ℕ)
@@ -124,10 +180,10 @@ place_of n (r ∷ i ∷ []) = option_and_then (λ replica. option_map (λ instan
 place_of n (r ∷ i ∷ w ∷ more) = None
 
 -- what a replica is to do: `propose`, `giveup` and `recover`
-abbrev pub agenda_line : ℕ → List (List ℕ) → Option AgendaLine
-agenda_line n [] = None
-agenda_line n (w ∷ ws) =
-    if bytes_eq w (codes "propose") then propose_of n ws
+abbrev pub agenda_line : ℕ → Version → List (List ℕ) → Option AgendaLine
+agenda_line n v [] = None
+agenda_line n v (w ∷ ws) =
+    if bytes_eq w (codes "propose") then propose_of n v ws
     else if bytes_eq w (codes "giveup") then option_map (λ p. agenda.GiveUp p.0 p.1) (place_of n ws)
     else if bytes_eq w (codes "recover") then option_map (λ p. agenda.Recover p.0 p.1) (place_of n ws)
     else None
@@ -152,14 +208,14 @@ in_replay (agenda.Propose replica client command) = Propose replica client comma
 in_replay (agenda.GiveUp replica instance) = GiveUp replica instance
 in_replay (agenda.Recover replica instance) = Recover replica instance
 
--- a line of a replay, other than `replicas N`; none where it is refused
-abbrev pub replay_line : ℕ → List (List ℕ) → Option Line
-replay_line n [] = None
-replay_line n (w ∷ ws) =
+-- a line of a replay behind the script's head; none where it is refused
+abbrev pub replay_line : ℕ → Version → List (List ℕ) → Option Line
+replay_line n v [] = None
+replay_line n v (w ∷ ws) =
     if bytes_eq w (codes "execute") then option_map (λ p. Execute p.0 p.1) (place_of n ws)
     else if bytes_eq w (codes "deliver") then deliver_of ws
     else if bytes_eq w (codes "flush") then flush_of ws
-    else option_map in_replay (agenda_line n (w ∷ ws))
+    else option_map in_replay (agenda_line n v (w ∷ ws))
 
 abbrev pub section_of : List (List ℕ) → Option RunLine
 section_of [] = Some Section
@@ -186,13 +242,58 @@ kind_of w =
     else None
 
 -- a line of a run that is none of its weather
-abbrev pub plain_run_line : ℕ → List (List ℕ) → Option RunLine
-plain_run_line n [] = None
-plain_run_line n (w ∷ ws) =
+abbrev pub plain_run_line : ℕ → Version → List (List ℕ) → Option RunLine
+plain_run_line n v [] = None
+plain_run_line n v (w ∷ ws) =
     if bytes_eq w (codes "section") then section_of ws
-    else option_map (λ l. Agenda l) (agenda_line n (w ∷ ws))
+    else option_map (λ l. Agenda l) (agenda_line n v (w ∷ ws))
 
--- a line of a run, other than `replicas N`; none where it is refused
-abbrev pub run_line : ℕ → List (List ℕ) → Option RunLine
-run_line n [] = None
-run_line n (w ∷ ws) = option_map_or (λ kind. option_map (λ l. Weather l) (weather_of n kind ws)) (kind_of w) (plain_run_line n (w ∷ ws))
+-- a line of a run behind the script's head; none where it is refused
+abbrev pub run_line : ℕ → Version → List (List ℕ) → Option RunLine
+run_line n v [] = None
+run_line n v (w ∷ ws) = option_map_or (λ kind. option_map (λ l. Weather l) (weather_of n kind ws)) (kind_of w) (plain_run_line n v (w ∷ ws))
+
+-- Lines of a script's head, behind `replicas N`.
+
+-- the first word is this one
+abbrev pub starts_with : List ℕ → List (List ℕ) → Bool
+starts_with word [] = false
+starts_with word (w ∷ ws) = bytes_eq w word
+
+abbrev pub generation_word : List (List ℕ) → Option ℕ
+generation_word [] = None
+generation_word (g ∷ []) = count_of g
+generation_word (g ∷ w ∷ more) = None
+
+-- `generation G`
+abbrev pub generation_of : List (List ℕ) → Option ℕ
+generation_of [] = None
+generation_of (w ∷ ws) = if bytes_eq w (codes "generation") then generation_word ws else None
+
+-- a stamp below the greatest one, or 0, in 1 to 15 digits
+abbrev pub since_number : List ℕ → Option ℕ
+since_number w = option_and_then (λ s. if nat_le s 281474976710654 then Some s else None) (digits_of 15 w)
+
+-- `since S`
+abbrev pub since_of : List (List ℕ) → Option OpeningLine
+since_of [] = None
+since_of (s ∷ []) = option_map (λ x. Since x) (since_number s)
+since_of (s ∷ w ∷ more) = None
+
+-- `opening K V`
+abbrev pub entry_of : List (List ℕ) → Option OpeningLine
+entry_of [] = None
+entry_of (k ∷ []) = None
+entry_of (k ∷ v ∷ []) = option_and_then (λ key. option_map (λ value. Entry key value) (value_word v)) (key_word k)
+entry_of (k ∷ v ∷ w ∷ more) = None
+
+-- the line is one of what replicas open with
+abbrev pub is_opening : List (List ℕ) → Bool
+is_opening ws = starts_with (codes "since") ws || starts_with (codes "opening") ws
+
+abbrev pub opening_of : List (List ℕ) → Option OpeningLine
+opening_of [] = None
+opening_of (w ∷ ws) =
+    if bytes_eq w (codes "since") then since_of ws
+    else if bytes_eq w (codes "opening") then entry_of ws
+    else None

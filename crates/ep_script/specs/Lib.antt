@@ -5,6 +5,8 @@ pub mod Grammar
 pub mod Window
 pub mod RawLines
 pub mod SoFar
+pub mod Heads
+pub mod Keys
 pub mod Plan
 pub mod Frames
 pub mod Fits

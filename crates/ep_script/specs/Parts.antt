@@ -17,6 +17,10 @@ abbrev pub value_after : ℕ → List ℕ → ℕ
 value_after n [] = n
 value_after n (d ∷ ds) = value_after (10 * n + (d - 48)) ds
 
--- a number has 1 to 10 decimal digits
+-- the number that 1 to so many decimal digits spell
+abbrev pub digits_of : ℕ → List ℕ → Option ℕ
+digits_of most w = if nat_le 1 (length w) && nat_le (length w) most && list_all is_digit w then Some (value_after 0 w) else None
+
+-- a number has 1 to 10 of them
 abbrev pub number_of : List ℕ → Option ℕ
-number_of w = if nat_le 1 (length w) && nat_le (length w) 10 && list_all is_digit w then Some (value_after 0 w) else None
+number_of w = digits_of 10 w

@@ -7,20 +7,27 @@
 //! Start with `reader.rt` and `line.rt`, then specs/Grammar.antt and specs/Plan.antt.
 //!
 //! It knows nothing of the protocol. A new line of the grammar is a case of `Line`, of `RunLine`, or of `AgendaLine` where
-//! both kinds of scripts have it, with its words in specs/Grammar.antt first.
+//! both kinds of scripts have it, with its words in specs/Grammar.antt first. What lines say of the cluster and of what it opens with is a
+//! script's `Head`.
 #![tactic(auto)]
 
 mod agenda_line;
 mod draft;
+mod entries;
 mod got;
+mod head;
 mod line;
 mod line_fault;
 mod messages;
 mod numbers;
+mod open_head;
 mod open_run;
+mod opening;
+mod opening_line;
 mod operands;
 mod reader;
 mod reading;
+mod reading_head;
 mod reading_replay;
 mod reading_run;
 mod run_line;
@@ -29,6 +36,7 @@ mod script;
 mod script_fault;
 mod script_kind;
 mod section;
+mod stage;
 mod weather;
 mod weather_kind;
 mod weather_line;
@@ -38,9 +46,11 @@ mod word;
 mod words;
 
 pub use agenda_line::AgendaLine;
+pub use head::Head;
 pub use line::Line;
 pub use messages::Messages;
-pub use numbers::{number, number_in};
+pub use numbers::{long_number, number, number_in};
+pub use opening::Opening;
 pub use reader::{read_run, read_script};
 pub use run_script::RunScript;
 pub use script::Script;

@@ -7,20 +7,20 @@ ghost use Rattle.ep_script.specs.Parts.{words_of};
 ghost use Rattle.ep_script.specs.Plan.{no_section, no_sections, with_run_line, after_line, run_of_open};
 ghost use Rattle.ep_script.specs.declared.run_line.RunLine.TheVariants.{Weather};
 
+use crate::head::Head;
 use crate::reading_run::read_run_line;
 use crate::run_line::RunLine;
 use crate::run_script::RunScript;
 use crate::script_kind::ScriptKind;
 use crate::section::Section;
 use crate::weather_line::WeatherLine;
-use ep_base::Size;
 use std::alloc::{AllocError, Global};
 use std::marker::Model;
 
 /// A script for a run, as far as its lines have been read: the sections that have ended, and the one that hasn't.
 #[derive(Drop)]
 pub(crate) struct OpenRun {
-    size: Size,
+    head: Head,
     ended: Vec<Section>,
     current: Section,
 }
@@ -32,9 +32,9 @@ impl Model for OpenRun {
 
     ghost Value = { OpenPlan };
 
-    ghost view = { λ s. record { faults = s.size; ended = s.ended.items; current = s.current } };
+    ghost view = { λ s. record { head = s.head; ended = s.ended.items; current = s.current } };
 
-    ghost invariant = { λ s. AllFit (size_with s.size) s.ended.items × FitsSection (size_with s.size) s.current };
+    ghost invariant = { λ s. AllFit (size_with s.head.faults) s.ended.items × FitsSection (size_with s.head.faults) s.current };
 }
 
 impl ScriptKind for OpenRun {
@@ -42,16 +42,16 @@ impl ScriptKind for OpenRun {
 
     ghost takes = { with_run_line };
 
-    fn begin(alloc: Global, size: Size) -> OpenRun {
+    fn begin(alloc: Global, head: Head) -> OpenRun {
         OpenRun {
-            size,
+            head,
             ended: Vec::new(alloc),
             current: Section::new(alloc),
         }
     }
 
     fn take(&mut self, alloc: Global, number: u32, words: &[u8]) -> Result<bool, AllocError> {
-        match read_run_line(alloc, self.size, words)? {
+        match read_run_line(alloc, self.head.size(), self.head.version(), words)? {
             None => Ok(false),
             Some(line) => self.take_line(alloc, number, line),
         }
@@ -60,7 +60,7 @@ impl ScriptKind for OpenRun {
 
 impl OpenRun {
     fn take_line(&mut self, alloc: Global, number: u32, line: RunLine) -> Result<bool, AllocError>
-        requires { FitsRun (size_with self.old.faults) line }
+        requires { FitsRun (size_with self.old.head.faults) line }
         ensures { IfOk result (λ b. MatchBool b (after_line number self.old line ≡ Some self.new) (after_line number self.old line ≡ None)) }
     {
         match line {
@@ -77,7 +77,7 @@ impl OpenRun {
     }
 
     fn take_weather(&mut self, line: WeatherLine) -> Result<bool, AllocError>
-        requires { FitsWeather (size_with self.old.faults) line }
+        requires { FitsWeather (size_with self.old.head.faults) line }
         ensures { IfOk result (λ b. MatchBool b (after_line 0 self.old (Weather line) ≡ Some self.new) (after_line 0 self.old (Weather line) ≡ None)) }
     {
         let is_new = self.current.push_weather(line)?;
@@ -85,7 +85,7 @@ impl OpenRun {
     }
 
     fn end_section(&mut self, alloc: Global) -> Result<(), AllocError>
-        ensures { OnOk result (self.new ≡ record { faults = self.old.faults; ended = self.old.ended ++ self.old.current ∷ []; current = no_section }) }
+        ensures { OnOk result (self.new ≡ record { head = self.old.head; ended = self.old.ended ++ self.old.current ∷ []; current = no_section }) }
     {
         let current = std::mem::replace(&mut self.current, Section::new(alloc));
         self.ended.push(current)?;
@@ -97,13 +97,13 @@ impl OpenRun {
         ensures { IfOk result (λ s. run_of_open (Ok self) ≡ Ok s) }
     {
         let OpenRun {
-            size,
+            head,
             mut ended,
             current,
         } = self;
         if !current.is_empty() {
             ended.push(current)?;
         }
-        Ok(RunScript::new(size, ended))
+        Ok(RunScript::new(head, ended))
     }
 }

@@ -1,22 +1,22 @@
 //! Numbers, names and commands within a line.
 
-ghost use Rattle.std.specs.Prelude.{◌≡◌, ◌≤◌, IfOk, IfSome, map};
+ghost use Rattle.std.specs.Prelude.{◌≡◌, ◌≤◌, [], ◌∷◌, Some, IfOk, IfSome, map};
+ghost use Rattle.std.specs.Option.{option_copied};
+ghost use Rattle.ep_base.specs.Commands.{Cas};
+ghost use Rattle.ep_base.specs.Parts.{IsShort};
 ghost use Rattle.ep_base.specs.Quorums.{size as size_with};
 ghost use Rattle.ep_base.specs.Instances.{instance_of, highest_number};
 ghost use Rattle.ep_script.specs.Parts.{words_of};
-ghost use Rattle.ep_script.specs.Grammar.{number_in as number_between, count_of, replica_of, instance_parts, parts_of, key_of, value_of, key_word, value_word, key_only, get_of, put_of, del_of, swap_with, swap_of, command_of, place_of};
+ghost use Rattle.ep_script.specs.Grammar.{number_in as number_between, count_of, replica_of, instance_parts, parts_of, key_of, value_of, key_word, value_word, key_only, get_of, put_of, del_of, swap_with, swap_of, option_word, cas_of, opaque_of, opaque_with_two, seal_of, late_command_of, any_command_of, command_of, place_of};
 
 use crate::numbers::{number, number_in};
 use crate::word::{read_word, spells_itself};
 use crate::words::{has_dot, is_word, next_word, split_dot};
-use ep_base::{Command, CommandFault, InstanceId, Key, ReplicaId, Size, Value};
+use ep_base::{Command, CommandFault, InstanceId, Key, ReplicaId, Size, Touching, Value, Version};
 use std::alloc::{AllocError, Global};
 
 /// The highest number of an instance.
 const HIGHEST_NUMBER: u64 = 2000;
-
-/// The most bytes of a value. The formats have longer ones.
-const LONGEST_VALUE: usize = 1024;
 
 /// A number from 1 to 4,294,967,295: a client, a message or a place.
 pub(crate) fn count(word: &[u8]) -> Option<u32>
@@ -94,7 +94,8 @@ pub(crate) fn place(size: Size, words: &[u8]) -> Option<(ReplicaId, InstanceId)>
     Some((replica, instance))
 }
 
-fn read_key(alloc: Global, word: &[u8]) -> Result<Option<Key>, AllocError>
+/// A key.
+pub(crate) fn read_key(alloc: Global, word: &[u8]) -> Result<Option<Key>, AllocError>
     ensures { IfOk result (λ k. k ≡ key_word word.now) }
 {
     if spells_itself(word) {
@@ -116,7 +117,8 @@ fn key(alloc: Global, bytes: &[u8]) -> Result<Option<Key>, AllocError>
     }
 }
 
-fn read_value(alloc: Global, word: &[u8]) -> Result<Option<Value>, AllocError>
+/// A value.
+pub(crate) fn read_value(alloc: Global, word: &[u8]) -> Result<Option<Value>, AllocError>
     ensures { IfOk result (λ v. v ≡ value_word word.now) }
 {
     if spells_itself(word) {
@@ -131,12 +133,9 @@ fn read_value(alloc: Global, word: &[u8]) -> Result<Option<Value>, AllocError>
 fn value(alloc: Global, bytes: &[u8]) -> Result<Option<Value>, AllocError>
     ensures { IfOk result (λ v. v ≡ value_of bytes.now) }
 {
-    if bytes.len() > LONGEST_VALUE {
-        return Ok(None);
-    }
     match Value::new(alloc, bytes) {
         Ok(value) => Ok(Some(value)),
-        Err(CommandFault::OutOfRange) => unreachable!(),
+        Err(CommandFault::OutOfRange) => Ok(None),
         Err(CommandFault::Memory) => Err(AllocError),
     }
 }
@@ -239,9 +238,208 @@ fn swapped(alloc: Global, first: &Key, second: &Key) -> Result<Option<Command>, 
     }
 }
 
-/// A get, a put, a del or a swap.
-pub(crate) fn read_command(alloc: Global, words: &[u8]) -> Result<Option<Command>, AllocError>
-    ensures { IfOk result (λ c. c ≡ command_of (words_of words.now)) }
+// A value, or that there is none.
+fn read_option(alloc: Global, word: &[u8]) -> Result<Option<Option<Value>>, AllocError>
+    ensures { IfOk result (λ v. v ≡ option_word word.now) }
+{
+    if is_word(word, b"%!") {
+        return Ok(Some(None));
+    }
+    let Some(value) = read_value(alloc, word)? else {
+        return Ok(None);
+    };
+    Ok(Some(Some(value)))
+}
+
+fn cas(alloc: Global, words: &[u8]) -> Result<Option<Command>, AllocError>
+    ensures { IfOk result (λ c. c ≡ cas_of (words_of words.now)) }
+{
+    let Some((first, after)) = next_word(words) else {
+        return Ok(None);
+    };
+    let Some((second, others)) = next_word(after) else {
+        return Ok(None);
+    };
+    let Some((third, rest)) = next_word(others) else {
+        return Ok(None);
+    };
+    if next_word(rest).is_some() {
+        return Ok(None);
+    }
+    let Some(key) = read_key(alloc, first)? else {
+        return Ok(None);
+    };
+    let Some(expected) = read_option(alloc, second)? else {
+        return Ok(None);
+    };
+    let Some(new) = read_option(alloc, third)? else {
+        return Ok(None);
+    };
+    compared(alloc, &key, &expected, &new)
+}
+
+fn compared(
+    alloc: Global,
+    key: &Key,
+    expected: &Option<Value>,
+    new: &Option<Value>,
+) -> Result<Option<Command>, AllocError>
+    ensures { IfOk result (λ c. c ≡ Some (Cas key.now expected.now new.now)) }
+{
+    match Command::cas(alloc, key.as_slice(), bytes_of(expected), bytes_of(new)) {
+        Ok(command) => Ok(Some(command)),
+        Err(CommandFault::OutOfRange) => unreachable!(),
+        Err(CommandFault::Memory) => Err(AllocError),
+    }
+}
+
+fn bytes_of(value: &Option<Value>) -> Option<&[u8]>
+    ensures value { option_copied result ≡ value.now }
+    ensures short { IsShort value.now }
+{
+    match value {
+        None => None,
+        Some(value) => Some(value.as_slice()),
+    }
+}
+
+// A command of a machine outside, which only reads or doesn't.
+fn opaque(alloc: Global, reads: bool, words: &[u8]) -> Result<Option<Command>, AllocError>
+    ensures { IfOk result (λ c. c ≡ opaque_of reads (words_of words.now)) }
+{
+    let Some((first, after)) = next_word(words) else {
+        return Ok(None);
+    };
+    let Some((second, others)) = next_word(after) else {
+        return Ok(None);
+    };
+    match next_word(others) {
+        None => opaque_one(alloc, reads, first, second),
+        Some((third, rest)) => {
+            if next_word(rest).is_some() {
+                return Ok(None);
+            }
+            opaque_two(alloc, reads, first, second, third)
+        }
+    }
+}
+
+fn opaque_one(
+    alloc: Global,
+    reads: bool,
+    key: &[u8],
+    body: &[u8],
+) -> Result<Option<Command>, AllocError>
+    ensures { IfOk result (λ c. c ≡ opaque_of reads (key.now ∷ body.now ∷ [])) }
+{
+    let Some(key) = read_key(alloc, key)? else {
+        return Ok(None);
+    };
+    let Some(body) = read_value(alloc, body)? else {
+        return Ok(None);
+    };
+    let own = Touching {
+        first: key.as_slice(),
+        second: None,
+        reads,
+    };
+    match Command::opaque(alloc, &own, body.as_slice()) {
+        Ok(command) => Ok(Some(command)),
+        Err(CommandFault::OutOfRange) => unreachable!(),
+        Err(CommandFault::Memory) => Err(AllocError),
+    }
+}
+
+fn opaque_two(
+    alloc: Global,
+    reads: bool,
+    first: &[u8],
+    second: &[u8],
+    body: &[u8],
+) -> Result<Option<Command>, AllocError>
+    ensures { IfOk result (λ c. c ≡ opaque_of reads (first.now ∷ second.now ∷ body.now ∷ [])) }
+{
+    let Some(first) = read_key(alloc, first)? else {
+        return Ok(None);
+    };
+    let Some(second) = read_key(alloc, second)? else {
+        return Ok(None);
+    };
+    let Some(body) = read_value(alloc, body)? else {
+        return Ok(None);
+    };
+    touched_both(alloc, reads, &first, &second, &body)
+}
+
+// The command on both keys; none where they are one.
+fn touched_both(
+    alloc: Global,
+    reads: bool,
+    one: &Key,
+    other: &Key,
+    body: &Value,
+) -> Result<Option<Command>, AllocError>
+    ensures { IfOk result (λ c. c ≡ opaque_with_two reads one.now other.now body.now) }
+{
+    if one.is_same(other) {
+        return Ok(None);
+    }
+    let own = Touching {
+        first: one.as_slice(),
+        second: Some(other.as_slice()),
+        reads,
+    };
+    match Command::opaque(alloc, &own, body.as_slice()) {
+        Ok(command) => Ok(Some(command)),
+        Err(CommandFault::OutOfRange) => unreachable!(),
+        Err(CommandFault::Memory) => Err(AllocError),
+    }
+}
+
+fn seal(alloc: Global, words: &[u8]) -> Result<Option<Command>, AllocError>
+    ensures { IfOk result (λ c. c ≡ seal_of (words_of words.now)) }
+{
+    let Some((first, rest)) = next_word(words) else {
+        return Ok(None);
+    };
+    if next_word(rest).is_some() {
+        return Ok(None);
+    }
+    let Some(value) = read_value(alloc, first)? else {
+        return Ok(None);
+    };
+    match Command::seal(alloc, value.as_slice()) {
+        Ok(command) => Ok(Some(command)),
+        Err(CommandFault::OutOfRange) => unreachable!(),
+        Err(CommandFault::Memory) => Err(AllocError),
+    }
+}
+
+// A command that version 3 alone knows.
+fn late_command(alloc: Global, words: &[u8]) -> Result<Option<Command>, AllocError>
+    ensures { IfOk result (λ c. c ≡ late_command_of (words_of words.now)) }
+{
+    let Some((first, rest)) = next_word(words) else {
+        return Ok(None);
+    };
+    if is_word(first, b"cas") {
+        return cas(alloc, rest);
+    }
+    if is_word(first, b"ask") {
+        return opaque(alloc, true, rest);
+    }
+    if is_word(first, b"act") {
+        return opaque(alloc, false, rest);
+    }
+    if is_word(first, b"seal") {
+        return seal(alloc, rest);
+    }
+    Ok(None)
+}
+
+// A command of any version.
+fn any_command(alloc: Global, words: &[u8]) -> Result<Option<Command>, AllocError>
+    ensures { IfOk result (λ c. c ≡ any_command_of (words_of words.now)) }
 {
     let Some((first, rest)) = next_word(words) else {
         return Ok(None);
@@ -258,5 +456,23 @@ pub(crate) fn read_command(alloc: Global, words: &[u8]) -> Result<Option<Command
     if is_word(first, b"swap") {
         return swap(alloc, rest);
     }
-    Ok(None)
+    late_command(alloc, words)
+}
+
+/// A command that this version knows.
+pub(crate) fn read_command(
+    alloc: Global,
+    version: Version,
+    words: &[u8],
+) -> Result<Option<Command>, AllocError>
+    ensures { IfOk result (λ c. c ≡ command_of version (words_of words.now)) }
+{
+    let Some(command) = any_command(alloc, words)? else {
+        return Ok(None);
+    };
+    if version.knows(&command) {
+        Ok(Some(command))
+    } else {
+        Ok(None)
+    }
 }

@@ -49,7 +49,7 @@ fn read<P: ScriptKind, S: Source>(alloc: Global, source: &mut S) -> Result<P, Sc
     let mut draft = Draft::new();
     for number in 1..=LINES {
         match window.line(source, &mut line)? {
-            Got::End => return draft.end(number),
+            Got::End => return draft.end(alloc, number),
             Got::TooLong => return Err(ScriptFault::Refused(number)),
             Got::Line => {
                 if !draft.take_line(alloc, number, line.as_slice())? {
@@ -59,7 +59,7 @@ fn read<P: ScriptKind, S: Source>(alloc: Global, source: &mut S) -> Result<P, Sc
         }
     }
     match window.line(source, &mut line)? {
-        Got::End => draft.end(LINES + 1),
+        Got::End => draft.end(alloc, LINES + 1),
         _ => Err(ScriptFault::Refused(LINES + 1)),
     }
 }

@@ -10,7 +10,7 @@ use crate::agenda_line::AgendaLine;
 use crate::numbers::number;
 use crate::operands::{count, place, read_command, replica};
 use crate::words::{is_word, next_word};
-use ep_base::Size;
+use ep_base::{Size, Version};
 use std::alloc::{AllocError, Global};
 
 fn size_with_count(count: u64) -> Option<Size>
@@ -48,8 +48,13 @@ pub(crate) fn read_size(words: &[u8]) -> Option<Size>
     }
 }
 
-fn propose(alloc: Global, size: Size, words: &[u8]) -> Result<Option<AgendaLine>, AllocError>
-    ensures { IfOk result (λ l. l ≡ propose_of (size_with size) (words_of words.now)) }
+fn propose(
+    alloc: Global,
+    size: Size,
+    version: Version,
+    words: &[u8],
+) -> Result<Option<AgendaLine>, AllocError>
+    ensures { IfOk result (λ l. l ≡ propose_of (size_with size) version (words_of words.now)) }
 {
     let Some((first, after)) = next_word(words) else {
         return Ok(None);
@@ -63,7 +68,7 @@ fn propose(alloc: Global, size: Size, words: &[u8]) -> Result<Option<AgendaLine>
     let Some(client) = count(second) else {
         return Ok(None);
     };
-    let Some(command) = read_command(alloc, rest)? else {
+    let Some(command) = read_command(alloc, version, rest)? else {
         return Ok(None);
     };
     Ok(Some(AgendaLine::Propose {
@@ -91,15 +96,16 @@ fn recover(size: Size, words: &[u8]) -> Option<AgendaLine>
 pub(crate) fn read_agenda_line(
     alloc: Global,
     size: Size,
+    version: Version,
     words: &[u8],
 ) -> Result<Option<AgendaLine>, AllocError>
-    ensures { IfOk result (λ l. l ≡ agenda_line (size_with size) (words_of words.now)) }
+    ensures { IfOk result (λ l. l ≡ agenda_line (size_with size) version (words_of words.now)) }
 {
     let Some((first, rest)) = next_word(words) else {
         return Ok(None);
     };
     if is_word(first, b"propose") {
-        return propose(alloc, size, rest);
+        return propose(alloc, size, version, rest);
     }
     if is_word(first, b"giveup") {
         return Ok(give_up(size, rest));

@@ -11,12 +11,17 @@ use crate::messages::Messages;
 use crate::operands::{count, place};
 use crate::reading::read_agenda_line;
 use crate::words::{is_word, next_word};
-use ep_base::Size;
+use ep_base::{Size, Version};
 use std::alloc::{AllocError, Global};
 
 /// The line that these words say; none where they are refused.
-pub(crate) fn read_line(alloc: Global, size: Size, words: &[u8]) -> Result<Option<Line>, AllocError>
-    ensures { IfOk result (λ l. l ≡ replay_line (size_with size) (words_of words.now)) }
+pub(crate) fn read_line(
+    alloc: Global,
+    size: Size,
+    version: Version,
+    words: &[u8],
+) -> Result<Option<Line>, AllocError>
+    ensures { IfOk result (λ l. l ≡ replay_line (size_with size) version (words_of words.now)) }
 {
     let Some((first, rest)) = next_word(words) else {
         return Ok(None);
@@ -30,13 +35,18 @@ pub(crate) fn read_line(alloc: Global, size: Size, words: &[u8]) -> Result<Optio
     if is_word(first, b"flush") {
         return Ok(flush(rest));
     }
-    shared(alloc, size, words)
+    shared(alloc, size, version, words)
 }
 
-fn shared(alloc: Global, size: Size, words: &[u8]) -> Result<Option<Line>, AllocError>
-    ensures { IfOk result (λ l. l ≡ option_map in_replay (agenda_line (size_with size) (words_of words.now))) }
+fn shared(
+    alloc: Global,
+    size: Size,
+    version: Version,
+    words: &[u8],
+) -> Result<Option<Line>, AllocError>
+    ensures { IfOk result (λ l. l ≡ option_map in_replay (agenda_line (size_with size) version (words_of words.now))) }
 {
-    let Some(asked) = read_agenda_line(alloc, size, words)? else {
+    let Some(asked) = read_agenda_line(alloc, size, version, words)? else {
         return Ok(None);
     };
     Ok(Some(Line::from(asked)))

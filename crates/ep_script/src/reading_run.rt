@@ -12,23 +12,24 @@ use crate::run_line::RunLine;
 use crate::weather_kind::WeatherKind;
 use crate::weather_line::WeatherLine;
 use crate::words::{is_word, next_word};
-use ep_base::Size;
+use ep_base::{Size, Version};
 use std::alloc::{AllocError, Global};
 
 /// The line that these words say; none where they are refused.
 pub(crate) fn read_run_line(
     alloc: Global,
     size: Size,
+    version: Version,
     words: &[u8],
 ) -> Result<Option<RunLine>, AllocError>
-    ensures { IfOk result (λ l. l ≡ run_line (size_with size) (words_of words.now)) }
+    ensures { IfOk result (λ l. l ≡ run_line (size_with size) version (words_of words.now)) }
 {
     let Some((first, rest)) = next_word(words) else {
         return Ok(None);
     };
     match kind(first) {
         Some(kind) => Ok(weather(size, kind, rest)),
-        None => plain(alloc, size, words),
+        None => plain(alloc, size, version, words),
     }
 }
 
@@ -79,8 +80,13 @@ fn weather_line(size: Size, kind: WeatherKind, words: &[u8]) -> Option<WeatherLi
 }
 
 // A line that is none of the weather.
-fn plain(alloc: Global, size: Size, words: &[u8]) -> Result<Option<RunLine>, AllocError>
-    ensures { IfOk result (λ l. l ≡ plain_run_line (size_with size) (words_of words.now)) }
+fn plain(
+    alloc: Global,
+    size: Size,
+    version: Version,
+    words: &[u8],
+) -> Result<Option<RunLine>, AllocError>
+    ensures { IfOk result (λ l. l ≡ plain_run_line (size_with size) version (words_of words.now)) }
 {
     let Some((first, rest)) = next_word(words) else {
         return Ok(None);
@@ -88,13 +94,18 @@ fn plain(alloc: Global, size: Size, words: &[u8]) -> Result<Option<RunLine>, All
     if is_word(first, b"section") {
         return Ok(section(rest));
     }
-    agenda(alloc, size, words)
+    agenda(alloc, size, version, words)
 }
 
-fn agenda(alloc: Global, size: Size, words: &[u8]) -> Result<Option<RunLine>, AllocError>
-    ensures { IfOk result (λ l. l ≡ option_map (λ x. Agenda x) (agenda_line (size_with size) (words_of words.now))) }
+fn agenda(
+    alloc: Global,
+    size: Size,
+    version: Version,
+    words: &[u8],
+) -> Result<Option<RunLine>, AllocError>
+    ensures { IfOk result (λ l. l ≡ option_map (λ x. Agenda x) (agenda_line (size_with size) version (words_of words.now))) }
 {
-    let Some(asked) = read_agenda_line(alloc, size, words)? else {
+    let Some(asked) = read_agenda_line(alloc, size, version, words)? else {
         return Ok(None);
     };
     Ok(Some(RunLine::Agenda(asked)))

@@ -4,6 +4,7 @@ ghost use Rattle.std.specs.Prelude.{◌≡◌, Some, None, IfOk, MatchBool};
 ghost use Rattle.ep_script.specs.Parts.{words_of};
 ghost use Rattle.ep_script.specs.Plan.{no_lines, with_line};
 
+use crate::head::Head;
 use crate::line::Line;
 use crate::reading_replay::read_line;
 use crate::script_kind::ScriptKind;
@@ -11,10 +12,10 @@ use ep_base::Size;
 use std::alloc::{AllocError, Global};
 use std::marker::Model;
 
-/// A script for a replay: the size of its cluster, and its lines that aren't skipped, each with its number.
+/// A script for a replay: its head, and the lines behind it that aren't skipped, each with its number.
 #[derive(Debug, Drop)]
 pub struct Script {
-    size: Size,
+    head: Head,
     lines: Vec<(u32, Line)>,
 }
 
@@ -23,7 +24,7 @@ impl Model for Script {
 
     ghost Value = { Plan };
 
-    ghost view = { λ s. record { faults = s.size; lines = s.lines.items } };
+    ghost view = { λ s. record { head = s.head; lines = s.lines.items } };
 }
 
 impl ScriptKind for Script {
@@ -31,15 +32,15 @@ impl ScriptKind for Script {
 
     ghost takes = { with_line };
 
-    fn begin(alloc: Global, size: Size) -> Script {
+    fn begin(alloc: Global, head: Head) -> Script {
         Script {
-            size,
+            head,
             lines: Vec::new(alloc),
         }
     }
 
     fn take(&mut self, alloc: Global, number: u32, words: &[u8]) -> Result<bool, AllocError> {
-        match read_line(alloc, self.size, words)? {
+        match read_line(alloc, self.head.size(), self.head.version(), words)? {
             None => Ok(false),
             Some(line) => {
                 self.lines.push((number, line))?;
@@ -52,12 +53,19 @@ impl ScriptKind for Script {
 impl Script {
     /// The size of the cluster.
     pub fn size(&self) -> Size
-        ensures { result ≡ self.now.faults }
+        ensures { result ≡ self.now.head.faults }
     {
-        self.size
+        self.head.size()
     }
 
-    /// The lines after `replicas N` that aren't skipped, each with its number, counted from 1.
+    /// The head.
+    pub fn head(&self) -> &Head
+        ensures { result.now ≡ self.now.head }
+    {
+        &self.head
+    }
+
+    /// The lines behind the head that aren't skipped, each with its number, counted from 1.
     pub fn lines(&self) -> &[(u32, Line)]
         ensures { result.now ≡ self.now.lines }
     {

@@ -3,6 +3,7 @@
 use Rattle.std.specs.Prelude.{◌≡◌, ◌⊎◌, ℕ, zero, suc, ◌≤◌, ◌<◌, Bool, true, false, List, [], ◌∷◌, ◌++◌, length, Option, Some, None, Result, Ok, Err, IsErr}
 use Rattle.std.specs.Io.KnownBytes.{Appends}
 use Rattle.ep_bundle.specs.Reading.{Left}
+use Rattle.ep_device.specs.declared.cause.Cause.{Cause}
 use Rattle.ep_node.specs.Nodes.{IsQuiet, Logged}
 use Rattle.ep_replica.specs.Kept.{Kept}
 use Rattle.ep_serve.specs.Acting.{Acts}
@@ -169,6 +170,14 @@ is_log_failed ReadFailed = false
 is_log_failed (BadRequest at) = false
 is_log_failed WriteFailed = false
 is_log_failed (LogFailed cause) = true
+
+-- where the log failed, the fault names why its device did first
+abbrev pub Names : ServeFault → Option Cause → Type 0
+Names Memory why = Unit {0}
+Names ReadFailed why = Unit {0}
+Names (BadRequest at) why = Unit {0}
+Names WriteFailed why = Unit {0}
+Names (LogFailed cause) why = why ≡ Some cause
 
 -- Whether the source had failed before, and has after: it fails where that is told, and not where all was read; where a device fails in settling, that is told.
 abbrev pub IsReadTo : Result Unit ServeFault → Bool → Bool → Type 0

@@ -4,7 +4,7 @@ ghost use Rattle.std.specs.Prelude.{◌≡◌, false, OnOk, IfErr};
 ghost use Rattle.ep_base.specs.Devices.{FailsAsTold};
 ghost use Rattle.ep_node.specs.Nodes.{IsQuiet};
 ghost use Rattle.ep_serve.specs.Lasting.{GoesOn, IsKept, StaysKnown};
-ghost use Rattle.ep_serve.specs.Serving.{is_log_failed, IsEarly};
+ghost use Rattle.ep_serve.specs.Serving.{is_log_failed, IsEarly, Names};
 
 use crate::serve_fault::ServeFault;
 use ep_device::Device;
@@ -20,6 +20,7 @@ pub(crate) fn put_on_disk<D: Device>(node: &mut Node<D>) -> Result<(), ServeFaul
     ensures onward { GoesOn D.seen D.moment D.left_since node.old.device node.new.device node.old.replica node.old.synced }
     ensures err { IfErr result IsEarly }
     ensures log_cause { FailsAsTold is_log_failed result (D.has_failed node.old.device) (D.has_failed node.new.device) }
+    ensures log_why { IfErr result (λ fault. Names fault (D.why node.new.device)) }
 {
     node.sync()?;
     node.is_at_rest();

@@ -40,7 +40,7 @@ impl Queue {
     ghost use Rattle.ep_serve.specs.Acting.{Acts};
     ghost use Rattle.ep_serve.specs.Answering.{Tell};
     ghost use Rattle.ep_serve.specs.Lasting.{GoesOn, IsKept, StaysKnown};
-    ghost use Rattle.ep_serve.specs.Serving.{is_log_failed, is_sync, is_write_failed, IfSettled, IfUnwritten, IsSilent, MayWait, Waits};
+    ghost use Rattle.ep_serve.specs.Serving.{is_log_failed, is_sync, is_write_failed, IfSettled, IfUnwritten, IsSilent, MayWait, Names, Waits};
     ghost use Rattle.ep_serve.specs.declared.due.Due.{Due};
     ghost use Rattle.ep_wire.specs.declared.request.Request.{Request};
     ghost use Rattle.ep_serve.specs.declared.serve_fault.ServeFault.TheVariants.{Memory};
@@ -91,6 +91,7 @@ impl Queue {
         ensures onward { GoesOn D.seen D.moment D.left_since node.old.device node.new.device node.old.replica node.old.synced }
         ensures sink_cause { FailsAsTold is_write_failed result (K.has_failed sink.old) (K.has_failed sink.new) }
         ensures log_cause { FailsAsTold is_log_failed result (D.has_failed node.old.device) (D.has_failed node.new.device) }
+        ensures log_why { IfErr result (λ fault. Names fault (D.why node.new.device)) }
     {
         put_on_disk(node)?;
         let Some(replica) = node.replica() else {
@@ -120,6 +121,7 @@ impl Queue {
         ensures onward { GoesOn D.seen D.moment D.left_since node.old.device node.new.device node.old.replica node.old.synced }
         ensures sink_cause { FailsAsTold is_write_failed result (K.has_failed sink.old) (K.has_failed sink.new) }
         ensures log_cause { FailsAsTold is_log_failed result (D.has_failed node.old.device) (D.has_failed node.new.device) }
+        ensures log_why { IfErr result (λ fault. Names fault (D.why node.new.device)) }
     {
         let asks = is_sync(&request);
         self.add(node, request)?;

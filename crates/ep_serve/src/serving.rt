@@ -1,11 +1,11 @@
 //! The loop.
 
-ghost use Rattle.std.specs.Prelude.{◌≡◌, ℕ, List, Some};
+ghost use Rattle.std.specs.Prelude.{◌≡◌, ℕ, List, Some, IfErr};
 ghost use Rattle.ep_base.specs.Devices.{FailsAsTold};
 ghost use Rattle.ep_base.specs.Quorums.{size};
 ghost use Rattle.ep_node.specs.Nodes.{IsQuiet};
 ghost use Rattle.ep_serve.specs.Lasting.{crashes};
-ghost use Rattle.ep_serve.specs.Serving.{is_log_failed, is_write_failed, Ends, IfSettled, IsReadTo};
+ghost use Rattle.ep_serve.specs.Serving.{is_log_failed, is_write_failed, Ends, IfSettled, IsReadTo, Names};
 
 use crate::mode::Mode;
 use crate::queue::Queue;
@@ -33,9 +33,10 @@ pub fn serve<D: Device, S: Source, K: Sink>(
     ensures served { (zs : List ℕ) → S.left source.old ≡ Some zs → Ends mode (size node.old.replica.faults) (crashes D.seen D.moment D.left_since node.old.device node.new.device) node.old.replica (record { at = 0; bytes = zs }) (K.held sink.old) (K.held sink.new) result node.new.replica }
     ensures quiet { IfSettled result (IsQuiet node.new) }
 
-    // which device failed, in this call
+    // which device failed, in this call, and why the log's did
     ensures sink_cause { FailsAsTold is_write_failed result (K.has_failed sink.old) (K.has_failed sink.new) }
     ensures log_cause { FailsAsTold is_log_failed result (D.has_failed node.old.device) (D.has_failed node.new.device) }
+    ensures log_why { IfErr result (λ fault. Names fault (D.why node.new.device)) }
     ensures source_cause { IsReadTo result (S.has_failed source.old) (S.has_failed source.new) }
 {
     let size = node.size();

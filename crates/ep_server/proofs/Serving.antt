@@ -4,8 +4,7 @@ use Rattle.std.specs.Io.KnownBytes.{Appends}
 use Rattle.ep_base.specs.Devices.{Puts}
 use Rattle.ep_base.specs.Quorums.{size}
 use Rattle.ep_node.specs.Nodes.{Logged}
-use Rattle.ep_node.specs.Opening.{IsOpened, IsWrittenAnew}
-use Rattle.ep_device.specs.declared.cause.Cause.{Cause}
+use Rattle.ep_node.specs.Opening.{IsOpened, IsWrittenAnew, Names}
 use Rattle.ep_node.specs.declared.cut.Cut.{Cut}
 use Rattle.ep_node.specs.declared.open_fault.OpenFault.{OpenFault}
 use Rattle.ep_node.specs.declared.open_fault.OpenFault.TheVariants as open_
@@ -66,13 +65,13 @@ concludes_after {E = E} cut told (Err e) status a b c first second third r is q 
     let p : Puts a b first second r (told_first cut) = subst (λ (z : Option Cut). Puts a b first second r (told_first z)) is q in
     (h.0, told_after a b c first second third (told_first cut) (line_of e) r p stays h.1)
 
--- where the device is said to have failed, it has
-pub is_failure : {D : Type 0} (shown : Shown D) (device : D) (why : OpenFault) → ((cause : Cause) → why ≡ open_.Failed cause → shown.has_failed device ≡ true) → IsFailure shown why
-is_failure shown device open_.OutOfRange h = tt
-is_failure shown device open_.Memory h = tt
-is_failure shown device (open_.Failed cause) h = (device, h cause refl)
-is_failure shown device open_.NoLog h = tt
-is_failure shown device open_.LogExists h = tt
-is_failure shown device open_.OtherLog h = tt
-is_failure shown device (open_.Log fault) h = tt
-is_failure shown device (open_.NotClocked number) h = tt
+-- where the device failed, it did so first for the reason that is told
+pub is_failure : {D : Type 0} (shown : Shown D) (device : D) (why : OpenFault) → Names why (shown.why device) → IsFailure shown why
+is_failure shown device open_.OutOfRange names = tt
+is_failure shown device open_.Memory names = tt
+is_failure shown device (open_.Failed cause) names = (device, names)
+is_failure shown device open_.NoLog names = tt
+is_failure shown device open_.LogExists names = tt
+is_failure shown device open_.OtherLog names = tt
+is_failure shown device (open_.Log fault) names = tt
+is_failure shown device (open_.NotClocked number) names = tt

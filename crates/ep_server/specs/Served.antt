@@ -1,7 +1,8 @@
 -- What the program does, by the status that it answers: of the bytes of its log and those that it reads, its output and its fault output.
-use Rattle.std.specs.Prelude.{◌≡◌, ◌++◌, ℕ, Bool, true, List, [], Option, Some, None, Result, Ok, Err, string_bytes}
+use Rattle.std.specs.Prelude.{◌≡◌, ◌++◌, ℕ, Bool, List, [], Option, Some, None, Result, Ok, Err, IfErr, string_bytes}
 use Rattle.ep_base.specs.Devices.{FailsAsTold}
 use Rattle.ep_base.specs.Quorums.{size}
+use Rattle.ep_device.specs.declared.cause.Cause.{Cause}
 use Rattle.ep_node.specs.Nodes.{Logged}
 use Rattle.ep_node.specs.Opening.{IsOpened, IsUnopened, IsWrittenAnew}
 use Rattle.ep_node.specs.declared.begin.Begin.{Begin}
@@ -9,7 +10,7 @@ use Rattle.ep_node.specs.declared.cut.Cut.{Cut}
 use Rattle.ep_node.specs.declared.open_fault.OpenFault.{OpenFault}
 use Rattle.ep_node.specs.declared.open_fault.OpenFault.TheVariants as open_
 use Rattle.ep_serve.specs.Lasting.{crashes}
-use Rattle.ep_serve.specs.Serving.{Ends, IsReadTo, is_log_failed, is_write_failed}
+use Rattle.ep_serve.specs.Serving.{Ends, IsReadTo, Names, is_log_failed, is_write_failed}
 use Rattle.ep_serve.specs.declared.mode.Mode.{Mode}
 use Rattle.ep_serve.specs.declared.serve_fault.ServeFault.{ServeFault}
 use Rattle.ep_server.specs.Faults.{command_line_refused, line_of, line_of_cut, status_of}
@@ -28,17 +29,20 @@ pub record Role : Type 0 where
   pub faults : ℕ
   pub me : ℕ
 
--- What is known of a type of devices: the bytes that a read returns, the moment, what a crash from a moment on might have left, and whether it has failed.
+-- What is known of a type of devices: the bytes that a read returns, the moment, what a crash from a moment on might have left, whether it has
+-- failed, and why it did first.
 pub record Shown (D : Type 0) : Type 1 where
   pub has_failed : D → Bool
+  pub why : D → Option Cause
   pub seen : D → Option (List ℕ)
   pub moment : D → ℕ
   pub left_since : D → ℕ → List ℕ → Type 0
 
--- Which device failed: the output, the log, and the reader, each where that is told.
+-- Which device failed: the output, the log, and the reader, each where that is told; and why the log's did.
 pub record Fails {D : Type 0} (shown : Shown D) (first last : D) (outcome : Result Unit ServeFault) (reader out : Output) : Type 0 where
   pub written : FailsAsTold is_write_failed outcome out.had_failed out.failed
   pub logged : FailsAsTold is_log_failed outcome (shown.has_failed first) (shown.has_failed last)
+  pub why : IfErr outcome (λ fault. Names fault (shown.why last))
   pub read : IsReadTo outcome reader.had_failed reader.failed
 
 -- The log holds this replica, and from there the requests in zs were served, as `serve` tells, on a device whose bytes were known when the log had been
@@ -67,11 +71,11 @@ IsOver {D = D} shown mode start zs outcome reader out =
     × Ends mode (size start.replica.faults) (crashes shown.seen shown.moment shown.left_since start.device end.device) start.replica (record { at = 0; bytes = zs }) out.before out.after ended end.replica
     × Fails shown start.device end.device ended reader out
 
--- where the log's device failed, there is one that did
+-- where the log's device failed, there is one that did, first for this reason
 abbrev pub IsFailure : {D : Type 0} → Shown D → OpenFault → Type 0
 IsFailure shown open_.OutOfRange = Unit {0}
 IsFailure shown open_.Memory = Unit {0}
-IsFailure {D = D} shown (open_.Failed cause) = (device : D) × (shown.has_failed device ≡ true)
+IsFailure {D = D} shown (open_.Failed cause) = (device : D) × (shown.why device ≡ Some cause)
 IsFailure shown open_.NoLog = Unit {0}
 IsFailure shown open_.LogExists = Unit {0}
 IsFailure shown open_.OtherLog = Unit {0}

@@ -17,6 +17,7 @@ use ep_device::Device;
 use ep_node::{Cut, Node, OpenFault};
 use ep_serve::{Mode, serve};
 use std::alloc::Global;
+use std::mem::forget;
 
 /// Serves as the node whose log the device holds, until the source is over or a fault stops it, and answers how the program
 /// ends. What was cut off the log is told by a line on the fault output before anything is answered, and what stops the node by
@@ -29,7 +30,7 @@ pub fn serve_log<D: Device + Drop, S: Source, W: Sink, F: Sink>(
     writer: &mut W,
     fault_writer: &mut F,
 ) -> Status
-    ensures { (bytes zs : List ℕ) → D.seen device ≡ Some bytes → S.left reader.old ≡ Some zs → IsNode (record { has_failed = D.has_failed; seen = D.seen; moment = D.moment; left_since = D.left_since })
+    ensures { (bytes zs : List ℕ) → D.seen device ≡ Some bytes → S.left reader.old ≡ Some zs → IsNode (record { has_failed = D.has_failed; why = D.why; seen = D.seen; moment = D.moment; left_since = D.left_since })
         (record { begin = options.now.begin; mode = options.now.mode; faults = options.now.size; me = options.now.me }) bytes zs result
         (output (S.left reader.old) (S.left reader.new) (S.has_failed reader.old) (S.has_failed reader.new))
         (output (W.held writer.old) (W.held writer.new) (W.has_failed writer.old) (W.has_failed writer.new))
@@ -45,7 +46,7 @@ pub fn serve_log<D: Device + Drop, S: Source, W: Sink, F: Sink>(
     }
 }
 
-/// Serves with a node that is opened.
+/// Serves with a node that is opened. The process ends then, and its end frees the node's memory: to let it go by parts would cost an eighth of a run.
 fn served<D: Device + Drop, S: Source, W: Sink>(
     alloc: Global,
     node: Node<D>,
@@ -54,18 +55,18 @@ fn served<D: Device + Drop, S: Source, W: Sink>(
     mode: Mode,
 ) -> Result<(), Fault>
     requires { IsQuiet node }
-    ensures { (zs : List ℕ) → S.left reader.old ≡ Some zs → IsOver (record { has_failed = D.has_failed; seen = D.seen; moment = D.moment; left_since = D.left_since }) mode node zs result
+    ensures { (zs : List ℕ) → S.left reader.old ≡ Some zs → IsOver (record { has_failed = D.has_failed; why = D.why; seen = D.seen; moment = D.moment; left_since = D.left_since }) mode node zs result
         (output (S.left reader.old) (S.left reader.new) (S.has_failed reader.old) (S.has_failed reader.new))
         (output (W.held writer.old) (W.held writer.new) (W.has_failed writer.old) (W.has_failed writer.new)) }
 {
     let mut node = node;
     match serve(alloc, &mut node, reader, writer, mode) {
         Ok(()) => {
-            drop(node);
+            forget(node);
             Ok(())
         }
         Err(fault) => {
-            drop(node);
+            forget(node);
             Err(Fault::Serve(fault))
         }
     }
@@ -82,7 +83,7 @@ fn opened<D: Device + Drop>(
     ensures written { IfOk result (λ node. (bytes : List ℕ) → D.seen device ≡ Some bytes
         → (log : List ℕ) × (D.seen node.device ≡ Some log) × IsWrittenAnew options.now.begin options.now.size options.now.me bytes log) }
     ensures err { IfErr result (λ fault. ((bytes : List ℕ) → D.seen device ≡ Some bytes → IsUnopened options.now.begin options.now.size options.now.me bytes fault)
-        × IsFailure (record { has_failed = D.has_failed; seen = D.seen; moment = D.moment; left_since = D.left_since }) fault) }
+        × IsFailure (record { has_failed = D.has_failed; why = D.why; seen = D.seen; moment = D.moment; left_since = D.left_since }) fault) }
 {
     match Node::open(alloc, device, options.size, options.me, options.begin) {
         Ok(node) => Ok(node),

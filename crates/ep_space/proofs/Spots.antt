@@ -1,13 +1,13 @@
 -- Where the entries of a table stand.
 use Rattle.std.proofs.Common.{◌≡◌, ◌≢◌, ℕ, zero, suc, ◌-◌, ◌<◌, ◌≤◌, Bool, true, false, cond, Option, Some, None, List, [], ◌∷◌, ◌++◌, length, is_some, refl, sym, ap, subst, ◌∙◌, true≢false, arith, not}
-use Rattle.std.specs.Prelude.{slice_get, slice_index_or, slice_set, ◌||◌, ◌==◌, if◌then◌else◌}
-use Rattle.std.specs.List.{IsDistinct, list_any}
-use Rattle.std.specs.Map.{keys_of, lookup, set_value}
-use Rattle.std.specs.Option.{option_map}
+use Rattle.std.specs.Prelude.{slice_get, slice_index_or, slice_set, take, ◌+◌, ◌||◌, ◌==◌, if◌then◌else◌}
+use Rattle.std.specs.List.{AllByRecursion, IsDistinct, list_any}
+use Rattle.std.specs.Map.{keys_of, lookup, set_value, values_of}
+use Rattle.indexmap.specs.IndexMap.{insert_entry, set_value_at}
 use Rattle.std.proofs.lemmas.Bool.{eq-eqb, eqb-true}
-use Rattle.std.proofs.lemmas.List.{get_or-set_same, get_or-set_other}
-use Rattle.std.proofs.lemmas.Map.Keys.{IsDistinct-push}
-use Rattle.std.proofs.lemmas.Option.{slice_get-get_or}
+use Rattle.std.proofs.lemmas.List.{get_or-set_same, get_or-set_other, take_more}
+use Rattle.std.proofs.lemmas.Map.Keys.{IsDistinct-head, IsDistinct-tail, IsDistinct-push}
+use Rattle.std.proofs.lemmas.Option.{none-some, slice_get-get_or}
 use Rattle.ep_base.specs.Instances.{IsInstance}
 use Rattle.ep_space.specs.Entries.{same, slot, spot, spot_after, value_at, with_place, AreSpots}
 use Rattle.ep_space.proofs.Order.{same_equiv, same_number}
@@ -66,6 +66,11 @@ module _ {X : Type 0} where
   keys-push [] e = refl
   keys-push (f ∷ es) e = ap (λ (ks : List ℕ). f.0 ∷ ks) (keys-push es e)
 
+pub get-keys : {X : Type 0} (es : List (ℕ × X)) (n : ℕ) (e : ℕ × X) → slice_get es n ≡ Some e → slice_get (keys_of es) n ≡ Some e.0
+get-keys [] n e at = absurd (none-some e at)
+get-keys {X} (f ∷ es) zero e at = ap (λ (x : ℕ × X). Some x.0) (some_is f e at)
+get-keys (f ∷ es) (suc n) e at = get-keys es n e at
+
 -- An entry more.
 
 after_none : (n : ℕ) → spot_after n ≡ 0 → n ≡ 0
@@ -92,6 +97,30 @@ absent i (k ∷ ks) e = go (same i k) e (absent i ks)
     go : (b : Bool) → cond b 1 (spot_after (spot i ks)) ≡ 0 → (spot i ks ≡ 0 → list_any (same i) ks ≡ false) → (b || list_any (same i) ks) ≡ false
     go true t rest = absurd (omega (arith, t))
     go false t rest = rest (after_none (spot i ks) t)
+
+-- A spot, by the key that stands there.
+
+apart_at : (x : ℕ) (xs : List ℕ) (n k : ℕ) → AllByRecursion (λ y. same x y ≡ false) xs → slice_get xs n ≡ Some k → same x k ≡ false
+apart_at x [] n k h e = absurd (none-some k e)
+apart_at x (y ∷ ys) zero k h e = subst (λ z. same x z ≡ false) (some_is y k e) h.0
+apart_at x (y ∷ ys) (suc n) k h e = apart_at x ys n k h.1 e
+
+apart_other : (i x k : ℕ) → same i k ≡ true → same x k ≡ false → same i x ≡ false
+apart_other i x k is apart = go (same i x) refl
+  where
+    go : (b : Bool) → same i x ≡ b → b ≡ false
+    go false e = refl
+    go true e = sym is ∙ same_equiv.congr i x k e ∙ apart
+
+pub spot-first : (i : ℕ) (ks : List ℕ) (n k : ℕ) → IsDistinct same ks → slice_get ks n ≡ Some k → same i k ≡ true → spot i ks ≡ suc n
+spot-first i [] n k d at is = absurd (none-some k at)
+spot-first i (x ∷ xs) zero k d at is = ap (λ b. cond b 1 (spot_after (spot i xs))) (subst (λ z. same i z ≡ true) (sym (some_is x k at)) is)
+spot-first i (x ∷ xs) (suc n) k d at is =
+    let apart : same x k ≡ false = apart_at x xs n k (IsDistinct-head same x xs d) at in
+    ap (λ b. cond b 1 (spot_after (spot i xs))) (apart_other i x k is apart) ∙ ap spot_after (spot-first i xs n k (IsDistinct-tail same x xs d) at is)
+
+pub spot-key : {X : Type 0} (es : List (ℕ × X)) (i n : ℕ) (e : ℕ × X) → IsDistinct same (keys_of es) → slice_get es n ≡ Some e → same i e.0 ≡ true → spot i (keys_of es) ≡ suc n
+spot-key es i n e d at is = spot-first i (keys_of es) n e.0 d (get-keys es n e at) is
 
 -- Slots.
 
@@ -140,6 +169,10 @@ module _ {X : Type 0} where
   length-keys [] = refl
   length-keys (e ∷ es) = ap suc (length-keys es)
 
+  pub length-push : (xs : List X) (x : X) → length (xs ++ x ∷ []) ≡ suc (length xs)
+  length-push [] x = refl
+  length-push (y ∷ ys) x = ap suc (length-push ys x)
+
 module _ {X : Type 0} where
   pub has-spot : (es : List (ℕ × X)) (i n : ℕ) → n ≡ spot i (keys_of es) → (not (n == 0)) ≡ is_some (lookup (same i) es)
   has-spot es i n is = go (n == 0) refl
@@ -154,40 +187,64 @@ module _ {X : Type 0} where
   spot-there es i zero is h = absurd (true≢false (sym h ∙ ap is_some (spot-none i es (sym is))))
   spot-there es i (suc n) is h = omega arith
 
+  pub value-here : (es : List (ℕ × X)) (n : ℕ) (x : X) → n ≢ 0 → slice_get (values_of es) (n - 1) ≡ Some x → value_at es n ≡ Some x
+  value-here es zero x some at = absurd (some refl)
+  value-here es (suc n) x some at = let less : n ≡ suc n - 1 = omega arith in ap (slice_get (values_of es)) less ∙ at
+
   -- A value in the place of another.
 
-  set-spot : (i : ℕ) (w : X) (es : List (ℕ × X)) (n : ℕ) (e : ℕ × X) → suc n ≡ spot i (keys_of es) → slice_get es n ≡ Some e → slice_set es n (e.0, w) ≡ set_value (same i) es w
-  set-spot i w [] n e is at = absurd (omega (arith, is))
-  set-spot i w (f ∷ es) n e is at = go (same i f.0) n is at (λ m t u. set-spot i w es m e t u)
+  set-spot : (i : ℕ) (w : X) (es : List (ℕ × X)) (n : ℕ) → suc n ≡ spot i (keys_of es) → set_value_at es n w ≡ set_value (same i) es w
+  set-spot i w [] n is = absurd (omega (arith, is))
+  set-spot i w (f ∷ es) n is = go (same i f.0) n is (λ m t. set-spot i w es m t)
     where
-      go : (b : Bool) (m : ℕ) → suc m ≡ cond b 1 (spot_after (spot i (keys_of es))) → slice_get (f ∷ es) m ≡ Some e
-          → ((p : ℕ) → suc p ≡ spot i (keys_of es) → slice_get es p ≡ Some e → slice_set es p (e.0, w) ≡ set_value (same i) es w)
-          → slice_set (f ∷ es) m (e.0, w) ≡ cond b ((f.0, w) ∷ es) (f ∷ set_value (same i) es w)
-      go true zero t u rest = ap (λ (x : ℕ × X). (x.0, w) ∷ es) (sym (some_is f e u))
-      go true (suc m) t u rest = absurd (omega (arith, t))
-      go false zero t u rest = absurd (after_not_one (spot i (keys_of es)) t)
-      go false (suc m) t u rest = ap (λ (xs : List (ℕ × X)). f ∷ xs) (rest m (after_suc m (spot i (keys_of es)) t) u)
+      go : (b : Bool) (m : ℕ) → suc m ≡ cond b 1 (spot_after (spot i (keys_of es)))
+          → ((p : ℕ) → suc p ≡ spot i (keys_of es) → set_value_at es p w ≡ set_value (same i) es w)
+          → set_value_at (f ∷ es) m w ≡ cond b ((f.0, w) ∷ es) (f ∷ set_value (same i) es w)
+      go true zero t rest = refl
+      go true (suc m) t rest = absurd (omega (arith, t))
+      go false zero t rest = absurd (after_not_one (spot i (keys_of es)) t)
+      go false (suc m) t rest = ap (λ (xs : List (ℕ × X)). f ∷ xs) (rest m (after_suc m (spot i (keys_of es)) t))
 
-  spot-entry : (i : ℕ) (es : List (ℕ × X)) (n : ℕ) (e : ℕ × X) → suc n ≡ spot i (keys_of es) → slice_get es n ≡ Some e → Some e.1 ≡ lookup (same i) es
-  spot-entry i es n e is at = sym (ap (option_map (λ (x : ℕ × X). x.1)) at) ∙ ap (value_at es) is ∙ value-spot i es
-
-  pub spot-found : (es : List (ℕ × X)) (i n : ℕ) (e : ℕ × X) → n ≡ spot i (keys_of es) → 0 < n → e ≡ slice_index_or es (n - 1) e → slice_get es (n - 1) ≡ Some e
-  spot-found es i n e is some read =
-      let most = spot-within i (keys_of es) in
-      let as_many = length-keys es in
-      let inside : n - 1 < length es = omega (arith, is, some, most, as_many) in
-      slice_get-get_or es (n - 1) e inside ∙ ap Some (sym read)
-
-  pub spot-read : (es : List (ℕ × X)) (i n : ℕ) (e : ℕ × X) → n ≡ spot i (keys_of es) → 0 < n → slice_get es (n - 1) ≡ Some e → Some e.1 ≡ lookup (same i) es
-  spot-read es i n e is some at =
+  pub spot-read : (es : List (ℕ × X)) (i n : ℕ) (x : X) → n ≡ spot i (keys_of es) → 0 < n → slice_get (values_of es) (n - 1) ≡ Some x → Some x ≡ lookup (same i) es
+  spot-read es i n x is some at =
       let one_more : suc (n - 1) ≡ n = omega (arith, some) in
-      spot-entry i es (n - 1) e (one_more ∙ is) at
+      sym at ∙ ap (value_at es) (one_more ∙ is) ∙ value-spot i es
 
-  pub spot-written : (es : List (ℕ × X)) (i n : ℕ) (e : ℕ × X) (w : X) → n ≡ spot i (keys_of es) → 0 < n → slice_get es (n - 1) ≡ Some e → slice_set es (n - 1) (e.0, w) ≡ set_value (same i) es w
-  spot-written es i n e w is some at =
+  pub spot-written : (es : List (ℕ × X)) (i n : ℕ) (w : X) → n ≡ spot i (keys_of es) → 0 < n → set_value_at es (n - 1) w ≡ set_value (same i) es w
+  spot-written es i n w is some =
       let one_more : suc (n - 1) ≡ n = omega (arith, some) in
-      set-spot i w es (n - 1) e (one_more ∙ is) at
+      set-spot i w es (n - 1) (one_more ∙ is)
+
+  -- An entry more is the one that an insertion makes.
+
+  pub insert-new : (es : List (ℕ × X)) (i : ℕ) (w : X) → spot i (keys_of es) ≡ 0 → insert_entry same es i w ≡ es ++ (i, w) ∷ []
+  insert-new [] i w h = refl
+  insert-new (e ∷ es) i w h = go (same i e.0) h (insert-new es i w)
+    where
+      go : (b : Bool) → cond b 1 (spot_after (spot i (keys_of es))) ≡ 0 → (spot i (keys_of es) ≡ 0 → insert_entry same es i w ≡ es ++ (i, w) ∷ [])
+          → cond b ((e.0, w) ∷ es) (e ∷ insert_entry same es i w) ≡ e ∷ (es ++ (i, w) ∷ [])
+      go true t rest = absurd (omega (arith, t))
+      go false t rest = ap (λ (xs : List (ℕ × X)). e ∷ xs) (rest (after_none (spot i (keys_of es)) t))
 
 pub spots-none : (ns ks : List ℕ) → ns ≡ [] → ks ≡ [] → AreSpots ns ks
 unfolding IsDistinct
 spots-none ns ks e f = subst (λ qs. AreSpots ns qs) (sym f) (subst (λ ms. AreSpots ms []) (sym e) (record { distinct = tt; told = λ i h. refl }))
+
+-- The entries in front of one.
+
+pub take-next : {X : Type 0} (xs : List X) (k : ℕ) (x : X) → k < length xs → slice_get xs k ≡ Some x → take (k + 1) xs ≡ take k xs ++ x ∷ []
+take-next xs k x inside at = take_more xs k x inside ∙ ap (λ y. take k xs ++ y ∷ []) (some_is (slice_index_or xs k x) x (sym (slice_get-get_or xs k x inside) ∙ at))
+
+spot-before : {X : Type 0} (i : ℕ) (es : List (ℕ × X)) (n : ℕ) → spot i (keys_of es) ≡ suc n → spot i (keys_of (take n es)) ≡ 0
+spot-before i [] n h = absurd (omega (arith, h))
+spot-before i (e ∷ es) zero h = refl
+spot-before i (e ∷ es) (suc n) h = go (same i e.0) h (spot-before i es n)
+  where
+    go : (b : Bool) → cond b 1 (spot_after (spot i (keys_of es))) ≡ suc (suc n) → (spot i (keys_of es) ≡ suc n → spot i (keys_of (take n es)) ≡ 0)
+        → cond b 1 (spot_after (spot i (keys_of (take n es)))) ≡ 0
+    go true t rest = absurd (omega (arith, t))
+    go false t rest = ap spot_after (rest (sym (after_suc n (spot i (keys_of es)) (sym t))))
+
+-- an instance stands nowhere in front of its entry
+pub spot-fresh : {X : Type 0} (es : List (ℕ × X)) (n : ℕ) (e : ℕ × X) → IsDistinct same (keys_of es) → slice_get es n ≡ Some e → spot e.0 (keys_of (take n es)) ≡ 0
+spot-fresh es n e d at = spot-before e.0 es n (spot-key es e.0 n e d at (same_equiv.refl e.0))

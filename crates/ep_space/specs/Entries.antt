@@ -1,16 +1,15 @@
 -- The entries of a table: places, some of them with a value.
-use Rattle.std.specs.Prelude.{◌≡◌, ℕ, zero, suc, ◌+◌, ◌*◌, List, [], ◌∷◌, Option, Some, None, Bool, ◌&&◌, ◌==◌, ◌++◌, is_some, if◌then◌else◌, cond, slice_get, slice_index_or}
-use Rattle.std.specs.Option.{option_map}
+use Rattle.std.specs.Prelude.{◌≡◌, ℕ, zero, suc, ◌+◌, ◌*◌, List, [], ◌∷◌, Option, Some, None, Bool, ◌==◌, ◌++◌, is_some, if◌then◌else◌, cond, slice_get, slice_index_or}
 use Rattle.std.specs.FinMap as map
 use Rattle.std.specs.FinSet as set
-use Rattle.std.specs.Map.{keys_of, lookup}
+use Rattle.std.specs.Map.{keys_of, lookup, values_of}
 use Rattle.std.specs.List.{IsDistinct}
 use Rattle.ep_base.specs.Instances.{leader_of, number_of, IsInstance}
 use Rattle.ep_space.specs.Held.{Held}
 
 -- the equality of instances as code tests it
 abbrev pub same : ℕ → ℕ → Bool
-same i j = (leader_of i == leader_of j) && (number_of i == number_of j)
+same i j = i == j
 
 -- where the list of spots tells of i
 abbrev pub slot : ℕ → ℕ
@@ -54,7 +53,7 @@ module _ {X : Type 0} where
   -- the value of the entry at a spot
   abbrev pub value_at : List (ℕ × X) → ℕ → Option X
   value_at es zero = None
-  value_at es (suc n) = option_map (λ e. e.1) (slice_get es n)
+  value_at es (suc n) = slice_get (values_of es) n
 
   -- the entries, with a place for i
   abbrev pub with_place : List (ℕ × Option X) → ℕ → List (ℕ × Option X)

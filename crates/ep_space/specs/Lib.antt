@@ -1,5 +1,6 @@
 pub mod Held
 pub mod Entries
+pub mod PlaceHash
 pub mod Keys
 pub mod Index
 pub mod Seqs

@@ -19,6 +19,7 @@ use crate::table::Table;
 use crate::taken::note;
 use ep_base::{Ballot, InstanceId, ReplicaId, Status, Vote};
 use ep_rules::Record;
+use indexmap::map::Slice;
 use std::alloc::{AllocError, Global};
 use std::marker::Model;
 
@@ -85,8 +86,8 @@ impl Keyed {
     }
 
     /// The instances that have a place, each with its record, if it has one.
-    pub fn entries(&self) -> &[(InstanceId, Option<Record>)]
-        ensures { AreRecords self.now.held result.now }
+    pub fn entries(&self) -> Slice<'_, InstanceId, Option<Record>>
+        ensures { AreRecords self.now.held result }
     {
         self.table.entries()
     }

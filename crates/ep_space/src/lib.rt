@@ -16,6 +16,7 @@ mod index;
 mod interference_fault;
 mod keyed;
 mod open;
+mod place_hasher;
 mod seqs;
 mod space;
 mod space_full;

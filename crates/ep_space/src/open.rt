@@ -123,7 +123,8 @@ impl Space {
     {
         let entries = self.entries();
         let mut found = None;
-        for (id, record) in entries {
+        for index in 0..entries.len() {
+            let (id, record) = entries.get_index(index).unwrap();
             found = least_with(self, &after, found, *id, record);
         }
         found

@@ -26,6 +26,7 @@ use ep_base::{
     Attrs, Ballot, Command, Decree, InstanceId, ReplicaId, Seq, Size, Status, Version, Vote,
 };
 use ep_rules::Record;
+use indexmap::map::Slice;
 use std::alloc::{AllocError, Global};
 use std::marker::Model;
 
@@ -90,8 +91,8 @@ impl Space {
     }
 
     /// The instances that have a place, each with its record, if it has one.
-    pub(crate) fn entries(&self) -> &[(InstanceId, Option<Record>)]
-        ensures { AreRecords self.now.records result.now }
+    pub(crate) fn entries(&self) -> Slice<'_, InstanceId, Option<Record>>
+        ensures { AreRecords self.now.records result }
     {
         self.table.entries()
     }

@@ -1,6 +1,6 @@
 //! A table with places for values of instances.
 
-ghost use Rattle.std.specs.Prelude.{◌≡◌, ◌≢◌, ◌≤◌, ◌<◌, ℕ, true, false, Some, None, IfOk, OnOk, OnErr, is_some, length, slice_index_or, slice_set};
+ghost use Rattle.std.specs.Prelude.{◌≡◌, ◌≢◌, ◌≤◌, ◌<◌, ◌++◌, ◌∷◌, [], ℕ, true, false, Some, None, IfOk, OnOk, OnErr, is_some, length, slice_index_or, slice_set};
 ghost use Rattle.std.specs.Option.{option_copied};
 ghost use Rattle.std.specs.FinSet as set;
 ghost use Rattle.std.specs.Map.{keys_of, lookup, set_value};
@@ -11,19 +11,26 @@ ghost use Rattle.ep_rules.specs.Worlds.{In};
 ghost use Rattle.ep_space.specs.Held.{HasPlace};
 ghost use Rattle.ep_space.specs.Entries.{flat, same, with_place, held, slot, spot, value_at, AreSpots};
 
+use crate::place_hasher::PlaceHasher;
 use ep_base::InstanceId;
 use ep_rules::Duplicate;
+use indexmap::IndexMap;
+use indexmap::map::Slice;
 use std::alloc::{AllocError, Global};
+use std::hash::BuildHasherDefault;
 use std::marker::Model;
 use std::mem;
 
+/// From an instance that has a place to its value, if it has one, in the order in which the places were made.
+type Entries<V> = IndexMap<InstanceId, Option<V>, BuildHasherDefault<PlaceHasher>>;
+
 /// Values of instances. An instance first gets a place, which takes memory; a value is then written there without.
 ///
-/// An instance's number and leader say where `spots` tells of it: where its entry stands, counted from 1, or 0 where it has none. So a
-/// look-up compares nothing.
+/// No entry is ever taken out, so the index of an instance's entry stays, and is kept: an instance's number and leader say where `spots`
+/// tells of it: its index and one more, or 0 where it has none. So a look-up makes no hash, and compares nothing.
 #[derive(Drop)]
 pub struct Table<V> {
-    entries: Vec<(InstanceId, Option<V>)>,
+    entries: Entries<V>,
     spots: Vec<usize>,
 }
 
@@ -37,9 +44,9 @@ impl<V> Model for Table<V> {
 
     ghost use Rattle.ep_space.specs.Entries.{held, AreSpots};
 
-    ghost view = { λ t. held t.entries.items };
+    ghost view = { λ t. held t.entries.entries };
 
-    ghost invariant = { λ t. AreSpots t.spots.items (keys_of t.entries.items) };
+    ghost invariant = { λ t. AreSpots t.spots.items (keys_of t.entries.entries) };
 }
 
 impl<V: Drop> Table<V> {
@@ -48,7 +55,7 @@ impl<V: Drop> Table<V> {
         ensures { result ≡ record { held = none; places = set.empty } }
     {
         Table {
-            entries: Vec::new(alloc),
+            entries: IndexMap::with_hasher(alloc, BuildHasherDefault::new()),
             spots: Vec::new(alloc),
         }
     }
@@ -61,8 +68,8 @@ impl<V: Drop> Table<V> {
     }
 
     /// The instances that have a place, in the order in which these were made, each with its value, if it has one.
-    pub(crate) fn entries(&self) -> &[(InstanceId, Option<V>)]
-        ensures { (i : ℕ) (x : V) → (get self.now.held i ≡ Some x → In (i, Some x) result.now) × (In (i, Some x) result.now → get self.now.held i ≡ Some x) }
+    pub(crate) fn entries(&self) -> Slice<'_, InstanceId, Option<V>>
+        ensures { (i : ℕ) (x : V) → (get self.now.held i ≡ Some x → In (i, Some x) result) × (In (i, Some x) result → get self.now.held i ≡ Some x) }
     {
         self.entries.as_slice()
     }
@@ -124,18 +131,30 @@ impl<V: Duplicate> Table<V> {
 }
 
 /// The same entries again.
-fn duplicates<V: Duplicate>(
-    entries: &[(InstanceId, Option<V>)],
-    alloc: Global,
-) -> Result<Vec<(InstanceId, Option<V>)>, AllocError>
-    ensures { IfOk result (λ same. same.items ≡ entries.now) }
+fn duplicates<V: Duplicate>(entries: &Entries<V>, alloc: Global) -> Result<Entries<V>, AllocError>
+    ensures { IfOk result (λ same. same.entries ≡ entries.now.entries) }
 {
-    let mut same = Vec::with_capacity(alloc, entries.len())?;
-    for (id, value) in entries {
+    let mut same = IndexMap::with_hasher(alloc, BuildHasherDefault::new());
+    for index in 0..entries.len() {
+        let (id, value) = entries.get_index(index).unwrap();
         let value = duplicate_of(value, alloc)?;
-        same.push((*id, value))?;
+        add_entry(&mut same, *id, value)?;
     }
     Ok(same)
+}
+
+/// An entry more, of an instance that has none.
+fn add_entry<V: Drop>(
+    entries: &mut Entries<V>,
+    id: InstanceId,
+    value: Option<V>,
+) -> Result<(), AllocError>
+    requires { spot id (keys_of entries.old.entries) ≡ 0 }
+    ensures ok { OnOk result (entries.new.entries ≡ entries.old.entries ++ (id, value) ∷ []) }
+    ensures err { OnErr result (entries.new.entries ≡ entries.old.entries) }
+{
+    let _ = entries.insert(id, value)?;
+    Ok(())
 }
 
 /// The same value again, if there is one.
@@ -148,7 +167,7 @@ fn duplicate_of<V: Duplicate>(value: &Option<V>, alloc: Global) -> Result<Option
     }
 }
 
-/// Where the list of spots tells of the instance.
+/// Where a list by instances tells of this one.
 pub(crate) fn slot_of(id: InstanceId) -> usize
     ensures value { result ≡ slot id }
     ensures small { result < 16008 }
@@ -157,7 +176,7 @@ pub(crate) fn slot_of(id: InstanceId) -> usize
     usize::from(id.number()) * 8 + usize::from(id.replica().index())
 }
 
-/// Where the instance's entry stands, counted from 1; 0 where it has none.
+/// The index of the instance's entry, and one more; 0 where it has none.
 fn spot_of(spots: &[usize], id: InstanceId) -> usize
     ensures value { result ≡ slice_index_or spots.now (slot id) 0 }
     ensures in_range { IsInstance id }
@@ -166,31 +185,31 @@ fn spot_of(spots: &[usize], id: InstanceId) -> usize
     if slot < spots.len() { spots[slot] } else { 0 }
 }
 
-fn value_at<V>(entries: &[(InstanceId, Option<V>)], at: usize) -> Option<&V>
-    requires { at ≤ length entries.now }
-    ensures { option_copied result ≡ flat (value_at entries.now at) }
+fn value_at<V>(entries: &Entries<V>, at: usize) -> Option<&V>
+    requires { at ≤ length entries.now.entries }
+    ensures { option_copied result ≡ flat (value_at entries.now.entries at) }
 {
     if at == 0 {
         return None;
     }
-    entries[at - 1].1.as_ref()
+    entries[at - 1].as_ref()
 }
 
 fn add_place<V: Drop>(
-    entries: &mut Vec<(InstanceId, Option<V>)>,
+    entries: &mut Entries<V>,
     spots: &mut Vec<usize>,
     id: InstanceId,
 ) -> Result<(), AllocError>
-    requires { AreSpots spots.old.items (keys_of entries.old.items) }
-    ensures ok { OnOk result (entries.new.items ≡ with_place entries.old.items id) }
-    ensures err { OnErr result (entries.new.items ≡ entries.old.items) }
-    ensures spots { AreSpots spots.new.items (keys_of entries.new.items) }
+    requires { AreSpots spots.old.items (keys_of entries.old.entries) }
+    ensures ok { OnOk result (entries.new.entries ≡ with_place entries.old.entries id) }
+    ensures err { OnErr result (entries.new.entries ≡ entries.old.entries) }
+    ensures spots { AreSpots spots.new.items (keys_of entries.new.entries) }
 {
     if spot_of(spots, id) != 0 {
         return Ok(());
     }
     widen(spots, slot_of(id))?;
-    entries.push((id, None))?;
+    add_entry(entries, id, None)?;
     spots[slot_of(id)] = entries.len();
     Ok(())
 }
@@ -208,15 +227,15 @@ fn widen(spots: &mut Vec<usize>, slot: usize) -> Result<(), AllocError>
 }
 
 fn replace<V: Drop>(
-    entries: &mut Vec<(InstanceId, Option<V>)>,
+    entries: &mut Entries<V>,
     at: usize,
     id: InstanceId,
     value: Option<V>,
 ) -> Option<V>
-    requires spot { at ≡ spot id (keys_of entries.old.items) }
+    requires spot { at ≡ spot id (keys_of entries.old.entries) }
     requires there { 0 < at }
-    ensures old { Some result ≡ lookup (same id) entries.old.items }
-    ensures new { entries.new.items ≡ set_value (same id) entries.old.items value }
+    ensures old { Some result ≡ lookup (same id) entries.old.entries }
+    ensures new { entries.new.entries ≡ set_value (same id) entries.old.entries value }
 {
-    mem::replace(&mut entries[at - 1].1, value)
+    mem::replace(&mut entries[at - 1], value)
 }

@@ -8,7 +8,7 @@ use Rattle.ep_svg.specs.declared.kind.Kind.{Kind}
 use Rattle.ep_svg.specs.declared.kind.Kind.TheVariants.{PreAccept, PreAcceptOk, Accept, AcceptOk, Commit, Prepare, PrepareOk, Nack}
 use Rattle.ep_svg.specs.declared.point.Point.{Point}
 use Rattle.ep_svg.specs.declared.look.Look.{Look}
-use Rattle.ep_svg.specs.declared.look.Look.TheVariants.{Life, Guide, Title, Plain, Head, Stamp, Alarm, Alone, Together, Missing, Needs, Fast, Slow, Recovered}
+use Rattle.ep_svg.specs.declared.look.Look.TheVariants.{Life, Guide, Title, Plain, Head, Stamp, Alarm, Alone, Together, Missing, Needs, Fast, Slow, Recovered, Seal, Closed}
 use Rattle.ep_svg.specs.declared.shape.Shape.{Shape}
 use Rattle.ep_svg.specs.declared.shape.Shape.TheVariants.{Line, Words, Rect, Ring}
 
@@ -54,6 +54,8 @@ look_class Needs = codes "needs"
 look_class Fast = codes "fast"
 look_class Slow = codes "slow"
 look_class Recovered = codes "recovered"
+look_class Seal = codes "seal"
+look_class Closed = codes "closed"
 
 abbrev pub look_text : List ℕ → Look → List ℕ
 look_text start look = start ++ look_class look ++ codes "'"

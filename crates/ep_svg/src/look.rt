@@ -28,4 +28,8 @@ pub enum Look {
     Slow,
     /// Where one is committed that was recovered.
     Recovered,
+    /// An instance of a seal.
+    Seal,
+    /// What was answered `closed`.
+    Closed,
 }

@@ -54,6 +54,8 @@ fn look_class(look: Look) -> &'static [u8]
         Look::Fast => b"fast",
         Look::Slow => b"slow",
         Look::Recovered => b"recovered",
+        Look::Seal => b"seal",
+        Look::Closed => b"closed",
     }
 }
 

@@ -18,6 +18,7 @@ use Rattle.ep_world.specs.declared.world_event.WorldEvent.{WorldEvent}
 use Rattle.ep_world.specs.declared.world_event.WorldEvent.TheVariants as event
 use Rattle.ep_replay.specs.Causes.{cause_of}
 use Rattle.ep_replay.specs.Clients.{times, greatest}
+use Rattle.ep_replay.specs.Heads.{opening_of}
 use Rattle.ep_replay.specs.Replays.{Replay, IsOpening, Tries, Gives, Plays, PlayAll, AreUngiven, with_given, was_sent, with_proposer, proposal}
 use Rattle.ep_replay.specs.Tables.{AreCounted}
 use Rattle.ep_replay.specs.declared.clients.Client.{Client}
@@ -26,6 +27,7 @@ use Rattle.ep_report.specs.declared.cause.Cause.{Cause}
 use Rattle.ep_trace.specs.Left.{IsLeft, AddsLeft, ungiven_lines}
 use Rattle.ep_trace.specs.Lines.{made_line, asked_text, refusal_line, refused_line}
 use Rattle.ep_trace.specs.Tables.{AreFlagged, Leads, Tells, nothing, told}
+use Rattle.ep_words.specs.Editions.{edition_line}
 use Rattle.ep_trace.specs.Traced.{given_by, TellsTry, TellsGives, TellsLine, TellsAll, TellsRun, IsTraced}
 use Rattle.ep_trace.specs.declared.given.Given.{Given}
 use Rattle.ep_trace.specs.declared.numbers.Numbers.{Numbers}
@@ -269,15 +271,16 @@ lines_played : (p q : Replay) (ls : List (ℕ × Line)) (text : List ℕ) → Te
 lines_played p q [] text h = h.0
 lines_played p q (l ∷ ls) text h = (h.0, line_played p h.0 l.0 l.1 h.1 h.3, lines_played h.0 q ls h.2 h.4)
 
-pub traced : (plan : Plan) (s s' : Tracer) (text : List ℕ) → IsOpening plan.faults (told s nothing) → Tells s nothing → s.text.items ≡ [] → Leads (λ p text q. TellsRun p plan.lines text q) s s' → text ≡ s'.text.items
+pub traced : (plan : Plan) (s s' : Tracer) (text : List ℕ) → IsOpening plan.head (told s nothing) → Tells s nothing → s.text.items ≡ edition_line plan.head.version (opening_of plan.head.opening) → Leads (λ p text q. TellsRun p plan.lines text q) s s' → text ≡ s'.text.items
     → IsTraced plan text
-traced plan s s' text opening t blank leads is =
+traced plan s s' text opening t begins leads same =
     let r = leads nothing t in
-    let same : r.text ≡ text = sym (is ∙ r.appended ∙ ap (λ (z : List ℕ). z ++ r.text) blank) in
     record {
       first = told s nothing;
       last = told s' r.behind;
       opening = opening;
       played = lines_played (told s nothing) (told s' r.behind) plan.lines r.related.events r.related.told;
-      told = subst (λ (z : List ℕ). TellsRun (told s nothing) plan.lines z (told s' r.behind)) same r.related;
+      rest = r.text;
+      told = r.related;
+      is = same ∙ r.appended ∙ ap (λ (z : List ℕ). z ++ r.text) begins;
     }

@@ -1,11 +1,13 @@
 -- Which events a trace tells, and in which order.
 use Rattle.std.specs.Prelude.{◌≡◌, ◌⊎◌, ℕ, ◌+◌, List, [], ◌∷◌, ◌++◌, length, Option, Some, None}
+use Rattle.ep_replay.specs.Heads.{opening_of}
 use Rattle.ep_replay.specs.Replays.{Replay, IsOpening, Takes, IsListed, PlayAll, AreUngiven, with_given, with_proposer, proposal}
 use Rattle.ep_script.specs.Plan.{Plan}
 use Rattle.ep_script.specs.declared.line.Line.{Line}
 use Rattle.ep_script.specs.declared.line.Line.TheVariants.{Propose, GiveUp, Recover, Execute, Deliver, Flush}
 use Rattle.ep_trace.specs.Left.{IsLeft}
 use Rattle.ep_trace.specs.Lines.{made_line, refused_line}
+use Rattle.ep_words.specs.Editions.{edition_line}
 use Rattle.ep_world.specs.declared.world_event.WorldEvent.{WorldEvent}
 use Rattle.ep_world.specs.declared.world_event.WorldEvent.TheVariants as event
 
@@ -65,10 +67,12 @@ pub record TellsRun (p : Replay) (lines : List (ℕ × Line)) (text : List ℕ) 
   pub left : IsLeft q rest
   pub is : text ≡ events ++ rest
 
--- the text tells a replay of the script
+-- the text tells a replay of the script; of version 3 a line of its edition comes first
 pub record IsTraced (script : Plan) (text : List ℕ) : Type 0 where
   pub first : Replay
   pub last : Replay
-  pub opening : IsOpening script.faults first
+  pub opening : IsOpening script.head first
   pub played : PlayAll first script.lines last
-  pub told : TellsRun first script.lines text last
+  pub rest : List ℕ
+  pub told : TellsRun first script.lines rest last
+  pub is : text ≡ edition_line script.head.version (opening_of script.head.opening) ++ rest

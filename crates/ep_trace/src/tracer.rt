@@ -9,9 +9,10 @@ use crate::left::push_left;
 use crate::lines::{asked, push_refused};
 use crate::numbers::{Numbers, next};
 use crate::steps::{cause_named, note_receipts, push_last};
-use ep_base::{Command, ReplicaId, Size};
-use ep_replay::Clients;
-use ep_script::{Line, Messages, Script};
+use ep_base::{Command, ReplicaId};
+use ep_replay::{Clients, begun};
+use ep_script::{Head, Line, Messages, Script};
+use ep_words::push_edition;
 use ep_world::{World, WorldEvent};
 use std::alloc::{AllocError, Global};
 
@@ -47,25 +48,29 @@ pub(crate) struct Tracer {
 
 impl Tracer {
     ghost use Rattle.std.specs.Prelude.{◌≡◌, ◌+◌, [], length, OnOk, IfOk};
+    ghost use Rattle.ep_replay.specs.Heads.{opening_of};
     ghost use Rattle.ep_replay.specs.Replays.{IsOpening, proposal, with_given, with_proposer};
     ghost use Rattle.ep_script.specs.declared.line.Line.TheVariants as asked;
     ghost use Rattle.ep_trace.specs.Left.{IsLeft};
     ghost use Rattle.ep_trace.specs.Tables.{Leads, Tells, nothing, told};
     ghost use Rattle.ep_trace.specs.Traced.{given_by, TellsTry, TellsGives, TellsLine, TellsAll, TellsRun};
+    ghost use Rattle.ep_words.specs.Editions.{edition_line};
     ghost use Rattle.ep_world.specs.declared.world_event.WorldEvent.TheVariants as event;
 
-    // A tracer before any line, with a cluster of this size.
-    fn new(alloc: Global, size: Size) -> Result<Tracer, AllocError>
-        ensures opening { IfOk result (λ s. IsOpening size (told s nothing)) }
+    // A tracer before any line, with the world of this head. Of version 3 it has told the edition.
+    fn new(alloc: Global, head: &Head) -> Result<Tracer, AllocError>
+        ensures opening { IfOk result (λ s. IsOpening head.now (told s nothing)) }
         ensures tells { IfOk result (λ s. Tells s nothing) }
-        ensures blank { IfOk result (λ s. s.text.items ≡ []) }
+        ensures begins { IfOk result (λ s. s.text.items ≡ edition_line head.now.version (opening_of head.now.opening)) }
     {
-        let world = World::new(alloc, size)?;
+        let world = begun(alloc, head)?;
+        let mut text = Vec::new(alloc);
+        push_edition(&mut text, world.version(), world.opening())?;
         Ok(Tracer {
             world,
             clients: Clients::new(alloc),
             given: Given::new(alloc),
-            text: Vec::new(alloc),
+            text,
             alloc,
         })
     }
@@ -251,14 +256,15 @@ impl Tracer {
     }
 }
 
-/// Plays the script in a world of its size, as `ep_replay` does, and tells each event, a line each, in order: the number of its
+/// Plays the script in a world of its size and version, as `ep_replay` does, and tells each event, a line each, in order: the number of its
 /// line in the script, and why it was refused, or its entry, with the number of the message that it gives and of each that it
 /// sends, to whom, and what it executes. At the end stand each message that was never given, and each instance that a replica
-/// knows of and hasn't committed, with what it waits for.
+/// knows of and hasn't committed, with what it waits for. Of version 3 a line stands first that tells the generation, the stamp that clocks
+/// went on from, and how many keys the opening has, with the digest of what they have.
 pub fn trace(alloc: Global, script: &Script) -> Result<Vec<u8>, AllocError>
     ensures { IfOk result (λ text. IsTraced script.now text.items) }
 {
-    let mut tracer = Tracer::new(alloc, script.size())?;
+    let mut tracer = Tracer::new(alloc, script.head())?;
     match tracer.run(script.lines()) {
         Ok(()) => Ok(tracer.into_text()),
         Err(fault) => Err(fault),

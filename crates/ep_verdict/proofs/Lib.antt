@@ -1,6 +1,8 @@
 mod Answering
 mod Covering
-pub mod Lining
+mod FirstSeals
+mod Lining
 mod Saying
 mod Seen
+mod Stamps
 mod Turning

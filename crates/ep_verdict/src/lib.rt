@@ -1,7 +1,7 @@
-//! What journals say: their schedule, the committed table, and the history with replies.
+//! What journals say: their schedule, the committed table, the history with replies, its first seal, and what the keys have after it.
 //!
 //! `ep_audit` calls it once no fault is found. `Verdict::of` merges the entries by stamp and replica, collects what is
-//! committed, and takes each command at its first execution.
+//! committed, takes each command at its first execution, and does these commands on a map.
 //!
 //! Start with `verdict.rt` and specs/Verdicts.antt. That the replies told are one map's is a law of `ep_rules` on journals
 //! that match, and not work done here.
@@ -9,6 +9,8 @@
 //! How it merges, looks up and learns what is committed may change freely.
 #![tactic(auto)]
 
+mod closing;
+mod contents;
 mod history;
 mod in_order;
 mod table;

@@ -5,12 +5,15 @@ ghost use Rattle.ep_journal.specs.Entries.{journals_of};
 ghost use Rattle.ep_journal.specs.Openings.{opens};
 ghost use Rattle.ep_verdict.specs.Verdicts.{IsVerdict};
 
+use crate::closing::closing_of;
+use crate::contents::contents_of;
 use crate::history::history_of;
 use crate::in_order::schedule;
 use crate::table::table_of;
 use ep_base::{Decree, InstanceId, ReplicaId};
+use ep_exec::Contents;
 use ep_journal::Journals;
-use ep_report::Happening;
+use ep_report::{Closing, Happening};
 use std::alloc::{AllocError, Global};
 
 /// What the journals of a cluster say.
@@ -22,6 +25,10 @@ pub struct Verdict {
     pub committed: Vec<(InstanceId, Decree)>,
     /// The commands that were executed, each once, in the order of first executions, with their replies.
     pub history: Vec<Happening>,
+    /// The first seal of the history, with the least stamp of an entry that executes it; none where the history has no seal.
+    pub closing: Option<Closing>,
+    /// What the keys have after all of the history, from the journals' opening on. What comes after a seal changes nothing.
+    pub contents: Contents,
 }
 
 impl Verdict {
@@ -36,10 +43,14 @@ impl Verdict {
         let schedule = schedule(alloc, journals)?;
         let committed = table_of(alloc, journals)?;
         let history = history_of(alloc, journals, &schedule)?;
+        let closing = closing_of(alloc, journals, &history)?;
+        let contents = contents_of(alloc, journals.opening(), &history)?;
         Ok(Verdict {
             schedule,
             committed,
             history,
+            closing,
+            contents,
         })
     }
 }

@@ -4,6 +4,7 @@ use Rattle.ep_journal.specs.Entries.{Collected, entries_at, journals_of}
 use Rattle.ep_journal.specs.declared.entry.Entry.{Entry}
 use Rattle.ep_rules.specs.Journals.{Scheduled, IsSchedule}
 use Rattle.ep_verdict.specs.Verdicts.{places_of}
+use Rattle.ep_words.specs.Editions.{edition_line}
 use Rattle.ep_words.specs.Kept.{keeps}
 use Rattle.ep_words.specs.declared.part.Part.{Part}
 use Rattle.ep_view.specs.Handled.{is_handled}
@@ -36,9 +37,9 @@ pub record IsInOrder (c : Collected) (all : List (ℕ × ℕ)) : Type 0 where
   pub scheduled : IsSchedule (journals_of c) order
   pub places : all ≡ places_of order
 
--- the text has a line for each entry that is asked for, in the order of the journals' schedule, or says that there is none. In it a frame is told as
--- never handled exactly where no entry of any journal handles it
+-- The text begins with the line of the journals' edition, if there is one. It has a line for each entry that is asked for, in the order of the journals'
+-- schedule, or says that there is none. In it a frame is told as never handled exactly where no entry of any journal handles it.
 pub record IsShown (c : Collected) (part : Part) (text : List ℕ) : Type 0 where
   pub all : List (ℕ × ℕ)
   pub ordered : IsInOrder c all
-  pub lines : text ≡ or_none (length all) (lines_at (is_handled c) part c all)
+  pub lines : text ≡ edition_line c.version c.opening ++ or_none (length all) (lines_at (is_handled c) part c all)

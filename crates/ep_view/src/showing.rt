@@ -1,6 +1,6 @@
 //! The entries of journals, a line each.
 
-ghost use Rattle.std.specs.Prelude.{◌≡◌, ◌++◌, [], cond, eqb, codes, decimal, Some, IfOk, OnOk};
+ghost use Rattle.std.specs.Prelude.{◌≡◌, ◌++◌, [], cond, eqb, length, codes, decimal, Some, IfOk, OnOk};
 ghost use Rattle.ep_journal.specs.Entries.{AreJournals, entries_at};
 ghost use Rattle.ep_view.specs.Handled.{is_in};
 ghost use Rattle.ep_view.specs.Lookups.{entry_at};
@@ -13,7 +13,7 @@ use ep_base::ReplicaId;
 use ep_journal::{Entry, Journals};
 use ep_report::push_number;
 use ep_verdict::Verdict;
-use ep_words::Part;
+use ep_words::{Part, push_edition};
 use std::alloc::{AllocError, Global};
 
 /// All entries of the journals, by stamp and replica: each as its replica with its number.
@@ -25,6 +25,8 @@ pub fn schedule(alloc: Global, journals: &Journals) -> Result<Vec<(ReplicaId, u3
         schedule,
         committed: _,
         history: _,
+        closing: _,
+        contents: _,
     } = verdict;
     Ok(schedule)
 }
@@ -94,19 +96,30 @@ pub(crate) fn push_none_kept(text: &mut Vec<u8>, count: usize) -> Result<(), All
     text.extend_from_slice(b" entries\n")
 }
 
-// Says in a text that is empty that none of so many entries is kept.
-fn or_none(text: &mut Vec<u8>, count: usize) -> Result<(), AllocError>
-    ensures { OnOk result (text.new.items ≡ or_none count text.old.items) }
+// Appends the lines of the entries at these places, or that none of them is kept.
+#[tactic(auto, using(crate::proofs::AsShown::some_kept, crate::proofs::AsShown::none_is_kept))]
+fn push_shown(
+    text: &mut Vec<u8>,
+    journals: &Journals,
+    handled: &Handled,
+    part: &Part,
+    places: &[(ReplicaId, u32)],
+) -> Result<(), AllocError>
+    requires { AreJournals journals.now }
+    ensures { OnOk result (text.new.items ≡ text.old.items ++ or_none (length places.now) (lines_at (is_in handled.now) part.now journals.now places.now)) }
 {
-    if !text.is_empty() {
+    let before = text.len();
+    push_lines(text, journals, handled, part, places)?;
+    if before < text.len() {
         return Ok(());
     }
-    push_none_kept(text, count)
+    push_none_kept(text, places.len())
 }
 
 /// The entries of the journals that the part keeps, a line each, by stamp and then by replica: the event, what it sends to
 /// whom, with `NEVER HANDLED` at each receiver whose frame no entry of any journal handles, and what it executes, with the
-/// answers. Where it keeps none of them, a line that says how many there are.
+/// answers. Where it keeps none of them, a line that says how many there are. Of journals of version 3 a line stands first
+/// that tells their generation and what they begin with.
 #[tactic(auto, using(crate::proofs::AsShown::is_shown))]
 pub fn show(alloc: Global, journals: &Journals, part: &Part) -> Result<Vec<u8>, AllocError>
     ensures { IfOk result (λ text. IsShown journals.now part.now text.items) }
@@ -115,7 +128,7 @@ pub fn show(alloc: Global, journals: &Journals, part: &Part) -> Result<Vec<u8>, 
     let handled = Handled::of(alloc, journals)?;
     let places = schedule(alloc, journals)?;
     let mut text = Vec::new(alloc);
-    push_lines(&mut text, journals, &handled, part, &places)?;
-    or_none(&mut text, places.len())?;
+    push_edition(&mut text, journals.version(), journals.opening())?;
+    push_shown(&mut text, journals, &handled, part, &places)?;
     Ok(text)
 }

@@ -7,7 +7,7 @@ use crate::showing::{push_none_kept, schedule};
 use ep_base::ReplicaId;
 use ep_journal::{Entry, Journals};
 use ep_report::push_number;
-use ep_words::Part;
+use ep_words::{Part, push_edition};
 use std::alloc::{AllocError, Global};
 
 /// How many bytes wide a column is. There are two spaces between columns, so that three of them take 100.
@@ -120,11 +120,13 @@ fn push_names(text: &mut Vec<u8>, count: u8) -> Result<(), AllocError> {
 }
 
 /// The entries of the journals that the part keeps, as `show` tells them, by stamp and then by replica, each in the column of
-/// its replica, or that it keeps none. A column is 32 wide, with two spaces between two: 100 for three replicas.
+/// its replica, or that it keeps none. A column is 32 wide, with two spaces between two: 100 for three replicas. The line of the
+/// journals' edition, if there is one, stands first, in no column.
 pub fn columns(alloc: Global, journals: &Journals, part: &Part) -> Result<Vec<u8>, AllocError> {
     let handled = Handled::of(alloc, journals)?;
     let places = schedule(alloc, journals)?;
     let mut text = Vec::new(alloc);
+    push_edition(&mut text, journals.version(), journals.opening())?;
     push_names(&mut text, journals.size().count())?;
     let names = text.len();
     push_cells(&mut text, journals, &handled, part, &places)?;

@@ -1,6 +1,7 @@
 -- The bytes of answers: the length of what follows, a kind, and a body.
 use Rattle.std.specs.Prelude.{ℕ, ◌+◌, ◌<◌, ◌^◌, List, [], ◌∷◌, ◌++◌, length, Option, Some, None}
 use Rattle.std.specs.List.{flat_map}
+use Rattle.ep_base.specs.declared.version_kind.VersionKind.TheVariants.{V2}
 use Rattle.ep_bundle.specs.Bytes.{frame_bytes, receipt_bytes}
 use Rattle.ep_bundle.specs.Writing.{FramesFit}
 use Rattle.ep_frame.specs.Fields.{number_bytes, dep_bytes}
@@ -49,7 +50,7 @@ abbrev pub frames_bytes : List (List ℕ) → List ℕ
 frames_bytes bs = number_bytes 2 (length bs) ++ flat_map sent_bytes bs
 
 abbrev pub receipts_bytes : List Receipt → List ℕ
-receipts_bytes rs = number_bytes 2 (length rs) ++ flat_map receipt_bytes rs
+receipts_bytes rs = number_bytes 2 (length rs) ++ flat_map (receipt_bytes V2) rs
 
 -- an entry as it is answered: what it sends, and the receipts of what it executed
 abbrev pub entry_bytes : Entry → List Receipt → List ℕ

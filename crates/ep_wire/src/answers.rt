@@ -1,5 +1,6 @@
 //! Writing answers.
 
+ghost use Rattle.ep_base.specs.declared.version_kind.VersionKind.TheVariants.{V2};
 ghost use Rattle.std.specs.Prelude.{◌≡◌, ◌<◌, ◌+◌, ◌≤◌, ◌^◌, ◌++◌, ℕ, List, Some, None, length};
 ghost use Rattle.std.specs.List.{flat_map};
 ghost use Rattle.ep_base.specs.Devices.{Puts};
@@ -12,7 +13,7 @@ use crate::field::Field;
 use crate::leading::Leading;
 use crate::malformed::Malformed;
 use crate::refusal::Refusal;
-use ep_base::{InstanceId, Sink, Value, WriteFailed};
+use ep_base::{InstanceId, Sink, Value, Version, WriteFailed};
 use ep_bundle::{
     put_frame, put_instance, put_receipt, put_run, put_u8, put_u16, put_u32, put_u64, put_value,
 };
@@ -81,10 +82,10 @@ fn put_frames<K: Sink>(sink: &mut K, frames: &[Frame]) -> Result<(), WriteFailed
 }
 
 fn put_each_receipt<K: Sink>(sink: &mut K, receipts: &[Receipt]) -> Result<(), WriteFailed>
-    ensures { Puts (K.held sink.old) (K.held sink.new) (K.has_failed sink.old) (K.has_failed sink.new) result (flat_map receipt_bytes receipts.now) }
+    ensures { Puts (K.held sink.old) (K.held sink.new) (K.has_failed sink.old) (K.has_failed sink.new) result (flat_map (receipt_bytes V2) receipts.now) }
 {
     for receipt in receipts {
-        put_receipt(sink, receipt)?;
+        put_receipt(sink, Version::V2, receipt)?;
     }
     Ok(())
 }
@@ -197,7 +198,7 @@ pub fn write_value<K: Sink>(sink: &mut K, value: &Value) -> Result<(), WriteFail
     let value = value.as_slice();
     put_u32(sink, 4 + value.len() as u32)?;
     put_u8(sink, 3)?;
-    put_value(sink, value)
+    put_value(sink, Version::V2, value)
 }
 
 /// Writes that a replica's map has no value at a key.

@@ -2,7 +2,6 @@
 use Rattle.std.proofs.Common.{◌≡◌, ◌≢◌, ℕ, zero, suc, ◌+◌, ◌<◌, ◌≤◌, cond, eqb, List, [], ◌∷◌, ◌++◌, inl, inr, length, get_or, refl, sym, ap, subst, ◌∙◌, arith, append-nil, append_assoc}
 use Rattle.std.proofs.lemmas.Bool.{cases_eq, eq-eqb, ne_eqb}
 use Rattle.ep_base.specs.Quorums.{size}
-use Rattle.ep_base.specs.declared.version_kind.VersionKind.TheVariants.{V2}
 use Rattle.ep_rules.specs.States.{State, fresh_state}
 use Rattle.ep_rules.specs.Steps.{Frame, sends}
 use Rattle.ep_rules.specs.Worlds.{In}
@@ -18,13 +17,12 @@ use Rattle.ep_journal.specs.declared.event.Event.{Event as Happening}
 use Rattle.ep_replica.specs.Applied.{Applied}
 use Rattle.ep_replica.specs.Kept.{Kept}
 use Rattle.ep_journal.proofs.Growing.{entries_grow}
-use Rattle.ep_journal.specs.Openings.{no_opening}
+use Rattle.ep_journal.specs.Openings.{opens}
 use Rattle.ep_replica.proofs.Growing.{journal_grows, clock_grows}
 use Rattle.ep_world.specs.Played.{Played, collected, journals_in, entries_in, replica_in, steps_of, places_of, Shows, IsWorld}
 use Rattle.ep_world.specs.Playing.{with_entry, grown}
 use Rattle.ep_world.specs.Replicas.{places_up_to}
 use Rattle.ep_world.specs.declared.place.Place.{Place}
-use Rattle.ep_rules.specs.OneMap.{opened, empty}
 
 with_length : (ls : List (List Entry)) (r : ℕ) (e : Entry) → length (with_entry ls r e) ≡ length ls
 with_length [] r e = refl
@@ -79,9 +77,9 @@ shows_more w these r taken e k lt there h a among = record {
   journals = of_more w these r e there h.journals;
   steps = ap (λ (xs : List (ℕ × ℕ)). xs ++ (r, e.number) ∷ []) h.steps ∙ sym (steps_grow these (act r e));
   messages = ap (λ (ps : List Place). ps ++ places_of (frames_at e.frames)) h.messages ∙ sym (places_both (frames_of these) (frames_at e.frames)) ∙ sym (ap places_of (frames_grow these (act r e)));
-  played = played_grows_lem (opened empty) w.faults these (act r e) h.played (record {
+  played = played_grows_lem (opens w.opening) w.faults these (act r e) h.played (record {
     replica = lt;
-    entry = subst (λ (s : State). IsEntry w.faults r s (entry_of e)) (sym (own_entries_leave_lem (opened empty) w.faults these r ∙ ap (λ (es : List rules.Entry). left w.faults r (fresh_state (opened empty)) es) (h.journals r))) a.step;
+    entry = subst (λ (s : State). IsEntry w.faults r s (entry_of e)) (sym (own_entries_leave_lem (opens w.opening) w.faults these r ∙ ap (λ (es : List rules.Entry). left w.faults r (fresh_state (opens w.opening)) es) (h.journals r))) a.step;
     among = subst (λ (t : Happening). IsAmong (frames_of these) (event_of t)) (sym a.event) among;
   });
 }
@@ -91,8 +89,8 @@ journals_more w r taken e k lt there h a = record {
   count = with_length w.entries r e ∙ h.count;
   opens = h.opens;
   journal = λ q less. elim (cases_eq r q) [
-    | inl is ↦ subst (λ z. IsJournal V2 no_opening w.faults z (entries_in (grown w r e) z)) is (subst (λ (es : List Entry). IsJournal V2 no_opening w.faults r es) (sym (mine w r e there)) (journal_grows (replica_in w r) taken e k (h.journal r lt) a))
-    | inr ne ↦ subst (λ (es : List Entry). IsJournal V2 no_opening w.faults q es) (sym (with_other w.entries r q e ne)) (h.journal q less)
+    | inl is ↦ subst (λ z. IsJournal w.version w.opening w.faults z (entries_in (grown w r e) z)) is (subst (λ (es : List Entry). IsJournal w.version w.opening w.faults r es) (sym (mine w r e there)) (journal_grows (replica_in w r) taken e k (h.journal r lt) a))
+    | inr ne ↦ subst (λ (es : List Entry). IsJournal w.version w.opening w.faults q es) (sym (with_other w.entries r q e ne)) (h.journal q less)
   ];
   others = λ q ge. with_other w.entries r q e (λ is. omega arith) ∙ h.others q ge;
 }
@@ -105,7 +103,7 @@ goes_on w r taken e k h lt a among =
       schedule = h.schedule ++ (act r e ∷ []);
       shows = shows_more w h.schedule r taken e k lt there h.shows a among;
       journals = journals_more w r taken e k lt there h.journals a;
-      clocked = each w r e there (λ q es. AreClocked 0 (entries_of es)) h.clocked (λ c. clock_grows (replica_in w r) taken e k c a);
+      clocked = each w r e there (λ q es. AreClocked w.opening.since (entries_of es)) h.clocked (λ c. clock_grows (replica_in w r) taken e k c a);
     }
 
 -- The frames of an entry: their places, and how many there are.

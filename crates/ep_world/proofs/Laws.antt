@@ -19,6 +19,7 @@ use Rattle.ep_rules.proofs.Played.{played_is_a_run_lem, played_match_lem}
 use Rattle.ep_rules.proofs.RunsLinear.{linearizability_holds}
 use Rattle.ep_rules.proofs.Sorted.{some_schedule_lem}
 use Rattle.ep_journal.specs.Entries.{entry_of, entries_of}
+use Rattle.ep_journal.specs.Openings.{Opening, opens}
 use Rattle.ep_journal.specs.declared.entry.Entry.{Entry}
 use Rattle.ep_journal.specs.declared.event.Event.{Event as Happening}
 use Rattle.ep_replica.specs.Kept.{Kept}
@@ -33,40 +34,39 @@ use Rattle.ep_world.specs.declared.refused.Refused.{Refused}
 use Rattle.ep_world.specs.declared.world_event.WorldEvent.{WorldEvent}
 use Rattle.ep_world.proofs.Grown.{with_other}
 use Rattle.ep_world.proofs.Sent.{numbered_in}
-use Rattle.ep_rules.specs.OneMap.{opened, empty}
 
 pub is_played : (w : Played) → IsWorld w → IsPlayed w
 is_played w h = record {
   schedule = h.schedule;
   shows = h.shows;
-  run = played_is_a_run_lem (opened empty) w.faults h.schedule h.shows.played;
-  sent = played_sends_lem (opened empty) w.faults h.schedule h.shows.played;
+  run = played_is_a_run_lem (opens w.opening) w.faults h.schedule h.shows.played;
+  sent = played_sends_lem (opens w.opening) w.faults h.schedule h.shows.played;
 }
 
-pub accepted : (w : Played) → IsWorld w → (receipts : List Receipt) → AreOwn (opened empty) w.faults (journals_in w) receipts → IsAccepted (opened empty) w.faults (journals_in w) receipts
-accepted w h receipts own = played_accepted_lem (opened empty) (λ _. 0) w.faults (journals_in w) h.schedule h.shows.played h.shows.journals (λ r. numbered_in (collected w) r h.journals) h.clocked receipts own
+pub accepted : (w : Played) → IsWorld w → (receipts : List Receipt) → AreOwn (opens w.opening) w.faults (journals_in w) receipts → IsAccepted (opens w.opening) w.faults (journals_in w) receipts
+accepted w h receipts own = played_accepted_lem (opens w.opening) (λ _. w.opening.since) w.faults (journals_in w) h.schedule h.shows.played h.shows.journals (λ r. numbered_in (collected w) r h.journals) h.clocked receipts own
 
 -- the journals are one run
-pub merges : (w : Played) → IsWorld w → 1 ≤ w.faults → w.faults ≤ 3 → (schedule : List Scheduled) × Merges (opened empty) w.faults (journals_in w) schedule
+pub merges : (w : Played) → IsWorld w → 1 ≤ w.faults → w.faults ≤ 3 → (schedule : List Scheduled) × Merges (opens w.opening) w.faults (journals_in w) schedule
 merges w h some few =
-    let m = played_match_lem (opened empty) (λ _. 0) w.faults (journals_in w) h.schedule h.shows.played h.shows.journals (λ r. numbered_in (collected w) r h.journals) h.clocked in
+    let m = played_match_lem (opens w.opening) (λ _. w.opening.since) w.faults (journals_in w) h.schedule h.shows.played h.shows.journals (λ r. numbered_in (collected w) r h.journals) h.clocked in
     let s = some_schedule_lem (size w.faults) (journals_in w) m.0.others (λ r. numbered_in (collected w) r h.journals) in
     (s.0, record { some = omega arith; few = omega arith; local = m.0; matched = m.1; scheduled = s.1 })
 
 pub agree : (w : Played) → IsWorld w → 1 ≤ w.faults → w.faults ≤ 3 → Agree w
-agree w h some few i r q x y = let m = merges w h some few in journals_agree_lem (opened empty) w.faults (journals_in w) m.0 m.1 i r q x y
+agree w h some few i r q x y = let m = merges w h some few in journals_agree_lem (opens w.opening) w.faults (journals_in w) m.0 m.1 i r q x y
 
 pub were_proposed : (w : Played) → IsWorld w → 1 ≤ w.faults → w.faults ≤ 3 → WereProposed w
-were_proposed w h some few r i x = let m = merges w h some few in journals_propose_lem (opened empty) w.faults (journals_in w) m.0 m.1 r i x
+were_proposed w h some few r i x = let m = merges w h some few in journals_propose_lem (opens w.opening) w.faults (journals_in w) m.0 m.1 r i x
 
 pub depend : (w : Played) → IsWorld w → 1 ≤ w.faults → w.faults ≤ 3 → Depend w
-depend w h some few i j r q x y = let m = merges w h some few in journals_depend_lem (opened empty) w.faults (journals_in w) m.0 m.1 i j r q x y
+depend w h some few i j r q x y = let m = merges w h some few in journals_depend_lem (opens w.opening) w.faults (journals_in w) m.0 m.1 i j r q x y
 
 pub linearizable : (w : Played) → IsWorld w → 1 ≤ w.faults → w.faults ≤ 3 → Linearizable w
 linearizable w h some few = record {
   schedule = h.schedule;
   shows = h.shows;
-  run = linearizability_holds (opened empty) w.faults (omega arith) (omega arith) (acts_of h.schedule) (played_is_a_run_lem (opened empty) w.faults h.schedule h.shows.played);
+  run = linearizability_holds (opens w.opening) w.faults (omega arith) (omega arith) (acts_of h.schedule) (played_is_a_run_lem (opens w.opening) w.faults h.schedule h.shows.played);
 }
 
 -- What is committed stays so, event by event.
@@ -80,13 +80,14 @@ other w w' event h r ne = ap (λ (v : Played). entries_in v r) h.becomes ∙ wit
 pub keeps_one : (w w' : Played) (event : WorldEvent) → Happens w event w' → Keeps w w'
 keeps_one w w' event h i r x is =
     let faults : w'.faults ≡ w.faults = ap (λ (v : Played). v.faults) h.becomes in
-    subst (λ f. committed_in (left f r (fresh_state (opened empty)) (journals_in w' r)).records i ≡ Some x) (sym faults) (elim (cases_eq h.replica r) [
+    let opening : w'.opening ≡ w.opening = ap (λ (v : Played). v.opening) h.becomes in
+    subst (λ (o : Opening). committed_in (left w'.faults r (fresh_state (opens o)) (journals_in w' r)).records i ≡ Some x) (sym opening) (subst (λ f. committed_in (left f r (fresh_state (opens w.opening)) (journals_in w' r)).records i ≡ Some x) (sym faults) (elim (cases_eq h.replica r) [
       | inl same ↦ (
           let more : entries_in w' r ≡ entries_in w r ++ h.entry ∷ [] = subst (λ q. entries_in w' q ≡ entries_in w q ++ h.entry ∷ []) same (longer w w' event h) in
           let journal : journals_in w' r ≡ journals_in w r ++ entry_of h.entry ∷ [] = ap entries_of more ∙ entries_grow (entries_in w r) h.entry in
-          subst (λ (es : List rules.Entry). committed_in (left w.faults r (fresh_state (opened empty)) es).records i ≡ Some x) (sym journal) (journals_keep_lem (opened empty) w.faults r (journals_in w r) (entry_of h.entry ∷ []) i x is))
-      | inr ne ↦ subst (λ (es : List Entry). committed_in (left w.faults r (fresh_state (opened empty)) (entries_of es)).records i ≡ Some x) (sym (other w w' event h r ne)) is
-    ])
+          subst (λ (es : List rules.Entry). committed_in (left w.faults r (fresh_state (opens w.opening)) es).records i ≡ Some x) (sym journal) (journals_keep_lem (opens w.opening) w.faults r (journals_in w r) (entry_of h.entry ∷ []) i x is))
+      | inr ne ↦ subst (λ (es : List Entry). committed_in (left w.faults r (fresh_state (opens w.opening)) (entries_of es)).records i ≡ Some x) (sym (other w w' event h r ne)) is
+    ]))
 
 pub keeps_took : (w w' : Played) (event : WorldEvent) (r : ℕ) (taken : Happening) → asked w event ≡ Some (r, taken) → Took w r taken w' → Keeps w w'
 keeps_took w w' event r taken is t = keeps_one w w' event (record { replica = r; taken = taken; entry = t.entry; asked = is; there = t.there; applied = t.applied; becomes = t.becomes })

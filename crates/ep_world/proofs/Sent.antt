@@ -20,7 +20,7 @@ use Rattle.ep_world.specs.Playing.{given, asked}
 use Rattle.ep_world.specs.declared.place.Place.{Place}
 use Rattle.ep_world.specs.declared.world_event.WorldEvent.{WorldEvent}
 use Rattle.ep_world.specs.declared.world_event.WorldEvent.TheVariants.{Propose, GiveUp, Recover, Execute, Deliver}
-use Rattle.ep_rules.specs.OneMap.{opened, empty}
+use Rattle.ep_journal.specs.Openings.{opens}
 
 abbrev pub place_of : Frame → Place
 place_of m = record { replica = m.sent.from; entry = m.entry; out = m.place }
@@ -87,16 +87,16 @@ stands_at w m k x b number entry frame is readable = record {
 }
 
 -- each replica's entries are a local run
-pub local_in : (w : Played) → IsWorld w → AreLocalRuns (opened empty) w.faults (journals_in w)
-local_in w h = (played_match_lem (opened empty) (λ _. 0) w.faults (journals_in w) h.schedule h.shows.played h.shows.journals (λ r. numbered_in (collected w) r h.journals) h.clocked).0
+pub local_in : (w : Played) → IsWorld w → AreLocalRuns (opens w.opening) w.faults (journals_in w)
+local_in w h = (played_match_lem (opens w.opening) (λ _. w.opening.since) w.faults (journals_in w) h.schedule h.shows.played h.shows.journals (λ r. numbered_in (collected w) r h.journals) h.clocked).0
 
 pub stands : (w : Played) (h : IsWorld w) (m : Frame) → In m (frames_of h.schedule) → Stands w m
 stands w h m k =
     let s = source_of h.schedule m k in
     let r : ℕ = s.act.replica in
-    let run : IsLocalRun (opened empty) w.faults r (journals_in w r) = (local_in w h).local r in
+    let run : IsLocalRun (opens w.opening) w.faults r (journals_in w r) = (local_in w h).local r in
     let home : In s.act.entry (journals_in w r) = subst (λ (es : List rules.Entry). In s.act.entry es) (h.shows.journals r) (in_of s.act h.schedule s.stands) in
-    let named = (frames_were_sent_lem (opened empty) w.faults (journals_in w) r s.act.entry m run home s.out).0 in
+    let named = (frames_were_sent_lem (opens w.opening) w.faults (journals_in w) r s.act.entry m run home s.out).0 in
     let at = in_at (journals_in w r) s.act.entry home in
     let number : s.act.entry.number ≡ at.0 + 1 = ((numbers_are_places_lem (journals_in w r) run.0 at.0 s.act.entry).0 at.1).1 in
     let entry = entry_behind (entries_in w r) at.0 s.act.entry at.1 in

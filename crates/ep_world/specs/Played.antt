@@ -2,7 +2,8 @@
 use Rattle.std.specs.Prelude.{◌≡◌, ℕ, zero, suc, List, [], ◌∷◌, Option, Some, None, refl, slice_get}
 use Rattle.std.specs.Coded.{Coded, code_by, coded×, coded_ℕ, coded_list}
 use Rattle.ep_base.specs.Quorums.{size}
-use Rattle.ep_base.specs.declared.version_kind.VersionKind.TheVariants.{V2}
+use Rattle.ep_base.specs.contracts.version.Version as version_facts
+use Rattle.ep_base.specs.declared.version.Version.{Version}
 use Rattle.ep_rules.specs.Journals as rules
 use Rattle.ep_rules.specs.Journals.{Scheduled, of, acts_of, ArePlayed, AreClocked, frames_of, messages_of}
 use Rattle.ep_rules.specs.Steps.{Frame}
@@ -10,15 +11,18 @@ use Rattle.ep_rules.specs.Worlds.{opening, IsRun, ends}
 use Rattle.ep_journal.specs.Entries.{Collected, entries_at, journals_of, AreJournals}
 use Rattle.ep_journal.specs.contracts.entry.Entry as entry_facts
 use Rattle.ep_journal.specs.declared.entry.Entry.{Entry}
-use Rattle.ep_journal.specs.Openings.{no_opening}
+use Rattle.ep_journal.specs.Openings.{Opening, opening_code, opens}
 use Rattle.ep_replica.specs.Kept.{Kept}
 use Rattle.ep_world.specs.contracts.place.Place as place_facts
 use Rattle.ep_world.specs.declared.place.Place.{Place}
-use Rattle.ep_rules.specs.OneMap.{opened, empty}
 
 pub record Played : Type 0 where
+  -- the version of all replicas
+  pub version : Version
   -- how many replicas may fail
   pub faults : ℕ
+  -- what all of them opened with
+  pub opening : Opening
   -- each replica's entries, in replica order
   pub entries : List (List Entry)
   -- replica and entry number of each step, in the order played
@@ -28,12 +32,14 @@ pub record Played : Type 0 where
 
 abbrev pub played_code : Coded Played
 played_code =
-    code_by (ℕ × (List (List Entry) × (List (ℕ × ℕ) × List Place))) (coded× coded_ℕ (coded× (coded_list (coded_list entry_facts.the_row.coded)) (coded× (coded_list (coded× coded_ℕ coded_ℕ)) (coded_list place_facts.the_row.coded))))
-    (λ w. (w.faults, (w.entries, (w.steps, w.messages)))) (λ p. record { faults = p.0; entries = p.1.0; steps = p.1.1.0; messages = p.1.1.1 }) (λ _. refl)
+    code_by (Version × (ℕ × (Opening × (List (List Entry) × (List (ℕ × ℕ) × List Place)))))
+    (coded× version_facts.the_row.coded (coded× coded_ℕ (coded× opening_code (coded× (coded_list (coded_list entry_facts.the_row.coded)) (coded× (coded_list (coded× coded_ℕ coded_ℕ)) (coded_list place_facts.the_row.coded))))))
+    (λ w. (w.version, (w.faults, (w.opening, (w.entries, (w.steps, w.messages))))))
+    (λ p. record { version = p.0; faults = p.1.0; opening = p.1.1.0; entries = p.1.1.1.0; steps = p.1.1.1.1.0; messages = p.1.1.1.1.1 }) (λ _. refl)
 
--- the journals, which are of version 2 and open with nothing
+-- the journals
 abbrev pub collected : Played → Collected
-collected w = record { version = V2; faults = w.faults; opening = no_opening; entries = w.entries }
+collected w = record { version = w.version; faults = w.faults; opening = w.opening; entries = w.entries }
 
 -- the same as the rule book sees them
 abbrev pub journals_in : Played → rules.Journals
@@ -44,7 +50,7 @@ abbrev pub entries_in : Played → ℕ → List Entry
 entries_in w r = entries_at (collected w) r
 
 abbrev pub replica_in : Played → ℕ → Kept
-replica_in w r = record { faults = w.faults; me = r; entries = entries_in w r }
+replica_in w r = record { version = w.version; faults = w.faults; me = r; opening = w.opening; entries = entries_in w r }
 
 -- Messages, numbered from 1.
 
@@ -80,18 +86,18 @@ pub record Shows (w : Played) (schedule : List Scheduled) : Type 0 where
   pub journals : (r : ℕ) → of r schedule ≡ journals_in w r
   pub steps : w.steps ≡ steps_of schedule
   pub messages : w.messages ≡ places_of (frames_of schedule)
-  pub played : ArePlayed w.faults (opening (opened empty)) [] schedule
+  pub played : ArePlayed w.faults (opening (opens w.opening)) [] schedule
 
 -- the world is a run of the protocol: that of the entries that its steps name, in order; its messages are all that the run sent, in order of sending
 pub record IsPlayed (w : Played) : Type 0 where
   pub schedule : List Scheduled
   pub shows : Shows w schedule
-  pub run : IsRun w.faults (opening (opened empty)) (acts_of schedule)
-  pub sent : messages_of (frames_of schedule) ≡ (ends w.faults (opening (opened empty)) (acts_of schedule)).sent
+  pub run : IsRun w.faults (opening (opens w.opening)) (acts_of schedule)
+  pub sent : messages_of (frames_of schedule) ≡ (ends w.faults (opening (opens w.opening)) (acts_of schedule)).sent
 
 -- all that a world keeps to
 pub record IsWorld (w : Played) : Type 0 where
   pub schedule : List Scheduled
   pub shows : Shows w schedule
   pub journals : AreJournals (collected w)
-  pub clocked : (r : ℕ) → AreClocked 0 (journals_in w r)
+  pub clocked : (r : ℕ) → AreClocked w.opening.since (journals_in w r)

@@ -37,7 +37,9 @@ with_entry (es ∷ rest) (suc r) e = es ∷ with_entry rest r e
 -- the world with one entry more, of replica r
 abbrev pub grown : Played → ℕ → Entry → Played
 grown w r e = record {
+  version = w.version;
   faults = w.faults;
+  opening = w.opening;
   entries = with_entry w.entries r e;
   steps = w.steps ++ (r, e.number) ∷ [];
   messages = w.messages ++ places_of (frames_at e.frames);

@@ -8,12 +8,12 @@ use Rattle.ep_base.specs.declared.decree.Decree.{Decree}
 use Rattle.ep_rules.specs.Journals.{Scheduled, acts_of}
 use Rattle.ep_rules.specs.Linearizable.{IsLinearizable}
 use Rattle.ep_rules.specs.Verdicts.{committed_by, Proposes}
+use Rattle.ep_journal.specs.Openings.{opens}
 use Rattle.ep_world.specs.Played.{Played, journals_in, Shows}
-use Rattle.ep_rules.specs.OneMap.{opened, empty}
 
 -- what replica r has committed in instance i
 abbrev pub committed : Played → ℕ → ℕ → Option Decree
-committed w r i = committed_by (opened empty) w.faults (journals_in w) r i
+committed w r i = committed_by (opens w.opening) w.faults (journals_in w) r i
 
 -- no two replicas commit different commands or attributes in an instance
 abbrev pub Agree : Played → Type 0
@@ -27,7 +27,7 @@ Keeps w w' = (i r : ℕ) (x : Decree) → committed w r i ≡ Some x → committ
 abbrev pub WereProposed : Played → Type 0
 WereProposed w =
     (r i : ℕ) (x : Decree) → committed w r i ≡ Some x → is_noop x.command ≡ false →
-    (client request : ℕ) × (p : Proposes (opened empty) w.faults (leader_of i) (journals_in w (leader_of i)) i client request) × (p.command ≡ x.command)
+    (client request : ℕ) × (p : Proposes (opens w.opening) w.faults (leader_of i) (journals_in w (leader_of i)) i client request) × (p.command ≡ x.command)
 
 -- of two interfering committed commands one depends on the other
 abbrev pub Depend : Played → Type 0
@@ -39,4 +39,4 @@ Depend w =
 pub record Linearizable (w : Played) : Type 0 where
   pub schedule : List Scheduled
   pub shows : Shows w schedule
-  pub run : IsLinearizable (opened empty) w.faults (acts_of schedule)
+  pub run : IsLinearizable (opens w.opening) w.faults (acts_of schedule)

@@ -1,7 +1,7 @@
 //! One step of a world.
 
 ghost use Rattle.std.specs.Prelude.{◌≡◌, ◌<◌, ◌≤◌, ◌+◌, ◌-◌, ◌++◌, ◌∷◌, [], length, slice_index_or, vec_len, vec_capacity, IfErr, OnOk, OnErr};
-ghost use Rattle.ep_world.specs.Replicas.{AreReplicas, world_of, places_up_to, Took, IsUntaken};
+ghost use Rattle.ep_world.specs.Replicas.{AreAll, world_of, places_up_to, Took, IsUntaken};
 
 use crate::place::Place;
 use ep_base::{ReplicaId, Size};
@@ -42,11 +42,11 @@ pub(crate) fn advance(
     replica: ReplicaId,
     event: Event,
 ) -> Result<(), StepFault>
-    requires { AreReplicas cluster 0 replicas.old.items }
+    requires { AreAll cluster replicas.old.items }
     ensures ok { OnOk result (Took (world_of cluster replicas.old.items steps.old.items messages.old.items) replica event (world_of cluster replicas.new.items steps.new.items messages.new.items)) }
     ensures refused { IfErr result (λ fault. IsUntaken (world_of cluster replicas.old.items steps.old.items messages.old.items) replica event fault) }
     ensures err { OnErr result ((replicas.new.items ≡ replicas.old.items) × (steps.new.items ≡ steps.old.items) × (messages.new.items ≡ messages.old.items)) }
-    ensures replicas { AreReplicas cluster 0 replicas.new.items }
+    ensures replicas { AreAll cluster replicas.new.items }
 {
     let place = replica.index() as usize;
     if place >= replicas.len() {

@@ -2,25 +2,26 @@
 
 ghost use Rattle.std.specs.Prelude.{◌≡◌, ◌<◌, ◌≤◌, ℕ, [], slice_get, slice_index_or, option_copied, IfOk};
 ghost use Rattle.ep_base.specs.Quorums.{size};
-ghost use Rattle.ep_base.specs.declared.version_kind.VersionKind.TheVariants.{V2};
+ghost use Rattle.ep_base.specs.declared.version_kind.VersionKind.TheVariants.{V2, V3};
 ghost use Rattle.ep_frame.specs.Meaning.{origin_at};
-ghost use Rattle.ep_journal.specs.Entries.{IsJournal};
+ghost use Rattle.ep_journal.specs.Entries.{IsJournal, all_entries, first_opening};
 ghost use Rattle.ep_journal.specs.Openings.{no_opening};
 ghost use Rattle.ep_world.specs.Played.{numbered, frame_of};
-ghost use Rattle.ep_world.specs.Replicas.{all_kept, AreReplicas, AreTheirs};
+ghost use Rattle.ep_replica.specs.Kept.{begun, first_version};
+ghost use Rattle.ep_world.specs.Replicas.{AreAll, AreTheirs};
 
 use crate::place::Place;
-use ep_base::{ReplicaId, Size};
+use ep_base::{Generation, ReplicaId, Size};
 use ep_frame::Frame;
-use ep_journal::{Entry, Journal};
-use ep_replica::Replica;
+use ep_journal::{Entry, Journal, Opening};
+use ep_replica::{OpeningFault, Replica};
 use std::alloc::{AllocError, Global};
 
-/// The replica of this number, which is one of the cluster's, before any event.
+/// The replica of this number, which is one of the cluster's, of version 2, before any event.
 fn fresh(alloc: Global, cluster: Size, index: u8) -> Replica
     requires low { index ≤ 6 }
     requires there { index < size cluster }
-    ensures { result ≡ record { faults = cluster; me = index; entries = [] } }
+    ensures { result ≡ begun cluster index }
 {
     let Ok(me) = ReplicaId::new(index) else {
         unreachable!()
@@ -31,14 +32,59 @@ fn fresh(alloc: Global, cluster: Size, index: u8) -> Replica
     }
 }
 
-/// The replicas of a cluster of this size, before any event.
+/// The replicas of a cluster of this size, of version 2, before any event.
 pub(crate) fn all_fresh(alloc: Global, cluster: Size) -> Result<Vec<Replica>, AllocError>
-    ensures replicas { IfOk result (λ ks. AreReplicas cluster 0 ks.items) }
-    ensures entries { IfOk result (λ ks. (r : ℕ) → slice_index_or (all_kept ks.items) r [] ≡ []) }
+    ensures replicas { IfOk result (λ ks. AreAll cluster ks.items) }
+    ensures version { IfOk result (λ ks. first_version ks.items ≡ V2) }
+    ensures opening { IfOk result (λ ks. first_opening ks.items ≡ no_opening) }
+    ensures entries { IfOk result (λ ks. (r : ℕ) → slice_index_or (all_entries ks.items) r [] ≡ []) }
 {
     let mut replicas = Vec::new(alloc);
     for index in 0..cluster.count() {
         replicas.push(fresh(alloc, cluster, index))?;
+    }
+    Ok(replicas)
+}
+
+/// The replica of this number, which is one of the cluster's, of a generation, before any event.
+fn opened(
+    alloc: Global,
+    cluster: Size,
+    index: u8,
+    generation: Generation,
+    opening: &Opening,
+) -> Result<Replica, AllocError>
+    requires low { index ≤ 6 }
+    requires there { index < size cluster }
+    ensures { IfOk result (λ r. r ≡ record { version = V3 generation; faults = cluster; me = index; opening = opening.now; entries = [] }) }
+{
+    let Ok(me) = ReplicaId::new(index) else {
+        unreachable!()
+    };
+    let opening = opening.copy(alloc)?;
+    match Replica::opened(alloc, cluster, me, generation, opening) {
+        Ok(replica) => Ok(replica),
+        Err(OpeningFault::Memory) => Err(AllocError),
+        Err(OpeningFault::OutOfRange) => unreachable!(),
+    }
+}
+
+/// The replicas of a cluster of this size, of a generation, before any event.
+pub(crate) fn all_opened(
+    alloc: Global,
+    cluster: Size,
+    generation: Generation,
+    opening: &Opening,
+) -> Result<Vec<Replica>, AllocError>
+    ensures replicas { IfOk result (λ ks. AreAll cluster ks.items) }
+    ensures version { IfOk result (λ ks. first_version ks.items ≡ V3 generation) }
+    ensures opening { IfOk result (λ ks. first_opening ks.items ≡ opening.now) }
+    ensures entries { IfOk result (λ ks. (r : ℕ) → slice_index_or (all_entries ks.items) r [] ≡ []) }
+{
+    let mut replicas = Vec::new(alloc);
+    for number in 0..cluster.count() {
+        let replica = opened(alloc, cluster, number, generation, opening)?;
+        replicas.push(replica)?;
     }
     Ok(replicas)
 }
@@ -80,7 +126,7 @@ fn nth_frame(frames: &[Frame], out: u16) -> Option<&Frame>
 /// The frame at this place.
 #[tactic(auto, using(crate::proofs::Kept::entries_there, crate::proofs::Kept::no_frame))]
 pub(crate) fn frame_at<'a>(replicas: &'a [Replica], place: Place) -> Option<&'a Frame>
-    ensures { option_copied result ≡ frame_of (numbered (slice_index_or (all_kept replicas.now) place.replica []) place.entry) place.out }
+    ensures { option_copied result ≡ frame_of (numbered (slice_index_or (all_entries replicas.now) place.replica []) place.entry) place.out }
 {
     let Some(replica) = find(replicas, place.replica) else {
         return None;
@@ -100,11 +146,7 @@ pub(crate) fn receiver(frame: &Frame) -> ReplicaId
 
 /// The journal of a replica.
 fn journal_of(replica: Replica) -> Journal
-    ensures version { result.version ≡ V2 }
-    ensures faults { result.faults ≡ replica.faults }
-    ensures me { result.me ≡ replica.me }
-    ensures opening { result.opening ≡ no_opening }
-    ensures entries { result.entries ≡ replica.entries }
+    ensures value { result ≡ replica }
     ensures run { IsJournal result.version result.opening result.faults result.me result.entries }
 {
     let journal = replica.into_journal();

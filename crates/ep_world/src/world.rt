@@ -1,17 +1,18 @@
 //! A world of replicas.
 
 ghost use Rattle.std.specs.Prelude.{◌≡◌};
-ghost use Rattle.ep_rules.specs.OneMap.{opened, empty};
 
 use crate::advance::advance;
 use crate::cause::Cause;
 use crate::place::Place;
 use crate::refused::Refused;
-use crate::replicas::{all_fresh, find, frame_at, into_journals, numbered_place, receiver};
+use crate::replicas::{
+    all_fresh, all_opened, find, frame_at, into_journals, numbered_place, receiver,
+};
 use crate::world_event::WorldEvent;
-use ep_base::{ReplicaId, Size};
+use ep_base::{Generation, ReplicaId, Size, Version};
 use ep_frame::Frame;
-use ep_journal::{Event, Journals};
+use ep_journal::{Event, Journals, Opening};
 use ep_replica::Replica;
 use std::alloc::{AllocError, Global};
 use std::marker::Model;
@@ -28,7 +29,7 @@ pub struct World {
 
 impl Model for World {
     ghost use Rattle.ep_world.specs.Played.{Played, played_code, IsWorld};
-    ghost use Rattle.ep_world.specs.Replicas.{AreReplicas, world_of};
+    ghost use Rattle.ep_world.specs.Replicas.{AreAll, world_of};
 
     ghost Value = { Played };
 
@@ -36,12 +37,14 @@ impl Model for World {
 
     ghost view = { λ w. world_of w.size w.replicas.items w.steps.items w.messages.items };
 
-    ghost invariant = { λ w. AreReplicas w.size 0 w.replicas.items × IsWorld (world_of w.size w.replicas.items w.steps.items w.messages.items) };
+    ghost invariant = { λ w. AreAll w.size w.replicas.items × IsWorld (world_of w.size w.replicas.items w.steps.items w.messages.items) };
 }
 
 impl World {
     ghost use Rattle.std.specs.Prelude.{◌≡◌, ◌<◌, ◌≤◌, ◌⊎◌, ℕ, List, [], Some, None, length, option_copied, IsSome, IfSome, IfOk, IfErr, OnOk, OnErr};
     ghost use Rattle.ep_base.specs.Quorums.{size};
+    ghost use Rattle.ep_base.specs.declared.version_kind.VersionKind.TheVariants.{V2, V3};
+    ghost use Rattle.ep_journal.specs.Openings.{no_opening, opens};
     ghost use Rattle.ep_rules.specs.Audits.{IsAccepted};
     ghost use Rattle.ep_rules.specs.Verdicts.{AreOwn};
     ghost use Rattle.ep_rules.specs.declared.receipt.Receipt.{Receipt};
@@ -53,14 +56,40 @@ impl World {
     ghost use Rattle.ep_world.specs.declared.world_event.WorldEvent.TheVariants.{Deliver};
     ghost use Rattle.ep_world.specs.Safe.{Agree, Keeps, WereProposed, Depend, Linearizable};
 
-    /// A world of this many replicas, before any event.
+    /// A world of this many replicas, of version 2, before any event.
     pub fn new(alloc: Global, cluster: Size) -> Result<World, AllocError>
+        ensures version { IfOk result (λ w. w.version ≡ V2) }
         ensures faults { IfOk result (λ w. w.faults ≡ cluster) }
+        ensures opening { IfOk result (λ w. w.opening ≡ no_opening) }
         ensures entries { IfOk result (λ w. (r : ℕ) → entries_in w r ≡ []) }
         ensures steps { IfOk result (λ w. w.steps ≡ []) }
         ensures messages { IfOk result (λ w. w.messages ≡ []) }
     {
         let replicas = all_fresh(alloc, cluster)?;
+        Ok(World {
+            size: cluster,
+            replicas,
+            steps: Vec::new(alloc),
+            messages: Vec::new(alloc),
+            alloc,
+        })
+    }
+
+    /// A world of this many replicas, of version 3 and this generation, before any event: all of them have this opening.
+    pub fn opened(
+        alloc: Global,
+        cluster: Size,
+        generation: Generation,
+        opening: &Opening,
+    ) -> Result<World, AllocError>
+        ensures version { IfOk result (λ w. w.version ≡ V3 generation) }
+        ensures faults { IfOk result (λ w. w.faults ≡ cluster) }
+        ensures opening { IfOk result (λ w. w.opening ≡ opening.now) }
+        ensures entries { IfOk result (λ w. (r : ℕ) → entries_in w r ≡ []) }
+        ensures steps { IfOk result (λ w. w.steps ≡ []) }
+        ensures messages { IfOk result (λ w. w.messages ≡ []) }
+    {
+        let replicas = all_opened(alloc, cluster, generation, opening)?;
         Ok(World {
             size: cluster,
             replicas,
@@ -165,7 +194,8 @@ impl World {
     /// Whatever was played, by any number of calls, and whatever this call answers, the world left is a run: no two
     /// replicas commit different commands or attributes in an instance; what was committed stays so; a committed
     /// command other than a no-op was proposed there, by the instance's leader; of two interfering committed commands
-    /// one depends on the other; and the run is linearizable, by its commands in the order of their first executions.
+    /// one depends on the other; and the run is linearizable, from the opening's map on, by its commands in the order of their
+    /// first executions.
     pub fn play(&mut self, events: &[WorldEvent]) -> Result<(), Refused>
         ensures ok { OnOk result (Happen self.old events.now self.new) }
         ensures refused { IfErr result (λ refused. Ends self.old events.now refused self.new) }
@@ -199,6 +229,29 @@ impl World {
         ensures { result ≡ self.now.faults }
     {
         self.size
+    }
+
+    /// The version of all replicas.
+    pub fn version(&self) -> Version
+        ensures { result ≡ self.now.version }
+    {
+        self.first().version()
+    }
+
+    /// What all replicas opened with; nothing, where the world is of version 2.
+    pub fn opening(&self) -> &Opening
+        ensures { result.now ≡ self.now.opening }
+    {
+        self.first().opening()
+    }
+
+    /// The first replica.
+    fn first(&self) -> &Replica
+        ensures version { result.now.version ≡ self.now.version }
+        ensures opening { result.now.opening ≡ self.now.opening }
+    {
+        let _size = self.size;
+        &self.replicas.as_slice()[0]
     }
 
     /// Replica and entry number of each step so far, in order. The world is the run of these entries.
@@ -251,12 +304,12 @@ impl World {
 
     /// The journals of a world, with any receipts of which each is some replica's own, are accepted by the audit: a law, which costs nothing to call.
     pub fn journals_are_accepted(&self)
-        ensures { (receipts : List Receipt) → AreOwn (opened empty) self.now.faults (journals_in self.now) receipts → IsAccepted (opened empty) self.now.faults (journals_in self.now) receipts }
+        ensures { (receipts : List Receipt) → AreOwn (opens self.now.opening) self.now.faults (journals_in self.now) receipts → IsAccepted (opens self.now.opening) self.now.faults (journals_in self.now) receipts }
     {
         let _size = self.size;
     }
 
-    /// The journals alone, which are of version 2 and open with nothing.
+    /// The journals alone.
     pub fn into_journals(self, alloc: Global) -> Result<Journals, AllocError>
         ensures { IfOk result (λ j. j ≡ collected self) }
     {

@@ -1,11 +1,7 @@
 use Rattle.std.proofs.lemmas.Result.{err_from_is_err_and}
 use Rattle.ep_assemble.specs.Logs.{contents}
-use Rattle.ep_assemble.proofs.Early.{collected_early}
 use Rattle.ep_assemble.proofs.Unassembled.{unassembled}
 use Rattle.ep_assemble.proofs.assembling.assemble.Goals as goal
-
-pub bundle_of-requires : goal.bundle_of-requires
-bundle_of-requires c = collected_early (contents c.args.logs.now) c.in_ok-logs.logs.journals.items c.in_ok-logs.logs.ends.items c.in_ok-journals.journals c.in_ok-logs.ensures.ok c.in_ok-journals.ensures.collects
 
 pub returns-in_err-bundled-clause-err : goal.returns-in_err-bundled-clause-err
 returns-in_err-bundled-clause-err c =

@@ -1,12 +1,11 @@
 use Rattle.std.proofs.Common.{rules, ◌≡◌, ◌∙◌, List, All, ap, subst}
 use Rattle.std.proofs.lemmas.List.{with_items_is}
-use Rattle.ep_base.specs.declared.version_kind.VersionKind.TheVariants.{V2}
-use Rattle.ep_journal.specs.Entries.{AreInOrder, all_entries}
-use Rattle.ep_journal.specs.Openings.{no_opening}
+use Rattle.ep_journal.specs.Entries.{AreInOrder, all_entries, first_opening}
+use Rattle.ep_replica.specs.Kept.{first_version}
 use Rattle.ep_host.specs.Host.{Looked, Knows, AllSent, AllBegin, AllFrom}
 use Rattle.ep_host.specs.Node.{Node}
 use Rattle.ep_host.specs.Pointwise.{Each}
-use Rattle.ep_host.specs.RingFinishing.{replicas_in, their_receipts, logs_of}
+use Rattle.ep_host.specs.RingFinishing.{replicas_in, their_receipts}
 use Rattle.ep_host.proofs.Accepting.{is_end, end_in_order, end_accepted, end_audited}
 use Rattle.ep_host.proofs.ring_finishing.finish.Goals as goal
 
@@ -17,8 +16,8 @@ unwrap-journals-requires c =
     let value = c.as_mut_slice.ensures.value in
     let know : All Knows nodes = subst (λ (l : List Node). All Knows l) value c.taken_was_sent.ensures.knows in
     let looked : Each Looked nodes after = subst (λ (l : List Node). Each Looked l after) value c.taken_was_sent.ensures.looked in
-    let logs = c.in_ok-journals.ensures ∙ ap (λ (l : List Node). logs_of (replicas_in l)) is in
-    c.new.ensures.in_order.1 (V2, no_opening, c.requires.0, end_in_order c.requires.0 nodes after c.in_ok-journals.journals.items c.requires.1 know looked logs)
+    let logs = c.in_ok-journals.ensures ∙ ap (λ (l : List Node). replicas_in l) is in
+    c.new.ensures.in_order.1 (first_version (replicas_in nodes), first_opening (replicas_in nodes), c.requires.0, end_in_order c.requires.0 nodes after c.in_ok-journals.journals.items c.requires.1 know looked logs)
 
 pub accepted-requires : goal.accepted-requires
 accepted-requires c =
@@ -30,7 +29,7 @@ accepted-requires c =
     let sent : AllSent nodes = subst (λ (l : List Node). AllSent l) value c.taken_was_sent.ensures.sent in
     let looked : Each Looked nodes after = subst (λ (l : List Node). Each Looked l after) value c.taken_was_sent.ensures.looked in
     let j = c.unwrap-journals.result in let ls = c.in_ok-journals.journals.items in
-    let logs = c.in_ok-journals.ensures ∙ ap (λ (l : List Node). logs_of (replicas_in l)) is in
+    let logs = c.in_ok-journals.ensures ∙ ap (λ (l : List Node). replicas_in l) is in
     let receipts = c.deref-2.ensures.value ∙ c.in_ok-receipts.ensures ∙ ap (λ (l : List Node). their_receipts (replicas_in l)) (c.deref.ensures.value ∙ is) in
     let order : AreInOrder j.version j.opening j.faults 0 ls = search rules in
     let entries : j.entries ≡ all_entries ls = search rules in
@@ -43,7 +42,7 @@ returns-clause-verdict c = λ f host.
     let value = c.as_mut_slice.ensures.value in
     let looked : Each Looked nodes after = subst (λ (l : List Node). Each Looked l after) value c.taken_was_sent.ensures.looked in
     let j = c.unwrap-journals.result in let ls = c.in_ok-journals.journals.items in
-    let logs = c.in_ok-journals.ensures ∙ ap (λ (l : List Node). logs_of (replicas_in l)) is in
+    let logs = c.in_ok-journals.ensures ∙ ap (λ (l : List Node). replicas_in l) is in
     let receipts = c.deref-2.ensures.value ∙ c.in_ok-receipts.ensures ∙ ap (λ (l : List Node). their_receipts (replicas_in l)) (c.deref.ensures.value ∙ is) in
     let order : AreInOrder j.version j.opening j.faults 0 ls = search rules in
     let entries : j.entries ≡ all_entries ls = search rules in

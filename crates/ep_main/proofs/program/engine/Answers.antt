@@ -1,20 +1,23 @@
 use Rattle.std.proofs.Common.{inl, inr, refl}
 use Rattle.std.proofs.KnownBytes.{Appends-nil}
-use Rattle.ep_main.proofs.Ending.{declines, ends_declined, helps_none, is_helped, performs_asked, performs_none}
+use Rattle.ep_main.proofs.Ending.{declines, ends_declined, helps_none, performs_none, task_done, task_ends, task_helped, works_asked}
 use Rattle.ep_main.proofs.program.engine.Goals as goal
 
 pub returns-in-Ok-clause-asked : goal.returns-in-Ok-clause-asked
 returns-in-Ok-clause-asked g c want ask zs known =
-    performs_asked c.in-Ok.asked want _ _ _ _ _ (c.in-Ok.ensures.asked want ask) (c.perform.ensures.performs zs known)
+    works_asked c.in-Ok.task want _ _ _ _ _ (c.in-Ok.ensures.asked want ask) (c.work.ensures.works zs known)
 
 pub returns-in-Ok-clause-other : goal.returns-in-Ok-clause-other
-returns-in-Ok-clause-other g c zs known = inr (c.in-Ok.asked, c.in-Ok.ensures.only, c.perform.ensures.performs zs known)
+returns-in-Ok-clause-other g c zs known = inr (task_done c.in-Ok.task _ _ zs _ _ _ c.in-Ok.ensures.only (c.work.ensures.works zs known))
 
 pub returns-in-Ok-clause-help : goal.returns-in-Ok-clause-help
-returns-in-Ok-clause-help g c ask zs known = is_helped c.in-Ok.asked _ _ _ _ _ (c.in-Ok.ensures.help ask) (c.perform.ensures.performs zs known)
+returns-in-Ok-clause-help g c ask zs known = task_helped c.in-Ok.task _ _ _ _ _ (c.in-Ok.ensures.help ask) (c.work.ensures.works zs known)
+
+pub returns-in-Ok-clause-ends : goal.returns-in-Ok-clause-ends
+returns-in-Ok-clause-ends g c = task_ends c.in-Ok.task _ _ _ _ _ c.in-Ok.ensures.only c.work.ensures.ends
 
 pub returns-in-Err-clause-ends : goal.returns-in-Err-clause-ends
-returns-in-Err-clause-ends g c = ends_declined _ _ _ _ _ c.decline.ensures refl refl
+returns-in-Err-clause-ends g c = inl (ends_declined _ _ _ _ _ c.decline.ensures refl refl)
 
 pub returns-in-Err-clause-asked : goal.returns-in-Err-clause-asked
 returns-in-Err-clause-asked g c want ask zs known =

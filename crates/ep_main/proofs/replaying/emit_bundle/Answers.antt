@@ -1,14 +1,10 @@
 use Rattle.std.proofs.Common.{rules, refl, ◌<◌, ◌^◌, length}
-use Rattle.ep_bundle.proofs.HavingBundles.{two_has_bundles}
 use Rattle.ep_main.proofs.Bundling.{bundled, countable}
 use Rattle.ep_main.proofs.Flags.{script_read, script_not_written}
 use Rattle.ep_main.proofs.replaying.emit_bundle.Goals as goal
 
-pub bundle_of-requires-clause-early : goal.bundle_of-requires-clause-early
-bundle_of-requires-clause-early g c = two_has_bundles c.in_ok-played.played.journals.version c.in_ok-played.ensures.version
-
-pub bundle_of-requires-clause-receipts : goal.bundle_of-requires-clause-receipts
-bundle_of-requires-clause-receipts g c = countable c.in_ok-played.played.receipts.items c.in_ok-played.played.receipts.items refl c.in_ok-played.ensures.few
+pub bundle_of-requires : goal.bundle_of-requires
+bundle_of-requires g c = record { receipts = countable c.in_ok-played.played.receipts.items c.in_ok-played.played.receipts.items refl c.in_ok-played.ensures.few }
 
 pub returns-in_err-script-clause-read : goal.returns-in_err-script-clause-read
 returns-in_err-script-clause-read g c = script_read c.in_err-script.field-0.0 _ _ _ c.from_residual.ensures.1 c.in_err-script.ensures.failed

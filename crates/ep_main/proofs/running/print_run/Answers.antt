@@ -1,14 +1,10 @@
 use Rattle.std.proofs.Common.{rules}
-use Rattle.ep_bundle.proofs.HavingBundles.{two_has_bundles}
 use Rattle.ep_main.proofs.Flags.{run_verdict, script_read, script_not_written}
 use Rattle.ep_main.proofs.Verdicts.{runs_to, says_as}
 use Rattle.ep_main.proofs.running.print_run.Goals as goal
 
-pub judge_run-requires-clause-early : goal.judge_run-requires-clause-early
-judge_run-requires-clause-early g c = two_has_bundles c.in_ok-ran.ran.finished.journals.version c.in_ok-ran.ensures.version
-
-pub judge_run-requires-clause-finished : goal.judge_run-requires-clause-finished
-judge_run-requires-clause-finished g c = c.in_ok-ran.ensures.finished
+pub judge_run-requires : goal.judge_run-requires
+judge_run-requires g c = record { finished = c.in_ok-ran.ensures.finished }
 
 pub returns-in_err-script-clause-read : goal.returns-in_err-script-clause-read
 returns-in_err-script-clause-read g c = script_read c.in_err-script.field-0.0 _ _ _ c.from_residual.ensures.1 c.in_err-script.ensures.failed
@@ -26,6 +22,7 @@ returns-clause-runs g c zs known =
       plan = c.in_ok-script.script;
       script = c.in_ok-script.ensures.bytes zs known;
       ran = c.in_ok-ran.ran;
+      begun = c.in_ok-ran.ensures.begun;
       promised = c.in_ok-ran.ensures.promised;
       text = c.in_ok-judged.judged.text.items;
       says = says_as _ _ _ _ _ c.emit.ensures c.in_ok-judged.ensures.value;

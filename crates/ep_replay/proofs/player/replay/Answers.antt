@@ -1,11 +1,13 @@
-use Rattle.std.proofs.Common.{◌≤◌, ◌∙◌, ℕ, List, [], ap, subst}
-use Rattle.ep_journal.specs.Entries.{Collected, journals_of}
+use Rattle.std.proofs.Common.{◌≤◌, ◌∙◌, ℕ, List, [], subst}
+use Rattle.ep_journal.specs.Entries.{journals_of}
 use Rattle.ep_journal.specs.Openings.{opens}
 use Rattle.ep_rules.proofs.OnceDone.{as_once}
+use Rattle.ep_script.specs.Heads.{Head}
 use Rattle.ep_script.specs.declared.line.Line.{Line}
 use Rattle.ep_replay.specs.Replays.{IsOpening, PlayAll}
 use Rattle.ep_replay.specs.Tables.{told, Leads}
 use Rattle.ep_replay.specs.Told.{instances_of}
+use Rattle.ep_replay.proofs.Keeping.{replay_version, replay_opening}
 use Rattle.ep_replay.proofs.Leading.{replayed, own_at_end}
 use Rattle.ep_replay.proofs.OneReceipt.{few_receipts}
 use Rattle.ep_replay.proofs.ReceiptsOnce.{replay_once}
@@ -13,12 +15,15 @@ use Rattle.ep_replay.proofs.player.replay.Goals as goal
 
 pub returns-clause-value : goal.returns-clause-value
 returns-clause-value c =
-    replayed c.args.script.now c.in_ok-player.player c.play_all.new.self c.in_ok-left.left (subst (λ f. IsOpening f (told c.in_ok-player.player [] [])) c.size.ensures c.in_ok-player.ensures.opening) c.in_ok-player.ensures.tells
+    replayed c.args.script.now c.in_ok-player.player c.play_all.new.self c.in_ok-left.left (subst (λ (h : Head). IsOpening h (told c.in_ok-player.player [] [])) c.head.ensures c.in_ok-player.ensures.opening) c.in_ok-player.ensures.tells
     (subst (λ (ls : List (ℕ × Line)). Leads (λ p q. PlayAll p ls q) c.in_ok-player.player c.play_all.new.self) c.lines.ensures c.in_ok-play_all.ensures) c.in_ok-left.ensures.journals c.in_ok-left.ensures.receipts
     c.in_ok-left.ensures.refused
 
 pub returns-clause-version : goal.returns-clause-version
-returns-clause-version c = ap (λ (j : Collected). j.version) c.in_ok-left.ensures.journals
+returns-clause-version c = replay_version c.args.script.now c.in_ok-left.left (returns-clause-value c)
+
+pub returns-clause-opening : goal.returns-clause-opening
+returns-clause-opening c = replay_opening c.args.script.now c.in_ok-left.left (returns-clause-value c)
 
 pub returns-clause-accepted : goal.returns-clause-accepted
 returns-clause-accepted c = c.in_ok-left.ensures.accepted (own_at_end c.lines.result.now c.in_ok-player.player c.play_all.new.self c.in_ok-player.ensures.tells c.in_ok-play_all.ensures)
@@ -28,5 +33,5 @@ returns-clause-once c = as_once (instances_of c.in_ok-left.left.receipts.items) 
 
 pub returns-clause-few : goal.returns-clause-few
 returns-clause-few c =
-    few_receipts (opens c.in_ok-left.left.journals.opening) c.in_ok-left.left.journals.faults (journals_of c.in_ok-left.left.journals) c.in_ok-left.left.receipts.items (subst (λ n. n ≤ 3) (c.faults-faults.ensures.value ∙ c.size-2.ensures) c.faults-faults.ensures.in_range.1) c.are_local_runs.ensures (returns-clause-accepted c)
+    few_receipts (opens c.in_ok-left.left.journals.opening) c.in_ok-left.left.journals.faults (journals_of c.in_ok-left.left.journals) c.in_ok-left.left.receipts.items (subst (λ n. n ≤ 3) (c.faults-faults.ensures.value ∙ c.size.ensures) c.faults-faults.ensures.in_range.1) c.are_local_runs.ensures (returns-clause-accepted c)
     (replay_once c.args.script.now c.in_ok-left.left (returns-clause-value c))

@@ -5,4 +5,4 @@ pub loop-replica-preserved : goal.loop-replica-preserved
 loop-replica-preserved c =
     let j = c.journal_of.result in
     let k = c.in-Some.replica in
-    theirs_more c.loop-replica.yielded c.loop-replica.journals.items c.push.new.self.items k j c.in_ok-push.ensures.items c.journal_of.ensures.version c.journal_of.ensures.faults c.journal_of.ensures.me c.journal_of.ensures.opening c.journal_of.ensures.entries c.journal_of.ensures.run c.loop-replica.invariant
+    theirs_more c.loop-replica.yielded c.loop-replica.journals.items c.push.new.self.items k j c.in_ok-push.ensures.items c.journal_of.ensures.value c.journal_of.ensures.run c.loop-replica.invariant

@@ -1,30 +1,24 @@
-use Rattle.std.proofs.Common.{◌≡◌, ◌≢◌, None, rules, subst}
+use Rattle.std.proofs.Common.{◌≡◌, ◌≢◌, None, rules}
 use Rattle.ep_base.specs.Instances.{leader_of}
 use Rattle.ep_rules.specs.States.{committed_in}
-use Rattle.ep_journal.specs.Entries.{Log}
-use Rattle.ep_journal.specs.Leaving.{state_left}
-use Rattle.ep_journal.specs.Openings.{Opening}
-use Rattle.ep_replica.specs.Kept.{kept_of}
 use Rattle.ep_replica.specs.Pending.{state_of}
 use Rattle.ep_replica.proofs.Remembering.{no_subject, not_committed, woken_own, woken_other}
 use Rattle.ep_replica.proofs.remembered.Remembered.note.Goals as goal
 
 pub returns-in_default : goal.returns-in_default
-returns-in_default c = λ k plain g h. (let is : c.args.subject ≡ None = search rules in no_subject k (kept_of c.args.journal.now) c.args.subject c.args.self.now.due c.args.self.now.blockers is g h)
+returns-in_default c = λ k g h. (let is : c.args.subject ≡ None = search rules in no_subject k c.args.journal.now c.args.subject c.args.self.now.due c.args.self.now.blockers is g h)
 
 pub returns-then-is_none : goal.returns-then-is_none
-returns-then-is_none c = λ k plain g h.
-    (let j : Log = c.args.journal.now in
-    let here : committed_in (state_left j.opening j.faults j.me j.entries).records c.in-Some.instance ≡ None = search rules in
-    let none : committed_in (state_of (kept_of j)).records c.in-Some.instance ≡ None = subst (λ (o : Opening). committed_in (state_left o j.faults j.me j.entries).records c.in-Some.instance ≡ None) plain here in
-    not_committed k (kept_of c.args.journal.now) c.args.subject c.in-Some.instance c.args.self.now.due c.args.self.now.blockers c.in-Some.is none g h)
+returns-then-is_none c = λ k g h.
+    (let none : committed_in (state_of c.args.journal.now).records c.in-Some.instance ≡ None = search rules in
+    not_committed k c.args.journal.now c.args.subject c.in-Some.instance c.args.self.now.due c.args.self.now.blockers c.in-Some.is none g h)
 
 pub returns-then-eq : goal.returns-then-eq
-returns-then-eq c = λ k plain g h.
-    woken_own k (kept_of c.args.journal.now) c.args.subject c.in-Some.instance c.args.self.now.due c.wake.new.due c.add.new.self c.args.self.now.blockers c.wake.new.self c.in-Some.is g c.wake.ensures.each c.wake.ensures.more c.add.ensures.more
+returns-then-eq c = λ k g h.
+    woken_own k c.args.journal.now c.args.subject c.in-Some.instance c.args.self.now.due c.wake.new.due c.add.new.self c.args.self.now.blockers c.wake.new.self c.in-Some.is g c.wake.ensures.each c.wake.ensures.more c.add.ensures.more
     (let here = c.add.ensures.here in search rules) h
 
 pub returns-else-eq : goal.returns-else-eq
-returns-else-eq c = λ k plain g h.
+returns-else-eq c = λ k g h.
     (let other : leader_of c.in-Some.instance ≢ c.args.journal.now.me = search rules in
-    woken_other k (kept_of c.args.journal.now) c.args.subject c.in-Some.instance c.args.self.now.due c.wake.new.due c.args.self.now.blockers c.wake.new.self c.in-Some.is g c.wake.ensures.each c.wake.ensures.more other h)
+    woken_other k c.args.journal.now c.args.subject c.in-Some.instance c.args.self.now.due c.wake.new.due c.args.self.now.blockers c.wake.new.self c.in-Some.is g c.wake.ensures.each c.wake.ensures.more other h)

@@ -1,5 +1,6 @@
+use Rattle.ep_run.specs.Rings.{begun_of}
 use Rattle.ep_run.proofs.Running.{has_begun}
 use Rattle.ep_run.proofs.ring_run.RingRun.new.Goals as goal
 
 pub returns : goal.returns
-returns c = λ turns. has_begun c.args.capacity c.args.cluster turns _ c.in_ok-nodes.ensures.host c.in_ok-nodes.ensures.fresh c.new-3.ensures.items c.new-2.ensures
+returns c = λ turns. has_begun c.args.capacity (begun_of c.args.head.now) turns _ c.in_ok-nodes.ensures.host c.in_ok-nodes.ensures.fresh c.in_ok-nodes.ensures.start c.new-2.ensures.items c.new.ensures

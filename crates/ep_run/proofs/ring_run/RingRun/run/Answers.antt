@@ -18,13 +18,14 @@ pub begin-requires-clause-fits : goal.begin-requires-clause-fits
 begin-requires-clause-fits g c = subst (λ (l : List Node). FitsSection (length l) c.args.section.now) (sym c.as_mut_slice.ensures.value) c.requires.fits
 
 pub begin-requires-clause-host : goal.begin-requires-clause-host
-begin-requires-clause-host g c = let r = c.requires.run in (r.0, subst (λ (l : List Node). IsHost r.0 l) (sym c.as_mut_slice.ensures.value) r.2.host)
+begin-requires-clause-host g c = let r = c.requires.run in (r.0.faults, subst (λ (l : List Node). IsHost r.0.faults l) (sym c.as_mut_slice.ensures.value) r.2.host)
 
 pub begin-requires-clause-counted : goal.begin-requires-clause-counted
 begin-requires-clause-counted g c = let r = c.requires.run in (proposers_in [] r.1, c.args.self.now.receipts.items, r.2.counted)
 
 pub returns-clause-run : goal.returns-clause-run
-returns-clause-run g c = λ f done h.
+returns-clause-run g c = λ b done h.
+    let f = b.faults in
     let turns = c.args.turns in
     let plan : SectionPlan = c.args.section.now in
     let ws : List Weather = weather_in plan.weather in
@@ -45,7 +46,7 @@ returns-clause-run g c = λ f done h.
     subst (λ (l : List Node). IsHost f l) (sym kept) (c.turned.ensures.host f (subst (λ (l : List Node). IsHost f l) (sym is) (c.begin.ensures.host f (subst (λ (l : List Node). IsHost f l) (sym start) h.host)))) in
     let collects : Collects new.nodes.items clients ts new.clients new.receipts.items =
     subst (λ (l : List Node). Collects l clients ts new.clients new.receipts.items) (sym kept) c.in_ok-collect_all.ensures.receipts in
-    has_run f turns done plan old new begins.assigned clients h c.requires.fits.agendas begins.assigns counted each host collects
+    has_run b turns done plan old new begins.assigned clients h c.requires.fits.agendas begins.assigns counted each host collects
 
 pub returns-clause-weather : goal.returns-clause-weather
 returns-clause-weather g c =
@@ -70,4 +71,4 @@ turned-requires-clause-host g c = λ κs lives.
     let old = c.args.self.now in
     let middle : List Node = c.begin.new.nodes in
     let is : c.replace-nodes.result.items ≡ middle = ap (λ (v : _). v.items) c.replace-nodes.ensures.value ∙ with_items_is old.nodes middle (search rules) in
-    (r.0, subst (λ (l : List Node). IsHost r.0 l) (sym is) (c.begin.ensures.host r.0 (subst (λ (l : List Node). IsHost r.0 l) (sym c.as_mut_slice.ensures.value) r.2.host)))
+    (r.0.faults, subst (λ (l : List Node). IsHost r.0.faults l) (sym is) (c.begin.ensures.host r.0.faults (subst (λ (l : List Node). IsHost r.0.faults l) (sym c.as_mut_slice.ensures.value) r.2.host)))

@@ -9,6 +9,7 @@ use Rattle.ep_script.proofs.open_run.OpenRunScriptKind.take.Goals as goal
 
 pub take_line-requires : goal.take_line-requires
 take_line-requires c =
-    let n = size_with c.self.inside.size in
-    let fits : FitsRun n c.in-Some.line = subst (λ (o : Option RunLine). IfSome o (FitsRun n)) (sym c.in_ok-read_run_line.ensures ∙ c.in-Some.is) (run_fits n (words_of c.args.words.now)) in
-    subst (λ (p : OpenPlan). FitsRun (size_with p.faults) c.in-Some.line) c.self.view_is fits
+    let read : FitsRun (size_with c.size.result) c.in-Some.line =
+    subst (λ (o : Option RunLine). IfSome o (FitsRun (size_with c.size.result))) (sym c.in_ok-read_run_line.ensures ∙ c.in-Some.is) (run_fits (size_with c.size.result) c.version.result (words_of c.args.words.now)) in
+    let fits : FitsRun (size_with c.self.inside.head.faults) c.in-Some.line = subst (λ f. FitsRun (size_with f) c.in-Some.line) c.size.ensures read in
+    subst (λ (p : OpenPlan). FitsRun (size_with p.head.faults) c.in-Some.line) c.self.view_is fits

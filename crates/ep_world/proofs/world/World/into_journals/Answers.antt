@@ -8,7 +8,7 @@ pub unreachable-requires : goal.unreachable-requires
 unreachable-requires c =
     let ks = c.self.inside.replicas.items in
     let ls = c.in_ok-into_journals.field-0.items in
-    false≢true (c.in-Err.ensures.in_order.1 (in_order c.self.inside.size ks ls c.self.invariant.0 c.in_ok-into_journals.ensures))
+    false≢true (c.in-Err.ensures.in_order.1 (in_order c.self.inside.size ks ls c.self.invariant.1.journals.opens c.self.invariant.0 c.in_ok-into_journals.ensures))
 
 pub returns : goal.returns
 returns c =

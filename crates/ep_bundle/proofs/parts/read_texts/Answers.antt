@@ -1,8 +1,0 @@
-use Rattle.ep_bundle.proofs.Readings.{fails, goes_on}
-use Rattle.ep_bundle.proofs.parts.read_texts.Goals as goal
-
-pub returns-in_err-key-clause-bytes : goal.returns-in_err-key-clause-bytes
-returns-in_err-key-clause-bytes g c = λ y0 e0. fails _ _ _ _ _ _ _ _ (c.in_err-key.ensures.bytes y0 e0) c.from_residual.ensures.1
-
-pub returns-in_err-text-clause-bytes : goal.returns-in_err-text-clause-bytes
-returns-in_err-text-clause-bytes g c = λ y0 e0. goes_on _ _ _ _ _ _ _ _ (c.in_ok-key.ensures.bytes y0 e0) (λ y1 e1. fails _ _ _ _ _ _ _ _ (c.in_err-text.ensures.bytes y1 e1) c.from_residual-in_err-text.ensures.1)

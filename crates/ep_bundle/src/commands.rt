@@ -1,0 +1,312 @@
+//! Commands: an op, the lengths of its parts, and these, one after the other. The versions tell the lengths differently, and nothing else.
+
+ghost use Rattle.std.specs.Prelude.{◌≡◌, ◌≤◌, not, ℕ, List, Some, IfOk, true, false, length};
+ghost use Rattle.ep_base.specs.Devices.{FailsAsTold};
+ghost use Rattle.ep_base.specs.Ops.{first_fits, second_fits, body_fits};
+ghost use Rattle.ep_base.specs.Parts.{command_of, is_twice};
+ghost use Rattle.ep_frame.specs.Faults.{highest_op, op_of};
+ghost use Rattle.ep_bundle.specs.Reading.{field, is_read_failed, map_ok, Reads};
+ghost use Rattle.ep_bundle.specs.Stages.{AreLengths, allowed, allowed_run, body_in, command, early_fits, early_lengths, lengths, op as op_of_command, other_lengths, parts, second_in};
+
+use crate::bundle_fault::BundleFault;
+use crate::fields::{field_u8, read_run, read_u8, read_u16, read_u32};
+use crate::lengths::Lengths;
+use ep_base::{Command, CommandFault, Op, Source, Version, VersionKind};
+use std::alloc::{AllocError, Global};
+
+/// The highest op: version 1 has no swap, which is 5, and versions 1 and 2 have none of those from 6 on.
+fn highest_op(version: Version) -> u8
+    ensures { result ≡ highest_op version }
+{
+    match version.kind() {
+        VersionKind::V1 => 4,
+        VersionKind::V2 => 5,
+        VersionKind::V3(_) => 9,
+    }
+}
+
+/// The number of an op of a command of the version; a no-op, which is 1, isn't proposed.
+#[tactic(auto, using(crate::proofs::ReadCommands::ops_low))]
+fn read_op_number<S: Source>(
+    source: &mut S,
+    place: &mut u64,
+    version: Version,
+) -> Result<u8, BundleFault>
+    ensures bytes { (zs : List ℕ) → S.left source.old ≡ Some zs → Reads (field 1 2 (highest_op version) (record { at = place.old; bytes = zs })) result place.new (S.left source.new) }
+    ensures range { IfOk result (λ n. (1 ≤ n) × (n ≤ 9)) }
+    ensures told { FailsAsTold is_read_failed result (S.has_failed source.old) (S.has_failed source.new) }
+{
+    field_u8(source, place, 2, highest_op(version))
+}
+
+/// The op of this number.
+#[tactic(auto, using(crate::proofs::ReadCommands::op_is))]
+fn known_op(number: u8) -> Op
+    requires { (1 ≤ number) × (number ≤ 9) }
+    ensures { result ≡ op_of number }
+{
+    match Op::of_number(number) {
+        Some(op) => op,
+        None => Op::Noop,
+    }
+}
+
+/// The op of a command of the version.
+fn read_op<S: Source>(source: &mut S, place: &mut u64, version: Version) -> Result<Op, BundleFault>
+    ensures bytes { (zs : List ℕ) → S.left source.old ≡ Some zs → Reads (op_of_command version (record { at = place.old; bytes = zs })) result place.new (S.left source.new) }
+    ensures told { FailsAsTold is_read_failed result (S.has_failed source.old) (S.has_failed source.new) }
+{
+    let number = read_op_number(source, place, version)?;
+    Ok(known_op(number))
+}
+
+/// How many bytes the op's first key has.
+fn read_first_len<S: Source>(source: &mut S, place: &mut u64, op: Op) -> Result<u8, BundleFault>
+    ensures bytes { (zs : List ℕ) → S.left source.old ≡ Some zs → Reads (allowed 1 (first_fits op) (record { at = place.old; bytes = zs })) result place.new (S.left source.new) }
+    ensures told { FailsAsTold is_read_failed result (S.has_failed source.old) (S.has_failed source.new) }
+    ensures fits { IfOk result (λ n. first_fits op n ≡ true) }
+{
+    let at = *place;
+    let len = read_u8(source, place)?;
+    if !op.first_fits(len as usize) {
+        return Err(BundleFault::BadBundle(at));
+    }
+    Ok(len)
+}
+
+/// How many bytes its second key has.
+fn read_second_len<S: Source>(source: &mut S, place: &mut u64, op: Op) -> Result<u8, BundleFault>
+    ensures bytes { (zs : List ℕ) → S.left source.old ≡ Some zs → Reads (allowed 1 (second_fits op) (record { at = place.old; bytes = zs })) result place.new (S.left source.new) }
+    ensures told { FailsAsTold is_read_failed result (S.has_failed source.old) (S.has_failed source.new) }
+    ensures fits { IfOk result (λ n. second_fits op n ≡ true) }
+{
+    let at = *place;
+    let len = read_u8(source, place)?;
+    if !op.second_fits(len as usize) {
+        return Err(BundleFault::BadBundle(at));
+    }
+    Ok(len)
+}
+
+/// How many bytes its body has.
+fn read_body_len<S: Source>(source: &mut S, place: &mut u64, op: Op) -> Result<u32, BundleFault>
+    ensures bytes { (zs : List ℕ) → S.left source.old ≡ Some zs → Reads (allowed 4 (body_fits op) (record { at = place.old; bytes = zs })) result place.new (S.left source.new) }
+    ensures told { FailsAsTold is_read_failed result (S.has_failed source.old) (S.has_failed source.new) }
+    ensures fits { IfOk result (λ n. body_fits op n ≡ true) }
+{
+    let at = *place;
+    let len = read_u32(source, place)?;
+    if !op.body_fits(len as usize) {
+        return Err(BundleFault::BadBundle(at));
+    }
+    Ok(len)
+}
+
+/// How much of what follows the first key in version 1 or 2 is the second key.
+fn second_in(op: Op, len: u16) -> u16
+    ensures { result ≡ second_in op len }
+{
+    if op.second_fits(0) { 0 } else { len }
+}
+
+/// How much of it is the body.
+fn body_in(op: Op, len: u16) -> u16
+    ensures { result ≡ body_in op len }
+{
+    if op.second_fits(0) { len } else { 0 }
+}
+
+/// Whether so many bytes may follow the first key in version 1 or 2.
+fn early_fits(op: Op, len: u16) -> bool
+    ensures { result ≡ early_fits op len }
+{
+    let second = second_in(op, len);
+    let body = body_in(op, len);
+    op.second_fits(second as usize) && (body <= 1024 && op.body_fits(body as usize))
+}
+
+/// The same lengths, of which a second key has at most 255 bytes.
+#[tactic(auto, using(crate::proofs::ReadCommands::early_lengths_are, crate::proofs::ReadCommands::early_second))]
+fn early_of(op: Op, first: u8, len: u16) -> Lengths
+    requires first { first_fits op first ≡ true }
+    requires others { early_fits op len ≡ true }
+    ensures value { result ≡ record { op = op; first = first; second = second_in op len; body = body_in op len } }
+    ensures fit { AreLengths result }
+{
+    Lengths {
+        op,
+        first,
+        second: second_in(op, len) as u8,
+        body: body_in(op, len) as u32,
+    }
+}
+
+/// How many bytes follow the first key in version 1 or 2.
+fn read_early_len<S: Source>(source: &mut S, place: &mut u64, op: Op) -> Result<u16, BundleFault>
+    ensures bytes { (zs : List ℕ) → S.left source.old ≡ Some zs → Reads (allowed 2 (early_fits op) (record { at = place.old; bytes = zs })) result place.new (S.left source.new) }
+    ensures told { FailsAsTold is_read_failed result (S.has_failed source.old) (S.has_failed source.new) }
+    ensures fits { IfOk result (λ n. early_fits op n ≡ true) }
+{
+    let at = *place;
+    let len = read_u16(source, place)?;
+    if !early_fits(op, len) {
+        return Err(BundleFault::BadBundle(at));
+    }
+    Ok(len)
+}
+
+/// The lengths of a command of version 1 or 2, after that of its first key.
+fn read_early_lengths<S: Source>(
+    source: &mut S,
+    place: &mut u64,
+    op: Op,
+    first: u8,
+) -> Result<Lengths, BundleFault>
+    requires { first_fits op first ≡ true }
+    ensures bytes { (zs : List ℕ) → S.left source.old ≡ Some zs → Reads (early_lengths op first (record { at = place.old; bytes = zs })) result place.new (S.left source.new) }
+    ensures told { FailsAsTold is_read_failed result (S.has_failed source.old) (S.has_failed source.new) }
+    ensures fit { IfOk result (λ s. AreLengths s) }
+{
+    let len = read_early_len(source, place, op)?;
+    Ok(early_of(op, first, len))
+}
+
+/// The same of version 3.
+fn read_late_lengths<S: Source>(
+    source: &mut S,
+    place: &mut u64,
+    op: Op,
+    first: u8,
+) -> Result<Lengths, BundleFault>
+    requires { first_fits op first ≡ true }
+    ensures bytes { (zs : List ℕ) (g : ℕ) → S.left source.old ≡ Some zs → Reads (other_lengths (VersionKind.V3 g) op first (record { at = place.old; bytes = zs })) result place.new (S.left source.new) }
+    ensures told { FailsAsTold is_read_failed result (S.has_failed source.old) (S.has_failed source.new) }
+    ensures fit { IfOk result (λ s. AreLengths s) }
+{
+    let second = read_second_len(source, place, op)?;
+    let body = read_body_len(source, place, op)?;
+    Ok(Lengths {
+        op,
+        first,
+        second,
+        body,
+    })
+}
+
+/// The same of this version.
+fn read_other_lengths<S: Source>(
+    source: &mut S,
+    place: &mut u64,
+    version: Version,
+    op: Op,
+    first: u8,
+) -> Result<Lengths, BundleFault>
+    requires { first_fits op first ≡ true }
+    ensures bytes { (zs : List ℕ) → S.left source.old ≡ Some zs → Reads (other_lengths version op first (record { at = place.old; bytes = zs })) result place.new (S.left source.new) }
+    ensures told { FailsAsTold is_read_failed result (S.has_failed source.old) (S.has_failed source.new) }
+    ensures fit { IfOk result (λ s. AreLengths s) }
+{
+    match version.kind() {
+        VersionKind::V1 | VersionKind::V2 => read_early_lengths(source, place, op, first),
+        VersionKind::V3(_) => read_late_lengths(source, place, op, first),
+    }
+}
+
+/// The op and the lengths of a command of the version.
+fn read_lengths<S: Source>(
+    source: &mut S,
+    place: &mut u64,
+    version: Version,
+) -> Result<Lengths, BundleFault>
+    ensures bytes { (zs : List ℕ) → S.left source.old ≡ Some zs → Reads (lengths version (record { at = place.old; bytes = zs })) result place.new (S.left source.new) }
+    ensures told { FailsAsTold is_read_failed result (S.has_failed source.old) (S.has_failed source.new) }
+    ensures fit { IfOk result (λ s. AreLengths s) }
+{
+    let op = read_op(source, place, version)?;
+    let first = read_first_len(source, place, op)?;
+    read_other_lengths(source, place, version, op, first)
+}
+
+/// Whether there is a second key, and it is the first one once more.
+fn is_twice(first: &[u8], second: &[u8]) -> bool
+    ensures { result ≡ is_twice first.now second.now }
+{
+    !second.is_empty() && second == first
+}
+
+/// The second key of a command, of this many bytes; at fault where it is the first one.
+fn read_second<S: Source>(
+    alloc: Global,
+    source: &mut S,
+    place: &mut u64,
+    first: &[u8],
+    len: u8,
+) -> Result<Vec<u8>, BundleFault>
+    ensures bytes { (zs : List ℕ) → S.left source.old ≡ Some zs → Reads (allowed_run len (λ m. not (is_twice first.now m)) (record { at = place.old; bytes = zs })) (map_ok (λ v. v.items) result) place.new (S.left source.new) }
+    ensures told { FailsAsTold is_read_failed result (S.has_failed source.old) (S.has_failed source.new) }
+    ensures other { IfOk result (λ v. (length v.items ≡ len) × (is_twice first.now v.items ≡ false)) }
+{
+    let at = *place;
+    let second = read_run(alloc, source, place, len as usize)?;
+    let twice = is_twice(first, &second);
+    if twice {
+        return Err(BundleFault::BadBundle(at));
+    }
+    Ok(second)
+}
+
+/// The command of these parts, if they are one's.
+fn command_made(
+    alloc: Global,
+    op: Op,
+    first: &[u8],
+    second: &[u8],
+    body: &[u8],
+) -> Result<Option<Command>, AllocError>
+    ensures { IfOk result (λ c. c ≡ command_of (record { op = op; first = first.now; second = second.now; body = body.now })) }
+{
+    match Command::of_parts(alloc, op, first, second, body) {
+        Ok(command) => Ok(Some(command)),
+        Err(CommandFault::OutOfRange) => Ok(None),
+        Err(CommandFault::Memory) => Err(AllocError),
+    }
+}
+
+/// The parts of a command, of these lengths.
+fn read_parts<S: Source>(
+    alloc: Global,
+    source: &mut S,
+    place: &mut u64,
+    lengths: Lengths,
+) -> Result<Command, BundleFault>
+    requires { AreLengths lengths }
+    ensures bytes { (zs : List ℕ) → S.left source.old ≡ Some zs → Reads (parts lengths (record { at = place.old; bytes = zs })) result place.new (S.left source.new) }
+    ensures told { FailsAsTold is_read_failed result (S.has_failed source.old) (S.has_failed source.new) }
+{
+    let first = read_run(alloc, source, place, lengths.first as usize)?;
+    let first_key = first.as_slice();
+    let second = read_second(alloc, source, place, first_key, lengths.second)?;
+    let second_key = second.as_slice();
+    let at = *place;
+    let body = read_run(alloc, source, place, lengths.body as usize)?;
+    let bytes = body.as_slice();
+    let made = command_made(alloc, lengths.op, first_key, second_key, bytes)?;
+    match made {
+        Some(command) => Ok(command),
+        None => Err(BundleFault::BadBundle(at)),
+    }
+}
+
+/// A command of the version.
+pub fn read_command<S: Source>(
+    alloc: Global,
+    source: &mut S,
+    place: &mut u64,
+    version: Version,
+) -> Result<Command, BundleFault>
+    ensures bytes { (zs : List ℕ) → S.left source.old ≡ Some zs → Reads (command version (record { at = place.old; bytes = zs })) result place.new (S.left source.new) }
+    ensures told { FailsAsTold is_read_failed result (S.has_failed source.old) (S.has_failed source.new) }
+{
+    let lengths = read_lengths(source, place, version)?;
+    read_parts(alloc, source, place, lengths)
+}

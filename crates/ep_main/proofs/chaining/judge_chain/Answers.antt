@@ -1,0 +1,25 @@
+use Rattle.std.proofs.Common.{rules, ◌≡◌, ◌<◌, ◌^◌, List, length, sym, subst}
+use Rattle.std.specs.FinMap.{entries}
+use Rattle.std.specs.Prelude.{All}
+use Rattle.ep_audit.specs.Chained.{IsChainRefused}
+use Rattle.ep_verdict.specs.declared.verdict.Verdict.{Verdict}
+use Rattle.ep_main.proofs.Linked.{fault_less, few_of}
+use Rattle.ep_main.proofs.chaining.judge_chain.Goals as goal
+
+pub accepted_chain-requires-clause-count : goal.accepted_chain-requires-clause-count
+accepted_chain-requires-clause-count c = subst (λ (vs : List Verdict). length vs ≡ length c.args.links.now) (sym c.deref.ensures.value) c.in-Ok.ensures.ok.count
+
+pub accepted_chain-requires-clause-few : goal.accepted_chain-requires-clause-few
+accepted_chain-requires-clause-few c =
+    subst (λ (vs : List Verdict). All (λ (v : Verdict). length (entries v.contents) < 2 ^ 32) vs) (sym c.deref.ensures.value)
+    (few_of c.args.links.now c.in-Ok.verdicts.items c.in-Ok.ensures.ok.count c.in-Ok.ensures.ok.linked)
+
+pub refused_chain-requires-clause-there : goal.refused_chain-requires-clause-there
+refused_chain-requires-clause-there c =
+    fault_less c.args.links.now c.in-Err-Fault.place (subst (IsChainRefused c.args.links.now) c.in-Err-Fault.field-0-is c.in-Err-Fault.ensures.refused)
+
+pub refused_chain-requires-clause-fault : goal.refused_chain-requires-clause-fault
+refused_chain-requires-clause-fault c = subst (IsChainRefused c.args.links.now) c.in-Err-Fault.field-0-is c.in-Err-Fault.ensures.refused
+
+pub returns-in_ok-text-in-Ok-clause-value : goal.returns-in_ok-text-in-Ok-clause-value
+returns-in_ok-text-in-Ok-clause-value c = (c.in-Ok.verdicts.items, c.in-Ok.ensures.ok, search rules)

@@ -1,0 +1,94 @@
+//! What the head of a script says, as a world has it.
+
+ghost use Rattle.std.specs.Prelude.{◌≡◌, ◌≤◌, [], ℕ, IfOk, OnOk};
+ghost use Rattle.ep_base.specs.declared.version_kind.VersionKind.TheVariants.{V3};
+ghost use Rattle.std.specs.FinMap.{from_entries};
+ghost use Rattle.ep_base.specs.Commands.{Put};
+ghost use Rattle.ep_rules.specs.OneMap.{after};
+ghost use Rattle.ep_world.specs.Played.{entries_in};
+ghost use Rattle.ep_replay.specs.Heads.{opening_of};
+
+use ep_base::{Command, CommandFault, Generation, Key, Value, VersionKind};
+use ep_exec::{Contents, Store};
+use ep_journal::Opening;
+use ep_script::{Head, Opening as Said};
+use ep_world::World;
+use std::alloc::{AllocError, Global};
+
+/// Gives the key of the entry its value.
+fn put(alloc: Global, store: &mut Store, entry: &(Key, Value)) -> Result<(), AllocError>
+    ensures { OnOk result (store.new ≡ after store.old (Put entry.now.0 entry.now.1)) }
+{
+    let (key, value) = entry;
+    let command = command(alloc, key, value)?;
+    let _reply = store.apply(&command)?;
+    Ok(())
+}
+
+fn command(alloc: Global, key: &Key, value: &Value) -> Result<Command, AllocError>
+    ensures { IfOk result (λ c. c ≡ Put key.now value.now) }
+{
+    match Command::put(alloc, key.as_slice(), value.as_slice()) {
+        Ok(command) => Ok(command),
+        Err(CommandFault::OutOfRange) => unreachable!(),
+        Err(CommandFault::Memory) => Err(AllocError),
+    }
+}
+
+/// The map of these entries.
+fn contents(alloc: Global, entries: &[(Key, Value)]) -> Result<Contents, AllocError>
+    ensures { IfOk result (λ c. c ≡ from_entries entries.now) }
+{
+    let mut store = Store::new(alloc);
+    for index in (0..entries.len()).rev() {
+        put(alloc, &mut store, &entries[index])?;
+    }
+    match store.contents() {
+        Ok(contents) => Ok(contents),
+        Err(_) => Err(AllocError),
+    }
+}
+
+/// What the replicas open with, as journals have it. (No script has as many keys as an opening has no room for: there is no memory for them.)
+pub fn opening_of(alloc: Global, said: &Said) -> Result<Opening, AllocError>
+    ensures { IfOk result (λ o. o ≡ opening_of said.now) }
+{
+    let contents = contents(alloc, said.entries())?;
+    match Opening::new(contents, said.since()) {
+        Ok(opening) => Ok(opening),
+        Err(_) => Err(AllocError),
+    }
+}
+
+/// The world that the head tells of, before any event.
+pub fn begun(alloc: Global, head: &Head) -> Result<World, AllocError>
+    ensures version { IfOk result (λ w. w.version ≡ head.now.version) }
+    ensures faults { IfOk result (λ w. w.faults ≡ head.now.faults) }
+    ensures opening { IfOk result (λ w. w.opening ≡ opening_of head.now.opening) }
+    ensures entries { IfOk result (λ w. (r : ℕ) → entries_in w r ≡ []) }
+    ensures steps { IfOk result (λ w. w.steps ≡ []) }
+    ensures messages { IfOk result (λ w. w.messages ≡ []) }
+{
+    match head.version().kind() {
+        VersionKind::V1 => unreachable!(),
+        VersionKind::V2 => World::new(alloc, head.size()),
+        VersionKind::V3(number) => of_generation(alloc, head, number),
+    }
+}
+
+/// The world of this generation, which opens as the head says.
+fn of_generation(alloc: Global, head: &Head, number: u32) -> Result<World, AllocError>
+    requires { 1 ≤ number }
+    ensures version { IfOk result (λ w. w.version ≡ V3 number) }
+    ensures faults { IfOk result (λ w. w.faults ≡ head.now.faults) }
+    ensures opening { IfOk result (λ w. w.opening ≡ opening_of head.now.opening) }
+    ensures entries { IfOk result (λ w. (r : ℕ) → entries_in w r ≡ []) }
+    ensures steps { IfOk result (λ w. w.steps ≡ []) }
+    ensures messages { IfOk result (λ w. w.messages ≡ []) }
+{
+    let Ok(generation) = Generation::new(number) else {
+        unreachable!()
+    };
+    let opening = opening_of(alloc, head.opening())?;
+    World::opened(alloc, head.size(), generation, &opening)
+}

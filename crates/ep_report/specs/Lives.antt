@@ -1,0 +1,49 @@
+-- What a report of version 3 has besides.
+use Rattle.std.specs.Prelude.{ℕ, List, [], ◌∷◌, ◌++◌, Option, Some, None, codes, decimal, refl}
+use Rattle.std.specs.Coded.{Coded, code_by, coded×, coded_option, coded_ℕ}
+use Rattle.ep_exec.specs.Table.{contents_code}
+use Rattle.ep_report.specs.Contents.{contents_line}
+use Rattle.ep_report.specs.Parts.{instance_text}
+use Rattle.ep_report.specs.contracts.closing.Closing as closing_facts
+use Rattle.ep_report.specs.declared.closing.Closing.{Closing}
+use Rattle.ep_rules.specs.OneMap.{Contents}
+use Rattle.ep_script.specs.Word.{word_of}
+
+-- a generation: its number, the stamp that its clocks went on from, its first seal, and what the keys have after its history
+pub record Life : Type 0 where
+  pub generation : ℕ
+  pub since : ℕ
+  pub closing : Option Closing
+  pub contents : Contents
+
+abbrev pub life_code : Coded Life
+life_code =
+    code_by (ℕ × (ℕ × (Option Closing × Contents))) (coded× coded_ℕ (coded× coded_ℕ (coded× (coded_option closing_facts.the_row.coded) contents_code)))
+    (λ l. (l.generation, (l.since, (l.closing, l.contents)))) (λ p. record { generation = p.0; since = p.1.0; closing = p.1.1.0; contents = p.1.1.1 }) (λ _. refl)
+
+abbrev pub generation_line : Life → List ℕ
+generation_line l = codes "generation " ++ decimal l.generation ++ codes " since " ++ decimal l.since
+
+-- the seal that closed the map
+abbrev pub closed_line : Closing → List ℕ
+closed_line c = codes "closed " ++ instance_text c.instance ++ codes " " ++ word_of c.value ++ codes " stamp " ++ decimal c.stamp
+
+-- or that none did
+abbrev pub closing_line : Option Closing → List ℕ
+closing_line None = codes "open"
+closing_line (Some c) = closed_line c
+
+-- below the verdict
+abbrev pub generation_lines : Option Life → List (List ℕ)
+generation_lines None = []
+generation_lines (Some l) = generation_line l ∷ []
+
+-- below the history
+abbrev pub closing_lines : Option Life → List (List ℕ)
+closing_lines None = []
+closing_lines (Some l) = closing_line l.closing ∷ contents_line l.contents ∷ []
+
+-- a generation of a chain: how many instances it commits, and how many commands its history has
+abbrev pub link_line : Life → ℕ → ℕ → List ℕ
+link_line l committed history =
+    generation_line l ++ codes " committed " ++ decimal committed ++ codes " history " ++ decimal history ++ codes " " ++ closing_line l.closing ++ codes " " ++ contents_line l.contents

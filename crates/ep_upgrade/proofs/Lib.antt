@@ -1,0 +1,5 @@
+mod Counts
+mod Each
+mod Frames
+mod Places
+mod Reread
