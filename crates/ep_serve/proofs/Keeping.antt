@@ -1,18 +1,17 @@
 -- What is on the disk.
-use Rattle.std.proofs.Common.{◌≡◌, ◌⊎◌, inl, inr, ℕ, zero, suc, ◌+◌, ◌≤◌, ◌<◌, false, length, take, take_all, drop, List, [], ◌∷◌, ◌++◌, append_assoc, Option, Some, refl, sym, ap, ◌∙◌, subst, arith}
+use Rattle.std.proofs.Common.{◌≡◌, ◌⊎◌, inl, inr, ℕ, ◌+◌, ◌≤◌, false, length, take, take_all, drop, List, ◌++◌, append_assoc, Option, Some, refl, sym, ap, ◌∙◌, subst, arith}
 use Rattle.std.proofs.Math.Seq.{take-append_seam}
 use Rattle.std.proofs.lemmas.List.{take-append-drop, take-map}
 use Rattle.ep_journal.specs.declared.entry.Entry.{Entry}
-use Rattle.ep_log.specs.Bytes.{LogRecord, entries_in, header_bytes, log_bytes, record_in, records_in}
+use Rattle.ep_log.specs.Bytes.{LogRecord, entries_in, header_bytes, log_bytes, records_in}
 use Rattle.ep_log.specs.Origins.{Origin}
 use Rattle.ep_log.specs.Reading.{IsBeginning}
-use Rattle.ep_log.specs.declared.log_version.LogVersion.{LogVersion}
 use Rattle.ep_log.specs.declared.log_version.LogVersion.TheVariants.{Three}
 use Rattle.ep_node.proofs.Growing.{records-append}
 use Rattle.ep_node.specs.Nodes.{IsCut, IsQuiet, Logged}
 use Rattle.ep_device.specs.Device.{LeavesOnly}
 use Rattle.ep_replica.specs.Kept.{Kept}
-use Rattle.ep_serve.specs.Lasting.{crashes, Crashes, GoesOn, IsKept, Keeps, Lasts, LastsFrom, Onward, StaysKnown, origin_of}
+use Rattle.ep_serve.specs.Lasting.{crashes, Crashes, GoesOn, IsKept, Keeps, Lasts, LastsFrom, StaysKnown, origin_of}
 use Rattle.ep_serve.proofs.Growing.{Extends, first_of}
 
 -- Of logs.

@@ -1,9 +1,8 @@
 -- The loop, from one request to the next.
-use Rattle.std.proofs.Common.{◌≡◌, ◌⊎◌, ℕ, ◌+◌, ◌≤◌, Bool, true, false, ◌||◌, length, length-append, List, [], ◌∷◌, ◌++◌, Option, Some, None, Result, Ok, Err, inl, inr, refl, sym, ap, ◌∙◌, subst, arith}
+use Rattle.std.proofs.Common.{◌≡◌, ℕ, ◌≤◌, Bool, false, length, length-append, List, [], ◌∷◌, ◌++◌, Option, Some, Result, Ok, Err, inl, inr, refl, sym, ap, ◌∙◌, subst, arith}
 use Rattle.std.specs.Prelude.{IsErrAnd, IsTrue, ◌↔◌}
 use Rattle.std.proofs.lemmas.Bool.{false≢true}
 use Rattle.ep_base.specs.Quorums.{size}
-use Rattle.ep_bundle.specs.Reading.{Left}
 use Rattle.ep_device.specs.Device.{LeavesOnly}
 use Rattle.ep_node.specs.Nodes.{IsCut, IsQuiet, Logged}
 use Rattle.ep_replica.specs.Kept.{Kept}
