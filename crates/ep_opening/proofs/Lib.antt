@@ -1,0 +1,5 @@
+pub mod Tellings
+pub mod Above
+pub mod ReadFiles
+pub mod WrittenFiles
+pub mod Refusals

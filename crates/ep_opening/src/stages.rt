@@ -1,0 +1,164 @@
+//! Reading a file's fields, in their order.
+
+ghost use Rattle.std.specs.Prelude.{◌≡◌, ◌++◌, ◌∷◌, [], ℕ, List, Some, IfOk};
+ghost use Rattle.ep_base.specs.Quorums.{size};
+ghost use Rattle.ep_bundle.specs.Reading.{field, Reads};
+ghost use Rattle.ep_opening.specs.Reading.{above, executed, front, lead, mark_of, marked, most_of, rising, seal, seal_value};
+
+use crate::front::Front;
+use ep_base::{Deps, Generation, InstanceId, Size, Source, Value, Version};
+use ep_bundle::{
+    BundleFault, field_u8, field_u32, field_u64, read_cluster, read_instance, read_run,
+};
+use std::alloc::Global;
+
+/// What says that this is an opening file, of version 3.
+pub(crate) fn read_lead<S: Source>(source: &mut S, place: &mut u64) -> Result<u8, BundleFault>
+    ensures { (zs : List ℕ) → S.left source.old ≡ Some zs → Reads (lead (record { at = place.old; bytes = zs })) result place.new (S.left source.new) }
+{
+    field_u32(source, place, 0x4550_4f50, 0x4550_4f50)?;
+    field_u8(source, place, 3, 3)
+}
+
+/// The generation.
+fn read_generation<S: Source>(source: &mut S, place: &mut u64) -> Result<Generation, BundleFault>
+    ensures { (zs : List ℕ) → S.left source.old ≡ Some zs → Reads (field 4 1 4294967295 (record { at = place.old; bytes = zs })) result place.new (S.left source.new) }
+{
+    let at = *place;
+    let number = field_u32(source, place, 1, u32::MAX)?;
+    Generation::new(number).map_err(|_| BundleFault::BadBundle(at))
+}
+
+/// A seal's value, with its length before it.
+fn read_seal_value<S: Source>(
+    alloc: Global,
+    source: &mut S,
+    place: &mut u64,
+) -> Result<Value, BundleFault>
+    ensures { (zs : List ℕ) → S.left source.old ≡ Some zs → Reads (seal_value (record { at = place.old; bytes = zs })) result place.new (S.left source.new) }
+{
+    let len = field_u32(source, place, 0, 65_535)?;
+    let bytes = read_run(alloc, source, place, len as usize)?;
+    // The length is in range, so only memory can be refused.
+    Value::new(alloc, &bytes).map_err(|_| BundleFault::Memory)
+}
+
+/// What is to say whether a seal began the generation.
+fn mark_of(generation: Generation) -> u8
+    ensures { result ≡ mark_of generation }
+{
+    if generation.number() == 1 { 0 } else { 1 }
+}
+
+/// The value of the seal that began the generation, where it isn't the first.
+fn read_marked<S: Source>(
+    alloc: Global,
+    source: &mut S,
+    place: &mut u64,
+    generation: Generation,
+) -> Result<Option<Value>, BundleFault>
+    ensures { (zs : List ℕ) → S.left source.old ≡ Some zs → Reads (marked generation (record { at = place.old; bytes = zs })) result place.new (S.left source.new) }
+{
+    if generation.number() == 1 {
+        return Ok(None);
+    }
+    let value = read_seal_value(alloc, source, place)?;
+    Ok(Some(value))
+}
+
+/// Whether a seal began the generation, and its value.
+fn read_seal<S: Source>(
+    alloc: Global,
+    source: &mut S,
+    place: &mut u64,
+    generation: Generation,
+) -> Result<Option<Value>, BundleFault>
+    ensures { (zs : List ℕ) → S.left source.old ≡ Some zs → Reads (seal generation (record { at = place.old; bytes = zs })) result place.new (S.left source.new) }
+{
+    let mark = mark_of(generation);
+    field_u8(source, place, mark, mark)?;
+    read_marked(alloc, source, place, generation)
+}
+
+/// What stands between the version and the map.
+pub(crate) fn read_front<S: Source>(
+    alloc: Global,
+    source: &mut S,
+    place: &mut u64,
+) -> Result<Front, BundleFault>
+    ensures { (zs : List ℕ) → S.left source.old ≡ Some zs → Reads (front (record { at = place.old; bytes = zs })) result place.new (S.left source.new) }
+{
+    let size = read_cluster(source, place)?;
+    let generation = read_generation(source, place)?;
+    let since = field_u64(source, place, 0, 281_474_976_710_655)?;
+    let seal = read_seal(alloc, source, place, generation)?;
+    Ok(Front {
+        size,
+        generation,
+        since,
+        seal,
+    })
+}
+
+/// The largest cluster.
+fn largest() -> Size
+    ensures { size result ≡ 7 }
+{
+    Size::new(7).unwrap()
+}
+
+/// An instance that stands above these, which then have it too.
+fn read_next<S: Source>(
+    source: &mut S,
+    place: &mut u64,
+    generation: Generation,
+    executed: &mut Deps,
+) -> Result<InstanceId, BundleFault>
+    ensures bytes { (zs : List ℕ) → S.left source.old ≡ Some zs → Reads (above generation executed.old (record { at = place.old; bytes = zs })) result place.new (S.left source.new) }
+    ensures one { IfOk result (λ i. executed.new ≡ executed.old ++ i ∷ []) }
+{
+    let at = *place;
+    let version = Version::of_generation(generation);
+    let instance = read_instance(source, place, version, largest())?;
+    if !executed.push_last(instance)? {
+        return Err(BundleFault::BadBundle(at));
+    }
+    Ok(instance)
+}
+
+/// So many instances.
+fn read_rising<S: Source>(
+    alloc: Global,
+    source: &mut S,
+    place: &mut u64,
+    generation: Generation,
+    count: u32,
+) -> Result<Deps, BundleFault>
+    ensures { (zs : List ℕ) → S.left source.old ≡ Some zs → Reads (rising generation count [] (record { at = place.old; bytes = zs })) result place.new (S.left source.new) }
+{
+    let mut executed = Deps::new(alloc);
+    for _ in 0..count {
+        read_next(source, place, generation, &mut executed)?;
+    }
+    Ok(executed)
+}
+
+/// How many instances there may be.
+fn most_of(generation: Generation) -> u32
+    ensures { result ≡ most_of generation }
+{
+    if generation.number() == 1 { 0 } else { 14_000 }
+}
+
+/// The instances that the generation before executed.
+pub(crate) fn read_executed<S: Source>(
+    alloc: Global,
+    source: &mut S,
+    place: &mut u64,
+    generation: Generation,
+) -> Result<Deps, BundleFault>
+    ensures { (zs : List ℕ) → S.left source.old ≡ Some zs → Reads (executed generation (record { at = place.old; bytes = zs })) result place.new (S.left source.new) }
+{
+    let count = field_u32(source, place, 0, most_of(generation))?;
+    read_rising(alloc, source, place, generation, count)
+}
