@@ -46,7 +46,7 @@ is_not_above g is l i p q left left' h rise not_so =
     ap (λ (o : Reading ℕ). and_then o (λ i l'. cond (ltb (last_of 0 is) i) (Ok (i, l')) (Err (BadBundle l.at)))) h.2
     ∙ go (ltb (last_of 0 is) i) refl
   where
-    go : (b : Bool) → ltb (last_of 0 is) i ≡ b → cond b (Ok (i, record { at = p; bytes = h.0 })) (Err (BadBundle l.at)) ≡ Err (BadBundle l.at)
+    go : (b : Bool) → ltb (last_of 0 is) i ≡ b → cond {A = Reading ℕ} b (Ok (i, record { at = p; bytes = h.0 })) (Err (BadBundle l.at)) ≡ Err (BadBundle l.at)
     go true e = absurd (not_so (rises_on is i rise (ltb-true (last_of 0 is) i e)))
     go false e = refl
 

@@ -3,3 +3,4 @@ pub mod Above
 pub mod ReadFiles
 pub mod WrittenFiles
 pub mod Refusals
+pub mod Steps

@@ -24,9 +24,8 @@ use Rattle.ep_bundle.proofs.ReadNumbers.{Gives, Comes, Ranges, done, step, last,
 use Rattle.ep_bundle.proofs.ReadParts.{instance_gives}
 use Rattle.ep_opening.specs.Bytes.{body_bytes, executed_bytes, front_bytes, lead_bytes, magic, opening_bytes, seal_bytes}
 use Rattle.ep_opening.specs.Files.{File}
-use Rattle.ep_opening.specs.Reading.{Telling, above, and_told, body, executed, executed_field, file, file_of, front, front_field, last_of, lead, lead_field, most_of, parts, rising, seal, seal_value, telling}
+use Rattle.ep_opening.specs.Reading.{Telling, above, and_told, body_in, executed, executed_field, file, file_of, front, front_field, last_of, lead, lead_field, most_of, parts, rising, seal, seal_value, telling}
 use Rattle.ep_opening.specs.declared.front.Front.{Front}
-use Rattle.ep_opening.specs.declared.opening_fault.OpeningFault.{OpeningFault}
 use Rattle.ep_opening.specs.declared.opening_fault.OpeningFault.TheVariants.{CutShort, Damaged}
 use Rattle.ep_opening.specs.declared.opening_field.OpeningField.TheVariants.{Map, Rest}
 use Rattle.ep_opening.proofs.Tellings.{told_then, telling_read}
@@ -133,7 +132,10 @@ nothing_after : (bs : List ℕ) (l m : Left) (x : Unit {0}) → none_in bs l ≡
 nothing_after [] l m x h = refl
 nothing_after (b ∷ bs) l m x h = absurd (cc)
 
-same_file : (f f' : File) (l l' : Left) → Ok {E = OpeningFault} (f, l) ≡ Ok (f', l') → f ≡ f'
+abbrev told_file : File → Left → Telling File
+told_file f l = Ok (f, l)
+
+same_file : (f f' : File) (l l' : Left) → told_file f l ≡ told_file f' l' → f ≡ f'
 same_file f f' l l' h = let t : (f, l) ≡ (f', l') = (cc) in ap (λ (p : File × Left). p.0) t
 
 parts_are : (l l' : Left) (f : File) → AreBytes l.bytes → parts l ≡ Ok (f, l') → l.bytes ≡ front_bytes f ++ contents_bytes f.opening.contents ++ executed_bytes f.executed
@@ -157,7 +159,7 @@ parts_are l l' f h e =
 
 -- the whole
 
-body_is : (bs digest : List ℕ) (f : File) (l : Left) → AreBytes bs → body bs digest ≡ Ok (f, l) → bs ++ digest ≡ opening_bytes f
+body_is : (bs digest : List ℕ) (f : File) (l : Left) → AreBytes bs → body_in bs digest ≡ Ok (f, l) → bs ++ digest ≡ opening_bytes f
 body_is bs digest f l h e =
     let start : Left = record { at = 0; bytes = bs } in
     let a = told_then (telling lead_field (lead start)) (λ x m. cond (same_list (sha256 bs) digest) (parts m) (Err (Damaged (length bs)))) f l e in
@@ -176,6 +178,6 @@ body_is bs digest f l h e =
 pub file_is : (bs : List ℕ) (f : File) (l : Left) → AreBytes bs → file bs ≡ Ok (f, l) → bs ≡ opening_bytes f
 file_is bs f l h e = go (ltb (length bs) 59) e
   where
-    go : (b : Bool) → cond b (Err (CutShort (length bs))) (body (take (length bs - 32) bs) (drop (length bs - 32) bs)) ≡ Ok (f, l) → bs ≡ opening_bytes f
+    go : (b : Bool) → cond b (Err (CutShort (length bs))) (body_in (take (length bs - 32) bs) (drop (length bs - 32) bs)) ≡ Ok (f, l) → bs ≡ opening_bytes f
     go true r = absurd (cc)
     go false r = sym (take-append-drop (length bs - 32) bs) ∙ body_is (take (length bs - 32) bs) (drop (length bs - 32) bs) f l (IsBytes-take (length bs - 32) bs h) r

@@ -11,8 +11,12 @@ use Rattle.ep_opening.specs.declared.opening_fault.OpeningFault.TheVariants.{Mem
 use Rattle.ep_opening.proofs.ReadFiles.{file_is}
 use Rattle.ep_opening.proofs.WrittenFiles.{files_back}
 
+apart : (o : Telling File) (e : OpeningFault) (f : File) (l : Left) → o ≡ Err e → o ≡ Ok (f, l) → ⊥
+apart (Ok p) e f l h k = absurd (cc)
+apart (Err x) e f l h k = absurd (cc)
+
 none_has : (bs : List ℕ) (e : OpeningFault) → file bs ≡ Err e → IsNone bs
-none_has bs e h f k is = let b = files_back f k in absurd (let t : Err {T = File × Left} e ≡ Ok (f, record { at = b.0; bytes = [] }) = sym h ∙ ap (λ (x : List ℕ). file x) is ∙ b.1 in cc)
+none_has bs e h f k is = let b = files_back f k in apart (file bs) e f (record { at = b.0; bytes = [] }) h (ap (λ (x : List ℕ). file x) is ∙ b.1)
 
 pub told_bytes : (bs : List ℕ) (r : Result File OpeningFault) → AreBytes bs → IsTold (file bs) r → IfOk r (λ f. bs ≡ opening_bytes f)
 told_bytes bs (Ok f) h is = file_is bs f is.0 h is.1

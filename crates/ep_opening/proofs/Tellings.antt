@@ -14,6 +14,9 @@ use Rattle.ep_opening.specs.declared.opening_field.OpeningField.{OpeningField}
 pub told_read : {A : Type 0} (name : ℕ → OpeningField) (o : Reading A) (a : A) (p : ℕ) (left : Option (List ℕ)) → Reads o (Ok a) p left → Tells (telling name o) (Ok a) p left
 told_read {A = A} name o a p left h = (h.0, h.1, ap (λ (x : Reading A). telling name x) h.2)
 
+abbrev wrongly : {A : Type 0} → ℕ → OpeningField → Telling A
+wrongly at field = Err (Wrong at field)
+
 -- and so is a fault
 pub told_fault : {A : Type 0} (name : ℕ → OpeningField) (o : Reading A) (e : BundleFault) (at : ℕ) (field : OpeningField) (p q : ℕ) (left left' : Option (List ℕ)) → (e ≢ bundle.Memory) × (e ≢ bundle.ReadFailed) × (at ≡ place_of e) → field ≡ name at
     → Reads {A = A} o (Err e) p left → Tells {A = A} (telling name o) (Err (Wrong at field)) q left'
@@ -21,12 +24,12 @@ told_fault {A = A} name o bundle.Memory at field p q left left' f is h = absurd 
 told_fault {A = A} name o bundle.ReadFailed at field p q left left' f is h = absurd (f.1 refl)
 told_fault {A = A} name o (BadBundle x) at field p q left left' f is h = ap (λ (y : Reading A). telling name y) h ∙ spelled
   where
-    spelled : Err {T = A × Left} (Wrong x (name x)) ≡ Err (Wrong at field)
-    spelled = ap (λ (y : ℕ). Err {T = A × Left} (Wrong y (name y))) (sym f.2) ∙ ap (λ (y : OpeningField). Err {T = A × Left} (Wrong at y)) (sym is)
+    spelled : wrongly {A = A} x (name x) ≡ wrongly at field
+    spelled = ap (λ (y : ℕ). wrongly {A = A} y (name y)) (sym f.2) ∙ ap (λ (y : OpeningField). wrongly {A = A} at y) (sym is)
 told_fault {A = A} name o (NotARun r n) at field p q left left' f is h = ap (λ (y : Reading A). telling name y) h ∙ spelled
   where
-    spelled : Err {T = A × Left} (Wrong 0 (name 0)) ≡ Err (Wrong at field)
-    spelled = ap (λ (y : ℕ). Err {T = A × Left} (Wrong y (name y))) (sym f.2) ∙ ap (λ (y : OpeningField). Err {T = A × Left} (Wrong at y)) (sym is)
+    spelled : wrongly {A = A} 0 (name 0) ≡ wrongly at field
+    spelled = ap (λ (y : ℕ). wrongly {A = A} y (name y)) (sym f.2) ∙ ap (λ (y : OpeningField). wrongly {A = A} at y) (sym is)
 
 -- a part that fails ends the whole
 pub fails_told : {A B : Type 0} (o : Telling A) (k : A → Left → Telling B) (e : OpeningFault) (r : Result B OpeningFault) (p q : ℕ) (left left' : Option (List ℕ)) → Tells {A = A} o (Err e) p left → IsErrAnd r (λ x. x ≡ e)

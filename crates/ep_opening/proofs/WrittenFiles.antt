@@ -27,7 +27,7 @@ use Rattle.ep_bundle.proofs.WrittenStages.{Gives, respelled, then_gives, made_of
 use Rattle.ep_rules.specs.OneMap.{Contents}
 use Rattle.ep_opening.specs.Bytes.{body_bytes, executed_bytes, front_bytes, lead_bytes, magic, opening_bytes, seal_bytes}
 use Rattle.ep_opening.specs.Files.{File, HasItsPast, HasItsSeal, IsFile, SealFits}
-use Rattle.ep_opening.specs.Reading.{FilesAreReadBack, Telling, above, and_told, body, executed, executed_field, file, file_of, front, front_field, last_of, lead, lead_field, most_of, parts, rising, seal, seal_value, telling}
+use Rattle.ep_opening.specs.Reading.{FilesAreReadBack, Telling, above, and_told, body_in, executed, executed_field, file, file_of, front, front_field, last_of, lead, lead_field, most_of, parts, rising, seal, seal_value, telling}
 use Rattle.ep_opening.specs.declared.front.Front.{Front}
 use Rattle.ep_opening.specs.declared.opening_fault.OpeningFault.TheVariants.{CutShort, Damaged}
 use Rattle.ep_opening.specs.declared.opening_field.OpeningField.TheVariants.{Map}
@@ -144,7 +144,7 @@ parts_given f h at =
 abbrev sealed : List ℕ → ℕ → Left → Telling File
 sealed bs x l = cond (same_list (sha256 bs) (sha256 bs)) (parts l) (Err (Damaged (length bs)))
 
-body_given : (f : File) → IsFile f → (next : ℕ) × (body (body_bytes f) (sha256 (body_bytes f)) ≡ Ok (f, record { at = next; bytes = [] }))
+body_given : (f : File) → IsFile f → (next : ℕ) × (body_in (body_bytes f) (sha256 (body_bytes f)) ≡ Ok (f, record { at = next; bytes = [] }))
 body_given f h =
     let bs = body_bytes f in
     let tail = front_bytes f ++ contents_bytes f.opening.contents ++ executed_bytes f.executed in
@@ -190,7 +190,7 @@ long_body f =
     let k = long_counted (length f.executed) (flat_map dep_bytes f.executed) in
     omega arith
 
-read_back : (f : File) (bs sum : List ℕ) → 27 ≤ length bs → length sum ≡ 32 → (next : ℕ) × (body bs sum ≡ Ok (f, record { at = next; bytes = [] })) → (next : ℕ) × (file (bs ++ sum) ≡ Ok (f, record { at = next; bytes = [] }))
+read_back : (f : File) (bs sum : List ℕ) → 27 ≤ length bs → length sum ≡ 32 → (next : ℕ) × (body_in bs sum ≡ Ok (f, record { at = next; bytes = [] })) → (next : ℕ) × (file (bs ++ sum) ≡ Ok (f, record { at = next; bytes = [] }))
 read_back f bs sum long len p =
     let both : length (bs ++ sum) ≡ length bs + length sum = length-append bs sum in
     let n : length (bs ++ sum) - 32 ≡ length bs = omega arith in
@@ -198,8 +198,8 @@ read_back f bs sum long len p =
     let front_is : take (length (bs ++ sum) - 32) (bs ++ sum) ≡ bs = ap (λ (k : ℕ). take k (bs ++ sum)) n ∙ take-append-le (length bs) bs sum (omega arith) ∙ take_all (length bs) bs (omega arith) in
     let rest_is : drop (length (bs ++ sum) - 32) (bs ++ sum) ≡ sum = ap (λ (k : ℕ). drop k (bs ++ sum)) n ∙ drop_at bs sum (length bs) refl in (
       p.0,
-      ap (λ (b : Bool). cond b (Err (CutShort (length (bs ++ sum)))) (body (take (length (bs ++ sum) - 32) (bs ++ sum)) (drop (length (bs ++ sum) - 32) (bs ++ sum)))) test
-          ∙ (λ t. body (front_is t) (rest_is t))
+      ap (λ (b : Bool). cond b (Err (CutShort (length (bs ++ sum)))) (body_in (take (length (bs ++ sum) - 32) (bs ++ sum)) (drop (length (bs ++ sum) - 32) (bs ++ sum)))) test
+          ∙ (λ t. body_in (front_is t) (rest_is t))
           ∙ p.1,
     )
 

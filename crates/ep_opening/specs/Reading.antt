@@ -33,8 +33,11 @@ seal_value l = and_then (field 4 0 most_value l) run
 abbrev pub mark_of : ℕ → ℕ
 mark_of g = cond (eqb g 1) 0 1
 
+abbrev pub some_value : Left → Reading (Option (List ℕ))
+some_value l = and_then (seal_value l) (λ v l. Ok (Some v, l))
+
 abbrev pub marked : ℕ → Left → Reading (Option (List ℕ))
-marked g l = cond (eqb g 1) (Ok (None, l)) (and_then (seal_value l) (λ v l. Ok (Some v, l)))
+marked g l = cond (eqb g 1) (Ok (None, l)) (some_value l)
 
 abbrev pub seal : ℕ → Left → Reading (Option (List ℕ))
 seal g l = and_then (field 1 (mark_of g) (mark_of g) l) (λ x l. marked g l)
@@ -109,12 +112,12 @@ parts l =
     (λ is l. and_told (telling (λ at. Rest) (ended l)) (λ x l. Ok (file_of h m is, l)))))
 
 -- the file whose bytes before the digest are these: what it is, then the digest, then all other fields
-abbrev pub body : List ℕ → List ℕ → Telling File
-body bs digest = and_told (telling lead_field (lead (record { at = 0; bytes = bs }))) (λ x l. cond (same_list (sha256 bs) digest) (parts l) (Err (Damaged (length bs))))
+abbrev pub body_in : List ℕ → List ℕ → Telling File
+body_in bs digest = and_told (telling lead_field (lead (record { at = 0; bytes = bs }))) (λ x l. cond (same_list (sha256 bs) digest) (parts l) (Err (Damaged (length bs))))
 
 -- the shortest file has 59 bytes, of which the last 32 are the digest
 abbrev pub file : List ℕ → Telling File
-file bs = cond (ltb (length bs) 59) (Err (CutShort (length bs))) (body (take (length bs - 32) bs) (drop (length bs - 32) bs))
+file bs = cond (ltb (length bs) 59) (Err (CutShort (length bs))) (body_in (take (length bs - 32) bs) (drop (length bs - 32) bs))
 
 -- What calls answer.
 

@@ -3,6 +3,7 @@
 ghost use Rattle.std.specs.Prelude.{◌≡◌, ◌≢◌, ℕ, List, Some, IfOk};
 ghost use Rattle.ep_bundle.specs.Headers.{map_in};
 ghost use Rattle.ep_bundle.specs.Journals.{ended};
+ghost use Rattle.ep_bundle.specs.Reading.{Reads};
 ghost use Rattle.ep_bundle.specs.declared.bundle_fault.BundleFault.TheVariants.{Memory, ReadFailed};
 ghost use Rattle.ep_base.specs.declared.version_kind.VersionKind.TheVariants.{V3};
 ghost use Rattle.ep_opening.specs.Reading.{executed, executed_field, front, front_field, lead, lead_field, place_of, telling, Tells};
@@ -99,6 +100,19 @@ pub(crate) fn tell_front<S: Source>(
     }
 }
 
+/// The map that the generation opens with.
+fn read_contents<S: Source>(
+    alloc: Global,
+    source: &mut S,
+    place: &mut u64,
+    generation: Generation,
+) -> Result<Contents, BundleFault>
+    ensures { (zs : List ℕ) → S.left source.old ≡ Some zs → Reads (map_in (V3 generation) (record { at = place.old; bytes = zs })) result place.new (S.left source.new) }
+{
+    let version = Version::of_generation(generation);
+    read_map(alloc, source, place, version)
+}
+
 /// The map.
 pub(crate) fn tell_map<S: Source>(
     alloc: Global,
@@ -108,7 +122,7 @@ pub(crate) fn tell_map<S: Source>(
 ) -> Result<Contents, OpeningFault>
     ensures { (zs : List ℕ) → S.left source.old ≡ Some zs → Tells (telling (λ at. Map) (map_in (V3 generation) (record { at = place.old; bytes = zs }))) result place.new (S.left source.new) }
 {
-    match read_map(alloc, source, place, Version::of_generation(generation)) {
+    match read_contents(alloc, source, place, generation) {
         Ok(contents) => Ok(contents),
         Err(fault) => {
             let at = place_of(fault)?;

@@ -5,7 +5,7 @@ ghost use Rattle.ep_base.specs.Attributes.{same_list};
 ghost use Rattle.ep_frame.specs.Spelling.{AreBytes};
 ghost use Rattle.sha2.specs.Sha256.{sha256};
 ghost use Rattle.ep_opening.specs.Bytes.{opening_bytes};
-ghost use Rattle.ep_opening.specs.Reading.{body, file, file_of, parts, IsRefused, IsTold, Tells};
+ghost use Rattle.ep_opening.specs.Reading.{body_in, file, file_of, parts, IsRefused, IsTold, Tells};
 ghost use Rattle.ep_opening.specs.declared.opening_fault.OpeningFault.TheVariants.{Memory};
 
 use crate::digest::{DIGEST_LEN, digest_of};
@@ -70,7 +70,7 @@ fn is_sealed(body: &[u8], digest: &[u8]) -> bool
 
 /// The file whose bytes these are, with this digest behind them.
 fn read_body(alloc: Global, body: &[u8], digest: &[u8]) -> Result<OpeningFile, OpeningFault>
-    ensures { IsTold (body body.now digest.now) result }
+    ensures { IsTold (body_in body.now digest.now) result }
 {
     let mut source = Noted::new(body);
     let mut place = 0;

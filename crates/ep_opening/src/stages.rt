@@ -1,9 +1,13 @@
 //! Reading a file's fields, in their order.
 
-ghost use Rattle.std.specs.Prelude.{◌≡◌, ◌++◌, ◌∷◌, [], ℕ, List, Some, IfOk};
+ghost use Rattle.std.specs.Prelude.{◌≡◌, ◌++◌, ◌∷◌, [], ℕ, List, Some, IfOk, eqb};
+ghost use Rattle.ep_base.specs.Deps.{IsRising};
+ghost use Rattle.ep_base.specs.Instances.{IsInstance};
 ghost use Rattle.ep_base.specs.Quorums.{size};
+ghost use Rattle.ep_base.specs.declared.version_kind.VersionKind.TheVariants.{V3};
 ghost use Rattle.ep_bundle.specs.Reading.{field, Reads};
-ghost use Rattle.ep_opening.specs.Reading.{above, executed, front, lead, mark_of, marked, most_of, rising, seal, seal_value};
+ghost use Rattle.ep_bundle.specs.Stages.{instance};
+ghost use Rattle.ep_opening.specs.Reading.{above, executed, front, lead, mark_of, marked, most_of, rising, seal, seal_value, some_value};
 
 use crate::front::Front;
 use ep_base::{Deps, Generation, InstanceId, Size, Source, Value, Version};
@@ -43,11 +47,41 @@ fn read_seal_value<S: Source>(
     Value::new(alloc, &bytes).map_err(|_| BundleFault::Memory)
 }
 
+/// Whether it is the first generation.
+fn is_first(generation: Generation) -> bool
+    ensures { result ≡ eqb generation 1 }
+{
+    generation.number() == 1
+}
+
 /// What is to say whether a seal began the generation.
 fn mark_of(generation: Generation) -> u8
     ensures { result ≡ mark_of generation }
 {
-    if generation.number() == 1 { 0 } else { 1 }
+    if is_first(generation) { 0 } else { 1 }
+}
+
+/// What says whether a seal began the generation.
+fn read_mark<S: Source>(
+    source: &mut S,
+    place: &mut u64,
+    generation: Generation,
+) -> Result<u8, BundleFault>
+    ensures { (zs : List ℕ) → S.left source.old ≡ Some zs → Reads (field 1 (mark_of generation) (mark_of generation) (record { at = place.old; bytes = zs })) result place.new (S.left source.new) }
+{
+    field_u8(source, place, mark_of(generation), mark_of(generation))
+}
+
+/// The value of the seal that began a generation.
+fn read_some<S: Source>(
+    alloc: Global,
+    source: &mut S,
+    place: &mut u64,
+) -> Result<Option<Value>, BundleFault>
+    ensures { (zs : List ℕ) → S.left source.old ≡ Some zs → Reads (some_value (record { at = place.old; bytes = zs })) result place.new (S.left source.new) }
+{
+    let value = read_seal_value(alloc, source, place)?;
+    Ok(Some(value))
 }
 
 /// The value of the seal that began the generation, where it isn't the first.
@@ -59,11 +93,10 @@ fn read_marked<S: Source>(
 ) -> Result<Option<Value>, BundleFault>
     ensures { (zs : List ℕ) → S.left source.old ≡ Some zs → Reads (marked generation (record { at = place.old; bytes = zs })) result place.new (S.left source.new) }
 {
-    if generation.number() == 1 {
+    if is_first(generation) {
         return Ok(None);
     }
-    let value = read_seal_value(alloc, source, place)?;
-    Ok(Some(value))
+    read_some(alloc, source, place)
 }
 
 /// Whether a seal began the generation, and its value.
@@ -75,8 +108,7 @@ fn read_seal<S: Source>(
 ) -> Result<Option<Value>, BundleFault>
     ensures { (zs : List ℕ) → S.left source.old ≡ Some zs → Reads (seal generation (record { at = place.old; bytes = zs })) result place.new (S.left source.new) }
 {
-    let mark = mark_of(generation);
-    field_u8(source, place, mark, mark)?;
+    read_mark(source, place, generation)?;
     read_marked(alloc, source, place, generation)
 }
 
@@ -107,6 +139,30 @@ fn largest() -> Size
     Size::new(7).unwrap()
 }
 
+/// An instance of the generation, of any replica.
+fn read_one<S: Source>(
+    source: &mut S,
+    place: &mut u64,
+    generation: Generation,
+) -> Result<InstanceId, BundleFault>
+    ensures { (zs : List ℕ) → S.left source.old ≡ Some zs → Reads (instance (V3 generation) 7 (record { at = place.old; bytes = zs })) result place.new (S.left source.new) }
+{
+    let version = Version::of_generation(generation);
+    read_instance(source, place, version, largest())
+}
+
+fn learn_instance(instance: InstanceId)
+    ensures { IsInstance instance }
+{
+    let _number = instance.number();
+}
+
+fn learn_rising(executed: &Deps)
+    ensures { IsRising executed.now }
+{
+    let _instances = executed.as_slice();
+}
+
 /// An instance that stands above these, which then have it too.
 fn read_next<S: Source>(
     source: &mut S,
@@ -118,9 +174,11 @@ fn read_next<S: Source>(
     ensures one { IfOk result (λ i. executed.new ≡ executed.old ++ i ∷ []) }
 {
     let at = *place;
-    let version = Version::of_generation(generation);
-    let instance = read_instance(source, place, version, largest())?;
-    if !executed.push_last(instance)? {
+    learn_rising(executed);
+    let instance = read_one(source, place, generation)?;
+    learn_instance(instance);
+    let pushed = executed.push_last(instance)?;
+    if !pushed {
         return Err(BundleFault::BadBundle(at));
     }
     Ok(instance)
@@ -147,7 +205,18 @@ fn read_rising<S: Source>(
 fn most_of(generation: Generation) -> u32
     ensures { result ≡ most_of generation }
 {
-    if generation.number() == 1 { 0 } else { 14_000 }
+    if is_first(generation) { 0 } else { 14_000 }
+}
+
+/// How many instances there are.
+fn read_count<S: Source>(
+    source: &mut S,
+    place: &mut u64,
+    generation: Generation,
+) -> Result<u32, BundleFault>
+    ensures { (zs : List ℕ) → S.left source.old ≡ Some zs → Reads (field 4 0 (most_of generation) (record { at = place.old; bytes = zs })) result place.new (S.left source.new) }
+{
+    field_u32(source, place, 0, most_of(generation))
 }
 
 /// The instances that the generation before executed.
@@ -159,6 +228,6 @@ pub(crate) fn read_executed<S: Source>(
 ) -> Result<Deps, BundleFault>
     ensures { (zs : List ℕ) → S.left source.old ≡ Some zs → Reads (executed generation (record { at = place.old; bytes = zs })) result place.new (S.left source.new) }
 {
-    let count = field_u32(source, place, 0, most_of(generation))?;
+    let count = read_count(source, place, generation)?;
     read_rising(alloc, source, place, generation, count)
 }
