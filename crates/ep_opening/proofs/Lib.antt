@@ -4,3 +4,4 @@ pub mod ReadFiles
 pub mod WrittenFiles
 pub mod Refusals
 pub mod Steps
+pub mod Known
