@@ -5,3 +5,4 @@ pub mod WrittenFiles
 pub mod Refusals
 pub mod Steps
 pub mod Known
+pub mod Digests

@@ -4,7 +4,7 @@ ghost use Rattle.std.specs.Prelude.{◌≤◌, length};
 ghost use Rattle.ep_base.specs.Deps.{IsDeps};
 ghost use Rattle.ep_base.specs.Generations.{IsGeneration};
 ghost use Rattle.ep_base.specs.Values.{most_value};
-ghost use Rattle.ep_opening.specs.Files.{IsFile, SealFits};
+ghost use Rattle.ep_opening.specs.Files.{HasItsSeal, IsFile, SealFits};
 ghost use Rattle.ep_opening.specs.Reading.{FilesAreReadBack};
 
 use crate::opening_file::OpeningFile;
@@ -32,7 +32,8 @@ fn learn_value(value: &Value)
 
 #[tactic(auto, using(crate::proofs::Known::no_seal, crate::proofs::Known::some_seal))]
 fn learn_seal(file: &OpeningFile)
-    ensures { SealFits file.now.seal }
+    ensures short { SealFits file.now.seal }
+    ensures begun { HasItsSeal file.now.generation file.now.seal }
 {
     match file.seal() {
         None => {}
@@ -56,7 +57,6 @@ pub fn learn_file(file: &OpeningFile)
     learn_generation(generation);
     let opening = file.opening();
     learn_opening(opening);
-    let _seal = file.seal();
     learn_seal(file);
     let executed = file.executed();
     learn_executed(executed);

@@ -83,7 +83,6 @@ fn read_body(alloc: Global, body: &[u8], digest: &[u8]) -> Result<OpeningFile, O
 
 /// Reads a file, exactly: what is read has these bytes, and what is refused no file has. A fault is the first one in the order of length, magic,
 /// version, digest, and then the other fields as they stand in the file.
-#[tactic(auto, using(crate::proofs::Refusals::told_bytes, crate::proofs::Refusals::told_refusal))]
 pub fn read_opening(alloc: Global, bytes: &[u8]) -> Result<OpeningFile, OpeningFault>
     ensures ok { IfOk result (λ f. bytes.now ≡ opening_bytes f) }
     ensures err { IfErr result (λ fault. IsRefused fault bytes.now) }
