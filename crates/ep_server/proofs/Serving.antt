@@ -1,9 +1,8 @@
 -- A node that is opened has served.
-use Rattle.std.proofs.Common.{◌≡◌, ◌⊎◌, inl, inr, ℕ, Bool, true, List, [], ◌++◌, Option, Some, None, Result, Ok, Err, append-nil, refl, sym, subst}
-use Rattle.std.specs.Io.KnownBytes.{Appends}
+use Rattle.std.proofs.Common.{◌≡◌, inl, inr, ℕ, Bool, true, List, [], ◌++◌, Option, Some, None, Result, Ok, Err, append-nil, sym, subst}
 use Rattle.ep_base.specs.Devices.{Puts}
 use Rattle.ep_base.specs.Quorums.{size}
-use Rattle.ep_log.specs.Origins.{second}
+use Rattle.ep_log.specs.Origins.{second as version_two}
 use Rattle.ep_node.specs.Nodes.{Logged, origin_of}
 use Rattle.ep_node.specs.Opening.{IsOpened, IsWrittenAnew, Names}
 use Rattle.ep_node.specs.declared.cut.Cut.{Cut}
@@ -11,7 +10,6 @@ use Rattle.ep_node.specs.declared.open_fault.OpenFault.{OpenFault}
 use Rattle.ep_node.specs.declared.open_fault.OpenFault.TheVariants as open_
 use Rattle.ep_serve.specs.Lasting.{crashes}
 use Rattle.ep_serve.specs.Serving.{Ends}
-use Rattle.ep_serve.specs.declared.mode.Mode.{Mode}
 use Rattle.ep_serve.specs.declared.serve_fault.ServeFault.{ServeFault}
 use Rattle.ep_server.proofs.Puts.{appends_twice}
 use Rattle.ep_server.specs.Faults.{line_of}
@@ -22,8 +20,8 @@ use Rattle.ep_server.specs.declared.status.Status.{Status}
 
 pub has_served :
     {D : Type 0} (shown : Shown D) (role : Role) (start : Logged D) (bytes zs log : List ℕ) (cut : Option Cut) (outcome : Result Unit Fault) (reader out : Output) →
-    start.replica.faults ≡ role.faults → start.replica.me ≡ role.me → origin_of start ≡ second → IsOpened role.begin second role.faults role.me bytes start.replica.entries cut →
-    shown.seen start.device ≡ Some log → IsWrittenAnew role.begin second role.faults role.me bytes log → IsOver shown role.mode start zs outcome reader out → Happens shown role bytes zs cut outcome reader out
+    start.replica.faults ≡ role.faults → start.replica.me ≡ role.me → origin_of start ≡ version_two → IsOpened role.begin version_two role.faults role.me bytes start.replica.entries cut →
+    shown.seen start.device ≡ Some log → IsWrittenAnew role.begin version_two role.faults role.me bytes log → IsOver shown role.mode start zs outcome reader out → Happens shown role bytes zs cut outcome reader out
 has_served {D = D} shown role start bytes zs log cut outcome reader out cluster replica origin opened known anew over =
     subst (λ (x : Result Unit Fault). Happens shown role bytes zs cut x reader out) (sym over.2) (go over.1 over.3 over.4)
   where
