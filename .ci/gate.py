@@ -12,6 +12,7 @@ import re
 import signal
 import subprocess
 import sys
+import tempfile
 import time
 from dataclasses import dataclass
 
@@ -21,6 +22,7 @@ sys.path.insert(0, f"{TOP}/.ci")
 
 import clock
 import disks
+import generations
 import lanes
 import launcher
 import page
@@ -33,7 +35,7 @@ PROGRAMS = {PROGRAM: "", f"{PROGRAM}.by-rattle": " (built by Rattle's own compil
 # the most runs that one test gets so
 MOST = "500"
 # what the names of tests have that are run with each allocation refused, or MOST of them
-TESTS = ("played_on", "a_held_frame_has_its_place")
+TESTS = ("played_on", "a_held_frame_has_its_place", "ep_world_tests::generations")
 # scripts that are played, made into a bundle, and audited so
 SCRIPTS = ("examples/one_put.script", "examples/crossing_puts.script", "examples/swap.script", ".ci/scripts/seven.script")
 # what the names of rows begin with whose last run is made again so
@@ -156,6 +158,15 @@ def refused_memory():
             words, given = last_run(row)
             print(f"row {row.name}, with each allocation refused:", flush=True)
             yield swept("refused-memory", ["ep_main", "--", *words], given)
+
+    print("chains of two generations, in their order and the other way round, with each allocation refused:", flush=True)
+    with tempfile.TemporaryDirectory() as folder:
+        names = [f"{folder}/{it}" for it in ("one.bundle", "two.bundle")]
+        for name, it in zip(names, (generations.ONE, generations.TWO)):
+            with open(name, "wb") as file:
+                file.write(it.bundle())
+        for chain in (names, names[::-1]):
+            yield swept("refused-memory", ["ep_main", "--", "audit", "--chain", *chain], b"")
 
 
 def refused_views():

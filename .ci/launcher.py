@@ -176,6 +176,10 @@ def chosen(room):
     yield "unproved, a trace", room.run("--quiet replay --emit trace", FOUR), (2, "", "script refused at line 1\n")
     yield "unproved, a file as a word", room.run("replay put.script"), (2, "", f"{REFUSED}unexpected argument 'put.script' found\n\n  tip: epaxos reads standard input: epaxos replay < put.script\n\nUsage: epaxos replay [OPTIONS]{MORE}")
     yield "unproved, a file without --chain", room.run("audit cut.bundle"), (2, "", f"{REFUSED}a FILE stands with '--chain' alone\n\n  tip: epaxos reads standard input: epaxos audit < cut.bundle{MORE}")
+    for words in ("frob", "", "cut.bundle"):
+        yield f"unproved, {words or 'no words'}, from a folder", room.run(words, redirect="< .")[0], 2
+    yield "unproved, a chain, from a folder", room.run("--quiet audit --chain cut.bundle", redirect="< ."), (2, "", "bundle refused E12 at byte 4 in cut.bundle\n")
+    yield "unproved, a file as a word, from a folder", room.run("--quiet audit cut.bundle", redirect="< .")[0], 2
     yield "unproved, a chain", room.run("--quiet audit --chain cut.bundle"), (2, "", "bundle refused E12 at byte 4 in cut.bundle\n")
     yield "unproved, an option's value", room.run("--quiet replay --emit trace --emit trace", SCRIPT)[0], 2
     yield "unproved, a node", room.run("--quiet node --replicas 3 --replica 0 --log it.log --new"), (0, "", "")

@@ -113,6 +113,12 @@ def explained():
     traced = f"{edition}\nline 3  stamp 41  replica 0 entry 1  propose get x (client 1 request 1 seen 40); took 0.1\n"
     says = ["\n  found: a trace, as replay --emit trace prints it\n"]
     yield dict(name="version 3: a trace, explained", words=["explain"], given=traced.encode(), wanted=line, is_begun=True, says=says, status=2)
+    says = ["\n  found: a report, as replay, run and audit print it\n"]
+    link = b"verdict accepted\ngeneration 1 since 0 committed 0 history 0 open contents 0 df3f\n"
+    for name, given in (("a report", b"verdict accepted\ngeneration 1 since 0\ncommitted 0\n"), ("what is said of a chain", link)):
+        yield dict(name=f"version 3: {name}, explained", words=["explain"], given=given, wanted=line, is_begun=True, says=says, status=2)
+    # (a line `generation` makes no script of a text, and a line `replicas` does)
+    yield dict(name="version 3: replicas behind a generation, explained", words=["explain"], given=b"generation 1\nreplicas 3\n", wanted=b"script refused at line 1\n", is_begun=True, status=2)
     yield from fields()
     yield from steps()
 

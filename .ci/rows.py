@@ -14,7 +14,8 @@ PROGRAM is ep_main as it was built; what begins with `node` or `collect` is run 
 `draw` or `trace-events`, and traces, by ep_viewer, which were built as it was. Runs of `epaxos node`, and of `collect` on its logs, are in .ci/nodes.py.
 More rows are made of the scripts and reports in docs/FORMATS.md, examples/ and .ci/scripts/ (NAME.script is played, NAME.run is run
 by both hosts, and where there is a NAME.trace or a NAME.svg, NAME.script is traced
-or drawn), and by .ci/made.py, .ci/words.py, .ci/cases.py, .ci/odd.py, .ci/faults.py, .ci/generations.py and .ci/looks.py.
+or drawn), and by .ci/made.py, .ci/words.py, .ci/cases.py, .ci/odd.py, .ci/faults.py, .ci/generations.py and .ci/looks.py. What .ci/drawn.py draws by
+chance is looked at too.
 """
 
 import gzip
@@ -246,6 +247,14 @@ def noded(program):
     return nodes.every(program_of(program, ["node"]))
 
 
+def drawn(program):
+    """The chains of .ci/drawn.py, likewise."""
+    sys.path.insert(0, f"{TOP}/.ci")
+    import drawn as chains
+
+    return chains.every(program)
+
+
 def tried(program, word="", by=""):
     """Runs the program on the rows, prints a line for each that fails, and returns how many passed and how many failed."""
     passed = failed = 0
@@ -255,11 +264,12 @@ def tried(program, word="", by=""):
             passed, failed = passed + (not wrong), failed + bool(wrong)
             if wrong:
                 print(f"row {row.name}{by}: {wrong}", flush=True)
-    for name, wrong in () if is_passed_over(program, ["node"]) else noded(program):
-        if word in name:
-            passed, failed = passed + (not wrong), failed + bool(wrong)
-            if wrong:
-                print(f"row {name}{by}: {wrong}", flush=True)
+    for others in ([] if is_passed_over(program, ["node"]) else noded(program), drawn(program)):
+        for name, wrong in others:
+            if word in name:
+                passed, failed = passed + (not wrong), failed + bool(wrong)
+                if wrong:
+                    print(f"row {name}{by}: {wrong}", flush=True)
     print(f"rows{by}: {passed} passed, {failed} failed", flush=True)
     return passed, failed
 

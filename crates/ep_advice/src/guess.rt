@@ -41,7 +41,8 @@ fn hint_of(word: &[u8]) -> Hint {
     match word {
         b"execute" | b"deliver" | b"flush" => Hint::Of(Subcommand::Replay),
         b"section" | b"drop" | b"hold" | b"repeat" => Hint::Of(Subcommand::Run),
-        b"replicas" | b"generation" | b"since" | b"opening" => Hint::Both,
+        // (a line `generation` tells nothing, as reports of version 3 have one, and scripts have `replicas` before it)
+        b"replicas" | b"since" | b"opening" => Hint::Both,
         b"propose" | b"giveup" | b"recover" => Hint::Both,
         [b'#', ..] => Hint::Skipped,
         _ => Hint::Neither,
@@ -66,7 +67,7 @@ pub(crate) fn deciding_line(bytes: &[u8]) -> Option<(u64, Subcommand)> {
     None
 }
 
-/// Whether a line begins with a word of the grammar, or all lines are skipped and some has a comment.
+/// Whether a line begins with a word of the grammar but `generation`, or all lines are skipped and some has a comment.
 fn is_script(bytes: &[u8]) -> bool {
     let mut lines = Lines::new(bytes);
     let mut is_skipped = bytes.contains(&b'#');
@@ -84,7 +85,7 @@ fn is_script(bytes: &[u8]) -> bool {
 }
 
 /// For which subcommand a script is that begins with these bytes: the one whose scripts alone have the first word of some line, by the first
-/// such line; `replay` where there is none. None where the bytes are no text, or no line of theirs begins with a word of the grammar.
+/// such line; `replay` where there is none. None where the bytes are no text, or no line of theirs begins with a word of the grammar but `generation`.
 pub fn subcommand_of(bytes: &[u8]) -> Option<Subcommand> {
     if !is_text(bytes) || !is_script(bytes) {
         return None;

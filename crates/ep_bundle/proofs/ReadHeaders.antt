@@ -136,7 +136,7 @@ one_of_three n false true seven a b c h = let is = eqb-true n 5 b in omega arith
 one_of_three n false false true a b c h = let is = eqb-true n 7 c in omega arith
 one_of_three n false false false a b c h = absurd (cc)
 
-cluster_gives : (l : Left) → AreBytes l.bytes → Gives (λ f. number_bytes 1 (size f)) (λ f. Unit {0}) l (cluster l)
+pub cluster_gives : (l : Left) → AreBytes l.bytes → Gives (λ f. number_bytes 1 (size f)) (λ f. Unit {0}) l (cluster l)
 cluster_gives l h =
     whole (step (number 1 l) (λ n m. cond (eqb n 3 || eqb n 5 || eqb n 7) (Ok (n / 2, m)) (Err (BadBundle l.at))) h (number_gives 1 wide1 l h)
     (λ n m p hm. choice (eqb n 3 || eqb n 5 || eqb n 7) (Ok (n / 2, m)) (Err (BadBundle l.at))

@@ -94,7 +94,7 @@ map_again m = same_entries_map (from_sorted (entries m)) m (list_is (entries m) 
 contents_given : (m : Contents) → All PairTyped (entries m) → Gives (contents (length (entries m))) (flat_map pair_bytes (entries m)) m
 contents_given m t = made_of (pairs (length (entries m)) []) (λ es l. Ok (from_sorted es, l)) (flat_map pair_bytes (entries m)) (entries m) m (pairs_given [] (entries m) t (rising m)) (λ l. ap (λ (x : Contents). Ok (x, l)) (map_again m))
 
-map_given : (v : Version) (o : Opening) → OpensIn v o → length (entries o.contents) ≤ 4000000000 → All PairTyped (entries o.contents) → Gives (map_in v) (map_bytes v o.contents) o.contents
+pub map_given : (v : Version) (o : Opening) → OpensIn v o → length (entries o.contents) ≤ 4000000000 → All PairTyped (entries o.contents) → Gives (map_in v) (map_bytes v o.contents) o.contents
 map_given V1 o opens few t = λ at rest. (at, ap (λ (p : Opening). Ok (p.contents, record { at = at; bytes = rest })) (sym opens))
 map_given V2 o opens few t = λ at rest. (at, ap (λ (p : Opening). Ok (p.contents, record { at = at; bytes = rest })) (sym opens))
 map_given (V3 g) o opens few t =
@@ -115,7 +115,7 @@ a_size f at l low high = elim (cases_eq f 1) [
   ])
 ]
 
-clustered : (f : ℕ) → 1 ≤ f → f ≤ 3 → Gives cluster (number_bytes 1 (size f)) f
+pub clustered : (f : ℕ) → 1 ≤ f → f ≤ 3 → Gives cluster (number_bytes 1 (size f)) f
 clustered f low high at rest =
     let p = numbered 1 (size f) (omega arith) at rest in
     (p.0, ap (λ (o : Reading ℕ). and_then o (sized at)) p.1 ∙ a_size f at (record { at = p.0; bytes = rest }) low high)

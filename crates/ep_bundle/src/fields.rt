@@ -173,7 +173,7 @@ pub(crate) fn field_u16<S: Source>(
 }
 
 /// A number of four bytes, from `low` to `high`.
-pub(crate) fn field_u32<S: Source>(
+pub fn field_u32<S: Source>(
     source: &mut S,
     place: &mut u64,
     low: u32,
@@ -192,7 +192,7 @@ pub(crate) fn field_u32<S: Source>(
 }
 
 /// A number of eight bytes, from `low` to `high`.
-pub(crate) fn field_u64<S: Source>(
+pub fn field_u64<S: Source>(
     source: &mut S,
     place: &mut u64,
     low: u64,

@@ -15,8 +15,8 @@ use ep_base::{Size, Source, Version};
 use ep_journal::Opening;
 use std::alloc::Global;
 
-/// The number of replicas.
-fn read_cluster<S: Source>(source: &mut S, place: &mut u64) -> Result<Size, BundleFault>
+/// The number of replicas: 3, 5 or 7.
+pub fn read_cluster<S: Source>(source: &mut S, place: &mut u64) -> Result<Size, BundleFault>
     ensures bytes { (zs : List ℕ) → S.left source.old ≡ Some zs → Reads (cluster (record { at = place.old; bytes = zs })) result place.new (S.left source.new) }
     ensures told { FailsAsTold is_read_failed result (S.has_failed source.old) (S.has_failed source.new) }
 {

@@ -43,16 +43,17 @@ pub use draft_event::DraftEvent;
 pub use draft_frames::DraftFrames;
 pub use entries::read_draft;
 pub use events::read_counted;
-pub use fields::{field_u8, read_run, read_u64};
-pub use headers::read_header;
+pub use fields::{field_u8, field_u32, field_u64, read_run, read_u64};
+pub use headers::{read_cluster, read_header};
 pub use journal::{read_count, read_entry, read_journal};
+pub use pairs::read_map;
 pub use parts::read_instance;
 pub use putting::{put_run, put_u8, put_u16, put_u32, put_u64};
 pub use read_laws::{bundles_are_canonical, entries_are_canonical, journals_are_canonical};
 pub use receipts::read_receipt;
 pub use write_laws::{
     bundle_is_read_back, entries_are_read_back, journal_is_read_back, learn_entries, learn_entry,
-    learn_fits,
+    learn_fits, learn_opening,
 };
 pub use writing::{
     put_command, put_entry, put_frame, put_instance, put_receipt, put_receipts, put_value,

@@ -95,7 +95,7 @@ fn read_contents<S: Source>(
 
 /// The map that a generation opens with, of at most 4,000,000,000 keys; versions 1 and 2 have none.
 #[tactic(auto, using(crate::proofs::ReadHeaders::none_counted))]
-pub(crate) fn read_map<S: Source>(
+pub fn read_map<S: Source>(
     alloc: Global,
     source: &mut S,
     place: &mut u64,

@@ -29,13 +29,13 @@ use Rattle.ep_replica.specs.Kept.{Kept, begun, start_of, first_version}
 use Rattle.ep_replica.specs.Receipts.{receipts_after}
 use Rattle.ep_replica.proofs.Own.{receipts_are_own}
 use Rattle.ep_verdict.specs.declared.verdict.Verdict.{Verdict}
-use Rattle.ep_host.specs.Host.{IsHost, Looked, Knows, AllBegin, AllSent, AllFrom}
+use Rattle.ep_host.specs.Host.{IsHost, Looked, Knows, AllBegin, AllSent, AllHandledFrom, AllFrom}
 use Rattle.ep_host.specs.Node.{Node, fresh_node}
 use Rattle.ep_host.specs.Pointwise.{Each}
 use Rattle.ep_host.specs.RingFinishing.{replicas_in, entries_in, their_journals, their_receipts}
 use Rattle.ep_host.specs.Rings.{handled_by, frames_handled, place}
 use Rattle.ep_host.specs.declared.link.Link.{Link}
-use Rattle.ep_host.proofs.Hosts.{all_taken}
+use Rattle.ep_host.proofs.Hosts.{all_taken, all_of_version}
 use Rattle.ep_host.specs.Sent.{frames_of}
 
 -- From the code's lists.
@@ -142,8 +142,8 @@ module _ (f : ℕ) (nodes : List Node) (host : IsHost f nodes) (know : All Knows
       (cases_lt r (length nodes))
 
 -- each frame handled was taken from the ring of its sender
-pub all_from : (f : ℕ) (nodes : List Node) → IsHost f nodes → All Knows nodes → AllBegin nodes → AllFrom nodes
-all_from f nodes host know begins = λ j d e b low c.
+handled_from : (f : ℕ) (nodes : List Node) → IsHost f nodes → All Knows nodes → AllBegin nodes → AllHandledFrom nodes
+handled_from f nodes host know begins = λ j d e b low c.
     let t = all_taken f nodes j d b host know begins low c in
     let n : Kept = (get_or nodes t.from d).replica in
     let o = sent_in n.entries b t.out in
@@ -152,6 +152,9 @@ all_from f nodes host know begins = λ j d e b low c.
     (subst (λ (q : ℕ). IsJournal n.version n.opening f q n.entries) (host.me t.from d t.low) (subst (λ (q : ℕ). IsJournal n.version n.opening q n.me n.entries) (host.faults t.from d t.low) j)).run) in
     let is : sender_at b ≡ t.from = (frames_were_sent_lem (opens n.opening) f (λ (r : ℕ). entries_of n.entries) t.from o.0 (frame_at b) run o.1 o.2).0.sender in
     subst (λ (n : ℕ). (n < length nodes) × Contains (received (get_or (get_or nodes j d).links (place j n) e).from) b × Contains (frames_of (get_or nodes n d).replica.entries) b) (sym is) (t.low, t.taken e, t.out)
+
+pub all_from : (f : ℕ) (nodes : List Node) → IsHost f nodes → All Knows nodes → AllBegin nodes → AllFrom nodes
+all_from f nodes host know begins = (handled_from f nodes host know begins, all_of_version f nodes host know begins)
 
 -- the node whose receipt it is
 receipt_at : (nodes : List Node) (t : Receipt) → In t (their_receipts (replicas_in nodes)) → (i : ℕ) × (i < length nodes) × In t (receipts_after (get_or nodes i blank).replica.me 0 (entries_of (get_or nodes i blank).replica.entries))

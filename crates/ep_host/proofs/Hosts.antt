@@ -4,9 +4,12 @@ use Rattle.std.proofs.lemmas.List.{get_or_default, get_or_append_left, get_or-ap
 use Rattle.std.proofs.lemmas.List.Elements.{Contains-append_left, All-contains}
 use Rattle.std.proofs.lemmas.Bool.{cases_lt}
 use Rattle.rtrb.specs.Ring.{sent, received, IsPair}
-use Rattle.ep_replica.specs.Kept.{start_of}
+use Rattle.ep_frame.specs.Meaning.{version_at}
+use Rattle.ep_journal.specs.Openings.{opens}
+use Rattle.ep_replica.specs.Kept.{Kept, start_of}
+use Rattle.ep_rules.specs.States.{fresh_state}
 use Rattle.ep_host.specs.Follows.{Follows}
-use Rattle.ep_host.specs.Host.{IsHost, Paired, PairedBoth, HasLink, Begins, AllBegin, Knows, AllSent}
+use Rattle.ep_host.specs.Host.{IsHost, Paired, PairedBoth, HasLink, Begins, AllBegin, Knows, AllSent, AllOfVersion}
 use Rattle.ep_host.specs.Node.{Node}
 use Rattle.ep_host.specs.Pointwise.{Each}
 use Rattle.ep_host.specs.Rings.{KeepsLink, IsTaken, IsOut, place, peer_at, frames_handled}
@@ -17,6 +20,7 @@ use Rattle.ep_host.specs.declared.task.Task.{Task}
 use Rattle.ep_host.proofs.Booking.{peers_still, carried_keep}
 use Rattle.ep_host.proofs.Fated.{keeps_self}
 use Rattle.ep_host.proofs.Places.{each_self, each_set, each_weaker}
+use Rattle.ep_host.proofs.Versioned.{frames_of_version}
 
 -- numbers of nodes and places of links
 
@@ -116,25 +120,45 @@ pub record IsFrom (nodes : List Node) (j : ℕ) (d : Node) (b : List ℕ) : Type
   pub taken : (e : Link) → Contains (received (get_or (get_or nodes j d).links (place j from) e).from) b
   pub out : Contains (frames_of (get_or nodes from d).replica.entries) b
 
+-- what node j has taken from its ring at a place, the node that the ring is from has sent
+out_of :
+    (f : ℕ) (nodes : List Node) (j k : ℕ) (d : Node) (e : Link) (b : List ℕ) → IsHost f nodes → All Knows nodes → AllBegin nodes → j < length nodes → k < length (get_or nodes j d).links →
+    Contains (received (get_or (get_or nodes j d).links k e).from) b → (peer_at j k < length nodes) × Contains (frames_of (get_or nodes (peer_at j k) d).replica.entries) b
+out_of f nodes j k d e b host know begins low lk c =
+    let me = get_or nodes j d in
+    let i = peer_at j k in
+    let li : i < length nodes = peer_low j k (length nodes) (length me.links) low lk (host.links j d low) in
+    let a = get_or nodes i d in
+    let at : place me.replica.me a.replica.me ≡ k = ap (λ n. place n a.replica.me) (host.me j d low) ∙ ap (place j) (host.me i d li) ∙ place_peer j k in
+    let here : Contains (received (get_or me.links (place me.replica.me a.replica.me) e).from) b = subst (λ (n : ℕ). Contains (received (get_or me.links n e).from) b) (sym at) c in
+    let end : HasLink a me.replica.me × Begins a me → Contains (frames_of a.replica.entries) b = λ (p : HasLink a me.replica.me × Begins a me). from_to a me b e (know i d li) p.0 p.1 here in (
+      li,
+      ⊎_elim
+          (λ (less : i < j). end ((host_both f nodes j i d host less low).2, (begins j i d less low).0))
+          (λ (more : j ≤ i). let other = peer_other j k in let less : j < i = grind (arith, other, more) in end ((host_both f nodes i j d host less li).3, (begins i j d less li).1))
+          (cases_lt i j),
+    )
+
 pub all_taken : (f : ℕ) (nodes : List Node) (j : ℕ) (d : Node) (b : List ℕ) → IsHost f nodes → All Knows nodes → AllBegin nodes → j < length nodes → Contains (frames_handled (get_or nodes j d).replica.entries) b → IsFrom nodes j d b
 all_taken f nodes j d b host know begins low c =
     let me = get_or nodes j d in
     let t = All-contains (IsTaken me.links) (frames_handled me.replica.entries) b (know j d low).booked.taken c in
-    let i = peer_at j t.0 in
-    let li : i < length nodes = peer_low j t.0 (length nodes) (length me.links) low t.2 (host.links j d low) in
-    let a = get_or nodes i d in
     let mine : (e : Link) → Contains (received (get_or me.links t.0 e).from) b = λ e. subst (λ (l : Link). Contains (received l.from) b) (sym t.3 ∙ get_or_default me.links t.0 t.1 e t.2) t.4 in
-    let at : place me.replica.me a.replica.me ≡ t.0 = ap (λ n. place n a.replica.me) (host.me j d low) ∙ ap (place j) (host.me i d li) ∙ place_peer j t.0 in
-    let here : (e : Link) → Contains (received (get_or me.links (place me.replica.me a.replica.me) e).from) b = λ e. subst (λ (n : ℕ). Contains (received (get_or me.links n e).from) b) (sym at) (mine e) in
-    let end : HasLink a me.replica.me × Begins a me → Contains (frames_of a.replica.entries) b = λ (p : HasLink a me.replica.me × Begins a me). from_to a me b t.1 (know i d li) p.0 p.1 (here t.1) in record {
-      from = i;
-      low = li;
+    let there = out_of f nodes j t.0 d t.1 b host know begins low t.2 (mine t.1) in record {
+      from = peer_at j t.0;
+      low = there.0;
       taken = λ e. subst (λ (n : ℕ). Contains (received (get_or me.links n e).from) b) (sym (place_peer j t.0)) (mine e);
-      out = ⊎_elim
-          (λ (less : i < j). end ((host_both f nodes j i d host less low).2, (begins j i d less low).0))
-          (λ (more : j ≤ i). let other = peer_other j t.0 in let less : j < i = grind (arith, other, more) in end ((host_both f nodes i j d host less li).3, (begins i j d less li).1))
-          (cases_lt i j);
+      out = there.1;
     }
+
+-- each frame that was taken is of the one version of the host
+pub all_of_version : (f : ℕ) (nodes : List Node) → IsHost f nodes → All Knows nodes → AllBegin nodes → AllOfVersion nodes
+all_of_version f nodes host know begins = λ j k d e b low lk c.
+    let there = out_of f nodes j k d e b host know begins low lk c in
+    let i = peer_at j k in
+    let n : Kept = (get_or nodes i d).replica in
+    let v : version_at b ≡ n.version = frames_of_version n.version n.faults n.me (fresh_state (opens n.opening)) n.entries b (know i d there.0).journal.versioned there.1 in
+    v ∙ ap (λ p. p.0) (host.start i d there.0) ∙ sym (ap (λ p. p.0) (host.start j d low))
 
 pub all_sent : (f : ℕ) (nodes : List Node) → IsHost f nodes → All Knows nodes → AllBegin nodes → AllSent nodes
 all_sent f nodes host know begins = λ j d b low c. let t = all_taken f nodes j d b host know begins low c in (t.from, t.low, t.out)

@@ -1,4 +1,5 @@
 pub mod Versioned
+pub mod Starting
 pub mod Copying
 pub mod Pumping
 pub mod Seating

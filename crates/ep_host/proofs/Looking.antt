@@ -9,7 +9,7 @@ use Rattle.ep_journal.specs.declared.entry.Entry.{Entry}
 use Rattle.ep_replica.specs.Kept.{Kept, start_of}
 use Rattle.ep_host.specs.Fates.{Carries}
 use Rattle.ep_host.proofs.Hosts.{Stays, host_stays, host_both}
-use Rattle.ep_host.specs.Host.{IsHost, Quiet, Looked, Paired, Begins, HasLink, PairedBoth, BeginsBoth, AllBegin, AllFrom}
+use Rattle.ep_host.specs.Host.{IsHost, Quiet, Looked, Paired, Begins, HasLink, PairedBoth, BeginsBoth, AllBegin, AllHandledFrom, AllOfVersion, AllFrom}
 use Rattle.ep_host.specs.Node.{Node}
 use Rattle.ep_host.specs.Pointwise.{Each}
 use Rattle.ep_host.specs.Rings.{KeepsLink, IsBooked, place, frames_handled}
@@ -93,8 +93,8 @@ all_begin_after f xs ys host h all = λ i j d less low.
     let b = all i j d less l in
     (begins_after (get_or xs j d) (get_or xs i d) (get_or ys j d) (get_or ys i d) lj li p.2 p.3 b.0, begins_after (get_or xs i d) (get_or xs j d) (get_or ys i d) (get_or ys j d) li lj p.3 p.2 b.1)
 
-pub all_from_after : (f : ℕ) (xs ys : List Node) → IsHost f xs → Each Looked xs ys → AllFrom xs → AllFrom ys
-all_from_after f xs ys host h all = λ j d e b low c.
+handled_from_after : (xs ys : List Node) → Each Looked xs ys → AllHandledFrom xs → AllHandledFrom ys
+handled_from_after xs ys h all = λ j d e b low c.
     let l : j < length xs = omega (arith, h.len) in
     let me = get_or xs j d in let at = h.at j d l in
     let same : (get_or ys j d).replica ≡ me.replica = ap (λ (n : Node). n.replica) at.is in
@@ -112,3 +112,14 @@ all_from_after f xs ys host h all = λ j d e b low c.
   where
     both_past : (xs zs : List Link) (k : ℕ) (e : Link) → length zs ≡ length xs → length xs ≤ k → get_or xs k e ≡ get_or zs k e
     both_past xs zs k e len past = get_or_past xs k e past ∙ sym (get_or_past zs k e (omega (arith, len, past)))
+
+of_version_after : (xs ys : List Node) → Each Looked xs ys → AllOfVersion xs → AllOfVersion ys
+of_version_after xs ys h all = λ j k d e b low lk c.
+    let l : j < length xs = omega (arith, h.len) in
+    let me = get_or xs j d in let at = h.at j d l in
+    let lm : k < length me.links = omega (arith, at.links.len) in
+    let same : (get_or ys j d).replica ≡ me.replica = ap (λ (n : Node). n.replica) at.is in
+    all j k d e b l lm (subst (λ (l : List (List ℕ)). Contains l b) (at.links.at k e lm).taken c) ∙ ap (λ (k : Kept). k.version) (sym same)
+
+pub all_from_after : (f : ℕ) (xs ys : List Node) → IsHost f xs → Each Looked xs ys → AllFrom xs → AllFrom ys
+all_from_after f xs ys host h all = (handled_from_after xs ys h all.0, of_version_after xs ys h all.1)

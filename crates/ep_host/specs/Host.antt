@@ -3,7 +3,7 @@ use Rattle.std.specs.Prelude.{◌≡◌, ℕ, ◌+◌, ◌<◌, List, [], length
 use mathlib.Core.List.{IsPrefix}
 use Rattle.ep_base.specs.Quorums.{size}
 use Rattle.ep_base.specs.declared.version.Version.{Version}
-use Rattle.ep_frame.specs.Meaning.{sender_at}
+use Rattle.ep_frame.specs.Meaning.{sender_at, version_at}
 use Rattle.ep_rules.specs.Journals.{AreClocked}
 use Rattle.ep_journal.specs.Entries.{entries_of, IsJournal}
 use Rattle.ep_journal.specs.Openings.{Opening, OpensIn}
@@ -96,6 +96,14 @@ AllSent nodes = (j : ℕ) (d : Node) (b : List ℕ) → j < length nodes → Con
     → (i : ℕ) × (i < length nodes) × Contains (frames_of (slice_index_or nodes i d).replica.entries) b
 
 -- each frame that a node has handled was taken from the ring of the node that it is from, and is a frame out of that node's journal
-abbrev pub AllFrom : List Node → Type 0
-AllFrom nodes = (j : ℕ) (d : Node) (e : Link) (b : List ℕ) → j < length nodes → Contains (frames_handled (slice_index_or nodes j d).replica.entries) b
+abbrev pub AllHandledFrom : List Node → Type 0
+AllHandledFrom nodes = (j : ℕ) (d : Node) (e : Link) (b : List ℕ) → j < length nodes → Contains (frames_handled (slice_index_or nodes j d).replica.entries) b
     → (sender_at b < length nodes) × Contains (received (slice_index_or (slice_index_or nodes j d).links (place j (sender_at b)) e).from) b × Contains (frames_of (slice_index_or nodes (sender_at b) d).replica.entries) b
+
+-- each frame that a node has taken from a ring, handled or refused, is of the node's own version
+abbrev pub AllOfVersion : List Node → Type 0
+AllOfVersion nodes = (j k : ℕ) (d : Node) (e : Link) (b : List ℕ) → j < length nodes → k < length (slice_index_or nodes j d).links → Contains (received (slice_index_or (slice_index_or nodes j d).links k e).from) b
+    → version_at b ≡ (slice_index_or nodes j d).replica.version
+
+abbrev pub AllFrom : List Node → Type 0
+AllFrom nodes = AllHandledFrom nodes × AllOfVersion nodes

@@ -1,4 +1,5 @@
 pub mod Sent
+pub mod Starts
 pub mod HostFrames
 pub mod Tending
 pub mod Finishing

@@ -1,13 +1,14 @@
 //! The audit of a host's journals.
 
-ghost use Rattle.std.specs.Prelude.{◌≡◌, true, IfOk, vec_len};
+ghost use Rattle.std.specs.Prelude.{◌≡◌, IfOk, vec_len};
 ghost use Rattle.ep_base.specs.Quorums.{size};
+ghost use Rattle.ep_journal.specs.Entries.{first_opening};
+ghost use Rattle.ep_replica.specs.Kept.{first_version};
 ghost use Rattle.ep_host.specs.Finishing.{IsFinished};
 
 use crate::finished::Finished;
 use ep_audit::{Refusal, audit};
-use ep_base::Version;
-use ep_journal::{Journal, Journals, Opening};
+use ep_journal::{Journal, Journals};
 use ep_rules::Receipt;
 use std::alloc::{AllocError, Global};
 
@@ -31,31 +32,19 @@ fn audited(alloc: Global, journals: Journals, receipts: &[Receipt]) -> Result<Fi
     }
 }
 
-/// Whether the journals are of this version, with this opening.
-fn are_of(version: Version, opening: &Opening, journals: &Journals) -> bool
-    ensures { result ≡ true → (journals.now.version ≡ version) × (journals.now.opening ≡ opening.now) }
-{
-    journals.version() == version && journals.opening().is_same(opening)
-}
-
-/// The same of journals of a cluster, one for each replica, in replica order, of this version and with this opening. A host's always are these.
+/// The same of journals of a cluster, one for each replica, in replica order, which all start as the first one does. A host's always are these.
 pub fn finished(
     alloc: Global,
-    version: Version,
-    opening: &Opening,
     journals: Vec<Journal>,
     receipts: &[Receipt],
 ) -> Result<Finished, AllocError>
     ensures audited { IfOk result (IsFinished receipts.now) }
     ensures size { IfOk result (λ f. size f.journals.faults ≡ vec_len journals) }
-    ensures version { IfOk result (λ f. f.journals.version ≡ version) }
-    ensures opening { IfOk result (λ f. f.journals.opening ≡ opening.now) }
+    ensures version { IfOk result (λ f. f.journals.version ≡ first_version journals.items) }
+    ensures opening { IfOk result (λ f. f.journals.opening ≡ first_opening journals.items) }
 {
-    let Ok(journals) = Journals::new(journals) else {
-        return Err(AllocError);
-    };
-    if !are_of(version, opening, &journals) {
-        return Err(AllocError);
+    match Journals::new(journals) {
+        Ok(journals) => audited(alloc, journals, receipts),
+        Err(_) => Err(AllocError),
     }
-    audited(alloc, journals, receipts)
 }

@@ -1,8 +1,10 @@
 //! What hosts carry.
 
-ghost use Rattle.std.specs.Prelude.{◌≡◌, IfSome};
-ghost use Rattle.ep_host.specs.HostFrames.{IsHostFrame, NoneForVersion};
+ghost use Rattle.std.specs.Prelude.{◌≡◌, ◌↔◌, true, IfSome};
+ghost use Rattle.ep_frame.specs.Meaning.{version_at};
+ghost use Rattle.ep_host.specs.HostFrames.{IsHostFrame, IsOnly, NoneForVersion};
 
+use ep_base::Version;
 use ep_frame::{Frame, Origin};
 use std::alloc::AllocError;
 use std::marker::Model;
@@ -76,6 +78,29 @@ pub fn frame_in(given: Option<HostFrame>) -> Option<Frame>
 {
     match given {
         Some(frame) => Some(frame.into_frame()),
+        None => None,
+    }
+}
+
+/// Whether the frame is of this version.
+fn is_of(version: Version, frame: &Frame) -> bool
+    ensures { (result ≡ true) ↔ (version_at frame.now ≡ version) }
+{
+    frame.version() == version
+}
+
+/// The frame, if there is one and it is of this version.
+pub fn only_of(version: Version, given: Option<Frame>) -> Option<Frame>
+    ensures { IsOnly version given result }
+{
+    match given {
+        Some(frame) => {
+            if is_of(version, &frame) {
+                Some(frame)
+            } else {
+                None
+            }
+        }
         None => None,
     }
 }

@@ -1,129 +1,47 @@
 //! Replicas behind locks.
 
-ghost use Rattle.std.specs.Prelude.{◌≡◌, ◌≤◌, ◌++◌, ◌∷◌, [], List, IfOk, IfSome, IfErr, OnOk, OnErr, vec_len};
+ghost use Rattle.std.specs.Prelude.{◌≡◌, IfOk, vec_len, All};
 ghost use Rattle.ep_base.specs.Quorums.{size};
-ghost use Rattle.ep_journal.specs.Entries.{entries_of};
-ghost use Rattle.ep_journal.specs.declared.entry.Entry.{Entry};
-ghost use Rattle.ep_journal.specs.declared.event.Event.TheVariants.{Propose};
-ghost use Rattle.ep_replica.specs.Applied.{Applied};
-ghost use Rattle.ep_replica.specs.Pending.{Submits};
-ghost use Rattle.ep_replica.specs.Receipts.{outcome_of, receipts_after};
-ghost use Rattle.ep_host.specs.Asking.{AreTold, IsKept, IsTaken, IsSubmitted, IsDeclinedThere, IsPumped, IsOutcome, turn_of};
-ghost use Rattle.ep_host.specs.HostFrames.{AreHostFrames};
-ghost use Rattle.ep_host.specs.Sent.{IsCopied};
-ghost use Rattle.ep_host.specs.Tending.{Tends};
+ghost use Rattle.ep_host.specs.Finishing.{StartAs};
+ghost use Rattle.ep_host.specs.Starts.{one_opening, one_version};
 
 use crate::act::Act;
 use crate::finished::Finished;
 use crate::finishing::finished;
 use crate::host_fault::HostFault;
-use crate::host_frame::{HostFrame, frame_in};
 use crate::making;
 use crate::seat::{Seat, inboxes_of, send};
-use crate::sending::{Sending, sent_last};
+use crate::second::Second;
+use crate::sending::Sending;
+use crate::start::Start;
 use crate::tended::Tended;
-use crate::tending::tend;
 use crate::turn::Turn;
 use crate::weather::{Weather, is_weather};
 use ep_base::{Command, Generation, InstanceId, ReplicaId, Size, Version};
-use ep_journal::{Event, Journal, Opening, StepFault};
-use ep_replica::Replica;
+use ep_journal::{Journal, Opening};
 use ep_rules::Receipt;
 use std::alloc::{AllocError, Global};
 use std::sync::Wait;
 
-/// Replicas of one cluster, one for each of its numbers, which any thread may call.
+/// Replicas of one cluster, one for each of its numbers, which any thread may call. They all start as the type says.
 #[derive(Drop)]
-pub struct LockHost {
+pub struct LockHost<S: Start = Second> {
     cluster: Size,
     /// The version of all replicas.
     version: Version,
     /// What all replicas opened with.
     opening: Opening,
-    seats: Vec<Seat>,
+    seats: Vec<Seat<S>>,
     alloc: Global,
     ghost seated: { vec_len seats ≡ size cluster },
+    ghost of_version: { version ≡ S.start.0 } by { one_version _ _ },
+    ghost of_opening: { opening ≡ S.start.1 } by { one_opening _ _ },
 }
 
-/// What a replica is: a law, which costs nothing.
-fn know(replica: &Replica)
-    ensures { IsKept replica.now }
-{
-    // Nothing is done with these: that the entries are a journal, with an opening of its version, is known by asking for them.
-    let journal = replica.journal();
-    let _run = journal.entries();
-    let _opening = journal.opening();
-}
-
-/// The receipt of the instance's outcome here.
-fn receipt_at(
-    alloc: Global,
-    replica: &Replica,
-    instance: InstanceId,
-) -> Result<Option<Receipt>, AllocError>
-    ensures told { IfOk result (λ o. IfSome o (IsOutcome instance)) }
-    ensures exact { IfOk result (λ o. o ≡ outcome_of replica.now.me (entries_of replica.now.entries) instance) }
-{
-    know(replica);
-    match replica.outcome(instance) {
-        Some(view) => Ok(Some(view.to_receipt(alloc)?)),
-        None => Ok(None),
-    }
-}
-
-/// The receipts that the entries after this one give.
-fn receipts_at(alloc: Global, replica: &Replica, entry: u32) -> Result<Vec<Receipt>, AllocError>
-    ensures told { IfOk result (λ receipts. AreTold entry receipts.items) }
-    ensures exact { IfOk result (λ receipts. receipts.items ≡ receipts_after replica.now.me entry (entries_of replica.now.entries)) }
-{
-    know(replica);
-    replica.receipts_after(alloc, entry)
-}
-
-/// The replica takes a proposal. Answers the instance that it is proposed as.
-fn submit(
-    replica: &mut Replica,
-    client: u32,
-    request: u32,
-    command: Command,
-    seen: u64,
-) -> Result<InstanceId, StepFault>
-    ensures ok { IfOk result (IsSubmitted (Propose client request command seen)) }
-    ensures declined { IfErr result (IsDeclinedThere (Propose client request command seen)) }
-    ensures exact { IfOk result (λ i. Submits replica.old (Propose client request command seen) i replica.new) }
-    ensures same { OnErr result (replica.new ≡ replica.old) }
-{
-    know(replica);
-    replica.submit(client, request, command, seen)
-}
-
-/// The replica takes the event, and what its entry sends is to be sent.
-fn direct(alloc: Global, replica: &mut Replica, event: Event) -> Result<Sending, StepFault>
-    ensures ok { OnOk result (IsTaken event) }
-    ensures version { IfOk result (λ s. AreHostFrames s.frames.items) }
-    ensures declined { IfErr result (IsDeclinedThere event) }
-    ensures exact { OnOk result ((e : Entry) × Applied replica.old event e replica.new) }
-    ensures frames { IfOk result (λ s. (before : List Entry) (e : Entry) → replica.new.entries ≡ before ++ e ∷ [] → IsCopied e.frames s.frames.items s.lost) }
-    ensures same { OnErr result (replica.new ≡ replica.old) }
-{
-    know(replica);
-    replica.take(event)?;
-    Ok(sent_last(alloc, replica))
-}
-
-/// The replica is tended.
-fn pump(alloc: Global, replica: &mut Replica, frame: Option<HostFrame>) -> Tended
-    ensures pumped { IsPumped (turn_of result.moved) }
-    ensures exact { Tends frame replica.old replica.new result }
-    ensures version { AreHostFrames result.frames.items }
-{
-    know(replica);
-    tend(alloc, replica, frame_in(frame))
-}
-
-/// The journals of the replicas.
-fn journals_of(alloc: Global, seats: Vec<Seat>) -> Result<Vec<Journal>, AllocError>
-    ensures { IfOk result (λ journals. vec_len journals ≡ vec_len seats) }
+/// The journals of the replicas, which start so.
+fn journals_of<S: Start>(alloc: Global, seats: Vec<Seat<S>>) -> Result<Vec<Journal>, AllocError>
+    ensures start { IfOk result (λ journals. StartAs S.start journals.items) }
+    ensures count { IfOk result (λ journals. vec_len journals ≡ vec_len seats) }
 {
     let mut journals = Vec::new(alloc);
     for seat in seats {
@@ -133,7 +51,7 @@ fn journals_of(alloc: Global, seats: Vec<Seat>) -> Result<Vec<Journal>, AllocErr
     Ok(journals)
 }
 
-impl LockHost {
+impl<S: Start> LockHost<S> {
     ghost use Rattle.std.specs.Prelude.{◌≡◌, ◌≤◌, ◌<◌, IfOk, IfErr, IfSome, OnOk};
     ghost use Rattle.ep_base.specs.Quorums.{size};
     ghost use Rattle.ep_base.specs.declared.version_kind.VersionKind.TheVariants.{V2, V3};
@@ -147,8 +65,9 @@ impl LockHost {
     ghost use Rattle.ep_host.specs.declared.host_fault.HostFault.TheVariants.{OutOfRange};
 
     /// The replicas of a cluster of this size, of version 2, before any event, each with an inbox for so many frames.
-    pub fn new(alloc: Global, cluster: Size, capacity: usize) -> Result<LockHost, AllocError>
-        requires { (1 ≤ capacity) × (capacity ≤ 4096) }
+    pub fn new(alloc: Global, cluster: Size, capacity: usize) -> Result<LockHost<S>, AllocError>
+        requires capacity { (1 ≤ capacity) × (capacity ≤ 4096) }
+        requires start { S.start ≡ (V2, no_opening) }
         ensures cluster { IfOk result (λ host. host.cluster ≡ cluster) }
         ensures version { IfOk result (λ host. host.version ≡ V2) }
         ensures opening { IfOk result (λ host. host.opening ≡ no_opening) }
@@ -176,8 +95,9 @@ impl LockHost {
         capacity: usize,
         generation: Generation,
         opening: &Opening,
-    ) -> Result<LockHost, AllocError>
-        requires { (1 ≤ capacity) × (capacity ≤ 4096) }
+    ) -> Result<LockHost<S>, AllocError>
+        requires capacity { (1 ≤ capacity) × (capacity ≤ 4096) }
+        requires start { S.start ≡ (V3 generation, opening.now) }
         ensures cluster { IfOk result (λ host. host.cluster ≡ cluster) }
         ensures version { IfOk result (λ host. host.version ≡ V3 generation) }
         ensures opening { IfOk result (λ host. host.opening ≡ opening.now) }
@@ -219,7 +139,7 @@ impl LockHost {
     }
 
     /// The seat of the replica.
-    fn seat(&self, replica: ReplicaId) -> Result<&Seat, HostFault>
+    fn seat(&self, replica: ReplicaId) -> Result<&Seat<S>, HostFault>
         ensures ok { OnOk result (replica < size self.now.cluster) }
         ensures err { IfErr result (λ fault. (fault ≡ OutOfRange) × (size self.now.cluster ≤ replica)) }
     {
@@ -239,14 +159,14 @@ impl LockHost {
         command: Command,
         seen: u64,
     ) -> Result<InstanceId, HostFault>
-        ensures ok { IfOk result (λ i. (replica < size self.now.cluster) × IsSubmitted (Propose client request command seen) i) }
-        ensures refused { IfErr result (IsRefused self.now.cluster replica (Propose client request command seen)) }
+        ensures ok { IfOk result (λ i. (replica < size self.now.cluster) × IsSubmitted S.start (Propose client request command seen) i) }
+        ensures refused { IfErr result (IsRefused S.start self.now.cluster replica (Propose client request command seen)) }
     {
         let seat = self.seat(replica)?;
         let (instance, sending) = {
             let mut replica = seat.cell.lock(rt);
-            let instance = submit(&mut replica, client, request, command, seen)?;
-            (instance, sent_last(self.alloc, &replica))
+            let instance = replica.submit(client, request, command, seen)?;
+            (instance, replica.sent_last(self.alloc))
         };
         send(rt, seat, sending);
         Ok(instance)
@@ -254,13 +174,13 @@ impl LockHost {
 
     /// Tells the replica what to do with an instance, and sends the entry's frames.
     pub fn direct<R: Wait>(&self, rt: &R, replica: ReplicaId, act: Act) -> Result<(), HostFault>
-        ensures ok { OnOk result ((replica < size self.now.cluster) × IsTaken (event_of act)) }
-        ensures refused { IfErr result (IsRefused self.now.cluster replica (event_of act)) }
+        ensures ok { OnOk result ((replica < size self.now.cluster) × IsTaken S.start (event_of act)) }
+        ensures refused { IfErr result (IsRefused S.start self.now.cluster replica (event_of act)) }
     {
         let seat = self.seat(replica)?;
         let sending = {
             let mut replica = seat.cell.lock(rt);
-            direct(self.alloc, &mut replica, act.event())?
+            replica.direct(self.alloc, act.event())?
         };
         send(rt, seat, sending);
         Ok(())
@@ -269,7 +189,7 @@ impl LockHost {
     /// Takes at most one frame from the replica's inbox, tends the replica under its lock, and then sends what that answers.
     /// `OutOfRange` where there is no such replica, and no other fault.
     pub fn pump<R: Wait>(&self, rt: &R, replica: ReplicaId) -> Result<Turn, HostFault>
-        ensures ok { IfOk result (λ turn. (replica < size self.now.cluster) × IsPumped turn) }
+        ensures ok { IfOk result (λ turn. (replica < size self.now.cluster) × IsPumped S.start turn) }
         ensures none { IfErr result (λ fault. (fault ≡ OutOfRange) × (size self.now.cluster ≤ replica)) }
     {
         let seat = self.seat(replica)?;
@@ -280,7 +200,7 @@ impl LockHost {
             lost,
         } = {
             let mut replica = seat.cell.lock(rt);
-            pump(self.alloc, &mut replica, frame)
+            replica.pump(self.alloc, frame)
         };
         send(rt, seat, Sending { frames, lost });
         Ok(Turn::of(moved))
@@ -292,10 +212,10 @@ impl LockHost {
         rt: &R,
         instance: InstanceId,
     ) -> Result<Option<Receipt>, AllocError>
-        ensures { IfOk result (λ o. IfSome o (IsOutcomeIn self.now.cluster instance)) }
+        ensures { IfOk result (λ o. IfSome o (IsOutcomeIn S.start self.now.cluster instance)) }
     {
         match self.seat(instance.replica()) {
-            Ok(seat) => receipt_at(self.alloc, &seat.cell.lock(rt), instance),
+            Ok(seat) => seat.cell.lock(rt).outcome(self.alloc, instance),
             Err(_) => Ok(None),
         }
     }
@@ -307,11 +227,11 @@ impl LockHost {
         replica: ReplicaId,
         entry: u32,
     ) -> Result<Vec<Receipt>, HostFault>
-        ensures ok { IfOk result (λ receipts. (replica < size self.now.cluster) × AreTold entry receipts.items) }
+        ensures ok { IfOk result (λ receipts. (replica < size self.now.cluster) × AreTold S.start entry receipts.items) }
         ensures untold { IfErr result (IsUntold self.now.cluster replica) }
     {
         let seat = self.seat(replica)?;
-        let receipts = receipts_at(self.alloc, &seat.cell.lock(rt), entry)?;
+        let receipts = seat.cell.lock(rt).receipts_after(self.alloc, entry)?;
         Ok(receipts)
     }
 
@@ -361,12 +281,12 @@ impl LockHost {
     {
         let LockHost {
             cluster: _,
-            version,
-            opening,
+            version: _,
+            opening: _,
             seats,
             alloc,
         } = self;
         let journals = journals_of(alloc, seats)?;
-        finished(alloc, version, &opening, journals, receipts)
+        finished(alloc, journals, receipts)
     }
 }

@@ -4,10 +4,13 @@ ghost use Rattle.std.specs.Prelude.{◌≡◌, ◌<◌, ◌≤◌, length, All, 
 ghost use Rattle.ep_base.specs.Quorums.{size};
 ghost use Rattle.ep_host.specs.HostFrames.{AreHostFrames};
 ghost use Rattle.ep_host.specs.Outboxes.{IsOpen};
+ghost use Rattle.ep_replica.specs.Kept.{start_of};
 
 use crate::host_frame::HostFrame;
+use crate::host_replica::HostReplica;
 use crate::sender::Sender;
 use crate::sending::Sending;
+use crate::start::Start;
 use ep_base::Size;
 use ep_inbox::Port;
 use ep_replica::Replica;
@@ -17,26 +20,27 @@ use std::sync::{Mutex, Wait};
 /// A replica behind its lock.
 pub type ReplicaCell = Mutex<Replica>;
 
-/// A replica behind its lock, and what it sends and receives by, behind the sending lock.
+/// A replica of a host behind its lock, and what it sends and receives by, behind the sending lock.
 #[derive(Drop)]
-pub struct Seat {
-    pub cell: ReplicaCell,
+pub struct Seat<S: Start> {
+    pub cell: Mutex<HostReplica<S>>,
     pub sender: Mutex<Sender>,
 }
 
-impl Seat {
+impl<S: Start> Seat<S> {
     /// The replica's, of whose cluster these are the inboxes, in order.
     pub fn new(
         alloc: Global,
         replica: Replica,
         inboxes: &[Port<HostFrame>],
-    ) -> Result<Seat, AllocError>
+    ) -> Result<Seat<S>, AllocError>
+        requires start { start_of replica ≡ S.start }
         requires here { replica.me < size replica.faults }
         requires inboxes { length inboxes.now ≡ size replica.faults }
     {
         let sender = Sender::new(alloc, replica.me(), inboxes)?;
         Ok(Seat {
-            cell: Mutex::new(replica),
+            cell: Mutex::new(HostReplica::new(replica)),
             sender: Mutex::new(sender),
         })
     }
@@ -60,7 +64,7 @@ pub fn inboxes_of(
 }
 
 /// Sends frames of the replica of this seat, in order, under its sending lock, in its weather.
-pub fn send<R: Wait>(rt: &R, from: &Seat, sending: Sending)
+pub fn send<S: Start, R: Wait>(rt: &R, from: &Seat<S>, sending: Sending)
     requires { AreHostFrames sending.frames.items }
 {
     from.sender.lock(rt).send(rt, sending);

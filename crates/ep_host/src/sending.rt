@@ -2,7 +2,7 @@
 
 ghost use Rattle.std.specs.Prelude.{◌≡◌, ◌+◌, ◌∷◌, ◌++◌, [], List, IsTrue, IsFalse};
 ghost use Rattle.ep_journal.specs.declared.entry.Entry.{Entry as Written};
-ghost use Rattle.ep_host.specs.HostFrames.{AreHostFrames};
+ghost use Rattle.ep_host.specs.HostFrames.{AreHostFrames, AreOfVersion};
 ghost use Rattle.ep_host.specs.Sent.{IsCopied};
 
 use ep_frame::Frame;
@@ -58,6 +58,7 @@ fn copied(alloc: Global, out: &[Frame]) -> Sending
 pub fn sent_last(alloc: Global, replica: &Replica) -> Sending
     ensures copied { (before : List Written) (e : Written) → replica.now.entries ≡ before ++ e ∷ [] → IsCopied e.frames result.frames.items result.lost }
     ensures version { AreHostFrames result.frames.items }
+    ensures same { AreOfVersion replica.now.version result.frames.items }
 {
     match replica.journal().entries().last() {
         Some(entry) => copied(alloc, entry.frames.as_slice()),

@@ -1,7 +1,7 @@
 //! One pump's work under a replica's lock. It waits for nobody.
 
 ghost use Rattle.std.specs.Prelude.{◌≡◌};
-ghost use Rattle.ep_host.specs.HostFrames.{AreHostFrames};
+ghost use Rattle.ep_host.specs.HostFrames.{AreHostFrames, AreOfVersion};
 ghost use Rattle.ep_host.specs.Tending.{lost_by, Handles, Tends};
 
 use crate::sending::{Sending, nothing, sent_last};
@@ -25,6 +25,7 @@ pub fn lost_by(fault: &StepFault) -> u64
 fn handle(alloc: Global, replica: &mut Replica, frame: Option<Frame>) -> Sending
     ensures handles { Handles frame replica.old result.frames.items result.lost replica.new }
     ensures version { AreHostFrames result.frames.items }
+    ensures same { AreOfVersion replica.old.version result.frames.items }
 {
     let Some(frame) = frame else {
         return nothing(alloc, 0);
@@ -37,10 +38,11 @@ fn handle(alloc: Global, replica: &mut Replica, frame: Option<Frame>) -> Sending
 
 /// Handles the frame, if there is one, and then executes the next ready instance of the replica's own, if there is one.
 ///
-/// A frame that is refused is dropped, and is lost where it was refused for want of memory. The frames to be sent are such as hosts carry.
+/// A frame that is refused is dropped, and is lost where it was refused for want of memory. The frames to be sent are of the replica's version.
 pub fn tend(alloc: Global, replica: &mut Replica, frame: Option<Frame>) -> Tended
     ensures tends { Tends frame replica.old replica.new result }
     ensures version { AreHostFrames result.frames.items }
+    ensures same { AreOfVersion replica.old.version result.frames.items }
 {
     let given = frame.is_some();
     let Sending { frames, lost } = handle(alloc, replica, frame);

@@ -10,6 +10,7 @@ use Rattle.ep_bundle.specs.Journals.{Contents, Finds}
 use Rattle.ep_bundle.specs.Reading.{Left, Reading}
 use Rattle.ep_journal.specs.Entries.{Collected}
 use Rattle.ep_rules.specs.declared.receipt.Receipt.{Receipt}
+use Rattle.ep_main.specs.Chains.{ChainsFiles}
 use Rattle.ep_main.specs.Tasks as tasks
 use Rattle.ep_main.specs.Tasks.{EndsBy, EndsSo, Works}
 use Rattle.ep_main.specs.Upgrades.{IsThirdFault, IsUnread, IsUnupgraded, Reads, ReadsEarly}
@@ -269,6 +270,21 @@ ends_declined (declined.Words text) status reader out fault told r o = subst (λ
 ends_declined declined.Memory status reader out fault told r o = subst (λ s. Ends s reader out fault) (sym told.0) (r, o)
 
 -- Tasks.
+
+pub works_as :
+    (task other : Task) (status : Status) (zs : List ℕ) (reader : Input) (out fault : Output) → task ≡ other → Works other status zs reader out fault →
+    Works task status zs reader out fault
+works_as task other status zs reader out fault is works = subst (λ t. Works t status zs reader out fault) (sym is) works
+
+pub ends_as :
+    (task other : Task) (status : Status) (reader : Input) (out fault : Output) → task ≡ other → EndsBy other status reader out fault → EndsBy task status reader out fault
+ends_as task other status reader out fault is ends = subst (λ t. EndsBy t status reader out fault) (sym is) ends
+
+-- of the same names
+pub files_as :
+    {S : Type 0} (text : S → List ℕ) (slice files : List S) (status : Status) (out fault : Output) → slice ≡ files → ChainsFiles (map text slice) status out fault →
+    ChainsFiles (map text files) status out fault
+files_as {S} text slice files status out fault same chains = subst (λ (l : List S). ChainsFiles (map text l) status out fault) same chains
 
 pub works_asked :
     (task : Task) (want : Asked) (status : Status) (zs : List ℕ) (reader : Input) (out fault : Output) → task ≡ Streams want → Works task status zs reader out fault →

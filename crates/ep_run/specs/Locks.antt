@@ -1,18 +1,19 @@
 -- How a run behind locks begins, and what its journals are.
-use Rattle.std.specs.Prelude.{◌≡◌}
-use Rattle.ep_host.specs.declared.lock_host.LockHost.{LockHost}
+use Rattle.std.specs.Prelude.{◌≡◌, ℕ}
+use Rattle.ep_base.specs.declared.version.Version.{Version}
 use Rattle.ep_journal.specs.Entries.{Collected}
+use Rattle.ep_journal.specs.Openings.{Opening}
 use Rattle.ep_replay.specs.Heads.{opening_of}
 use Rattle.ep_script.specs.Heads.{Head}
 
--- the replicas are those that the head tells of
-pub record HasBegun (h : Head) (host : LockHost) : Type 0 where
-  pub cluster : host.cluster ≡ h.faults
-  pub version : host.version ≡ h.version
-  pub opening : host.opening ≡ opening_of h.opening
+-- the replicas of a host, so many, of this version and with this opening, are those that the head tells of
+pub record HasBegun (h : Head) (cluster : ℕ) (version : Version) (opening : Opening) : Type 0 where
+  pub cluster_is : cluster ≡ h.faults
+  pub version_is : version ≡ h.version
+  pub opening_is : opening ≡ opening_of h.opening
 
--- journals of the host's replicas
-pub record IsOfHost (host : LockHost) (c : Collected) : Type 0 where
-  pub faults : c.faults ≡ host.cluster
-  pub version : c.version ≡ host.version
-  pub opening : c.opening ≡ host.opening
+-- journals of the replicas of such a host
+pub record IsOfHost (cluster : ℕ) (version : Version) (opening : Opening) (c : Collected) : Type 0 where
+  pub faults : c.faults ≡ cluster
+  pub version_is : c.version ≡ version
+  pub opening_is : c.opening ≡ opening

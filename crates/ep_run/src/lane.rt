@@ -3,9 +3,9 @@
 use crate::run_fault::RunFault;
 use crate::submission::Submission;
 use ep_base::{ReplicaId, Size};
-use ep_host::{LockHost, Turn};
+use ep_host::{LockHost, Start, Turn};
 use std::alloc::{AllocError, Global};
-use std::marker::Sync;
+use std::marker::{Send, Sync};
 use std::sync::Wait;
 use std::sync::atomic::{AtomicBool, Ordering};
 use std::thread;
@@ -27,7 +27,13 @@ impl Lane {
     }
 
     /// Has the replica do its tasks, in order.
-    fn submit_all<R: Wait>(&self, rt: &R, alloc: Global, host: &LockHost, tasks: &[Submission]) {
+    fn submit_all<S: Start, R: Wait>(
+        &self,
+        rt: &R,
+        alloc: Global,
+        host: &LockHost<S>,
+        tasks: &[Submission],
+    ) {
         for task in tasks {
             if task.replica == self.replica {
                 task.run(rt, alloc, host);
@@ -37,7 +43,7 @@ impl Lane {
     }
 
     /// Pumps the replica, so often at most, until its tasks are done and a later pump is idle.
-    fn pump_all<R: Wait>(&self, rt: &R, host: &LockHost, turns: u32) {
+    fn pump_all<S: Start, R: Wait>(&self, rt: &R, host: &LockHost<S>, turns: u32) {
         for _ in 0..turns {
             let is_last = self.has_submitted.load(Ordering::SeqCst);
             if host.pump(rt, self.replica) != Ok(Turn::Moved) {
@@ -61,10 +67,10 @@ pub(crate) fn lanes(alloc: Global, cluster: Size) -> Result<Vec<Lane>, AllocErro
 }
 
 /// Runs a section's tasks, in two threads for each lane.
-pub(crate) fn run_lanes<R: Threads + Wait + Sync>(
+pub(crate) fn run_lanes<S: Start + Send + Sync, R: Threads + Wait + Sync>(
     rt: &R,
     alloc: Global,
-    host: &LockHost,
+    host: &LockHost<S>,
     tasks: &[Submission],
     lanes: &[Lane],
     turns: u32,

@@ -1,6 +1,6 @@
 //! Runs.
 
-ghost use Rattle.std.specs.Prelude.{◌≡◌, ℕ, List, IfOk, OnOk};
+ghost use Rattle.std.specs.Prelude.{◌≡◌, ◌≤◌, ℕ, List, IfOk, OnOk};
 ghost use Rattle.ep_base.specs.Quorums.{size as size_with};
 ghost use Rattle.ep_base.specs.declared.version_kind.VersionKind.TheVariants.{V3};
 ghost use Rattle.ep_host.specs.Finishing.{IsFinished};
@@ -20,20 +20,20 @@ use crate::run_fault::RunFault;
 use crate::submission::Submission;
 use crate::weather::{want_of_memory, weather_in};
 use ep_base::{Generation, ReplicaId, VersionKind};
-use ep_host::{LockHost, Turn};
+use ep_host::{LockHost, Start, Turn};
 use ep_replay::{Clients, opening_of};
 use ep_report::Cause;
 use ep_rules::Receipt;
 use ep_script::{Head, RunScript, Section};
 use std::alloc::{AllocError, Global};
-use std::marker::Sync;
+use std::marker::{Brand, Send, Sync};
 use std::sync::Wait;
 use std::thread::Threads;
 
 /// Runs the sections of a script.
 #[derive(Drop)]
-struct Runner {
-    host: LockHost,
+struct Runner<S: Start> {
+    host: LockHost<S>,
     clients: Clients,
     receipts: Vec<Receipt>,
     refused: Vec<(u32, Cause)>,
@@ -59,8 +59,9 @@ fn submissions_of(
 }
 
 /// The replicas that the head tells of, before any event.
-fn host_of(alloc: Global, head: &Head, limits: &Limits) -> Result<LockHost, AllocError>
-    ensures { IfOk result (HasBegun head.now) }
+fn host_of<S: Start>(alloc: Global, head: &Head, limits: &Limits) -> Result<LockHost<S>, AllocError>
+    requires { S.start ≡ (head.now.version, opening_of head.now.opening) }
+    ensures { IfOk result (λ host. HasBegun head.now host.cluster host.version host.opening) }
 {
     let capacity = limits.capacity;
     match head.version().kind() {
@@ -71,7 +72,13 @@ fn host_of(alloc: Global, head: &Head, limits: &Limits) -> Result<LockHost, Allo
 }
 
 /// The replicas of this generation, which open as the head says.
-fn host_in(alloc: Global, head: &Head, number: u32, capacity: usize) -> Result<LockHost, AllocError>
+fn host_in<S: Start>(
+    alloc: Global,
+    head: &Head,
+    number: u32,
+    capacity: usize,
+) -> Result<LockHost<S>, AllocError>
+    requires start { S.start ≡ (V3 number, opening_of head.now.opening) }
     requires number { 1 ≤ number }
     requires capacity { (1 ≤ capacity) × (capacity ≤ 4096) }
     ensures cluster { IfOk result (λ host. host.cluster ≡ head.now.faults) }
@@ -85,10 +92,11 @@ fn host_in(alloc: Global, head: &Head, number: u32, capacity: usize) -> Result<L
     LockHost::opened(alloc, head.size(), capacity, generation, &opening)
 }
 
-impl Runner {
+impl<S: Start + Send + Sync> Runner<S> {
     /// A runner before any section.
-    fn new(alloc: Global, head: &Head, limits: &Limits) -> Result<Runner, AllocError>
-        ensures { IfOk result (λ runner. HasBegun head.now runner.host) }
+    fn new(alloc: Global, head: &Head, limits: &Limits) -> Result<Runner<S>, AllocError>
+        requires { S.start ≡ (head.now.version, opening_of head.now.opening) }
+        ensures { IfOk result (λ runner. HasBegun head.now runner.host.cluster runner.host.version runner.host.opening) }
     {
         let collected = none_collected(alloc, head.size().count() as usize)?;
         let host = host_of(alloc, head, limits)?;
@@ -203,7 +211,7 @@ impl Runner {
     /// What the run leaves.
     fn end<R: Wait>(self, rt: &R) -> Result<Ran, AllocError>
         ensures finished { IfOk result (λ r. IsFinished r.receipts.items r.finished) }
-        ensures begun { IfOk result (λ r. IsOfHost self.host r.finished.journals) }
+        ensures begun { IfOk result (λ r. IsOfHost self.host.cluster self.host.version self.host.opening r.finished.journals) }
     {
         let Runner {
             host,
@@ -222,6 +230,25 @@ impl Runner {
             lost,
         })
     }
+}
+
+/// Runs the script over replicas that start so.
+fn run_as<S: Start + Send + Sync, R: Threads + Wait + Sync>(
+    rt: &R,
+    alloc: Global,
+    script: &RunScript,
+    limits: &Limits,
+) -> Result<Ran, RunFault>
+    requires { S.start ≡ (script.now.head.version, opening_of script.now.head.opening) }
+    ensures finished { IfOk result (λ r. IsFinished r.receipts.items r.finished) }
+    ensures begun { IfOk result (λ r. IsBegun (begun_of script.now.head) r.finished.journals) }
+{
+    let mut runner = Runner::<S>::new(alloc, script.head(), limits)?;
+    for section in script.sections() {
+        runner.run(rt, section, limits.turns)?;
+    }
+    let ran = runner.end(rt)?;
+    Ok(ran)
 }
 
 /// Runs the script in threads, over replicas behind locks.
@@ -244,10 +271,5 @@ pub fn run<R: Threads + Wait + Sync>(
     ensures finished { IfOk result (λ r. IsFinished r.receipts.items r.finished) }
     ensures begun { IfOk result (λ r. IsBegun (begun_of script.now.head) r.finished.journals) }
 {
-    let mut runner = Runner::new(alloc, script.head(), limits)?;
-    for section in script.sections() {
-        runner.run(rt, section, limits.turns)?;
-    }
-    let ran = runner.end(rt)?;
-    Ok(ran)
+    run_as::<Brand, R>(rt, alloc, script, limits)
 }

@@ -2,7 +2,7 @@
 
 use crate::asking::asked_by;
 use ep_base::ReplicaId;
-use ep_host::{Act, HostFault, LockHost, Task};
+use ep_host::{Act, HostFault, LockHost, Start, Task};
 use ep_replay::{Clients, step_cause};
 use ep_report::Cause;
 use ep_script::AgendaLine;
@@ -47,13 +47,18 @@ impl Submission {
     }
 
     /// Has the replica do it, and keeps why it refused.
-    pub(crate) fn run<R: Wait>(&self, rt: &R, alloc: Global, host: &LockHost) {
+    pub(crate) fn run<S: Start, R: Wait>(&self, rt: &R, alloc: Global, host: &LockHost<S>) {
         if let Err(fault) = self.submit(rt, alloc, host) {
             *self.refusal.lock(rt) = Some(cause_of(fault));
         }
     }
 
-    fn submit<R: Wait>(&self, rt: &R, alloc: Global, host: &LockHost) -> Result<(), HostFault> {
+    fn submit<S: Start, R: Wait>(
+        &self,
+        rt: &R,
+        alloc: Global,
+        host: &LockHost<S>,
+    ) -> Result<(), HostFault> {
         match &self.task {
             Task::Propose {
                 client,

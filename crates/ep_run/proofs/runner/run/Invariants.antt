@@ -1,5 +1,5 @@
-use Rattle.ep_run.specs.Locks.{HasBegun}
+use Rattle.ep_replay.specs.Heads.{opening_of}
 use Rattle.ep_run.proofs.runner.run.Given as goal
 
-abbrev pub invariant-loop-section : goal.invariant-loop-section
-invariant-loop-section g l = HasBegun l.script.head l.runner.host
+abbrev pub ghosts-run_as : goal.ghosts-run_as
+ghosts-run_as g a = record { start = (a.script.now.head.version, opening_of a.script.now.head.opening) }
