@@ -7,6 +7,7 @@ use Rattle.ep_collect.specs.Clusters.{Collects}
 use Rattle.ep_collect.specs.Clusters.{IsRefused as IsUncollected}
 use Rattle.ep_collect.specs.declared.collect_fault.CollectFault.{CollectFault}
 use Rattle.ep_journal.specs.Entries.{Collected, Log as Journal}
+use Rattle.ep_log.specs.Origins.{second}
 use Rattle.ep_log.specs.Reading.{IsRead}
 use Rattle.ep_log.specs.Refusing.{IsRefused as IsNoLog}
 use Rattle.ep_log.specs.declared.log_fault.LogFault.{LogFault}
@@ -22,11 +23,11 @@ use Rattle.ep_assemble.specs.declared.assemble_fault.AssembleFault.TheVariants.{
 abbrev pub contents : List (Vec ℕ) → List (List ℕ)
 contents vs = map (λ v. v.items) vs
 
--- a log, of either version, of this journal; it ends here, and is torn where bytes stand behind that
+-- a log, in either version, of this journal of version 2; it ends here, and is torn where bytes stand behind that
 pub record IsReadTo (bytes : List ℕ) (j : Journal) (end : End) : Type 0 where
   pub version : LogVersion
   pub behind : ℕ
-  pub read : IsRead bytes version j end.whole behind
+  pub read : IsRead second bytes version j end.whole behind
   pub torn : end.is_torn ≡ ltb 0 behind
 
 -- each is a log, of this journal, up to its torn end where it has one
@@ -69,7 +70,7 @@ pub record IsFirstRefused (place : ℕ) (fault : LogFault) (logs : List (List �
   pub bytes : List ℕ
   pub stands : slice_get logs place ≡ Some bytes
   pub of : IsOfLog fault
-  pub refused : IsNoLog fault bytes
+  pub refused : IsNoLog second fault bytes
 
 -- all are logs, and their journals aren't one for each replica of one cluster, for this reason
 pub record IsNoCluster (fault : CollectFault) (logs : List (List ℕ)) : Type 0 where
@@ -106,7 +107,7 @@ IsLogRefused TooManyReceipts logs = ⊥
 -- why these bytes, at this place, are no log
 abbrev pub IsNotRead : AssembleFault → ℕ → List ℕ → Type 0
 IsNotRead Memory place bytes = Unit {0}
-IsNotRead (Log at fault) place bytes = (at ≡ place) × IsOfLog fault × IsNoLog fault bytes
+IsNotRead (Log at fault) place bytes = (at ≡ place) × IsOfLog fault × IsNoLog second fault bytes
 IsNotRead (Collect fault) place bytes = ⊥
 IsNotRead (Receipts p at) place bytes = ⊥
 IsNotRead TooManyReceipts place bytes = ⊥

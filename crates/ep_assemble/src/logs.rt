@@ -2,12 +2,13 @@
 
 ghost use Rattle.std.specs.Prelude.{◌≡◌, ◌++◌, ◌∷◌, [], IfOk, IfErr, OnOk};
 ghost use Rattle.ep_assemble.specs.Logs.{AreRead, IsLogRefused, IsNotRead, contents, of_log};
+ghost use Rattle.ep_log.specs.Origins.{second};
 ghost use Rattle.ep_log.specs.Reading.{IsRead};
 
 use crate::assemble_fault::AssembleFault;
 use crate::assembled::End;
 use ep_journal::Journal;
-use ep_log::{LogFault, ReadLog, read_log};
+use ep_log::{LogFault, Origin, ReadLog, read_log};
 use std::alloc::Global;
 
 /// What the logs hold: the journal of each, and where its whole records end.
@@ -35,12 +36,13 @@ pub(crate) fn read_logs(alloc: Global, logs: &[Vec<u8>]) -> Result<Logs, Assembl
     Ok(Logs { journals, ends })
 }
 
-/// Reads the log at this place.
+/// Reads the log at this place, which is of a replica of version 2.
 fn read_one(alloc: Global, place: usize, bytes: &[u8]) -> Result<ReadLog, AssembleFault>
-    ensures ok { IfOk result (λ log. IsRead bytes.now log.version log.journal log.whole log.behind) }
+    ensures ok { IfOk result (λ log. IsRead second bytes.now log.version log.journal log.whole log.behind) }
     ensures err { IfErr result (λ e. IsNotRead e place bytes.now) }
 {
-    match read_log(alloc, bytes) {
+    let origin = Origin::second(alloc);
+    match read_log(alloc, bytes, &origin) {
         Ok(log) => Ok(log),
         Err(fault) => Err(fault_of(place, fault)),
     }

@@ -1,13 +1,12 @@
 -- Generations of nodes that crash and come back are a life.
-use Rattle.std.proofs.Common.{◌≡◌, ℕ, zero, suc, ◌+◌, ◌<◌, ◌≤◌, max, length, Bool, true, false, ◌&&◌, ◌||◌, cond, eqb, ltb, inl, inr, List, [], ◌∷◌, ◌++◌, take, refl, sym, ap, subst, ◌∙◌, arith, append-nil, append_assoc, ⊎_elim}
+use Rattle.std.proofs.Common.{◌≡◌, ℕ, zero, suc, ◌+◌, ◌<◌, ◌≤◌, max, length, Bool, true, false, ◌&&◌, ◌||◌, cond, eqb, ltb, List, [], ◌∷◌, ◌++◌, take, refl, sym, ap, subst, ◌∙◌, arith, append-nil, append_assoc, ⊎_elim}
 use Rattle.std.proofs.lemmas.Bool.{eq-eqb, eqb-true, ne_eqb, cases_eq}
-use Rattle.std.proofs.lemmas.List.{length-take-le, take_all, take-append-drop, length-append}
+use Rattle.std.proofs.lemmas.List.{length-take-le, take_all, length-append}
 use Rattle.ep_base.specs.Quorums.{size}
-use Rattle.ep_rules.specs.Closing.{up_to_seal, first_seal, written_by, HasClosed}
+use Rattle.ep_rules.specs.Closing.{HasClosed}
 use Rattle.ep_rules.specs.Generations.{Turn, Opens, Steps, Life, birth, turned, lived, acts_in, opening_map, opened_at, IsReady}
 use Rattle.ep_rules.specs.Journals.{Entry, IsEntry, left, AreNumbered, stamp_after, heard, Scheduled, of, act_of, acts_of}
 use Rattle.ep_rules.specs.OneMap.{Contents, Store, opened, is_closed}
-use Rattle.ep_rules.specs.Operations.{history_of}
 use Rattle.ep_rules.specs.States.{State, fresh_state}
 use Rattle.ep_rules.specs.Worlds.{opening, IsRun, ends}
 use Rattle.ep_rules.proofs.ClosedJournals.{closed_entries_lem}
@@ -16,9 +15,9 @@ use Rattle.ep_rules.proofs.JournalsCommitted.{of_both}
 use Rattle.ep_rules.proofs.JournalsGrow.{numbered_grow, own_entries_leave_lem}
 use Rattle.ep_rules.proofs.Lives.{runs_make_lives_lem}
 use Rattle.ep_rules.proofs.LivesLinear.{lives_are_linearizable_lem}
-use Rattle.ep_node.specs.Crashes.{Start, Cluster, fresh_cluster, Move, Take, HandOut, ComeBack, mover, IsMove, with_at, moved, AreMoves, cluster_after, handed_out, kept, stand_after, standing, IsOneRun, IsInRealTime, IsBeginning}
+use Rattle.ep_node.specs.Crashes.{Start, Cluster, fresh_cluster, Move, Take, HandOut, ComeBack, mover, IsMove, with_at, moved, AreMoves, cluster_after, handed_out, kept, stand_after, standing, IsOneRun, IsBeginning}
 use Rattle.ep_node.specs.CrashLives.{Generations, newborn, start_of, store_out, LifeMove, Within, OpensNext, IsLifeMove, opened_next, after_move, AreLifeMoves, life_after, Stood, Took, Opened, is_lost, kept_in, stand_on, stood, taken_in, turn_of, turns_of, IsLifeInRealTime, CrashingLivesAreLinearizable}
-use Rattle.ep_node.proofs.CrashMoves.{at_each, at_same, begins_trans, take_begins, numbered_take, stamp_least}
+use Rattle.ep_node.proofs.CrashMoves.{at_each, take_begins, numbered_take, stamp_least}
 use Rattle.ep_node.proofs.CrashOrders.{low, low_take, kept_here, kept_other, own_move, crashing_runs_are_linearizable_lem}
 use Rattle.ep_node.proofs.CrashRuns.{crashing_runs_are_runs_lem}
 use Rattle.ep_node.proofs.CrashTraces.{out_next}

@@ -15,8 +15,10 @@ mod open_fault;
 mod open_laws;
 mod opening;
 mod records;
+mod resumed;
 mod started;
 mod taking;
+mod whose;
 
 pub use begin::Begin;
 pub use crash_law::{
@@ -29,3 +31,4 @@ pub use node::Node;
 pub use node_fault::NodeFault;
 pub use open_fault::OpenFault;
 pub use open_laws::cuts_are_opened;
+pub use whose::Whose;

@@ -98,7 +98,7 @@ impl From<ResumeFault> for OpenFault {
     fn from(fault: ResumeFault) -> OpenFault {
         match fault {
             ResumeFault::Memory => OpenFault::Memory,
-            // The entries of logs are of version 2.
+            // The entries of logs are of version 2 or of a generation.
             ResumeFault::OtherVersion => OpenFault::OtherLog,
             ResumeFault::NotClocked(number) => OpenFault::NotClocked(number),
         }

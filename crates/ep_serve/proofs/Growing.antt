@@ -1,5 +1,5 @@
 -- What a replica takes, it has behind what it had.
-use Rattle.std.proofs.Common.{◌≡◌, ℕ, zero, suc, ◌≤◌, Bool, true, false, length, take, List, [], ◌∷◌, ◌++◌, append-nil, append_assoc, take_all, Option, Some, None, Result, Ok, Err, inl, inr, refl, sym, ap, ◌∙◌, subst, arith}
+use Rattle.std.proofs.Common.{◌≡◌, ℕ, zero, suc, ◌≤◌, length, take, List, [], ◌∷◌, ◌++◌, append-nil, append_assoc, Result, Ok, Err, inl, inr, sym, ◌∙◌, subst}
 use Rattle.std.specs.Prelude.{MatchResult}
 use Rattle.std.proofs.lemmas.List.{take-append-le}
 use Rattle.ep_frame.specs.Faults.{fault_of}
@@ -9,8 +9,7 @@ use Rattle.ep_journal.specs.declared.event.Event.{Event as Happening}
 use Rattle.ep_journal.specs.declared.event.Event.TheVariants as event
 use Rattle.ep_node.specs.Nodes.{Takes}
 use Rattle.ep_replica.specs.Kept.{Kept}
-use Rattle.ep_replica.specs.Pending.{ExecutesNext}
-use Rattle.ep_serve.specs.Acting.{Acts, Executes, Handles, TakesOrRefuses}
+use Rattle.ep_serve.specs.Acting.{Acts, Executes, TakesOrRefuses}
 use Rattle.ep_serve.specs.Serving.{AllWait, AreServed, IsBatch, Waiting}
 use Rattle.ep_serve.specs.Lasting.{Crashes}
 use Rattle.ep_serve.specs.declared.due.Due.{Due}

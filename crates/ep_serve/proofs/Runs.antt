@@ -1,10 +1,8 @@
 -- Runs of requests, one more at their end.
-use Rattle.std.proofs.Common.{◌≡◌, ◌⊎◌, ℕ, zero, suc, ◌+◌, ◌<◌, ◌≤◌, Bool, true, false, ◌||◌, length, take, get_or, List, [], ◌∷◌, ◌++◌, append-nil, append_assoc, Option, Some, None, Result, Ok, Err, inl, inr, refl, sym, ap, ◌∙◌, subst, arith}
-use Rattle.std.specs.Prelude.{IfErr, IsErrAnd}
+use Rattle.std.proofs.Common.{◌≡◌, ℕ, zero, suc, ◌+◌, ◌<◌, length, take, get_or, List, [], ◌∷◌, ◌++◌, append-nil, append_assoc, Option, Some, None, Result, Ok, Err, inl, inr, refl, sym, ap, ◌∙◌, subst}
+use Rattle.std.specs.Prelude.{IsErrAnd}
 use Rattle.std.proofs.KnownBytes.{Appends-nil, Appends-trans}
-use Rattle.ep_base.specs.Devices.{FailsAsTold}
 use Rattle.ep_bundle.specs.Reading.{Left}
-use Rattle.ep_node.specs.Nodes.{IsQuiet, Logged}
 use Rattle.ep_replica.specs.Kept.{Kept}
 use Rattle.ep_wire.specs.Requests.{next_request, ReadsRequest}
 use Rattle.ep_wire.specs.declared.request.Request.{Request}
@@ -14,12 +12,12 @@ use Rattle.ep_serve.specs.Acting.{Acts}
 use Rattle.ep_serve.specs.Answering.{AllTold, IsTold, Tell, Tells}
 use Rattle.ep_serve.specs.Faults.{of_request}
 use Rattle.ep_serve.specs.Lasting.{Crashes, Lasts, LastsFrom}
-use Rattle.ep_serve.specs.Serving.{AllWait, AreRead, AreServed, Ends, InService, IsBatch, IsSilent, MayWait, Serves, ServesAll, Waiting, Waits}
+use Rattle.ep_serve.specs.Serving.{AllWait, AreRead, AreServed, Ends, InService, IsBatch, IsSilent, MayWait, Serves, ServesAll}
 use Rattle.ep_serve.specs.declared.due.Due.{Due}
 use Rattle.ep_serve.specs.declared.mode.Mode.{Mode}
 use Rattle.ep_serve.specs.declared.serve_fault.ServeFault.{ServeFault}
 use Rattle.ep_serve.specs.declared.serve_fault.ServeFault.TheVariants.{Memory, ReadFailed, BadRequest, WriteFailed, LogFailed}
-use Rattle.ep_serve.proofs.Growing.{Extends, served_more_entries, waiting_more, extends_more}
+use Rattle.ep_serve.proofs.Growing.{Extends, served_more_entries, extends_more}
 use Rattle.ep_serve.proofs.Keeping.{Passes, lasts_on, lasts_from_on}
 use Rattle.ep_serve.proofs.Lists.{take_more}
 

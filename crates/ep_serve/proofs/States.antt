@@ -1,9 +1,8 @@
 -- The loop, from one request to the next.
-use Rattle.std.proofs.Common.{◌≡◌, ◌⊎◌, ℕ, ◌+◌, ◌≤◌, Bool, true, false, ◌||◌, length, length-append, List, [], ◌∷◌, ◌++◌, Option, Some, None, Result, Ok, Err, inl, inr, refl, sym, ap, ◌∙◌, subst, arith}
+use Rattle.std.proofs.Common.{◌≡◌, ℕ, ◌≤◌, Bool, false, length, length-append, List, [], ◌∷◌, ◌++◌, Option, Some, Result, Ok, Err, inl, inr, refl, sym, ap, ◌∙◌, subst, arith}
 use Rattle.std.specs.Prelude.{IsErrAnd, IsTrue, ◌↔◌}
 use Rattle.std.proofs.lemmas.Bool.{false≢true}
 use Rattle.ep_base.specs.Quorums.{size}
-use Rattle.ep_bundle.specs.Reading.{Left}
 use Rattle.ep_device.specs.Device.{LeavesOnly}
 use Rattle.ep_node.specs.Nodes.{IsCut, IsQuiet, Logged}
 use Rattle.ep_replica.specs.Kept.{Kept}
@@ -25,7 +24,7 @@ use Rattle.ep_serve.proofs.Runs.{all_served, begins, cut_short, one_is_written, 
 pub record Stands {D : Type 0} (seen : D → Option (List ℕ)) (moment : D → ℕ) (left_since : D → ℕ → List ℕ → Type 0) (mode : Mode) (start node : Logged D) (zs : List ℕ) (old held : Option (List ℕ)) (place : ℕ) (left : Option (List ℕ)) (dues : List Due) : Type 0 where
   pub ys : List ℕ
   pub left_is : left ≡ Some ys
-  pub service : InService mode (size start.replica.faults) (crashes seen moment left_since start.device node.device) start.replica (record { at = 0; bytes = zs }) old held node.replica (record { at = place; bytes = ys }) dues
+  pub service : InService mode (size start.replica.faults) (crashes start.digest seen moment left_since start.device node.device) start.replica (record { at = 0; bytes = zs }) old held node.replica (record { at = place; bytes = ys }) dues
   pub synced : node.synced ≡ length service.replica.entries
 
 pub stands_first : {D : Type 0} (seen : D → Option (List ℕ)) (moment : D → ℕ) (left_since : D → ℕ → List ℕ → Type 0) (mode : Mode) (start : Logged D) (zs : List ℕ) (old left : Option (List ℕ)) (dues : List Due) → IsQuiet start → left ≡ Some zs → dues ≡ []
@@ -35,8 +34,8 @@ stands_first seen moment left_since mode start zs old left dues quiet is none at
     (record {
       ys = zs;
       left_is = is;
-      service = begins mode (size start.replica.faults) (crashes seen moment left_since start.device start.device) start.replica (record { at = 0; bytes = zs }) old
-          (lasts_first seen moment left_since start.device start.replica (rests seen moment left_since start start.device start.replica refl quiet (λ bytes was. (bytes, was)) at_rest));
+      service = begins mode (size start.replica.faults) (crashes start.digest seen moment left_since start.device start.device) start.replica (record { at = 0; bytes = zs }) old
+          (lasts_first start.digest seen moment left_since start.device start.replica (rests start.digest seen moment left_since start start.device start.replica refl refl quiet (λ bytes was. (bytes, was)) at_rest));
       synced = quiet.synced;
     })
 
@@ -50,37 +49,39 @@ waits_on : {D : Type 0} (seen : D → Option (List ℕ)) (moment : D → ℕ) (l
 waits_on seen moment left_since mode start node k zs old held left p q before r d xs s next acted may = record {
   ys = xs;
   left_is = refl;
-  service = one_waits mode (size start.replica.faults) (crashes seen moment left_since start.device node.device) start.replica node.replica k (record { at = 0; bytes = zs }) (record { at = p; bytes = s.ys }) (record { at = q; bytes = xs }) old held before r d s.service next acted
+  service = one_waits mode (size start.replica.faults) (crashes start.digest seen moment left_since start.device node.device) start.replica node.replica k (record { at = 0; bytes = zs }) (record { at = p; bytes = s.ys }) (record { at = q; bytes = xs }) old held before r d s.service next acted
       (may_as mode node.synced (length s.service.replica.entries) r k s.synced may);
   synced = s.synced;
 }
 
 -- its answer is written, with all that waited
 written_on : {D : Type 0} (seen : D → Option (List ℕ)) (moment : D → ℕ) (left_since : D → ℕ → List ℕ → Type 0) (mode : Mode) (start node node' : Logged D) (zs : List ℕ) (old held new left : Option (List ℕ)) (p q : ℕ) (before : List Due) (r : Request) (d : Due) (xs : List ℕ)
-    (s : Stands seen moment left_since mode start node zs old held p left before) → next_request (size start.replica.faults) (record { at = p; bytes = s.ys }) ≡ Ok (Some r, record { at = q; bytes = xs }) → Acts node.replica r d node'.replica → ¬ MayWait mode node.synced r node'.replica
-    → Tell node'.replica (before ++ d ∷ []) held new → IsQuiet node' → IsKept seen moment left_since node.device node'.device node'.replica → GoesOn seen moment left_since node.device node'.device node.replica node.synced → StaysKnown seen start.device node.device
+    (s : Stands seen moment left_since mode start node zs old held p left before) → node.digest ≡ start.digest → next_request (size start.replica.faults) (record { at = p; bytes = s.ys }) ≡ Ok (Some r, record { at = q; bytes = xs }) → Acts node.replica r d node'.replica → ¬ MayWait mode node.synced r node'.replica
+    → Tell node'.replica (before ++ d ∷ []) held new → IsQuiet node' → IsKept node.digest seen moment left_since node.device node'.device node'.replica → GoesOn node.digest seen moment left_since node.device node'.device node.replica node.synced → StaysKnown seen start.device node.device
     → Stands seen moment left_since mode start node' zs old new q (Some xs) []
-written_on seen moment left_since mode start node node' zs old held new left p q before r d xs s next acted may told quiet kept goes known =
+written_on seen moment left_since mode start node node' zs old held new left p q before r d xs s own next acted may told quiet kept goes known =
+    let stays : IsKept start.digest seen moment left_since node.device node'.device node'.replica = subst (λ (x : List ℕ). IsKept x seen moment left_since node.device node'.device node'.replica) own kept in
+    let onward : GoesOn start.digest seen moment left_since node.device node'.device node.replica node.synced = subst (λ (x : List ℕ). GoesOn x seen moment left_since node.device node'.device node.replica node.synced) own goes in
     let n : ℕ = size start.replica.faults in
-    let w' : Crashes = crashes seen moment left_since start.device node'.device in
+    let w' : Crashes = crashes start.digest seen moment left_since start.device node'.device in
     let extends : Extends s.service.replica node.replica = waiting_more mode n s.service.replica node.replica s.service.from (record { at = p; bytes = s.ys }) before s.service.waiting in
     let moved : InService mode n w' start.replica (record { at = 0; bytes = zs }) old held node.replica (record { at = p; bytes = s.ys }) before =
-    service_on mode n (crashes seen moment left_since start.device node.device) w' start.replica node.replica (record { at = 0; bytes = zs }) (record { at = p; bytes = s.ys }) old held before s.service
-    (passes seen moment left_since start.device node.device node'.device node.replica s.service.replica node.synced known s.synced extends goes) in
+    service_on mode n (crashes start.digest seen moment left_since start.device node.device) w' start.replica node.replica (record { at = 0; bytes = zs }) (record { at = p; bytes = s.ys }) old held before s.service
+    (passes start.digest seen moment left_since start.device node.device node'.device node.replica s.service.replica node.synced known s.synced extends onward) in
     record {
       ys = xs;
       left_is = refl;
       service = one_is_written mode n w' start.replica node.replica node'.replica (record { at = 0; bytes = zs }) (record { at = p; bytes = s.ys }) (record { at = q; bytes = xs }) old held new before r d moved next acted
-          (λ m. may (may_as mode (length s.service.replica.entries) node.synced r node'.replica (sym s.synced) m)) told (lasts_now seen moment left_since start.device node.device node'.device node'.replica known kept);
+          (λ m. may (may_as mode (length s.service.replica.entries) node.synced r node'.replica (sym s.synced) m)) told (lasts_now start.digest seen moment left_since start.device node.device node'.device node'.replica known stays);
       synced = quiet.synced;
     }
 
 pub stands_next : {D : Type 0} (seen : D → Option (List ℕ)) (moment : D → ℕ) (left_since : D → ℕ → List ℕ → Type 0) (mode : Mode) (start node node' : Logged D) (zs : List ℕ) (old held new left left' : Option (List ℕ)) (p q n : ℕ) (before after : List Due) (found : Option Request) (r : Request)
-    → (s : Stands seen moment left_since mode start node zs old held p left before) → n ≡ size start.replica.faults → ReadsRequest n (record { at = p; bytes = s.ys }) (Ok found) q left' → found ≡ Some r
-    → (m : Mode) → m ≡ mode → Waits m node r before held node' after new (IsKept seen moment left_since node.device node'.device node'.replica) → GoesOn seen moment left_since node.device node'.device node.replica node.synced → StaysKnown seen start.device node.device
+    → (s : Stands seen moment left_since mode start node zs old held p left before) → node.digest ≡ start.digest → n ≡ size start.replica.faults → ReadsRequest n (record { at = p; bytes = s.ys }) (Ok found) q left' → found ≡ Some r
+    → (m : Mode) → m ≡ mode → Waits m node r before held node' after new (IsKept node.digest seen moment left_since node.device node'.device node'.replica) → GoesOn node.digest seen moment left_since node.device node'.device node.replica node.synced → StaysKnown seen start.device node.device
     → Stands seen moment left_since mode start node' zs old new q left' after
-stands_next {D = D} seen moment left_since mode start node node' zs old held new left left' p q n before after found r s same read is m mode_is w' goes known =
-    let w : Waits mode node r before held node' after new (IsKept seen moment left_since node.device node'.device node'.replica) = subst (λ (x : Mode). Waits x node r before held node' after new (IsKept seen moment left_since node.device node'.device node'.replica)) mode_is w' in
+stands_next {D = D} seen moment left_since mode start node node' zs old held new left left' p q n before after found r s own same read is m mode_is w' goes known =
+    let w : Waits mode node r before held node' after new (IsKept node.digest seen moment left_since node.device node'.device node'.replica) = subst (λ (x : Mode). Waits x node r before held node' after new (IsKept node.digest seen moment left_since node.device node'.device node'.replica)) mode_is w' in
     subst (λ (x : Option (List ℕ)). Stands seen moment left_since mode start node' zs old new q x after) (sym read.1) (elim w.2 [
       | inl a ↦
           subst (λ (x : Logged D). Stands seen moment left_since mode start x zs old new q (Some read.0) after) (sym a.3)
@@ -89,7 +90,7 @@ stands_next {D = D} seen moment left_since mode start node node' zs old held new
           (waits_on seen moment left_since mode start node node'.replica zs old held left p q before r w.0 read.0 s (next n same read.2) w.1 a.0)))
       | inr a ↦
           subst (λ (x : List Due). Stands seen moment left_since mode start node' zs old new q (Some read.0) x) (sym a.1)
-          (written_on seen moment left_since mode start node node' zs old held new left p q before r w.0 read.0 s (next n same read.2) w.1 a.0 a.2 a.3 a.4 goes known)
+          (written_on seen moment left_since mode start node node' zs old held new left p q before r w.0 read.0 s own (next n same read.2) w.1 a.0 a.2 a.3 a.4 goes known)
     ])
   where
     next : (n : ℕ) → n ≡ size start.replica.faults → next_request n (record { at = p; bytes = s.ys }) ≡ Ok (found, record { at = q; bytes = read.0 }) → next_request (size start.replica.faults) (record { at = p; bytes = s.ys }) ≡ Ok (Some r, record { at = q; bytes = read.0 })
@@ -97,12 +98,13 @@ stands_next {D = D} seen moment left_since mode start node node' zs old held new
 
 -- the service after a call that may have failed
 pub goes_on_to : {D : Type 0} (seen : D → Option (List ℕ)) (moment : D → ℕ) (left_since : D → ℕ → List ℕ → Type 0) (mode : Mode) (start node node' : Logged D) (zs : List ℕ) (old held left : Option (List ℕ)) (p : ℕ) (before : List Due)
-    (s : Stands seen moment left_since mode start node zs old held p left before) → GoesOn seen moment left_since node.device node'.device node.replica node.synced → StaysKnown seen start.device node.device
-    → InService mode (size start.replica.faults) (crashes seen moment left_since start.device node'.device) start.replica (record { at = 0; bytes = zs }) old held node.replica (record { at = p; bytes = s.ys }) before
-goes_on_to seen moment left_since mode start node node' zs old held left p before s goes known =
+    (s : Stands seen moment left_since mode start node zs old held p left before) → node.digest ≡ start.digest → GoesOn node.digest seen moment left_since node.device node'.device node.replica node.synced → StaysKnown seen start.device node.device
+    → InService mode (size start.replica.faults) (crashes start.digest seen moment left_since start.device node'.device) start.replica (record { at = 0; bytes = zs }) old held node.replica (record { at = p; bytes = s.ys }) before
+goes_on_to seen moment left_since mode start node node' zs old held left p before s own goes known =
+    let onward : GoesOn start.digest seen moment left_since node.device node'.device node.replica node.synced = subst (λ (x : List ℕ). GoesOn x seen moment left_since node.device node'.device node.replica node.synced) own goes in
     let n : ℕ = size start.replica.faults in
-    service_on mode n (crashes seen moment left_since start.device node.device) (crashes seen moment left_since start.device node'.device) start.replica node.replica (record { at = 0; bytes = zs }) (record { at = p; bytes = s.ys }) old held before s.service
-    (passes seen moment left_since start.device node.device node'.device node.replica s.service.replica node.synced known s.synced (waiting_more mode n s.service.replica node.replica s.service.from (record { at = p; bytes = s.ys }) before s.service.waiting) goes)
+    service_on mode n (crashes start.digest seen moment left_since start.device node.device) (crashes start.digest seen moment left_since start.device node'.device) start.replica node.replica (record { at = 0; bytes = zs }) (record { at = p; bytes = s.ys }) old held before s.service
+    (passes start.digest seen moment left_since start.device node.device node'.device node.replica s.service.replica node.synced known s.synced (waiting_more mode n s.service.replica node.replica s.service.from (record { at = p; bytes = s.ys }) before s.service.waiting) onward)
 
 pub unwritten_so : (e : ServeFault) (P : Type 0) → IfUnwritten (Err e) P → e ≡ WriteFailed → P
 unwritten_so e P h is = subst (λ (x : ServeFault). IfUnwritten (Err x) P) is h
@@ -112,36 +114,37 @@ settled_so e P h is = subst (λ (x : ServeFault). IfSettled (Err x) P) is h
 
 -- a fault at a request
 pub stopped : {D : Type 0} (seen : D → Option (List ℕ)) (moment : D → ℕ) (left_since : D → ℕ → List ℕ → Type 0) (mode : Mode) (start node node' : Logged D) (zs : List ℕ) (old held new left : Option (List ℕ)) (p : ℕ) (before : List Due) (e : ServeFault) (r : Result Unit ServeFault)
-    (s : Stands seen moment left_since mode start node zs old held p left before) → IsSilent e held new → IfUnwritten (Err e) (IsQuiet node' × IsKept seen moment left_since node.device node'.device node'.replica)
-    → GoesOn seen moment left_since node.device node'.device node.replica node.synced → StaysKnown seen start.device node.device → IsErrAnd r (λ x. x ≡ e)
-    → Ends mode (size start.replica.faults) (crashes seen moment left_since start.device node'.device) start.replica (record { at = 0; bytes = zs }) old new r node'.replica
-stopped seen moment left_since mode start node node' zs old held new left p before e r s silent unwritten goes known is =
-    cut_short mode (size start.replica.faults) (crashes seen moment left_since start.device node'.device) start.replica node.replica node'.replica (record { at = 0; bytes = zs }) (record { at = p; bytes = s.ys }) old held new before r e
-    (goes_on_to seen moment left_since mode start node node' zs old held left p before s goes known) silent
-    (λ failed. lasts_now seen moment left_since start.device node.device node'.device node'.replica known ((unwritten_so e (IsQuiet node' × IsKept seen moment left_since node.device node'.device node'.replica) unwritten failed).1)) is
+    (s : Stands seen moment left_since mode start node zs old held p left before) → node.digest ≡ start.digest → IsSilent e held new → IfUnwritten (Err e) (IsQuiet node' × IsKept node.digest seen moment left_since node.device node'.device node'.replica)
+    → GoesOn node.digest seen moment left_since node.device node'.device node.replica node.synced → StaysKnown seen start.device node.device → IsErrAnd r (λ x. x ≡ e)
+    → Ends mode (size start.replica.faults) (crashes start.digest seen moment left_since start.device node'.device) start.replica (record { at = 0; bytes = zs }) old new r node'.replica
+stopped seen moment left_since mode start node node' zs old held new left p before e r s own silent unwritten goes known is =
+    cut_short mode (size start.replica.faults) (crashes start.digest seen moment left_since start.device node'.device) start.replica node.replica node'.replica (record { at = 0; bytes = zs }) (record { at = p; bytes = s.ys }) old held new before r e
+    (goes_on_to seen moment left_since mode start node node' zs old held left p before s own goes known) silent
+    (λ failed. lasts_now start.digest seen moment left_since start.device node.device node'.device node'.replica known (subst (λ (x : List ℕ). IsKept x seen moment left_since node.device node'.device node'.replica) own (unwritten_so e (IsQuiet node' × IsKept node.digest seen moment left_since node.device node'.device node'.replica) unwritten failed).1)) is
 
 -- a fault where all that waits was to be written
 pub stopped_settling : {D : Type 0} (seen : D → Option (List ℕ)) (moment : D → ℕ) (left_since : D → ℕ → List ℕ → Type 0) (mode : Mode) (start node node' : Logged D) (zs : List ℕ) (old held new left : Option (List ℕ)) (p : ℕ) (before : List Due) (e : ServeFault) (r : Result Unit ServeFault)
-    (s : Stands seen moment left_since mode start node zs old held p left before) → node'.replica ≡ node.replica → IsSilent e held new → IfSettled (Err e) (IsKept seen moment left_since node.device node'.device node.replica)
-    → GoesOn seen moment left_since node.device node'.device node.replica node.synced → StaysKnown seen start.device node.device → IsErrAnd r (λ x. x ≡ e)
-    → Ends mode (size start.replica.faults) (crashes seen moment left_since start.device node'.device) start.replica (record { at = 0; bytes = zs }) old new r node'.replica
-stopped_settling seen moment left_since mode start node node' zs old held new left p before e r s same silent kept goes known is =
-    cut_short mode (size start.replica.faults) (crashes seen moment left_since start.device node'.device) start.replica node.replica node'.replica (record { at = 0; bytes = zs }) (record { at = p; bytes = s.ys }) old held new before r e
-    (goes_on_to seen moment left_since mode start node node' zs old held left p before s goes known) silent
-    (λ failed. subst (λ (x : Kept). Lasts (crashes seen moment left_since start.device node'.device) x) (sym same)
-    (lasts_now seen moment left_since start.device node.device node'.device node.replica known (settled_so e (IsKept seen moment left_since node.device node'.device node.replica) kept failed))) is
+    (s : Stands seen moment left_since mode start node zs old held p left before) → node.digest ≡ start.digest → node'.replica ≡ node.replica → IsSilent e held new → IfSettled (Err e) (IsKept node.digest seen moment left_since node.device node'.device node.replica)
+    → GoesOn node.digest seen moment left_since node.device node'.device node.replica node.synced → StaysKnown seen start.device node.device → IsErrAnd r (λ x. x ≡ e)
+    → Ends mode (size start.replica.faults) (crashes start.digest seen moment left_since start.device node'.device) start.replica (record { at = 0; bytes = zs }) old new r node'.replica
+stopped_settling seen moment left_since mode start node node' zs old held new left p before e r s own same silent kept goes known is =
+    cut_short mode (size start.replica.faults) (crashes start.digest seen moment left_since start.device node'.device) start.replica node.replica node'.replica (record { at = 0; bytes = zs }) (record { at = p; bytes = s.ys }) old held new before r e
+    (goes_on_to seen moment left_since mode start node node' zs old held left p before s own goes known) silent
+    (λ failed. subst (λ (x : Kept). Lasts (crashes start.digest seen moment left_since start.device node'.device) x) (sym same)
+    (lasts_now start.digest seen moment left_since start.device node.device node'.device node.replica known (subst (λ (x : List ℕ). IsKept x seen moment left_since node.device node'.device node.replica) own (settled_so e (IsKept node.digest seen moment left_since node.device node'.device node.replica) kept failed)))) is
 
 -- all that waited was written
 pub all_settled : {D : Type 0} (seen : D → Option (List ℕ)) (moment : D → ℕ) (left_since : D → ℕ → List ℕ → Type 0) (mode : Mode) (start node node' : Logged D) (zs : List ℕ) (old held new left : Option (List ℕ)) (p : ℕ) (before after : List Due)
-    (s : Stands seen moment left_since mode start node zs old held p left before) → node'.replica ≡ node.replica → Tell node.replica before held new × (after ≡ []) → IsKept seen moment left_since node.device node'.device node.replica
-    → GoesOn seen moment left_since node.device node'.device node.replica node.synced → StaysKnown seen start.device node.device
-    → ServesAll mode (size start.replica.faults) (crashes seen moment left_since start.device node'.device) start.replica (record { at = 0; bytes = zs }) old new node'.replica (record { at = p; bytes = s.ys })
-all_settled seen moment left_since mode start node node' zs old held new left p before after s same told kept goes known =
+    (s : Stands seen moment left_since mode start node zs old held p left before) → node.digest ≡ start.digest → node'.replica ≡ node.replica → Tell node.replica before held new × (after ≡ []) → IsKept node.digest seen moment left_since node.device node'.device node.replica
+    → GoesOn node.digest seen moment left_since node.device node'.device node.replica node.synced → StaysKnown seen start.device node.device
+    → ServesAll mode (size start.replica.faults) (crashes start.digest seen moment left_since start.device node'.device) start.replica (record { at = 0; bytes = zs }) old new node'.replica (record { at = p; bytes = s.ys })
+all_settled seen moment left_since mode start node node' zs old held new left p before after s own same told kept goes known =
+    let stays : IsKept start.digest seen moment left_since node.device node'.device node.replica = subst (λ (x : List ℕ). IsKept x seen moment left_since node.device node'.device node.replica) own kept in
     let n : ℕ = size start.replica.faults in
-    let w' : Crashes = crashes seen moment left_since start.device node'.device in
+    let w' : Crashes = crashes start.digest seen moment left_since start.device node'.device in
     subst (λ (x : Kept). ServesAll mode n w' start.replica (record { at = 0; bytes = zs }) old new x (record { at = p; bytes = s.ys })) (sym same)
-    (all_served mode n w' start.replica node.replica (record { at = 0; bytes = zs }) (record { at = p; bytes = s.ys }) old held new before (goes_on_to seen moment left_since mode start node node' zs old held left p before s goes known)
-    (lasts_now seen moment left_since start.device node.device node'.device node.replica known kept) told.0)
+    (all_served mode n w' start.replica node.replica (record { at = 0; bytes = zs }) (record { at = p; bytes = s.ys }) old held new before (goes_on_to seen moment left_since mode start node node' zs old held left p before s own goes known)
+    (lasts_now start.digest seen moment left_since start.device node.device node'.device node.replica known stays) told.0)
 
 -- the node still works, and what is on its disk it has
 pub works_on : {D : Type 0} (mode : Mode) (node node' : Logged D) (r : Request) (before after : List Due) (old new : Option (List ℕ)) (P : Type 0) → node.closed ≡ false → Waits mode node r before old node' after new P → node'.closed ≡ false

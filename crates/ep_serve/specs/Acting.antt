@@ -9,7 +9,7 @@ use Rattle.ep_node.specs.Nodes.{Takes}
 use Rattle.ep_replica.specs.Applied.{IsDeclined}
 use Rattle.ep_replica.specs.Kept.{Kept}
 use Rattle.ep_replica.specs.Pending.{ExecutesNext}
-use Rattle.ep_rules.specs.Journals.{last_stamp}
+use Rattle.ep_rules.specs.Journals.{stamp_after}
 use Rattle.ep_serve.specs.declared.due.Due.{Due}
 use Rattle.ep_serve.specs.declared.due.Due.TheVariants.{Taken, Refused, Value, Open, Leads, Synced, Malformed}
 use Rattle.ep_wire.specs.declared.refusal.Refusal.{Refusal}
@@ -34,7 +34,7 @@ TakesOrRefuses k happening (Malformed m) k' = ⊥
 
 -- the stamp that a client has seen is more than 2^40 above that of the replica's last entry
 abbrev pub IsFarAhead : Kept → ℕ → Type 0
-IsFarAhead k seen = last_stamp (entries_of k.entries) + 2 ^ 40 < seen
+IsFarAhead k seen = stamp_after k.opening.since (entries_of k.entries) + 2 ^ 40 < seen
 
 -- a proposal whose client has seen so high a stamp is refused as one for which no stamp is left, and nothing changes; any other is taken, or refused
 abbrev pub Proposes : Kept → ℕ → Happening → Due → Kept → Type 0

@@ -1,6 +1,6 @@
 -- What a node serves: requests that are read in order, each of which acts on its replica, and their answers, in the same order. Answers are
 -- written in batches, each when all that the node took is on its disk, as the node then is.
-use Rattle.std.specs.Prelude.{◌≡◌, ◌⊎◌, ℕ, zero, suc, ◌≤◌, ◌<◌, Bool, true, false, List, [], ◌∷◌, ◌++◌, length, Option, Some, None, Result, Ok, Err, IsErr}
+use Rattle.std.specs.Prelude.{◌≡◌, ◌⊎◌, ℕ, zero, suc, ◌<◌, Bool, true, false, List, [], ◌∷◌, ◌++◌, length, Option, Some, None, Result, Ok, Err, IsErr}
 use Rattle.std.specs.Io.KnownBytes.{Appends}
 use Rattle.ep_bundle.specs.Reading.{Left}
 use Rattle.ep_device.specs.declared.cause.Cause.{Cause}

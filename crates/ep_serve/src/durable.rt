@@ -14,10 +14,11 @@ use ep_node::Node;
 pub(crate) fn put_on_disk<D: Device>(node: &mut Node<D>) -> Result<(), ServeFault>
     requires { node.old.closed ≡ false }
     ensures replica { node.new.replica ≡ node.old.replica }
+    ensures own { node.new.digest ≡ node.old.digest }
     ensures quiet { OnOk result (IsQuiet node.new) }
-    ensures kept { OnOk result (IsKept D.seen D.moment D.left_since node.old.device node.new.device node.old.replica) }
+    ensures kept { OnOk result (IsKept node.old.digest D.seen D.moment D.left_since node.old.device node.new.device node.old.replica) }
     ensures known { OnOk result (StaysKnown D.seen node.old.device node.new.device) }
-    ensures onward { GoesOn D.seen D.moment D.left_since node.old.device node.new.device node.old.replica node.old.synced }
+    ensures onward { GoesOn node.old.digest D.seen D.moment D.left_since node.old.device node.new.device node.old.replica node.old.synced }
     ensures err { IfErr result IsEarly }
     ensures log_cause { FailsAsTold is_log_failed result (D.has_failed node.old.device) (D.has_failed node.new.device) }
     ensures log_why { IfErr result (λ fault. Names fault (D.why node.new.device)) }

@@ -82,13 +82,14 @@ impl Queue {
     ) -> Result<(), ServeFault>
         requires { node.old.closed ≡ false }
         ensures replica { node.new.replica ≡ node.old.replica }
+        ensures own { node.new.digest ≡ node.old.digest }
         ensures mode { self.new.mode ≡ self.old.mode }
         ensures ok { OnOk result (Tell node.old.replica self.old.dues.items (K.held sink.old) (K.held sink.new) × (self.new.dues.items ≡ [])) }
         ensures silent { IfErr result (λ fault. IsSilent fault (K.held sink.old) (K.held sink.new)) }
         ensures quiet { IfSettled result (IsQuiet node.new) }
-        ensures kept { IfSettled result (IsKept D.seen D.moment D.left_since node.old.device node.new.device node.old.replica) }
+        ensures kept { IfSettled result (IsKept node.old.digest D.seen D.moment D.left_since node.old.device node.new.device node.old.replica) }
         ensures known { IfSettled result (StaysKnown D.seen node.old.device node.new.device) }
-        ensures onward { GoesOn D.seen D.moment D.left_since node.old.device node.new.device node.old.replica node.old.synced }
+        ensures onward { GoesOn node.old.digest D.seen D.moment D.left_since node.old.device node.new.device node.old.replica node.old.synced }
         ensures sink_cause { FailsAsTold is_write_failed result (K.has_failed sink.old) (K.has_failed sink.new) }
         ensures log_cause { FailsAsTold is_log_failed result (D.has_failed node.old.device) (D.has_failed node.new.device) }
         ensures log_why { IfErr result (λ fault. Names fault (D.why node.new.device)) }
@@ -114,11 +115,12 @@ impl Queue {
         requires works { node.old.closed ≡ false }
         requires within { node.old.synced ≤ length node.old.replica.entries }
         ensures mode { self.new.mode ≡ self.old.mode }
-        ensures ok { OnOk result (Waits self.old.mode node.old request self.old.dues.items (K.held sink.old) node.new self.new.dues.items (K.held sink.new) (IsKept D.seen D.moment D.left_since node.old.device node.new.device node.new.replica)) }
+        ensures own { node.new.digest ≡ node.old.digest }
+        ensures ok { OnOk result (Waits self.old.mode node.old request self.old.dues.items (K.held sink.old) node.new self.new.dues.items (K.held sink.new) (IsKept node.old.digest D.seen D.moment D.left_since node.old.device node.new.device node.new.replica)) }
         ensures silent { IfErr result (λ fault. IsSilent fault (K.held sink.old) (K.held sink.new)) }
-        ensures unwritten { IfUnwritten result (IsQuiet node.new × IsKept D.seen D.moment D.left_since node.old.device node.new.device node.new.replica) }
+        ensures unwritten { IfUnwritten result (IsQuiet node.new × IsKept node.old.digest D.seen D.moment D.left_since node.old.device node.new.device node.new.replica) }
         ensures known { OnOk result (StaysKnown D.seen node.old.device node.new.device) }
-        ensures onward { GoesOn D.seen D.moment D.left_since node.old.device node.new.device node.old.replica node.old.synced }
+        ensures onward { GoesOn node.old.digest D.seen D.moment D.left_since node.old.device node.new.device node.old.replica node.old.synced }
         ensures sink_cause { FailsAsTold is_write_failed result (K.has_failed sink.old) (K.has_failed sink.new) }
         ensures log_cause { FailsAsTold is_log_failed result (D.has_failed node.old.device) (D.has_failed node.new.device) }
         ensures log_why { IfErr result (λ fault. Names fault (D.why node.new.device)) }

@@ -30,7 +30,7 @@ pub fn serve<D: Device, S: Source, K: Sink>(
 
     // What was read, done and answered. What an answer tells is on the disk when this ends, also by a fault; so it is before the
     // answer is written, as any later sync may fail. At no moment a crash takes what was there before.
-    ensures served { (zs : List ℕ) → S.left source.old ≡ Some zs → Ends mode (size node.old.replica.faults) (crashes D.seen D.moment D.left_since node.old.device node.new.device) node.old.replica (record { at = 0; bytes = zs }) (K.held sink.old) (K.held sink.new) result node.new.replica }
+    ensures served { (zs : List ℕ) → S.left source.old ≡ Some zs → Ends mode (size node.old.replica.faults) (crashes node.old.digest D.seen D.moment D.left_since node.old.device node.new.device) node.old.replica (record { at = 0; bytes = zs }) (K.held sink.old) (K.held sink.new) result node.new.replica }
     ensures quiet { IfSettled result (IsQuiet node.new) }
 
     // which device failed, in this call, and why the log's did

@@ -5,7 +5,7 @@ use Rattle.std.specs.Global.{Vec}
 use Rattle.ep_assemble.specs.Files.{IsUnread}
 use Rattle.ep_assemble.specs.Logs.{contents}
 use Rattle.ep_assemble.specs.declared.files.FilesFault.{FilesFault}
-use Rattle.ep_server.specs.Collected.{AreCollected, AreUnread, Collects, CollectsFiles, TurnsAway}
+use Rattle.ep_server.specs.Collected.{Collects, CollectsFiles, TurnsAway}
 use Rattle.ep_server.specs.Outputs.{Output, WroteNothing}
 use Rattle.ep_server.specs.declared.status.Status.{Status}
 

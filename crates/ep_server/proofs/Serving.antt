@@ -1,16 +1,15 @@
 -- A node that is opened has served.
-use Rattle.std.proofs.Common.{◌≡◌, ◌⊎◌, inl, inr, ℕ, Bool, true, List, [], ◌++◌, Option, Some, None, Result, Ok, Err, append-nil, refl, sym, subst}
-use Rattle.std.specs.Io.KnownBytes.{Appends}
+use Rattle.std.proofs.Common.{◌≡◌, inl, inr, ℕ, Bool, true, List, [], ◌++◌, Option, Some, None, Result, Ok, Err, append-nil, sym, subst}
 use Rattle.ep_base.specs.Devices.{Puts}
 use Rattle.ep_base.specs.Quorums.{size}
-use Rattle.ep_node.specs.Nodes.{Logged}
+use Rattle.ep_log.specs.Origins.{second as version_two}
+use Rattle.ep_node.specs.Nodes.{Logged, origin_of}
 use Rattle.ep_node.specs.Opening.{IsOpened, IsWrittenAnew, Names}
 use Rattle.ep_node.specs.declared.cut.Cut.{Cut}
 use Rattle.ep_node.specs.declared.open_fault.OpenFault.{OpenFault}
 use Rattle.ep_node.specs.declared.open_fault.OpenFault.TheVariants as open_
 use Rattle.ep_serve.specs.Lasting.{crashes}
 use Rattle.ep_serve.specs.Serving.{Ends}
-use Rattle.ep_serve.specs.declared.mode.Mode.{Mode}
 use Rattle.ep_serve.specs.declared.serve_fault.ServeFault.{ServeFault}
 use Rattle.ep_server.proofs.Puts.{appends_twice}
 use Rattle.ep_server.specs.Faults.{line_of}
@@ -21,27 +20,28 @@ use Rattle.ep_server.specs.declared.status.Status.{Status}
 
 pub has_served :
     {D : Type 0} (shown : Shown D) (role : Role) (start : Logged D) (bytes zs log : List ℕ) (cut : Option Cut) (outcome : Result Unit Fault) (reader out : Output) →
-    start.replica.faults ≡ role.faults → start.replica.me ≡ role.me → IsOpened role.begin role.faults role.me bytes start.replica.entries cut →
-    shown.seen start.device ≡ Some log → IsWrittenAnew role.begin role.faults role.me bytes log → IsOver shown role.mode start zs outcome reader out → Happens shown role bytes zs cut outcome reader out
-has_served {D = D} shown role start bytes zs log cut outcome reader out cluster replica opened known anew over =
+    start.replica.faults ≡ role.faults → start.replica.me ≡ role.me → origin_of start ≡ version_two → IsOpened role.begin version_two role.faults role.me bytes start.replica.entries cut →
+    shown.seen start.device ≡ Some log → IsWrittenAnew role.begin version_two role.faults role.me bytes log → IsOver shown role.mode start zs outcome reader out → Happens shown role bytes zs cut outcome reader out
+has_served {D = D} shown role start bytes zs log cut outcome reader out cluster replica origin opened known anew over =
     subst (λ (x : Result Unit Fault). Happens shown role bytes zs cut x reader out) (sym over.2) (go over.1 over.3 over.4)
   where
-    served : (ended : Result Unit ServeFault) → Ends role.mode (size start.replica.faults) (crashes shown.seen shown.moment shown.left_since start.device over.0.device) start.replica (record { at = 0; bytes = zs }) out.before out.after ended over.0.replica
+    served : (ended : Result Unit ServeFault) → Ends role.mode (size start.replica.faults) (crashes start.digest shown.seen shown.moment shown.left_since start.device over.0.device) start.replica (record { at = 0; bytes = zs }) out.before out.after ended over.0.replica
         → Fails shown start.device over.0.device ended reader out → HasServed shown role bytes zs cut ended reader out
     served ended ends fails = record {
       start = start;
       cluster = cluster;
       replica = replica;
+      origin = origin;
       opened = opened;
       log = log;
       known = known;
       anew = anew;
       end = over.0;
-      ends = subst (λ (n : ℕ). Ends role.mode (size n) (crashes shown.seen shown.moment shown.left_since start.device over.0.device) start.replica (record { at = 0; bytes = zs }) out.before out.after ended over.0.replica) cluster ends;
+      ends = subst (λ (n : ℕ). Ends role.mode (size n) (crashes start.digest shown.seen shown.moment shown.left_since start.device over.0.device) start.replica (record { at = 0; bytes = zs }) out.before out.after ended over.0.replica) cluster ends;
       fails = fails;
     }
 
-    go : (ended : Result Unit ServeFault) → Ends role.mode (size start.replica.faults) (crashes shown.seen shown.moment shown.left_since start.device over.0.device) start.replica (record { at = 0; bytes = zs }) out.before out.after ended over.0.replica
+    go : (ended : Result Unit ServeFault) → Ends role.mode (size start.replica.faults) (crashes start.digest shown.seen shown.moment shown.left_since start.device over.0.device) start.replica (record { at = 0; bytes = zs }) out.before out.after ended over.0.replica
         → Fails shown start.device over.0.device ended reader out → Happens shown role bytes zs cut (of_serve ended) reader out
     go (Ok x) ends fails = served (Ok x) ends fails
     go (Err why) ends fails = served (Err why) ends fails

@@ -61,7 +61,7 @@ abbrev pub line_of_log : LogFault → List ℕ
 line_of_log log.Memory = out_of_memory
 line_of_log log.NoHeader = codes "log refused: no header of a log\n"
 line_of_log log.OtherVersion = codes "log refused: a log of another version\n"
-line_of_log log.OtherGeneration = codes "log refused: a log of a generation\n"
+line_of_log log.OtherGeneration = codes "log refused: a log of another generation\n"
 line_of_log (log.BadLength at) = record_line (codes "log refused: bad length") at
 line_of_log (log.BadChecksum at) = record_line (codes "log refused: bad checksum") at
 line_of_log (log.BadEntry at) = record_line (codes "log refused: no entry") at

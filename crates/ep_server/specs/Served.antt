@@ -3,7 +3,8 @@ use Rattle.std.specs.Prelude.{◌≡◌, ◌++◌, ℕ, Bool, List, [], Option, 
 use Rattle.ep_base.specs.Devices.{FailsAsTold}
 use Rattle.ep_base.specs.Quorums.{size}
 use Rattle.ep_device.specs.declared.cause.Cause.{Cause}
-use Rattle.ep_node.specs.Nodes.{Logged}
+use Rattle.ep_log.specs.Origins.{second}
+use Rattle.ep_node.specs.Nodes.{Logged, origin_of}
 use Rattle.ep_node.specs.Opening.{IsOpened, IsUnopened, IsWrittenAnew}
 use Rattle.ep_node.specs.declared.begin.Begin.{Begin}
 use Rattle.ep_node.specs.declared.cut.Cut.{Cut}
@@ -45,18 +46,19 @@ pub record Fails {D : Type 0} (shown : Shown D) (first last : D) (outcome : Resu
   pub why : IfErr outcome (λ fault. Names fault (shown.why last))
   pub read : IsReadTo outcome reader.had_failed reader.failed
 
--- The log holds this replica, and from there the requests in zs were served, as `serve` tells, on a device whose bytes were known when the log had been
+-- The log holds this replica, which is of version 2, and from there the requests in zs were served, as `serve` tells, on a device whose bytes were known when the log had been
 -- written anew.
 pub record HasServed {D : Type 0} (shown : Shown D) (role : Role) (bytes zs : List ℕ) (cut : Option Cut) (outcome : Result Unit ServeFault) (reader out : Output) : Type 0 where
   pub start : Logged D
   pub cluster : start.replica.faults ≡ role.faults
   pub replica : start.replica.me ≡ role.me
-  pub opened : IsOpened role.begin role.faults role.me bytes start.replica.entries cut
+  pub origin : origin_of start ≡ second
+  pub opened : IsOpened role.begin second role.faults role.me bytes start.replica.entries cut
   pub log : List ℕ
   pub known : shown.seen start.device ≡ Some log
-  pub anew : IsWrittenAnew role.begin role.faults role.me bytes log
+  pub anew : IsWrittenAnew role.begin second role.faults role.me bytes log
   pub end : Logged D
-  pub ends : Ends role.mode (size role.faults) (crashes shown.seen shown.moment shown.left_since start.device end.device) start.replica (record { at = 0; bytes = zs }) out.before out.after outcome end.replica
+  pub ends : Ends role.mode (size role.faults) (crashes start.digest shown.seen shown.moment shown.left_since start.device end.device) start.replica (record { at = 0; bytes = zs }) out.before out.after outcome end.replica
   pub fails : Fails shown start.device end.device outcome reader out
 
 -- how serving ended, as the program has it
@@ -68,7 +70,7 @@ of_serve (Err why) = Err (Serve why)
 abbrev pub IsOver : {D : Type 0} → Shown D → Mode → Logged D → List ℕ → Result Unit Fault → Output → Output → Type 0
 IsOver {D = D} shown mode start zs outcome reader out =
     (end : Logged D) × (ended : Result Unit ServeFault) × (outcome ≡ of_serve ended)
-    × Ends mode (size start.replica.faults) (crashes shown.seen shown.moment shown.left_since start.device end.device) start.replica (record { at = 0; bytes = zs }) out.before out.after ended end.replica
+    × Ends mode (size start.replica.faults) (crashes start.digest shown.seen shown.moment shown.left_since start.device end.device) start.replica (record { at = 0; bytes = zs }) out.before out.after ended end.replica
     × Fails shown start.device end.device ended reader out
 
 -- where the log's device failed, there is one that did, first for this reason
@@ -85,7 +87,7 @@ IsFailure shown (open_.NotClocked number) = Unit {0}
 -- before a fault is told: where the log isn't opened, why, and that nothing was written
 abbrev pub Happens : {D : Type 0} → Shown D → Role → List ℕ → List ℕ → Option Cut → Result Unit Fault → Output → Output → Type 0
 Happens shown role bytes zs cut (Ok x) reader out = HasServed shown role bytes zs cut (Ok x) reader out
-Happens shown role bytes zs cut (Err (Open why)) reader out = IsUnopened role.begin role.faults role.me bytes why × IsFailure shown why × WroteNothing out × (cut ≡ None)
+Happens shown role bytes zs cut (Err (Open why)) reader out = IsUnopened role.begin second role.faults role.me bytes why × IsFailure shown why × WroteNothing out × (cut ≡ None)
 Happens shown role bytes zs cut (Err (Serve why)) reader out = HasServed shown role bytes zs cut (Err why) reader out
 Happens shown role bytes zs cut (Err Memory) reader out = ⊥
 Happens shown role bytes zs cut (Err Write) reader out = ⊥

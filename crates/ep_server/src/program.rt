@@ -2,7 +2,8 @@
 
 ghost use Rattle.std.specs.Prelude.{◌≡◌, ℕ, List, None, Some, true, IfOk, IfErr};
 ghost use Rattle.ep_base.specs.Devices.{Puts};
-ghost use Rattle.ep_node.specs.Nodes.{IsQuiet};
+ghost use Rattle.ep_log.specs.Origins.{second};
+ghost use Rattle.ep_node.specs.Nodes.{IsQuiet, origin_of};
 ghost use Rattle.ep_node.specs.Opening.{IsOpened, IsUnopened, IsWrittenAnew};
 ghost use Rattle.ep_server.specs.Outputs.{output};
 ghost use Rattle.ep_server.specs.Served.{told_first, Concludes, IsFailure, IsNode, IsOver, TellsWhy};
@@ -79,10 +80,11 @@ fn opened<D: Device + Drop>(
     device: D,
 ) -> Result<Node<D>, OpenFault>
     ensures ok { IfOk result (λ node. IsQuiet node × (node.replica.faults ≡ options.now.size) × (node.replica.me ≡ options.now.me)
-        × ((bytes : List ℕ) → D.seen device ≡ Some bytes → IsOpened options.now.begin options.now.size options.now.me bytes node.replica.entries node.cut)) }
+        × ((bytes : List ℕ) → D.seen device ≡ Some bytes → IsOpened options.now.begin second options.now.size options.now.me bytes node.replica.entries node.cut)) }
+    ensures origin { IfOk result (λ node. origin_of node ≡ second) }
     ensures written { IfOk result (λ node. (bytes : List ℕ) → D.seen device ≡ Some bytes
-        → (log : List ℕ) × (D.seen node.device ≡ Some log) × IsWrittenAnew options.now.begin options.now.size options.now.me bytes log) }
-    ensures err { IfErr result (λ fault. ((bytes : List ℕ) → D.seen device ≡ Some bytes → IsUnopened options.now.begin options.now.size options.now.me bytes fault)
+        → (log : List ℕ) × (D.seen node.device ≡ Some log) × IsWrittenAnew options.now.begin second options.now.size options.now.me bytes log) }
+    ensures err { IfErr result (λ fault. ((bytes : List ℕ) → D.seen device ≡ Some bytes → IsUnopened options.now.begin second options.now.size options.now.me bytes fault)
         × IsFailure (record { has_failed = D.has_failed; why = D.why; seen = D.seen; moment = D.moment; left_since = D.left_since }) fault) }
 {
     match Node::open(alloc, device, options.size, options.me, options.begin) {

@@ -60,7 +60,7 @@ fn tell_bad_log<F: Sink>(why: LogFault, sink: &mut F) -> Result<(), WriteFailed>
         LogFault::Memory => sink.put(b"out of memory\n"),
         LogFault::NoHeader => sink.put(b"log refused: no header of a log\n"),
         LogFault::OtherVersion => sink.put(b"log refused: a log of another version\n"),
-        LogFault::OtherGeneration => sink.put(b"log refused: a log of a generation\n"),
+        LogFault::OtherGeneration => sink.put(b"log refused: a log of another generation\n"),
         LogFault::BadLength(at) => tell_record(b"log refused: bad length", at, sink),
         LogFault::BadChecksum(at) => tell_record(b"log refused: bad checksum", at, sink),
         LogFault::BadEntry(at) => tell_record(b"log refused: no entry", at, sink),

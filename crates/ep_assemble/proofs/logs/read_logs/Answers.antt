@@ -3,6 +3,7 @@ use Rattle.std.proofs.lemmas.Result.{err_from_is_err_and}
 use Rattle.ep_assemble.specs.Logs.{AreRead, IsNotRead, IsReadTo, contents}
 use Rattle.ep_assemble.specs.declared.assembled.End.{End}
 use Rattle.ep_journal.specs.Entries.{Log as Journal}
+use Rattle.ep_log.specs.Origins.{second}
 use Rattle.ep_log.specs.Reading.{IsRead}
 use Rattle.ep_assemble.proofs.InTurn.{not_read, one_read}
 use Rattle.ep_assemble.proofs.logs.read_logs.Goals as goal
@@ -23,7 +24,7 @@ pub loop-place-preserved : goal.loop-place-preserved
 loop-place-preserved c =
     let less : c.loop-place.place < length c.args.logs.now = search rules in
     let log = c.in_ok-log.log in
-    let read : IsRead c.index-logs-place.result.items log.version log.journal log.whole log.behind = subst (λ (bs : List ℕ). IsRead bs log.version log.journal log.whole log.behind) c.deref.ensures.value c.in_ok-log.ensures.ok in
+    let read : IsRead second c.index-logs-place.result.items log.version log.journal log.whole log.behind = subst (λ (bs : List ℕ). IsRead second bs log.version log.journal log.whole log.behind) c.deref.ensures.value c.in_ok-log.ensures.ok in
     let to : IsReadTo c.index-logs-place.result.items log.journal (record { whole = log.whole; is_torn = ltb 0 log.behind }) = record { version = log.version; behind = log.behind; read = read; torn = refl } in
     let all = one_read c.loop-place.place c.args.logs.now c.index-logs-place.result _ c.loop-place.journals.items c.loop-place.ends.items c.in_ok-log.log.journal
     (record { whole = c.in_ok-log.log.whole; is_torn = ltb 0 c.in_ok-log.log.behind }) less c.index-logs-place.is c.loop-place.invariant to in

@@ -7,7 +7,7 @@ returns-in_err-sync-clause-onward g c = leaves_on g.D.Device.seen g.D.Device.mom
 pub returns-clause-kept : goal.returns-clause-kept
 returns-clause-kept g c =
     let quiet = quiet_after c.args.node.now c.sync.new.self c.requires c.in_ok-sync.ensures.ok.1 in
-    rests g.D.Device.seen g.D.Device.moment g.D.Device.left_since c.sync.new.self _ _ c.sync.ensures.kept quiet (λ bytes was. (_, c.in_ok-sync.ensures.written bytes was)) (c.is_at_rest.ensures quiet.works)
+    rests c.args.node.now.digest g.D.Device.seen g.D.Device.moment g.D.Device.left_since c.sync.new.self _ _ c.sync.ensures.kept c.sync.ensures.origin quiet (λ bytes was. (_, c.in_ok-sync.ensures.written bytes was)) (c.is_at_rest.ensures quiet.works)
 
 pub returns-clause-known : goal.returns-clause-known
 returns-clause-known g c = λ bytes was. (_, c.in_ok-sync.ensures.written bytes was)

@@ -10,6 +10,7 @@ invariant-loop g l = record {
   works : l.node.closed ≡ false;
   within : l.node.synced ≤ length l.node.replica.entries;
   known : StaysKnown g.D.Device.seen l.initial.node.device l.node.device;
+  own : l.node.digest ≡ l.initial.node.digest;
   sink : g.K.Sink.has_failed l.sink ≡ g.K.Sink.has_failed l.initial.sink;
   log : g.D.Device.has_failed l.node.device ≡ g.D.Device.has_failed l.initial.node.device;
   source : g.S.Source.has_failed l.source ≡ g.S.Source.has_failed l.initial.source;

@@ -8,7 +8,7 @@ pub returns-in_err-settle-clause-unwritten : goal.returns-in_err-settle-clause-u
 returns-in_err-settle-clause-unwritten g c =
     unwritten_of _ _ _ c.from_residual-in_err-settle.ensures.1 (λ failed. (
       settled_so _ _ c.in_err-settle.ensures.quiet failed,
-      kept_as g.D.Device.seen g.D.Device.moment g.D.Device.left_since _ _ _ _ _ (ap (λ n. n.device) c.add.ensures.same.0) c.settle.ensures.replica (settled_so _ _ c.in_err-settle.ensures.kept failed),
+      kept_as c.args.node.now.digest c.add.new.node.digest g.D.Device.seen g.D.Device.moment g.D.Device.left_since _ _ _ _ _ (ap (λ n. n.digest) c.add.ensures.same.0) (ap (λ n. n.device) c.add.ensures.same.0) c.settle.ensures.replica (settled_so _ _ c.in_err-settle.ensures.kept failed),
     ))
 
 pub returns-in_err-settle-clause-onward : goal.returns-in_err-settle-clause-onward
@@ -18,7 +18,7 @@ returns-in_err-settle-clause-onward g c =
 pub returns-in_ok-settle-clause-ok : goal.returns-in_ok-settle-clause-ok
 returns-in_ok-settle-clause-ok g c =
     written_out _ _ _ c.args.node.now c.add.new.node c.settle.new.node _ _ _ _ _ _ _ _ c.in_ok-add.ensures.ok c.add.ensures.same.0 c.add.ensures.same.1 c.may_wait.ensures c.is_sync-asks.ensures c.if-not-may_wait.true c.settle.ensures.replica c.in_ok-settle.ensures.ok c.in_ok-settle.ensures.quiet
-    (kept_as g.D.Device.seen g.D.Device.moment g.D.Device.left_since _ _ _ _ _ (ap (λ n. n.device) c.add.ensures.same.0) c.settle.ensures.replica c.in_ok-settle.ensures.kept)
+    (kept_as c.args.node.now.digest c.add.new.node.digest g.D.Device.seen g.D.Device.moment g.D.Device.left_since _ _ _ _ _ (ap (λ n. n.digest) c.add.ensures.same.0) (ap (λ n. n.device) c.add.ensures.same.0) c.settle.ensures.replica c.in_ok-settle.ensures.kept)
 
 pub returns-in_ok-settle-clause-onward : goal.returns-in_ok-settle-clause-onward
 returns-in_ok-settle-clause-onward g c =

@@ -1,0 +1,91 @@
+-- What single calls of the reader make of the bytes.
+use Rattle.std.proofs.Common.{◌≡◌, ℕ, ◌+◌, ◌-◌, ◌≤◌, ◌<◌, Bool, true, false, cond, eqb, ltb, List, length, length-drop, take, take_all, drop, Option, Some, None, Result, Ok, Err, refl, sym, ap, ◌∙◌, subst, arith}
+use Rattle.std.specs.Prelude.{IsErrAnd, ◌↔◌, IsTrue}
+use Rattle.std.proofs.lemmas.Bool.{lt-ltb, le-ltb}
+use Rattle.ep_base.specs.Attributes.{same_list}
+use Rattle.ep_base.specs.Instances.{IsInstance, number_of}
+use Rattle.ep_base.specs.declared.version.Version.{Version}
+use Rattle.ep_base.specs.declared.version_kind.VersionKind.TheVariants.{V3}
+use Rattle.ep_journal.specs.Openings.{Opening}
+use Rattle.ep_rules.specs.OneMap.{Contents}
+use Rattle.sha2.specs.Sha256.{sha256}
+use Rattle.ep_bundle.specs.Headers.{map_in}
+use Rattle.ep_bundle.specs.Reading.{Left, Reading, Reads, and_then}
+use Rattle.ep_bundle.specs.Stages.{instance}
+use Rattle.ep_bundle.specs.declared.bundle_fault.BundleFault.{BundleFault}
+use Rattle.ep_bundle.proofs.Readings.{same_reading}
+use Rattle.ep_opening.specs.Files.{File}
+use Rattle.ep_opening.specs.Reading.{IsTold, Telling, Tells, and_told, body_in, file, file_of, lead, lead_field, marked, parts, some_value, telling}
+use Rattle.ep_opening.specs.declared.front.Front.{Front}
+use Rattle.ep_opening.specs.declared.opening_fault.OpeningFault.{OpeningFault}
+use Rattle.ep_opening.specs.declared.opening_fault.OpeningFault.TheVariants.{CutShort, Damaged}
+use Rattle.ep_opening.proofs.Tellings.{fails_told, goes_on_told, is_told}
+
+-- the seal
+
+pub none_marked : (g p : ℕ) (zs : List ℕ) (left : Option (List ℕ)) → eqb g 1 ≡ true → left ≡ Some zs → Reads (marked g (record { at = p; bytes = zs })) (Ok None) p left
+none_marked g p zs left e h = (zs, h, ap (λ (b : Bool). cond {A = Reading (Option (List ℕ))} b (Ok (None, record { at = p; bytes = zs })) (some_value (record { at = p; bytes = zs }))) e)
+
+pub some_marked : (g : ℕ) (l : Left) (r : Result (Option (List ℕ)) BundleFault) (p : ℕ) (left : Option (List ℕ)) → eqb g 1 ≡ false → Reads (some_value l) r p left → Reads (marked g l) r p left
+some_marked g l r p left e h = same_reading (marked g l) (some_value l) r p left (ap (λ (b : Bool). cond {A = Reading (Option (List ℕ))} b (Ok (None, l)) (some_value l)) e) h
+
+-- instances and maps of a generation
+
+pub instance_at : (v : Version) (n g : ℕ) (l : Left) (r : Result ℕ BundleFault) (p : ℕ) (left : Option (List ℕ)) → v ≡ V3 g → n ≡ 7 → Reads (instance v n l) r p left → Reads (instance (V3 g) 7 l) r p left
+instance_at v n g l r p left is seven h = subst (λ (m : ℕ). Reads (instance (V3 g) m l) r p left) seven (subst (λ (w : Version). Reads (instance w n l) r p left) is h)
+
+pub map_at : (v : Version) (g : ℕ) (l : Left) (r : Result Contents BundleFault) (p : ℕ) (left : Option (List ℕ)) → v ≡ V3 g → Reads (map_in v l) r p left → Reads (map_in (V3 g) l) r p left
+map_at v g l r p left is h = subst (λ (w : Version). Reads (map_in w l) r p left) is h
+
+pub is_positive : (i : ℕ) → IsInstance i → 1 ≤ i
+is_positive i h = let low : 1 ≤ number_of i = h.1 in omega arith
+
+pub not_so : {P : Type 0} (b : Bool) → b ≡ false → IsTrue b ↔ P → ¬ P
+not_so b e h p = absurd (let t : true ≡ false = sym (h.1 p) ∙ e in cc)
+
+-- the parts of a file
+
+pub made_is : (h : Front) (m : Contents) (is : List ℕ) (o : Opening) (f : File) → o ≡ record { contents = m; since = h.since } → f ≡ record { faults = h.size; generation = h.generation; opening = o; seal = h.seal; executed = is } → f ≡ file_of h m is
+made_is h m is o f open_is file_is = file_is ∙ ap (λ (x : Opening). made x) open_is
+  where
+    made : Opening → File
+    made x = record { faults = h.size; generation = h.generation; opening = x; seal = h.seal; executed = is }
+
+-- the whole
+
+abbrev pub after_lead : List ℕ → List ℕ → ℕ → Left → Telling File
+after_lead bs digest x l = cond (same_list (sha256 bs) digest) (parts l) (Err (Damaged (length bs)))
+
+abbrev pub start : List ℕ → Left
+start bs = record { at = 0; bytes = bs }
+
+-- the lead is at fault
+pub lead_fails : (bs digest : List ℕ) (e : OpeningFault) (r : Result File OpeningFault) (p : ℕ) (left : Option (List ℕ)) → Tells {A = ℕ} (telling lead_field (lead (start bs))) (Err e) p left → IsErrAnd r (λ x. x ≡ e) → IsTold (body_in bs digest) r
+lead_fails bs digest e r p left h is = is_told (body_in bs digest) r p left (fails_told (telling lead_field (lead (start bs))) (after_lead bs digest) e r p p left left h is)
+
+-- the digest is another
+pub unsealed : (bs digest : List ℕ) (x p : ℕ) (left : Option (List ℕ)) → Tells (telling lead_field (lead (start bs))) (Ok x) p left → same_list (sha256 bs) digest ≡ false → body_in bs digest ≡ Err (Damaged (length bs))
+unsealed bs digest x p left h e =
+    ap (λ (o : Telling ℕ). and_told o (after_lead bs digest)) h.2 ∙ ap (λ (b : Bool). cond {A = Telling File} b (parts (record { at = p; bytes = h.0 })) (Err (Damaged (length bs)))) e
+
+-- the other fields say what the whole is
+pub sealed : (bs digest : List ℕ) (x p : ℕ) (left : Option (List ℕ)) (r : Result File OpeningFault) (q : ℕ) (left' : Option (List ℕ)) → Tells (telling lead_field (lead (start bs))) (Ok x) p left → same_list (sha256 bs) digest ≡ true
+    → ((ys : List ℕ) → left ≡ Some ys → Tells (parts (record { at = p; bytes = ys })) r q left') → IsTold (body_in bs digest) r
+sealed bs digest x p left r q left' h e next = is_told (body_in bs digest) r q left'
+    (goes_on_told (telling lead_field (lead (start bs))) (after_lead bs digest) x p left r q left' h
+    (λ ys k. subst (λ (b : Bool). Tells {A = File} (cond b (parts (record { at = p; bytes = ys })) (Err (Damaged (length bs)))) r q left') (sym e) (next ys k)))
+
+-- the length of the whole
+
+pub too_short : (bs : List ℕ) → length bs < 59 → file bs ≡ Err (CutShort (length bs))
+too_short bs lt = ap (λ (b : Bool). cond {A = Telling File} b (Err (CutShort (length bs))) (body_in (take (length bs - 32) bs) (drop (length bs - 32) bs))) (lt-ltb (length bs) 59 lt)
+
+-- a list from a place on
+pub all_behind : (n : ℕ) (bs : List ℕ) → take (length bs - n) (drop n bs) ≡ drop n bs
+all_behind n bs = take_all (length bs - n) (drop n bs) (let e = length-drop n bs in omega arith)
+
+pub long_enough : (bs front back : List ℕ) (r : Result File OpeningFault) → 59 ≤ length bs → front ≡ take (length bs - 32) bs → back ≡ drop (length bs - 32) bs → IsTold (body_in front back) r → IsTold (file bs) r
+long_enough bs front back r le is at h = subst (λ (o : Telling File). IsTold o r) (sym whole) (subst (λ (xs : List ℕ). IsTold (body_in xs (drop (length bs - 32) bs)) r) is (subst (λ (ys : List ℕ). IsTold (body_in front ys) r) at h))
+  where
+    whole : file bs ≡ body_in (take (length bs - 32) bs) (drop (length bs - 32) bs)
+    whole = ap (λ (b : Bool). cond {A = Telling File} b (Err (CutShort (length bs))) (body_in (take (length bs - 32) bs) (drop (length bs - 32) bs))) (le-ltb (length bs) 59 le)

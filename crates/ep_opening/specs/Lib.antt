@@ -1,0 +1,4 @@
+pub mod Files
+pub mod Bytes
+pub mod Reading
+pub mod Texts

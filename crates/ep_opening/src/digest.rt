@@ -1,0 +1,32 @@
+//! Digests of files.
+
+ghost use Rattle.std.specs.Prelude.{◌≡◌, Some};
+ghost use Rattle.sha2.specs.Sha256.{sha256};
+ghost use Rattle.ep_opening.specs.Bytes.{file_digest, opening_bytes};
+ghost use Rattle.ep_opening.specs.Files.{File};
+
+use sha2::{Digest, Sha256};
+
+/// How many bytes a digest has.
+pub(crate) const DIGEST_LEN: usize = 32;
+
+/// The SHA-256 of the bytes.
+pub(crate) fn digest_of(bytes: &[u8]) -> [u8; 32]
+    ensures { result ≡ sha256 bytes.now }
+{
+    let mut hasher = Sha256::new();
+    hasher.update(bytes);
+    hasher.finalize()
+}
+
+/// The digest that the bytes of a file end with, which the log of its generation names; none of fewer than 32 bytes.
+pub fn digest_in(bytes: &[u8]) -> Option<[u8; 32]>
+    ensures { (f : File) → bytes.now ≡ opening_bytes f → result ≡ Some (file_digest f) }
+{
+    if bytes.len() < DIGEST_LEN {
+        return None;
+    }
+    let mut digest = [0; 32];
+    digest.copy_from_slice(&bytes[bytes.len() - DIGEST_LEN..]);
+    Some(digest)
+}

@@ -1,0 +1,69 @@
+//! What is written is read back.
+
+ghost use Rattle.std.specs.Prelude.{◌≤◌, length};
+ghost use Rattle.ep_base.specs.Deps.{IsDeps};
+ghost use Rattle.ep_base.specs.Generations.{IsGeneration};
+ghost use Rattle.ep_base.specs.Values.{most_value};
+ghost use Rattle.ep_opening.specs.Files.{HasItsSeal, IsFile, SealFits};
+ghost use Rattle.ep_opening.specs.Reading.{FilesAreReadBack};
+
+use crate::opening_file::OpeningFile;
+use ep_base::{Deps, Generation, Size, Value};
+use ep_bundle::learn_opening;
+
+fn learn_size(size: Size)
+    ensures least { 1 ≤ size }
+    ensures most { size ≤ 3 }
+{
+    let _faults = size.faults();
+}
+
+fn learn_generation(generation: Generation)
+    ensures { IsGeneration generation }
+{
+    let _number = generation.number();
+}
+
+fn learn_value(value: &Value)
+    ensures { length value.now ≤ most_value }
+{
+    let _len = value.len();
+}
+
+#[tactic(auto, using(crate::proofs::Known::no_seal, crate::proofs::Known::some_seal))]
+fn learn_seal(file: &OpeningFile)
+    ensures short { SealFits file.now.seal }
+    ensures begun { HasItsSeal file.now.generation file.now.seal }
+{
+    match file.seal() {
+        None => {}
+        Some(value) => learn_value(value),
+    }
+}
+
+fn learn_executed(executed: &Deps)
+    ensures { IsDeps executed.now }
+{
+    let _instances = executed.as_slice();
+}
+
+/// The fields of the file are in the ranges of their types, and keep the rules of files. A law; to call it costs a look at each key.
+pub fn learn_file(file: &OpeningFile)
+    ensures { IsFile file.now }
+{
+    let size = file.size();
+    learn_size(size);
+    let generation = file.generation();
+    learn_generation(generation);
+    let opening = file.opening();
+    learn_opening(opening);
+    learn_seal(file);
+    let executed = file.executed();
+    learn_executed(executed);
+}
+
+/// The bytes of each file are read as that file, and nothing is left.
+#[tactic(auto, using(crate::proofs::WrittenFiles::files_back))]
+pub fn files_are_read_back()
+    ensures { FilesAreReadBack }
+{}

@@ -1,0 +1,31 @@
+//! The file that a generation opens with.
+//!
+//! A node of a generation keeps what it opened with in a file of docs/FORMATS.md, section 12: the map and the stamp, the seal that began the
+//! generation, the instances that the one before executed up to that seal, and a digest of it all, which the generation's log names. A file is
+//! read exactly where its bytes are those that are written for it; other bytes are refused by the first field that is wrong, and its offset.
+//!
+//! Start with `opening_file.rt` and specs/Bytes.antt; then `writing.rt`, and `reading.rt` with specs/Reading.antt.
+//!
+//! The digest is judged before all fields behind the version: a field's fault says that somebody wrote it so.
+#![tactic(auto)]
+
+mod digest;
+mod front;
+mod laws;
+mod opening_fault;
+mod opening_field;
+mod opening_file;
+mod parts;
+mod parts_fault;
+mod reading;
+mod stages;
+mod writing;
+
+pub use digest::digest_in;
+pub use laws::{files_are_read_back, learn_file};
+pub use opening_fault::OpeningFault;
+pub use opening_field::OpeningField;
+pub use opening_file::OpeningFile;
+pub use parts_fault::PartsFault;
+pub use reading::read_opening;
+pub use writing::write_opening;
