@@ -47,3 +47,12 @@ returns-clause-begun g c =
     let same : take c.loop-section.section-index all ≡ c.sections.result.now = ap (λ (n : ℕ). take n all) at ∙ take-length all ∙ c.sections-section-items.ensures.value ∙ sym c.sections.ensures.value in
     let h : HasRun b turns c.sections.result.now c.loop-section.run = subst (λ (ss : List SectionPlan). HasRun b turns ss c.loop-section.run) same c.loop-section.invariant in
     c.in_ok-ran.ensures.begun b turns h
+
+pub end-requires : goal.end-requires
+end-requires g c =
+    let b = begun_of c.args.script.now.head in
+    let turns = c.args.limits.now.turns in
+    let all : List SectionPlan = c.sections-section-items.result.now in
+    let at : c.loop-section.section-index ≡ length all = omega arith in
+    let same : take c.loop-section.section-index all ≡ c.sections.result.now = ap (λ (n : ℕ). take n all) at ∙ take-length all ∙ c.sections-section-items.ensures.value ∙ sym c.sections.ensures.value in
+    (b, turns, subst (λ (ss : List SectionPlan). HasRun b turns ss c.loop-section.run) same c.loop-section.invariant)
