@@ -1,3 +1,4 @@
 mod FilesCollected
+mod FoldersCollected
 mod Puts
 mod Serving

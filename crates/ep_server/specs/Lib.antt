@@ -1,4 +1,5 @@
 pub mod Collected
+pub mod CollectedOf
 pub mod Faults
 pub mod Outputs
 pub mod Served

@@ -14,9 +14,13 @@ mod ahead;
 mod asked;
 mod collecting;
 mod command_line;
+mod contents;
 mod declined;
 mod fault;
 mod gathered;
+mod generation_asked;
+mod generation_collecting;
+mod generation_gathered;
 mod names;
 mod options;
 mod program;
@@ -28,7 +32,9 @@ use crate::asked::Asked;
 use crate::collecting::collect_named;
 use crate::command_line::read_words;
 use crate::declined::Declined;
+use crate::contents::show_contents;
 use crate::fault::Fault;
+use crate::generation_collecting::collect_folders;
 use crate::options::Options;
 use crate::program::{decline, serve_log};
 use crate::status::Status;
@@ -62,6 +68,8 @@ fn run<R: Env + AllocGlobal + Files<File = File>, I: Read + Drop, W: Sink, F: Si
     match read_words(rt.alloc(), words.as_slice())? {
         Asked::Node(options) => run_node(rt, &options, input, writer, fault_writer),
         Asked::Collect(names) => Ok(collect_named(rt, &names, writer, fault_writer)),
+        Asked::CollectGeneration(asked) => collect_folders(rt, asked, writer, fault_writer),
+        Asked::Contents(folder) => show_contents(rt, folder.as_str(), writer, fault_writer),
         Asked::Version => show("epaxos 0.1.0\n", writer),
         Asked::Help(text) => show(text.as_str(), writer),
     }
