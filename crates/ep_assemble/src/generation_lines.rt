@@ -39,7 +39,7 @@ fn push_opening_text(fault: OpeningFault, out: &mut Vec<u8>) -> Result<(), Alloc
 }
 
 /// Appends the line of an opening file that is refused.
-fn push_opening_line(name: &str, fault: OpeningFault, out: &mut Vec<u8>) -> Result<(), AllocError>
+pub fn push_opening_line(name: &str, fault: OpeningFault, out: &mut Vec<u8>) -> Result<(), AllocError>
     ensures { OnOk result (out.new.items ≡ out.old.items ++ opening_line name.now fault) }
 {
     out.extend_from_slice(b"opening refused ")?;
@@ -50,7 +50,7 @@ fn push_opening_line(name: &str, fault: OpeningFault, out: &mut Vec<u8>) -> Resu
 }
 
 /// Appends a name, and what is wrong with the file.
-fn push_named(name: &str, what: &[u8], out: &mut Vec<u8>) -> Result<(), AllocError>
+pub fn push_named(name: &str, what: &[u8], out: &mut Vec<u8>) -> Result<(), AllocError>
     ensures { OnOk result (out.new.items ≡ out.old.items ++ (name.now ++ what.now)) }
 {
     out.extend_from_slice(name.as_bytes())?;

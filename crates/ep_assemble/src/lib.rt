@@ -34,5 +34,7 @@ pub use files::{Collection, FilesFault, collect_files, read_file, read_files};
 pub use generation::assemble_generation;
 pub use generation_fault::GenerationFault;
 pub use generation_files::{collect_generation, read_opened_logs};
+pub use generation_lines::{push_named, push_opening_line};
 pub use generation_names::GenerationNames;
+pub use lines::{push_end, push_log_line};
 pub use opened_log::OpenedLog;

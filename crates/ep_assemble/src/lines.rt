@@ -46,7 +46,7 @@ fn push_log_text(fault: LogFault, out: &mut Vec<u8>) -> Result<(), AllocError>
 }
 
 /// Appends the line of a log that is refused.
-fn push_log_line(name: &str, fault: LogFault, out: &mut Vec<u8>) -> Result<(), AllocError>
+pub fn push_log_line(name: &str, fault: LogFault, out: &mut Vec<u8>) -> Result<(), AllocError>
     ensures { OnOk result (out.new.items ≡ out.old.items ++ log_line name.now fault) }
 {
     out.extend_from_slice(b"log refused ")?;
@@ -144,7 +144,7 @@ fn push_torn_line(name: &str, whole: usize, out: &mut Vec<u8>) -> Result<(), All
 }
 
 /// Appends the line of a log's end, where it is torn.
-fn push_end(name: &str, end: &End, out: &mut Vec<u8>) -> Result<(), AllocError>
+pub fn push_end(name: &str, end: &End, out: &mut Vec<u8>) -> Result<(), AllocError>
     ensures { OnOk result (out.new.items ≡ out.old.items ++ end_line name.now end.now) }
 {
     if end.is_torn {

@@ -1,4 +1,5 @@
 mod FilesCollected
 mod FoldersCollected
+mod MapShown
 mod Puts
 mod Serving

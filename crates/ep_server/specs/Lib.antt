@@ -3,3 +3,4 @@ pub mod CollectedOf
 pub mod Faults
 pub mod Outputs
 pub mod Served
+pub mod Shown
