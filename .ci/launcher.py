@@ -23,7 +23,7 @@ FOUR = "replicas 4\n"
 CUT = b"EPJB\2\3"
 # a bundle in which replica 1 handled a frame that nobody sent: .ci/rows/audit-unsent-frame
 UNSENT = f"{TOP}/.ci/rows/audit-unsent-frame/stdin.hex"
-COMMANDS = ("replay", "run", "audit", "show", "explain", "draw", "trace-events", "upgrade", "node", "collect")
+COMMANDS = ("replay", "run", "audit", "show", "explain", "draw", "trace-events", "upgrade", "node", "collect", "contents")
 
 
 class Room:
