@@ -39,7 +39,11 @@ fn push_opening_text(fault: OpeningFault, out: &mut Vec<u8>) -> Result<(), Alloc
 }
 
 /// Appends the line of an opening file that is refused.
-pub fn push_opening_line(name: &str, fault: OpeningFault, out: &mut Vec<u8>) -> Result<(), AllocError>
+pub fn push_opening_line(
+    name: &str,
+    fault: OpeningFault,
+    out: &mut Vec<u8>,
+) -> Result<(), AllocError>
     ensures { OnOk result (out.new.items ≡ out.old.items ++ opening_line name.now fault) }
 {
     out.extend_from_slice(b"opening refused ")?;

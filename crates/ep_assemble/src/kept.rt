@@ -59,11 +59,7 @@ fn read_opened(
 }
 
 /// What the replica begins with whose opening file has these bytes. Each file has a digest, so `Err` is want of memory.
-fn origin_beside(
-    alloc: Global,
-    cluster: &Cluster,
-    opening: &[u8],
-) -> Result<Origin, AllocError>
+fn origin_beside(alloc: Global, cluster: &Cluster, opening: &[u8]) -> Result<Origin, AllocError>
     ensures { IfOk result (λ o. (file : File) → opening.now ≡ opening_bytes file → o ≡ origin_in cluster.now file) }
 {
     match digest_in(opening) {

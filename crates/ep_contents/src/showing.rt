@@ -109,11 +109,7 @@ fn log_fault(fault: LogFault) -> ShowFault
 }
 
 /// What the replica with this file began with, which has these bytes. Each file has a digest, so `Err` is want of memory.
-fn origin_beside(
-    alloc: Global,
-    file: &OpeningFile,
-    opening: &[u8],
-) -> Result<Origin, AllocError>
+fn origin_beside(alloc: Global, file: &OpeningFile, opening: &[u8]) -> Result<Origin, AllocError>
     requires { opening.now ≡ opening_bytes file.now }
     ensures { IfOk result (λ o. o ≡ origin_of file.now) }
 {
@@ -124,11 +120,7 @@ fn origin_beside(
 }
 
 /// What the replica with this file, of this digest, began with.
-fn origin_with(
-    alloc: Global,
-    file: &OpeningFile,
-    digest: [u8; 32],
-) -> Result<Origin, AllocError>
+fn origin_with(alloc: Global, file: &OpeningFile, digest: [u8; 32]) -> Result<Origin, AllocError>
     ensures { IfOk result (λ o. o ≡ record { version = V3 file.now.generation; opening = file.now.opening; digest = digest }) }
 {
     let opening = file.opening().copy(alloc)?;

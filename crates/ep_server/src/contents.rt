@@ -58,12 +58,7 @@ fn newest_of<R: Files + AllocGlobal>(
 }
 
 /// A line on a folder.
-fn line_of(
-    alloc: Global,
-    before: &str,
-    folder: &str,
-    behind: &str,
-) -> Result<Vec<u8>, AllocError> {
+fn line_of(alloc: Global, before: &str, folder: &str, behind: &str) -> Result<Vec<u8>, AllocError> {
     let mut line = Vec::from_slice(alloc, before.as_bytes())?;
     line.extend_from_slice(folder.as_bytes())?;
     line.extend_from_slice(behind.as_bytes())?;
