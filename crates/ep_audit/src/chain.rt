@@ -32,7 +32,8 @@ fn parting(
         return Ok(Some(ChainFault::NotConsecutive));
     }
     let opening = link.journals.opening();
-    if let Some(key) = first_difference(alloc, opening.contents(), &verdict.contents)? {
+    let left = verdict.contents(alloc, &before.journals)?;
+    if let Some(key) = first_difference(alloc, opening.contents(), &left)? {
         return Ok(Some(ChainFault::OpeningDiffers(key)));
     }
     if opening.since() < closing.stamp.ticks() {
