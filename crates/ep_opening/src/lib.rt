@@ -9,6 +9,7 @@
 //! The digest is judged before all fields behind the version: a field's fault says that somebody wrote it so.
 #![tactic(auto)]
 
+mod answered;
 mod closing;
 mod closing_fault;
 mod digest;
@@ -26,7 +27,7 @@ mod writing;
 pub use closing::closing_of;
 pub use closing_fault::ClosingFault;
 pub use digest::digest_in;
-pub use laws::{files_are_read_back, learn_file};
+pub use laws::{closings_agree, closings_go_on, files_are_read_back, learn_file};
 pub use opening_fault::OpeningFault;
 pub use opening_field::OpeningField;
 pub use opening_file::OpeningFile;
