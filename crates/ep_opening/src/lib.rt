@@ -4,6 +4,8 @@
 //! generation, the instances that the one before executed up to that seal, and a digest of it all, which the generation's log names. A file is
 //! read exactly where its bytes are those that are written for it; other bytes are refused by the first field that is wrong, and its offset.
 //!
+//! A journal that has executed a seal gives the next generation's file (`closing.rt`, specs/Closing.antt).
+//!
 //! Start with `opening_file.rt` and specs/Bytes.antt; then `writing.rt`, and `reading.rt` with specs/Reading.antt.
 //!
 //! The digest is judged before all fields behind the version: a field's fault says that somebody wrote it so.
