@@ -23,7 +23,7 @@ use Rattle.ep_node.proofs.CrashRuns.{crashing_runs_are_runs_lem}
 use Rattle.ep_node.proofs.CrashTraces.{out_next}
 
 -- What holds of the new value, and of the old ones elsewhere, holds everywhere.
-at_gen : {X : Type 0} (P : ℕ → X → Type 0) (g : ℕ) (x : X) (was : ℕ → X) → P g x → ((h : ℕ) → eqb g h ≡ false → P h (was h)) → (h : ℕ) → P h (with_at g x was h)
+pub at_gen : {X : Type 0} (P : ℕ → X → Type 0) (g : ℕ) (x : X) (was : ℕ → X) → P g x → ((h : ℕ) → eqb g h ≡ false → P h (was h)) → (h : ℕ) → P h (with_at g x was h)
 at_gen P g x was here there h = go (eqb g h) refl
   where
     go : (b : Bool) → eqb g h ≡ b → P h (cond b x (was h))
@@ -142,7 +142,7 @@ lived_over f l [] = refl
 lived_over f l (Took g a ∷ xs) = lived_over f (turned f l (Steps g (act_of a))) xs
 lived_over f l (Opened g r q ∷ xs) = lived_over f (turned f l (Opens g r q)) xs
 
-still_open : (g r : ℕ) (o : ℕ → ℕ → Bool) (h p : ℕ) → o h p ≡ true → opened_next g r o h p ≡ true
+pub still_open : (g r : ℕ) (o : ℕ → ℕ → Bool) (h p : ℕ) → o h p ≡ true → opened_next g r o h p ≡ true
 still_open g r o h p e = go (eqb (suc g) h) (eqb r p)
   where
     go : (a b : Bool) → cond a (b || o h p) (o h p) ≡ true
@@ -166,7 +166,7 @@ has_after f l [] o these is = is
 has_after f l (m ∷ ms) o these is = has_after f (after_move f l m) ms o (stand_on m these) (has_on f l m o these is)
 
 -- What it was opened with stays.
-record Same (l l' : Generations) (g r : ℕ) : Type 0 where
+pub record Same (l l' : Generations) (g r : ℕ) : Type 0 where
   pub has : l'.has_opened g r ≡ true
   pub map : l'.map g r ≡ l.map g r
   pub since : l'.since g r ≡ l.since g r
@@ -174,11 +174,11 @@ record Same (l l' : Generations) (g r : ℕ) : Type 0 where
 same_trans : (l l' l'' : Generations) (g r : ℕ) → Same l l' g r → Same l' l'' g r → Same l l'' g r
 same_trans l l' l'' g r s t = record { has = t.has; map = t.map ∙ s.map; since = t.since ∙ s.since }
 
-not_both : (b : Bool) → b ≡ true → b ≡ false → ⊥
+pub not_both : (b : Bool) → b ≡ true → b ≡ false → ⊥
 not_both true e h = absurd (let c : true ≡ false = h in cc)
 not_both false e h = absurd (let c : false ≡ true = e in cc)
 
-same_on : (f : ℕ → ℕ) (l : Generations) (m : LifeMove) → IsLifeMove f l m → (g r : ℕ) → l.has_opened g r ≡ true → Same l (after_move f l m) g r
+pub same_on : (f : ℕ → ℕ) (l : Generations) (m : LifeMove) → IsLifeMove f l m → (g r : ℕ) → l.has_opened g r ≡ true → Same l (after_move f l m) g r
 same_on f l (Within h m) k g r is = record { has = is; map = refl; since = refl }
 same_on f l (OpensNext h p q since) k g r is = record { has = still_open h p l.has_opened g r is; map = go _ _ (eqb (suc h) g) (eqb p r) refl refl; since = go _ _ (eqb (suc h) g) (eqb p r) refl refl }
   where
