@@ -6,6 +6,7 @@ pub mod CrashPlayed
 pub mod CrashOrders
 pub mod CrashLives
 pub mod CallMoves
+pub mod LifeFrames
 pub mod LifeMoves
 mod Closings
 pub mod Growing

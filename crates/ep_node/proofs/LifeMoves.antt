@@ -1,16 +1,17 @@
 -- What the calls of nodes do through generations are moves of a life.
-use Rattle.std.proofs.Common.{◌≡◌, ℕ, suc, ◌+◌, ◌<◌, ◌≤◌, Bool, true, false, cond, eqb, ◌||◌, List, [], ◌∷◌, ◌++◌, length, take, refl, sym, ap, subst, ◌∙◌, arith}
+use Rattle.std.proofs.Common.{◌≡◌, ℕ, suc, ◌+◌, ◌<◌, ◌≤◌, Bool, true, false, cond, eqb, ◌||◌, None, List, [], ◌∷◌, ◌++◌, length, take, refl, sym, ap, subst, ◌∙◌, arith}
 use Rattle.std.proofs.lemmas.Bool.{eq-eqb, eqb-true}
 use Rattle.std.proofs.lemmas.List.{take_all}
 use Rattle.ep_base.specs.Quorums.{size}
 use Rattle.ep_base.specs.Versions.{generation_of}
 use Rattle.ep_base.specs.declared.version.Version.{Version}
 use Rattle.ep_base.specs.declared.version_kind.VersionKind.TheVariants.{V3}
-use Rattle.ep_journal.specs.Entries.{entry_of, entries_of}
-use Rattle.ep_journal.specs.Events.{event_of}
+use Rattle.ep_journal.specs.Entries.{entry_of, entries_of, IsEntryIn}
+use Rattle.ep_journal.specs.Events.{event_of, lacking}
 use Rattle.ep_journal.specs.Openings.{Opening}
 use Rattle.ep_journal.specs.declared.entry.Entry.{Entry}
 use Rattle.ep_journal.specs.declared.event.Event.{Event as Happening}
+use Rattle.ep_journal.specs.declared.event.Event.TheVariants.{Handle}
 use Rattle.ep_log.specs.Crashing.{AreFirst}
 use Rattle.ep_opening.specs.Closing.{IsClosing, store_of}
 use Rattle.ep_opening.specs.Files.{File}
@@ -20,15 +21,17 @@ use Rattle.ep_rules.specs.Journals.{IsAmong, left}
 use Rattle.ep_rules.specs.Journals as rules
 use Rattle.ep_rules.specs.OneMap.{Contents, Store, opened, is_closed}
 use Rattle.ep_rules.specs.States.{State, fresh_state}
+use Rattle.ep_rules.specs.Worlds.{In}
 use Rattle.ep_rules.proofs.ClosedJournals.{closed_entries_lem}
 use Rattle.ep_node.specs.Calls.{IsNode, Makes, StartsFrom}
-use Rattle.ep_node.specs.CrashLives.{Generations, newborn, start_of, store_out, LifeMove, Within, OpensNext, IsLifeMove, opened_next, after_move, AreLifeMoves, life_after}
-use Rattle.ep_node.specs.Crashes.{Start, Cluster, fresh_cluster, Move, Take, HandOut, ComeBack, mover, IsMove, with_at, moved, handed_out, IsBeginning}
-use Rattle.ep_node.specs.LifeCalls.{HasLived, IsNodeIn, MakesIn, HasHandedOn, OpensWith, IsElsewhere, LifeCallsAreMoves}
+use Rattle.ep_node.specs.CrashLives.{Generations, newborn, start_of, store_out, LifeMove, Within, OpensNext, IsLifeMove, opened_next, after_move, AreLifeMoves, life_after, stand_on, IsLifeInRealTime}
+use Rattle.ep_node.specs.Crashes.{Start, Cluster, fresh_cluster, Move, Take, HandOut, ComeBack, mover, IsMove, with_at, moved, handed_out, standing, IsBeginning}
+use Rattle.ep_node.specs.LifeCalls.{HasLived, IsNodeIn, MakesIn, HasHandedOn, OpensWith, WasHandedOut, IsElsewhere, LifeCallsAreMoves}
 use Rattle.ep_node.proofs.CallMoves.{calls_are_moves_lem}
-use Rattle.ep_node.proofs.CrashLives.{at_gen, still_open, not_both, same_on, Same}
+use Rattle.ep_node.proofs.CrashLives.{at_gen, still_open, not_both, same_on, Same, crashing_lives_are_linearizable_lem}
 use Rattle.ep_node.proofs.CrashMoves.{at_same, begins_refl, handed}
 use Rattle.ep_node.proofs.CrashTraces.{at_other}
+use Rattle.ep_node.proofs.LifeFrames.{among_lem, frame_out, framed_in, in_entries_of, stays_out_lem}
 use Rattle.ep_node.proofs.Opened.{length-entries_of}
 
 -- One move more.
@@ -103,8 +106,11 @@ within first f l g n m k version has is makes = record {
 }
 
 module _ (first : ℕ) (f : ℕ → ℕ) (l : Generations) (g n : ℕ) (k : Kept) (h : IsNodeIn first f l g k n) where
-  takes_lem : (k' : Kept) (event : Happening) (e : Entry) → IsAmong (l.cluster g).given (event_of event) → Applied k event e k' → MakesIn first f l (Within g (Take k.me (entry_of e))) g k' n
-  takes_lem k' event e among a =
+  takes_lem : (k' : Kept) (event : Happening) (e : Entry) → WasHandedOut first l event → Applied k event e k' → MakesIn first f l (Within g (Take k.me (entry_of e))) g k' n
+  takes_lem k' event e out a =
+      let own : lacking (V3 (first + g)) event ≡ None =
+      subst (λ (v : Version). lacking v event ≡ None) h.version (subst (λ (z : Happening). lacking k.version z ≡ None) a.event a.versioned.event) in
+      let among : IsAmong (l.cluster g).given (event_of event) = among_lem first l g event out own in
       let grown : Kept = record k { entries = k.entries ++ e ∷ [] } in
       let makes : Makes (start_of l g k.me) (f g) (l.cluster g) (Take k.me (entry_of e)) grown n =
       subst (λ (z : Kept). Makes (start_of l g k.me) (f g) (l.cluster g) (Take k.me (entry_of e)) z n) a.appended
@@ -166,6 +172,12 @@ module _ (first : ℕ) (f : ℕ → ℕ) (l : Generations) (g : ℕ) (k : Kept) 
       ∙ ap (λ (n : ℕ). take n ((l.cluster g).journal k.me)) (at_same k.me (length k.entries) (l.cluster g).out)
       ∙ ap (λ (es : List rules.Entry). take (length k.entries) es) h.node.journal
       ∙ take_all (length k.entries) (entries_of k.entries) (let same = length-entries_of k.entries in omega arith)
+
+  sends_lem : (start : Start) (e : Entry) (b : List ℕ) → HasLived start f l → In e k.entries → IsEntryIn k.version e → In b e.frames → WasHandedOut first (after_move f l lent) (Handle b)
+  sends_lem start e b lived stands is out =
+      frame_out start first f (after_move f l lent) g k.me e b (lives_on_lem start f l lent lived lends_lem.move)
+      (subst (λ (es : List rules.Entry). In (entry_of e) es) (sym all_out) (in_entries_of e k.entries stands))
+      (framed_in k.version b e.frames is.frames out ∙ h.version) out
 
   store_is : store_out f (after_move f l lent) g k.me ≡ store_of k
   store_is =
@@ -266,10 +278,13 @@ pub life_calls_are_moves_lem : LifeCallsAreMoves
 life_calls_are_moves_lem = record {
   born = λ start f. record { moves = []; are = tt; leave = refl };
   lives_on = lives_on_lem;
+  is_life = λ start f l sizes h. subst (λ (x : Generations). IsLifeInRealTime start f x (standing stand_on [] h.moves)) h.leave (crashing_lives_are_linearizable_lem start f sizes h.moves h.are);
   begins = begins_lem;
-  takes = λ first f l g n k k' event e h among a. takes_lem first f l g n k h k' event e among a;
+  takes = λ first f l g n k k' event e h out a. takes_lem first f l g n k h k' event e out a;
   syncs = λ first f l g n k h. syncs_lem first f l g n k h;
   lends = λ first f l g k h. lends_lem first f l g k h;
+  sends = λ start first f l g k e b lived h stands is out. sends_lem first f l g k h start e b lived stands is out;
+  stays_out = stays_out_lem;
   comes_back = λ first f l g n k es h a. comes_back_lem first f l g n k h es a;
   closes = λ first f l g k file h c. (lends_lem first f l g k h, closes_lem first f l g k h file c);
   stays = λ first f l g q file m h move. stays_lem first f l g q file h m move;

@@ -1,23 +1,25 @@
 -- What the calls of nodes do through generations, as moves of a life.
 --
 -- A life counts its generations from 0. In versions and files the first one has the number `first`.
-use Rattle.std.specs.Prelude.{◌≡◌, ◌≢◌, ℕ, suc, ◌+◌, ◌<◌, true, false, List, [], length}
+use Rattle.std.specs.Prelude.{◌≡◌, ◌≢◌, ℕ, suc, ◌+◌, ◌<◌, ◌≤◌, true, false, List, [], length}
 use Rattle.ep_base.specs.Quorums.{size}
 use Rattle.ep_base.specs.declared.version_kind.VersionKind.TheVariants.{V3}
-use Rattle.ep_journal.specs.Entries.{entry_of}
-use Rattle.ep_journal.specs.Events.{event_of}
+use Rattle.ep_frame.specs.Meaning.{version_at}
+use Rattle.ep_journal.specs.Entries.{entry_of, IsEntryIn}
+use Rattle.ep_journal.specs.Events.{frame_at}
 use Rattle.ep_journal.specs.declared.entry.Entry.{Entry}
 use Rattle.ep_journal.specs.declared.event.Event.{Event as Happening}
+use Rattle.ep_journal.specs.declared.event.Event.TheVariants.{Propose, Handle, GiveUp, Recover, Execute}
 use Rattle.ep_log.specs.Crashing.{AreFirst}
 use Rattle.ep_opening.specs.Closing.{IsClosing}
 use Rattle.ep_opening.specs.Files.{File}
 use Rattle.ep_replica.specs.Applied.{Applied}
 use Rattle.ep_replica.specs.Kept.{Kept}
-use Rattle.ep_rules.specs.Journals.{IsAmong}
 use Rattle.ep_rules.specs.OneMap.{is_closed}
+use Rattle.ep_rules.specs.Worlds.{In}
 use Rattle.ep_node.specs.Calls.{StartsFrom, IsNode}
-use Rattle.ep_node.specs.CrashLives.{Generations, newborn, start_of, store_out, LifeMove, Within, OpensNext, IsLifeMove, after_move, AreLifeMoves, life_after}
-use Rattle.ep_node.specs.Crashes.{Start, Take, HandOut, ComeBack, mover}
+use Rattle.ep_node.specs.CrashLives.{Generations, newborn, start_of, store_out, LifeMove, Within, OpensNext, IsLifeMove, after_move, AreLifeMoves, life_after, stand_on, IsLifeInRealTime}
+use Rattle.ep_node.specs.Crashes.{Start, Take, HandOut, ComeBack, mover, standing}
 
 -- the generations are what moves of a life leave
 pub record HasLived (start : Start) (f : ℕ → ℕ) (l : Generations) : Type 0 where
@@ -55,6 +57,18 @@ pub record OpensWith (file : File) (k : Kept) : Type 0 where
   pub entries : k.entries ≡ []
   pub member : k.me < size k.faults
 
+-- Frames.
+
+-- the frame that is handled, if it is one, was handed out in the generation that it names
+abbrev pub WasHandedOut : ℕ → Generations → Happening → Type 0
+WasHandedOut first l (Propose client request command seen) = Unit {0}
+WasHandedOut first l (Handle b) = (h : ℕ) × (version_at b ≡ V3 (first + h)) × In (frame_at b) (l.cluster h).given
+WasHandedOut first l (GiveUp i) = Unit {0}
+WasHandedOut first l (Recover i) = Unit {0}
+WasHandedOut first l (Execute i) = Unit {0}
+
+-- Others.
+
 -- it is no move of the replica in the generation
 abbrev pub IsElsewhere : ℕ → ℕ → LifeMove → Type 0
 IsElsewhere g r (Within h m) = h ≡ g → mover m ≢ r
@@ -62,16 +76,18 @@ IsElsewhere g r (OpensNext h p q since) = Unit {0}
 
 -- What the calls of nodes do, through generations, are the moves of the law on lives.
 pub record LifeCallsAreMoves : Type 0 where
-  -- a life begins, and goes on by each move: so what calls do, one after the other, are the moves of one life
+  -- A life begins, and goes on by each move. So what calls do, one after the other, are the moves of one life, of which the law on lives speaks.
   pub born : (start : Start) (f : ℕ → ℕ) → HasLived start f (newborn start)
   pub lives_on : (start : Start) (f : ℕ → ℕ) (l : Generations) (m : LifeMove) → HasLived start f l → IsLifeMove f l m → HasLived start f (after_move f l m)
+  pub is_life :
+      (start : Start) (f : ℕ → ℕ) (l : Generations) → ((g : ℕ) → (0 < f g) × (size (f g) ≤ 256)) → (h : HasLived start f l) → IsLifeInRealTime start f l (standing stand_on [] h.moves)
   -- a new node of the first generation has no entries
   pub begins :
       (start : Start) (first : ℕ) (f : ℕ → ℕ) (k : Kept) → StartsFrom start k → k.version ≡ V3 first → k.faults ≡ f 0 → k.me < size k.faults → k.entries ≡ [] →
       IsNodeIn first f (newborn start) 0 k 0
-  -- an event that was taken is a `Take` of its entry, if what it handles was handed out in the generation
+  -- an event that was taken is a `Take` of its entry, if what it handles was handed out, in whatever generation: no node takes a frame of another one
   pub takes :
-      (first : ℕ) (f : ℕ → ℕ) (l : Generations) (g n : ℕ) (k k' : Kept) (event : Happening) (e : Entry) → IsNodeIn first f l g k n → IsAmong (l.cluster g).given (event_of event) →
+      (first : ℕ) (f : ℕ → ℕ) (l : Generations) (g n : ℕ) (k k' : Kept) (event : Happening) (e : Entry) → IsNodeIn first f l g k n → WasHandedOut first l event →
       Applied k event e k' → MakesIn first f l (Within g (Take k.me (entry_of e))) g k' n
   -- after a sync, which is no move, all entries are on the disk
   pub syncs : (first : ℕ) (f : ℕ → ℕ) (l : Generations) (g n : ℕ) (k : Kept) → IsNodeIn first f l g k n → IsNodeIn first f l g k (length k.entries)
@@ -79,6 +95,11 @@ pub record LifeCallsAreMoves : Type 0 where
   pub lends :
       (first : ℕ) (f : ℕ → ℕ) (l : Generations) (g : ℕ) (k : Kept) → IsNodeIn first f l g k (length k.entries) →
       MakesIn first f l (Within g (HandOut k.me (length k.entries))) g k (length k.entries)
+  -- each frame of each entry that it then has was handed out, and stays so, whatever comes
+  pub sends :
+      (start : Start) (first : ℕ) (f : ℕ → ℕ) (l : Generations) (g : ℕ) (k : Kept) (e : Entry) (b : List ℕ) → HasLived start f l → IsNodeIn first f l g k (length k.entries) →
+      In e k.entries → IsEntryIn k.version e → In b e.frames → WasHandedOut first (after_move f l (Within g (HandOut k.me (length k.entries)))) (Handle b)
+  pub stays_out : (first : ℕ) (f : ℕ → ℕ) (l : Generations) (m : LifeMove) (event : Happening) → WasHandedOut first l event → IsLifeMove f l m → WasHandedOut first (after_move f l m) event
   -- a crash is a `ComeBack` with the entries that the node is opened with: the first ones, with all that were on the disk
   pub comes_back :
       (first : ℕ) (f : ℕ → ℕ) (l : Generations) (g n : ℕ) (k : Kept) (es : List Entry) → IsNodeIn first f l g k n → AreFirst n k.entries es →
