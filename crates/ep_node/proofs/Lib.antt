@@ -6,6 +6,9 @@ pub mod CrashPlayed
 pub mod CrashOrders
 pub mod CrashLives
 pub mod CallMoves
+pub mod Sealed
+pub mod LifeStays
+pub mod LifeChains
 pub mod LifeFrames
 pub mod LifeMoves
 mod Closings
