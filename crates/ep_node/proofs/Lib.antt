@@ -11,7 +11,6 @@ pub mod LifeStays
 pub mod LifeChains
 pub mod LifeFrames
 pub mod LifeMoves
-mod Closings
 pub mod Growing
 mod Renewing
 mod Moments
