@@ -17,3 +17,4 @@ mod Moments
 mod Syncing
 mod Opened
 mod EachTaken
+mod Outstanding
