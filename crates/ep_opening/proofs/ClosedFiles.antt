@@ -212,5 +212,5 @@ closings_agree_lem m f journal schedule given j k next x y one other versions is
     (as_well.contents ∙ ap (λ (s : Store). s.contents) stores ∙ sym is.contents)
     (as_well.seal ∙ ap (λ (s : Store). s.seal) stores ∙ sym is.seal)
     (same_members y.executed x.executed y_is.deps.rising x_is.deps.rising
-      (λ i h. (is.executed i).1 (done_alike m f journal schedule given k j other one is.closed i ((as_well.executed i).0 h)))
-      (λ i h. (as_well.executed i).1 (done_alike m f journal schedule given j k one other as_well.closed i ((is.executed i).0 h))))
+    (λ i h. (is.executed i).1 (done_alike m f journal schedule given k j other one is.closed i ((as_well.executed i).0 h)))
+    (λ i h. (as_well.executed i).1 (done_alike m f journal schedule given j k one other as_well.closed i ((is.executed i).0 h))))
