@@ -15,4 +15,3 @@ mod Moments
 mod Syncing
 mod Opened
 mod EachTaken
-mod Outstanding
