@@ -156,10 +156,15 @@ fn take(newest: u32, left: u32, generation: u32, is_same: bool) -> Result<Plan, 
 }
 
 /// How a replica whose folder has this starts, or why it doesn't.
-#[tactic(auto, using(crate::proofs::Planned::never_goes_back))]
 pub fn plan_for(held: &[Held], wish: Wish) -> Result<Plan, Refusal>
     ensures value { result ≡ plan held.now wish }
     ensures never { IfOk result (NeverGoesBack held.now) }
+{
+    chosen(held, wish)
+}
+
+fn chosen(held: &[Held], wish: Wish) -> Result<Plan, Refusal>
+    ensures { result ≡ plan held.now wish }
 {
     let newest = newest_in(held);
     let left = left_for(held);
