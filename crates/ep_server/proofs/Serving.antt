@@ -1,7 +1,6 @@
 -- A node that is opened has served.
 use Rattle.std.proofs.Common.{◌≡◌, inl, inr, ℕ, Bool, true, List, [], ◌++◌, Option, Some, None, Result, Ok, Err, append-nil, sym, subst}
 use Rattle.ep_base.specs.Devices.{Puts}
-use Rattle.ep_base.specs.Quorums.{size}
 use Rattle.ep_log.specs.Origins.{Origin}
 use Rattle.ep_node.specs.Nodes.{Logged, origin_of}
 use Rattle.ep_node.specs.Opening.{IsOpened, IsWrittenAnew, Names}
@@ -9,7 +8,7 @@ use Rattle.ep_node.specs.declared.cut.Cut.{Cut}
 use Rattle.ep_node.specs.declared.open_fault.OpenFault.{OpenFault}
 use Rattle.ep_node.specs.declared.open_fault.OpenFault.TheVariants as open_
 use Rattle.ep_serve.specs.Lasting.{crashes}
-use Rattle.ep_serve.specs.Serving.{Ends}
+use Rattle.ep_serve.specs.Serving.{dialect_of, Ends}
 use Rattle.ep_serve.specs.declared.serve_fault.ServeFault.{ServeFault}
 use Rattle.ep_server.proofs.Puts.{appends_twice}
 use Rattle.ep_server.specs.Faults.{line_of}
@@ -25,7 +24,7 @@ pub has_served :
 has_served {D = D} shown role o start bytes zs log cut outcome reader out cluster replica origin opened known anew over =
     subst (λ (x : Result Unit Fault). Happens shown role o bytes zs cut x reader out) (sym over.2) (go over.1 over.3 over.4)
   where
-    served : (ended : Result Unit ServeFault) → Ends role.mode (size start.replica.faults) (crashes start.digest shown.seen shown.moment shown.left_since start.device over.0.device) start.replica (record { at = 0; bytes = zs }) out.before out.after ended over.0.replica
+    served : (ended : Result Unit ServeFault) → Ends role.mode (dialect_of start.replica) (crashes start.digest shown.seen shown.moment shown.left_since start.device over.0.device) start.replica (record { at = 0; bytes = zs }) out.before out.after ended over.0.replica
         → Fails shown start.device over.0.device ended reader out → HasServed shown role o bytes zs cut ended reader out
     served ended ends fails = record {
       start = start;
@@ -37,11 +36,11 @@ has_served {D = D} shown role o start bytes zs log cut outcome reader out cluste
       known = known;
       anew = anew;
       end = over.0;
-      ends = subst (λ (n : ℕ). Ends role.mode (size n) (crashes start.digest shown.seen shown.moment shown.left_since start.device over.0.device) start.replica (record { at = 0; bytes = zs }) out.before out.after ended over.0.replica) cluster ends;
+      ends = ends;
       fails = fails;
     }
 
-    go : (ended : Result Unit ServeFault) → Ends role.mode (size start.replica.faults) (crashes start.digest shown.seen shown.moment shown.left_since start.device over.0.device) start.replica (record { at = 0; bytes = zs }) out.before out.after ended over.0.replica
+    go : (ended : Result Unit ServeFault) → Ends role.mode (dialect_of start.replica) (crashes start.digest shown.seen shown.moment shown.left_since start.device over.0.device) start.replica (record { at = 0; bytes = zs }) out.before out.after ended over.0.replica
         → Fails shown start.device over.0.device ended reader out → Happens shown role o bytes zs cut (of_serve ended) reader out
     go (Ok x) ends fails = served (Ok x) ends fails
     go (Err why) ends fails = served (Err why) ends fails

@@ -1,7 +1,6 @@
 -- What the program does, by the status that it answers: of the bytes of its log and those that it reads, its output and its fault output.
 use Rattle.std.specs.Prelude.{◌≡◌, ◌++◌, ℕ, Bool, List, [], Option, Some, None, Result, Ok, Err, IfErr, string_bytes}
 use Rattle.ep_base.specs.Devices.{FailsAsTold}
-use Rattle.ep_base.specs.Quorums.{size}
 use Rattle.ep_device.specs.declared.cause.Cause.{Cause}
 use Rattle.ep_base.specs.declared.version_kind.VersionKind.TheVariants.{V3}
 use Rattle.ep_log.specs.Origins.{Origin, second}
@@ -14,7 +13,7 @@ use Rattle.ep_node.specs.declared.open_fault.OpenFault.TheVariants as open_
 use Rattle.ep_opening.specs.Bytes.{file_digest}
 use Rattle.ep_opening.specs.Files.{File}
 use Rattle.ep_serve.specs.Lasting.{crashes}
-use Rattle.ep_serve.specs.Serving.{Ends, IsReadTo, Names, is_log_failed, is_write_failed}
+use Rattle.ep_serve.specs.Serving.{dialect_of, Ends, IsReadTo, Names, is_log_failed, is_write_failed}
 use Rattle.ep_serve.specs.declared.mode.Mode.{Mode}
 use Rattle.ep_serve.specs.declared.serve_fault.ServeFault.{ServeFault}
 use Rattle.ep_server.specs.Faults.{command_line_refused, line_of, line_of_cut, status_of}
@@ -61,7 +60,7 @@ pub record HasServed {D : Type 0} (shown : Shown D) (role : Role) (o : Origin) (
   pub known : shown.seen start.device ≡ Some log
   pub anew : IsWrittenAnew role.begin o role.faults role.me bytes log
   pub end : Logged D
-  pub ends : Ends role.mode (size role.faults) (crashes start.digest shown.seen shown.moment shown.left_since start.device end.device) start.replica (record { at = 0; bytes = zs }) out.before out.after outcome end.replica
+  pub ends : Ends role.mode (dialect_of start.replica) (crashes start.digest shown.seen shown.moment shown.left_since start.device end.device) start.replica (record { at = 0; bytes = zs }) out.before out.after outcome end.replica
   pub fails : Fails shown start.device end.device outcome reader out
 
 -- how serving ended, as the program has it
@@ -73,7 +72,7 @@ of_serve (Err why) = Err (Serve why)
 abbrev pub IsOver : {D : Type 0} → Shown D → Mode → Logged D → List ℕ → Result Unit Fault → Output → Output → Type 0
 IsOver {D = D} shown mode start zs outcome reader out =
     (end : Logged D) × (ended : Result Unit ServeFault) × (outcome ≡ of_serve ended)
-    × Ends mode (size start.replica.faults) (crashes start.digest shown.seen shown.moment shown.left_since start.device end.device) start.replica (record { at = 0; bytes = zs }) out.before out.after ended end.replica
+    × Ends mode (dialect_of start.replica) (crashes start.digest shown.seen shown.moment shown.left_since start.device end.device) start.replica (record { at = 0; bytes = zs }) out.before out.after ended end.replica
     × Fails shown start.device end.device ended reader out
 
 -- where the log's device failed, there is one that did, first for this reason
