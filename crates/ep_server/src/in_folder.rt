@@ -26,14 +26,14 @@ use std::rt::Files;
 /// Serves as the replica of this folder, in the generation that it is in, until the source is over or a fault stops it, and answers how the
 /// program ends. What was cut off a log is told by a line on the fault output before anything is answered, and what stops the node by one more;
 /// where telling fails, the status stays.
-pub fn serve_folder<R: Files<File = File> + AllocGlobal, S: Source, W: Sink, F: Sink>(
-    rt: &R,
+pub fn serve_folder<'a, R: Files<File = File> + AllocGlobal, S: Source, W: Sink, F: Sink>(
+    rt: &'a R,
     options: &FolderOptions,
     reader: &mut S,
     writer: &mut W,
     fault_writer: &mut F,
 ) -> Status
-    ensures { (zs : List ℕ) → S.left reader.old ≡ Some zs → IsFolderNode (record { has_failed = ⟦<FileDevice<R> as Device>⟧.has_failed; why = ⟦<FileDevice<R> as Device>⟧.why; seen = ⟦<FileDevice<R> as Device>⟧.seen; moment = ⟦<FileDevice<R> as Device>⟧.moment; left_since = ⟦<FileDevice<R> as Device>⟧.left_since })
+    ensures { (zs : List ℕ) → S.left reader.old ≡ Some zs → IsFolderNode (record { has_failed = ⟦<FileDevice<'a, R> as Device>⟧.has_failed; why = ⟦<FileDevice<'a, R> as Device>⟧.why; seen = ⟦<FileDevice<'a, R> as Device>⟧.seen; moment = ⟦<FileDevice<'a, R> as Device>⟧.moment; left_since = ⟦<FileDevice<'a, R> as Device>⟧.left_since })
         options.now.mode options.now.size options.now.me zs result
         (output (S.left reader.old) (S.left reader.new) (S.has_failed reader.old) (S.has_failed reader.new))
         (output (W.held writer.old) (W.held writer.new) (W.has_failed writer.old) (W.has_failed writer.new))
@@ -106,7 +106,7 @@ fn of_size<D: Device + Drop>(
         drop(node);
         Err(Fault::Folder(FolderFault::OtherSize(
             generation.number(),
-            found.count(),
+            u32::from(found.count()),
         )))
     }
 }

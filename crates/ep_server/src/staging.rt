@@ -76,7 +76,7 @@ fn taken_generation(alloc: Global, bytes: &[u8], size: Size) -> Result<Generatio
             if found == size {
                 Ok(generation)
             } else {
-                Err(FolderFault::OtherCluster(found.count()))
+                Err(FolderFault::OtherCluster(u32::from(found.count())))
             }
         }
         Err(OpeningFault::Memory) => Err(FolderFault::Memory),
