@@ -1,9 +1,6 @@
 -- Why a journal gives no file is why its node hands none out.
-use Rattle.std.proofs.Common.{◌≡◌, ℕ, List, subst}
-use Rattle.ep_base.specs.declared.version.Version.{Version}
+use Rattle.std.proofs.Common.{◌≡◌, subst}
 use Rattle.ep_journal.specs.Entries.{Log}
-use Rattle.ep_journal.specs.Openings.{Opening}
-use Rattle.ep_journal.specs.declared.entry.Entry.{Entry}
 use Rattle.ep_opening.specs.Closing as opening
 use Rattle.ep_opening.specs.declared.closing_fault.ClosingFault.{ClosingFault}
 use Rattle.ep_opening.specs.declared.closing_fault.ClosingFault.TheVariants.{Memory, NotSealed, LastGeneration}

@@ -1,5 +1,5 @@
 -- What the calls of nodes do through generations are moves of a life.
-use Rattle.std.proofs.Common.{◌≡◌, ℕ, suc, ◌+◌, ◌<◌, ◌≤◌, Bool, true, false, cond, eqb, ◌||◌, None, List, [], ◌∷◌, ◌++◌, length, take, refl, sym, ap, subst, ◌∙◌, arith}
+use Rattle.std.proofs.Common.{◌≡◌, ℕ, suc, ◌+◌, ◌<◌, Bool, true, false, cond, eqb, ◌||◌, None, List, [], ◌∷◌, ◌++◌, length, take, refl, sym, ap, subst, ◌∙◌, arith}
 use Rattle.std.proofs.lemmas.Bool.{eq-eqb, eqb-true}
 use Rattle.std.proofs.lemmas.List.{take_all}
 use Rattle.ep_base.specs.Quorums.{size}
@@ -20,12 +20,12 @@ use Rattle.ep_replica.specs.Kept.{Kept}
 use Rattle.ep_rules.specs.Journals.{IsAmong, left}
 use Rattle.ep_rules.specs.Journals as rules
 use Rattle.ep_rules.specs.OneMap.{Contents, Store, opened, is_closed}
-use Rattle.ep_rules.specs.States.{State, fresh_state}
+use Rattle.ep_rules.specs.States.{fresh_state}
 use Rattle.ep_rules.specs.Worlds.{In}
 use Rattle.ep_rules.proofs.ClosedJournals.{closed_entries_lem}
 use Rattle.ep_node.specs.Calls.{IsNode, Makes, StartsFrom}
 use Rattle.ep_node.specs.CrashLives.{Generations, newborn, start_of, store_out, LifeMove, Within, OpensNext, IsLifeMove, opened_next, after_move, AreLifeMoves, life_after, stand_on, IsLifeInRealTime}
-use Rattle.ep_node.specs.Crashes.{Start, Cluster, fresh_cluster, Move, Take, HandOut, ComeBack, mover, IsMove, with_at, moved, handed_out, standing, IsBeginning}
+use Rattle.ep_node.specs.Crashes.{Start, Cluster, Move, Take, HandOut, ComeBack, mover, IsMove, with_at, moved, handed_out, standing, IsBeginning}
 use Rattle.ep_node.specs.LifeCalls.{HasLived, IsNodeIn, MakesIn, HasHandedOn, OpensWith, WasHandedOut, IsElsewhere, LifeCallsAreMoves}
 use Rattle.ep_node.proofs.CallMoves.{calls_are_moves_lem}
 use Rattle.ep_node.proofs.CrashLives.{at_gen, still_open, not_both, same_on, Same, crashing_lives_are_linearizable_lem}
