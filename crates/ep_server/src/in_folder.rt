@@ -49,6 +49,7 @@ pub fn serve_folder<'a, R: Files<File = File> + AllocGlobal, S: Source, W: Sink,
 }
 
 /// The node of the generation that is served: of the cluster's size, and with the origin that a file has.
+#[tactic(auto, using(crate::proofs::InFolders::tells_nothing, crate::proofs::InFolders::one_cut, crate::proofs::InFolders::both_cuts))]
 fn ready<'a, R: Files<File = File> + AllocGlobal, F: Sink>(
     rt: &'a R,
     options: &FolderOptions,
@@ -75,6 +76,7 @@ fn ready<'a, R: Files<File = File> + AllocGlobal, F: Sink>(
 }
 
 /// The node of the generation that was opened by closing the one before.
+#[tactic(auto, using(crate::proofs::InFolders::tells_nothing))]
 fn ready_again<'a, R: Files<File = File> + AllocGlobal, F: Sink>(
     rt: &'a R,
     options: &FolderOptions,
@@ -166,6 +168,7 @@ fn device_of<'a, R: Files<File = File> + AllocGlobal>(
 }
 
 /// The node of a generation, whose log is on the disk. The generations before it are left then.
+#[tactic(auto, using(crate::proofs::InFolders::tells_nothing, crate::proofs::InFolders::tells_cut))]
 fn open_stage<'a, R: Files<File = File> + AllocGlobal, F: Sink>(
     rt: &'a R,
     options: &FolderOptions,
