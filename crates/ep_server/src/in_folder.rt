@@ -4,6 +4,8 @@ ghost use Rattle.std.specs.Prelude.{◌≡◌, ◌++◌, ℕ, List, Option, None
 ghost use Rattle.ep_node.specs.Nodes.{IsQuiet};
 ghost use Rattle.ep_node.specs.declared.cut.Cut.{Cut as CutOff};
 ghost use Rattle.ep_opening.specs.Bytes.{file_digest};
+ghost use Rattle.ep_opening.specs.Closing.{store_of};
+ghost use Rattle.ep_rules.specs.OneMap.{is_closed};
 ghost use Rattle.ep_server.specs.Outputs.{output};
 ghost use Rattle.ep_server.specs.Served.{origin_from, told_first, IsFolderNode, IsOfFile, IsUnready, TellsCut, TellsCuts};
 
@@ -119,7 +121,7 @@ fn closed<R: Files<File = File> + AllocGlobal, D: Device>(
     options: &FolderOptions,
     node: &Node<D>,
 ) -> Result<bool, FolderFault>
-    requires { IsQuiet node.now }
+    ensures { IfOk result (λ is. is ≡ is_closed (store_of node.now.replica)) }
 {
     match node.close(rt.alloc(), options.size) {
         Ok(file) => {
@@ -128,7 +130,7 @@ fn closed<R: Files<File = File> + AllocGlobal, D: Device>(
         }
         Err(CloseFault::NotSealed) => Ok(false),
         Err(CloseFault::LastGeneration) => Err(FolderFault::Last),
-        // (the node is quiet, so that there is no other fault)
+        // (or it isn't quiet, which a node that was just opened is)
         Err(_) => Err(FolderFault::Memory),
     }
 }
