@@ -335,6 +335,17 @@ def larger(it, folder):
     yield "a new one comes back", differs(told(it, 4), (0, 3, ""))
     with open(f"{it.place(0)}/1/left", "rb") as file:
         yield "marks name the newest", differs(file.read(), b"3")
+    os.mkdir(it.place(3))
+    os.mkdir(f"{it.place(3)}/2")
+    os.mkdir(f"{it.place(3)}/3")
+    for generation, content in ((2, opening(size=5)), (3, it.opening(0, 3))):
+        with open(f"{it.place(3)}/{generation}/opening", "wb") as file:
+            file.write(content)
+    it.size = 7
+    other = line("folder refused: generation 3 has another size and isn't closed; go on with --replicas 5")
+    yield "a log that isn't begun, with seven", differs((told(it, 3), it.has(3, "3/log"), it.has(3, "2/left")), ((2, None, other), False, False))
+    it.size = 5
+    yield "a log that isn't begun, with five", differs((told(it, 3), it.has(3, "2/left")), ((0, 3, ""), True))
     it.size = 3
     size = line("folder refused: generation 3 has another size and isn't closed; go on with --replicas 5")
     yield "with three again", differs(told(it, 0), (2, None, size))

@@ -14,7 +14,7 @@ use crate::folder_fault::FolderFault;
 use crate::folder_options::FolderOptions;
 use crate::program::{concluded, opened_as, served, tell_first};
 use crate::stage::Stage;
-use crate::staging::{first_stage, next_stage, put_next};
+use crate::staging::{check_stage, first_stage, next_stage, put_next};
 use crate::status::Status;
 use ep_base::{Generation, ReplicaId, Sink, Size, Source};
 use ep_device::{Device, FileDevice};
@@ -62,6 +62,7 @@ fn ready<'a, R: Files<File = File> + AllocGlobal, F: Sink>(
     ensures told { TellsCuts (output (F.held fault_writer.old) (F.held fault_writer.new) (F.has_failed fault_writer.old) (F.has_failed fault_writer.new)) }
 {
     let stage = first_stage(rt, options)?;
+    check_stage(options.size, &stage)?;
     let generation = stage.file.generation();
     let node = open_stage(rt, options, stage, fault_writer)?;
     match closed(rt, options, &node) {
@@ -89,6 +90,7 @@ fn ready_again<'a, R: Files<File = File> + AllocGlobal, F: Sink>(
     ensures told { TellsCut (output (F.held fault_writer.old) (F.held fault_writer.new) (F.has_failed fault_writer.old) (F.has_failed fault_writer.new)) }
 {
     let stage = next_stage(rt, options.folder.as_str())?;
+    check_stage(options.size, &stage)?;
     let generation = stage.file.generation();
     let node = open_stage(rt, options, stage, fault_writer)?;
     of_size(options.size, generation, node)
