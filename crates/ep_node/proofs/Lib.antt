@@ -6,6 +6,9 @@ pub mod CrashPlayed
 pub mod CrashOrders
 pub mod CrashLives
 pub mod CallMoves
+pub mod LifeFrames
+pub mod LifeMoves
+mod Closings
 pub mod Growing
 mod Renewing
 mod Moments

@@ -1,13 +1,13 @@
 -- Generations of nodes that crash and come back. Each opens with the map that a node of the one before handed out, after it executed a seal.
 --
 -- A replica whose disk is lost moves no more in the generations that it has opened, and may open the next one.
-use Rattle.std.specs.Prelude.{◌≡◌, ℕ, suc, ◌<◌, ◌≤◌, Bool, true, false, ◌&&◌, ◌||◌, eqb, ltb, cond, List, [], ◌∷◌, ◌++◌}
+use Rattle.std.specs.Prelude.{◌≡◌, ℕ, suc, ◌<◌, ◌≤◌, Bool, true, false, ◌&&◌, ◌||◌, eqb, cond, List, [], ◌∷◌, ◌++◌}
 use Rattle.ep_base.specs.Quorums.{size}
 use Rattle.ep_rules.specs.Generations.{Turn, Opens, Steps, IsLife, birth, opening_map, one_history, IsOneHistory}
 use Rattle.ep_rules.specs.Journals.{left, Scheduled, of, act_of}
 use Rattle.ep_rules.specs.OneMap.{Contents, Store, opened, is_closed}
 use Rattle.ep_rules.specs.States.{fresh_state}
-use Rattle.ep_node.specs.Crashes.{Start, Cluster, fresh_cluster, Move, Take, HandOut, ComeBack, mover, IsMove, with_at, moved, handed_out, IsOneRun}
+use Rattle.ep_node.specs.Crashes.{Start, Cluster, fresh_cluster, Move, Take, HandOut, ComeBack, mover, IsMove, with_at, moved, handed_out, without, is_beyond, standing, IsOneRun}
 
 -- The nodes of all generations: which replicas have opened which, with what map, and from which stamp their clocks went on.
 pub record Generations : Type 0 where
@@ -69,23 +69,14 @@ pub data Stood : Type 0 where
 
 -- it is an entry of the generation, at r, beyond its first n
 abbrev pub is_lost : ℕ → ℕ → ℕ → Stood → Bool
-is_lost g r n (Took h a) = eqb g h && (eqb a.replica r && ltb n a.entry.number)
+is_lost g r n (Took h a) = eqb g h && is_beyond r n a
 is_lost g r n (Opened h q p) = false
-
-abbrev pub kept_in : ℕ → ℕ → ℕ → List Stood → List Stood
-kept_in g r n [] = []
-kept_in g r n (s ∷ these) = cond (is_lost g r n s) (kept_in g r n these) (s ∷ kept_in g r n these)
 
 abbrev pub stand_on : LifeMove → List Stood → List Stood
 stand_on (Within g (Take r e)) these = these ++ (Took g (record { replica = r; entry = e }) ∷ [])
 stand_on (Within g (HandOut r n)) these = these
-stand_on (Within g (ComeBack r n)) these = kept_in g r n these
+stand_on (Within g (ComeBack r n)) these = without (is_lost g r n) these
 stand_on (OpensNext g r q since) these = these ++ (Opened g r q ∷ [])
-
--- what stands after moves, after these
-abbrev pub stood : List Stood → List LifeMove → List Stood
-stood these [] = these
-stood these (m ∷ ms) = stood (stand_on m these) ms
 
 -- the entries of a generation
 abbrev pub taken_in : ℕ → List Stood → List Scheduled
@@ -118,4 +109,4 @@ pub record IsLifeInRealTime (start : Start) (f : ℕ → ℕ) (l : Generations) 
 abbrev pub CrashingLivesAreLinearizable : Type 0
 CrashingLivesAreLinearizable =
     (start : Start) (f : ℕ → ℕ) → ((g : ℕ) → (0 < f g) × (size (f g) ≤ 256)) → (moves : List LifeMove) → AreLifeMoves f (newborn start) moves →
-    IsLifeInRealTime start f (life_after f (newborn start) moves) (stood [] moves)
+    IsLifeInRealTime start f (life_after f (newborn start) moves) (standing stand_on [] moves)

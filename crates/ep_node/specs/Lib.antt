@@ -1,6 +1,8 @@
 pub mod Calls
+pub mod Closing
 pub mod Crashes
 pub mod CrashLives
+pub mod LifeCalls
 pub mod Nodes
 pub mod OpenFaults
 pub mod Opening

@@ -3,6 +3,7 @@
 ghost use Rattle.ep_node.specs.Calls.{CallsAreMoves};
 ghost use Rattle.ep_node.specs.CrashLives.{CrashingLivesAreLinearizable};
 ghost use Rattle.ep_node.specs.Crashes.{CrashesKeepAgreement, CrashesKeepReceipts, CrashesLeaveNoTrace, CrashingRunsAreLinearizable, CrashingRunsAreRuns, HandedOutStays, PlayedRunsAreMoves};
+ghost use Rattle.ep_node.specs.LifeCalls.{LifeCallsAreMoves};
 
 /// Whatever crashed, the nodes' entries are the journals of one run without a crash, and no audit of them finds a fault.
 pub fn crashing_runs_are_runs()
@@ -50,4 +51,10 @@ pub fn crashing_lives_are_linearizable()
 /// of all entries, a crash and the next `open` a `ComeBack`; a sync is none.
 pub fn calls_are_moves()
     ensures { CallsAreMoves }
+{}
+
+/// What nodes' calls do through generations are the moves of the law on lives: within a generation as `calls_are_moves` says; a file that `close` hands out is
+/// a `HandOut` of all entries; and whoever opens the next generation with it, at whatever later point, makes an `OpensNext`.
+pub fn life_calls_are_moves()
+    ensures { LifeCallsAreMoves }
 {}

@@ -1,4 +1,5 @@
 pub mod Files
 pub mod Bytes
+pub mod Closing
 pub mod Reading
 pub mod Texts

@@ -9,6 +9,8 @@
 //! The digest is judged before all fields behind the version: a field's fault says that somebody wrote it so.
 #![tactic(auto)]
 
+mod closing;
+mod closing_fault;
 mod digest;
 mod front;
 mod laws;
@@ -21,6 +23,8 @@ mod reading;
 mod stages;
 mod writing;
 
+pub use closing::closing_of;
+pub use closing_fault::ClosingFault;
 pub use digest::digest_in;
 pub use laws::{files_are_read_back, learn_file};
 pub use opening_fault::OpeningFault;
