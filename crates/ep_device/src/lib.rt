@@ -22,6 +22,7 @@ pub use cause::Cause;
 pub use device::Device;
 pub use device_failed::DeviceFailed;
 pub use device_fault::DeviceFault;
-pub use file_device::FileDevice;
+pub use file_device::{FileDevice, lock_of};
 pub use memory_device::MemoryDevice;
 pub use synced::append_and_sync;
+pub use system::fault_of;

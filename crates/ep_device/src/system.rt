@@ -1,7 +1,7 @@
 //! What the operating system's errors are told as.
 
-ghost use Rattle.std.specs.Prelude.{◌≡◌};
-ghost use Rattle.std_io.specs.IoError.{raw_os_error};
+ghost use Rattle.std.specs.Prelude.{◌≡◌, ◌≢◌, ◌⊎◌};
+ghost use Rattle.std_io.specs.IoError.{error_kind, raw_os_error};
 ghost use Rattle.ep_device.specs.Files.{cause_in, cause_of};
 
 use crate::cause::Cause;
@@ -43,7 +43,9 @@ pub(crate) fn cause_of(error: &io::Error) -> Cause
 }
 
 /// What the error is told as: want of memory, or a failure.
-pub(crate) fn fault_of(error: &io::Error) -> DeviceFault {
+pub fn fault_of(error: &io::Error) -> DeviceFault
+    ensures { ((error_kind error.now ≡ ErrorKind.OutOfMemory) × (result ≡ DeviceFault.Memory)) ⊎ ((error_kind error.now ≢ ErrorKind.OutOfMemory) × (result ≡ DeviceFault.Failed (cause_of (raw_os_error error.now)))) }
+{
     if error.kind() == ErrorKind::OutOfMemory {
         return DeviceFault::Memory;
     }

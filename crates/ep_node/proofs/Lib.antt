@@ -15,3 +15,4 @@ mod Moments
 mod Syncing
 mod Opened
 mod EachTaken
+mod Outstanding

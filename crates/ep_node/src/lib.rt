@@ -9,6 +9,7 @@ mod begin;
 mod close_fault;
 mod crash_law;
 mod cut;
+mod executing;
 mod extent;
 mod node;
 mod node_fault;

@@ -1,0 +1,32 @@
+//! The folder of a replica that lives through generations.
+//!
+//! FOLDER/G has what the replica has of generation G: `opening`, the file that the generation opens with; `log`; and `left`, the mark that says
+//! that the replica has begun the log of a later generation, and which. A start reads what is there (`look`), and `plan_for` says in which
+//! generation it goes on, whether an opening is written first, and whether a log may be begun: never in a generation that was left, and never a
+//! log that was begun before.
+//!
+//! Start with `planning.rt` and specs/Plans.antt; then `making.rt`. What files do no contract can say; docs/FORMATS.md, section 13, and rows of
+//! .ci/disks.py do.
+#![tactic(auto)]
+
+mod held;
+mod log_start;
+mod looking;
+mod making;
+mod named;
+mod paths;
+mod plan;
+mod planning;
+mod refusal;
+mod wish;
+
+pub use held::Held;
+pub use log_start::LogStart;
+pub use looking::{has_log, look, read_bytes};
+pub use making::{leave_earlier, lock_folder, make_folder, write_whole};
+pub use named::{generation_in, left_in};
+pub use paths::{file_path, generation_path, log_path, mark_path, opening_path};
+pub use plan::Plan;
+pub use planning::{newest_in, plan_for};
+pub use refusal::Refusal;
+pub use wish::Wish;

@@ -1,0 +1,119 @@
+//! What a folder has.
+
+use crate::held::Held;
+use crate::named::{generation_in, left_in};
+use crate::paths::{log_path, mark_path, opening_path};
+use ep_base::Generation;
+use ep_device::{DeviceFault, fault_of};
+use std::alloc::AllocError;
+use std::fs;
+use std::io;
+use std::io::ErrorKind;
+use std::rt::Files;
+
+/// What the folder has of each generation. Names that spell none are passed over.
+pub fn look<R: Files + AllocGlobal>(rt: &R, folder: &str) -> Result<Vec<Held>, DeviceFault> {
+    let mut all = Vec::new(rt.alloc());
+    let entries = match fs::read_dir(&rt, folder) {
+        Ok(entries) => entries,
+        Err(error) => return Err(fault_of(&error)),
+    };
+    for entry in entries {
+        let number = match entry {
+            Ok(entry) => generation_in(entry.file_name().as_bytes()),
+            // (a name that is no text is none of these)
+            Err(error) if error.kind() == ErrorKind::InvalidFilename => None,
+            Err(error) => return Err(fault_of(&error)),
+        };
+        if let Some(held) = held_of(rt, folder, number)? {
+            append(&mut all, held)?;
+        }
+    }
+    Ok(all)
+}
+
+fn append(all: &mut Vec<Held>, held: Held) -> Result<(), AllocError> {
+    all.push(held)?;
+    Ok(())
+}
+
+/// What it has of the generation of this number, where that is one.
+fn held_of<R: Files + AllocGlobal>(
+    rt: &R,
+    folder: &str,
+    number: Option<u32>,
+) -> Result<Option<Held>, DeviceFault> {
+    let Some(number) = number else {
+        return Ok(None);
+    };
+    match Generation::new(number) {
+        Ok(generation) => Ok(Some(held_in(rt, folder, generation)?)),
+        Err(_) => Ok(None),
+    }
+}
+
+fn held_in<R: Files + AllocGlobal>(
+    rt: &R,
+    folder: &str,
+    generation: Generation,
+) -> Result<Held, DeviceFault> {
+    let opening = opening_path(rt.alloc(), folder, generation)?;
+    let mark = mark_path(rt.alloc(), folder, generation)?;
+    Ok(Held {
+        number: generation.number(),
+        has_opening: is_there(rt, opening.as_str())?,
+        left_for: left_for(rt, mark.as_str(), generation.number())?,
+    })
+}
+
+/// Whether something has this name.
+fn is_there<R: Files>(rt: &R, path: &str) -> Result<bool, DeviceFault> {
+    match fs::metadata(rt, path) {
+        Ok(_) => Ok(true),
+        Err(error) if is_missing(&error) => Ok(false),
+        Err(error) => Err(fault_of(&error)),
+    }
+}
+
+/// Whether the error says that nothing has the name. (What isn't a folder has nothing in it.)
+fn is_missing(error: &io::Error) -> bool {
+    matches!(
+        error.kind(),
+        ErrorKind::NotFound | ErrorKind::NotADirectory
+    )
+}
+
+/// The later generation that the mark of this name says was begun; 0 where there is none.
+fn left_for<R: Files + AllocGlobal>(
+    rt: &R,
+    mark: &str,
+    generation: u32,
+) -> Result<u32, DeviceFault> {
+    if !is_there(rt, mark)? {
+        return Ok(0);
+    }
+    let bytes = read_bytes(rt, mark)?;
+    Ok(left_in(&bytes, generation))
+}
+
+/// All the bytes of a file.
+pub fn read_bytes<R: Files + AllocGlobal>(rt: &R, path: &str) -> Result<Vec<u8>, DeviceFault> {
+    match fs::read(rt, path) {
+        Ok(bytes) => Ok(bytes),
+        Err(error) => Err(fault_of(&error)),
+    }
+}
+
+/// Whether the log of a generation has a byte.
+pub fn has_log<R: Files + AllocGlobal>(
+    rt: &R,
+    folder: &str,
+    generation: Generation,
+) -> Result<bool, DeviceFault> {
+    let path = log_path(rt.alloc(), folder, generation)?;
+    match fs::metadata(rt, path.as_str()) {
+        Ok(found) => Ok(found.len() > 0),
+        Err(error) if is_missing(&error) => Ok(false),
+        Err(error) => Err(fault_of(&error)),
+    }
+}

@@ -1,0 +1,186 @@
+//! How a replica starts, by what its folder has.
+
+ghost use Rattle.std.specs.Prelude.{◌≡◌, ◌-◌, ◌≤◌, ◌<◌, ◌&&◌, max, ltb, IfOk};
+ghost use Rattle.ep_folder.specs.Plans.{begin, go_on, has_opening, is_opening_of, left_for, newest, opened_number, plan, start, take, take_again, take_later, where_unmarked, NeverGoesBack};
+
+use crate::held::Held;
+use crate::log_start::LogStart;
+use crate::plan::Plan;
+use crate::refusal::Refusal;
+use crate::wish::Wish;
+
+/// The greater one.
+fn more(one: u32, other: u32) -> u32
+    ensures { result ≡ max one other }
+{
+    if one < other { other } else { one }
+}
+
+/// The generation, where it has an opening; else 0.
+fn opened_number(held: &Held) -> u32
+    ensures { result ≡ opened_number held.now }
+{
+    if held.has_opening { held.number } else { 0 }
+}
+
+/// The greatest generation that has an opening; 0 where none has.
+pub fn newest_in(held: &[Held]) -> u32
+    ensures { result ≡ newest held.now }
+{
+    let mut newest = 0;
+    for one in held {
+        newest = more(newest, opened_number(one));
+    }
+    newest
+}
+
+/// The greatest generation that a mark names; 0 where there is no mark.
+fn left_for(held: &[Held]) -> u32
+    ensures { result ≡ left_for held.now }
+{
+    let mut left = 0;
+    for one in held {
+        left = more(left, one.left_for);
+    }
+    left
+}
+
+fn is_opening_of(generation: u32, held: &Held) -> bool
+    ensures { result ≡ is_opening_of generation held.now }
+{
+    held.has_opening && held.number == generation
+}
+
+/// Whether the generation has an opening.
+fn has_opening(generation: u32, held: &[Held]) -> bool
+    ensures { result ≡ has_opening generation held.now }
+{
+    held.iter().any(|one| is_opening_of(generation, one))
+}
+
+/// A log may be begun, where there is none, in a generation that no mark names.
+fn where_unmarked(generation: u32, left: u32) -> LogStart
+    ensures { result ≡ where_unmarked generation left }
+{
+    if left < generation {
+        LogStart::Either
+    } else {
+        LogStart::Existing
+    }
+}
+
+fn go_on(newest: u32, left: u32, before: bool) -> Result<Plan, Refusal>
+    ensures { result ≡ go_on newest left before }
+{
+    if newest < left {
+        return Err(Refusal::Left(left));
+    }
+    if newest == 0 {
+        return Err(Refusal::Empty);
+    }
+    let log = if before {
+        where_unmarked(newest, left)
+    } else {
+        LogStart::Existing
+    };
+    Ok(Plan {
+        generation: newest,
+        writes: false,
+        log,
+    })
+}
+
+fn begin(newest: u32, left: u32, is_same: bool) -> Result<Plan, Refusal>
+    ensures { result ≡ begin newest left is_same }
+{
+    if newest < left {
+        return Err(Refusal::Left(left));
+    }
+    if newest == 0 {
+        return Ok(Plan {
+            generation: 1,
+            writes: true,
+            log: LogStart::New,
+        });
+    }
+    if newest == 1 && left == 0 && is_same {
+        return Ok(Plan {
+            generation: 1,
+            writes: false,
+            log: LogStart::New,
+        });
+    }
+    Err(Refusal::There(newest))
+}
+
+fn take_again(newest: u32, left: u32, is_same: bool) -> Result<Plan, Refusal>
+    ensures { result ≡ take_again newest left is_same }
+{
+    if newest < left {
+        return Err(Refusal::Left(left));
+    }
+    if !is_same {
+        return Err(Refusal::Other(newest));
+    }
+    Ok(Plan {
+        generation: newest,
+        writes: false,
+        log: where_unmarked(newest, left),
+    })
+}
+
+fn take_later(generation: u32, left: u32) -> Result<Plan, Refusal>
+    ensures { result ≡ take_later generation left }
+{
+    if left < generation {
+        Ok(Plan {
+            generation,
+            writes: true,
+            log: LogStart::Either,
+        })
+    } else {
+        Err(Refusal::Left(left))
+    }
+}
+
+fn take(newest: u32, left: u32, generation: u32, is_same: bool) -> Result<Plan, Refusal>
+    ensures { result ≡ take newest left generation is_same }
+{
+    if generation < newest {
+        return Err(Refusal::Older(newest));
+    }
+    if generation == newest {
+        return take_again(newest, left, is_same);
+    }
+    take_later(generation, left)
+}
+
+/// How a replica whose folder has this starts, or why it doesn't.
+pub fn plan_for(held: &[Held], wish: Wish) -> Result<Plan, Refusal>
+    ensures value { result ≡ plan held.now wish }
+    ensures never { IfOk result (NeverGoesBack held.now) }
+{
+    chosen(held, wish)
+}
+
+fn chosen(held: &[Held], wish: Wish) -> Result<Plan, Refusal>
+    ensures { result ≡ plan held.now wish }
+{
+    let newest = newest_in(held);
+    let left = left_for(held);
+    match wish {
+        Wish::GoOn => go_on(newest, left, has_opening(newest.saturating_sub(1), held)),
+        Wish::New { is_same } => begin(newest, left, is_same),
+        Wish::Take {
+            generation,
+            is_same,
+        } => take(newest, left, generation, is_same),
+    }
+}
+
+/// Whether the folder is to be marked once the log of this generation is begun: it is of an earlier one, and its mark names none as late.
+pub(crate) fn is_to_be_marked(held: &Held, generation: u32) -> bool
+    ensures { result ≡ (ltb held.now.number generation && ltb held.now.left_for generation) }
+{
+    held.number < generation && held.left_for < generation
+}
