@@ -17,7 +17,7 @@ BUILT = (f"{TOP}/crates/ep_server/out/ep_server", f"{TOP}/crates/ep_main/out/ep_
 CHEAP = {"CARGO_INCREMENTAL": "0", "CARGO_PROFILE_DEV_DEBUG": "0"}
 # as ./epaxos goes about it
 EPAXOS = """#!/bin/sh
-case "$1" in node | collect) exec {} "$@" ;; esac
+case "$1" in node | collect | contents) exec {} "$@" ;; esac
 exec {} "$@"
 """
 
