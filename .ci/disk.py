@@ -6,7 +6,8 @@ It is fed the lines that .ci/shim.c writes, and assumes no more than file system
   The file's length may be on the disk before the bytes are;
 - a sync that is done puts the file's dirty pages and its length on the disk. One that fails puts some of them there, and marks all
   of them clean: the cache goes on to show bytes that the disk hasn't, and later syncs don't write them (as Linux does it);
-- names (a file that is made, a rename) reach the disk in order, and surely by a sync of their folder alone.
+- names (a file or a folder that is made, a rename) reach the disk in the order of their folder, and surely by a sync of their folder alone. A
+  folder whose own name isn't on the disk is gone, with all that is in it.
 """
 
 import itertools
@@ -104,37 +105,62 @@ class File:
         left[at * PAGE : end] = picked[: end - at * PAGE]
 
 
+class Folder:
+    """What a name is of that is a folder's."""
+
+
 class Disk:
     """The files at and below a folder."""
 
     def __init__(self):
         self.files = {}
         self.folders = {}
-        # the names on the disk; and each change since then, in order, of some names at once
+        # the names on the disk; and of each folder each change of names in it since then, in order, of some names at once
         self.names = {}
-        self.changes = []
+        self.changes = {}
 
     def put(self, path):
-        """A file that is there from the beginning, on the disk."""
+        """A file or a folder that is there from the beginning, on the disk."""
+        if os.path.isdir(path):
+            self.names[path] = Folder()
+            return
         with open(path, "rb") as it:
             self.files[os.stat(path).st_ino] = self.names[path] = File(it.read())
 
-    def ways(self):
-        """The names that a power loss may leave, those of now last."""
-        return list(itertools.accumulate(self.changes, lambda names, change: {**names, **change}, initial=dict(self.names)))
+    def change(self, change):
+        """Some names of one folder changed."""
+        self.changes.setdefault(os.path.dirname(next(iter(change))), []).append(change)
+
+    def ways_in(self, folder):
+        """The changed names of a folder that a power loss may leave, those of now last."""
+        return list(itertools.accumulate(self.changes.get(folder, []), lambda names, change: {**names, **change}, initial={}))
 
     def current(self):
-        return self.ways()[-1]
+        names = dict(self.names)
+        for folder in self.changes:
+            names.update(self.ways_in(folder)[-1])
+        return names
+
+    def ways(self, path):
+        """What a name may be of after a power loss: of None, where it, or one of the folders that it is in, isn't there."""
+        ways = {id(it): it for names in self.ways_in(os.path.dirname(path)) for it in [names.get(path, self.names.get(path))]}
+        folder = os.path.dirname(path)
+        is_made_here = folder in self.names or any(folder in change for changes in self.changes.values() for change in changes)
+        return [*ways.values(), *([None] if is_made_here and None in self.ways(folder) else [])]
 
     def sure(self, path):
         """The bytes of the file of this name that are on the disk for sure: as many as there are whatever name it is found under."""
-        files = {id(it): it for it in (names.get(path) for names in self.ways())}
-        return min((b"" if it is None else bytes(it.cache[: it.sure()]) for it in files.values()), key=len)
+        return min((b"" if it is None else bytes(it.cache[: it.sure()]) for it in self.ways(path)), key=len)
 
     def after_crash(self, chance=None):
-        """The bytes of each file after a power loss, by its name: the least that is on the disk, or what chance leaves."""
-        names = self.names if chance is None else chance.choice(self.ways())
-        return {path: bytes(it.disk) if chance is None else it.left(chance) for path, it in names.items() if it is not None}
+        """The bytes of each file after a power loss, by its name, and None for each folder: the least that is on the disk, or what chance leaves."""
+        names = dict(self.names)
+        for folder in self.changes if chance else ():
+            names.update(chance.choice(self.ways_in(folder)))
+        made = {path for changes in self.changes.values() for change in changes for path, it in change.items() if isinstance(it, Folder)}
+        gone = [path for path in made if names.get(path) is None]
+        left = {path: it for path, it in names.items() if it is not None and not any(path.startswith(f"{it}/") for it in gone)}
+        return {path: None if isinstance(it, Folder) else bytes(it.disk) if chance is None else it.left(chance) for path, it in left.items()}
 
     def feed(self, line):
         """Takes a line of the shim's, of a call that is done."""
@@ -152,9 +178,11 @@ class Disk:
         elif kind == "folder" and words[0] == "0":
             self.sync_folder(self.folders[int(words[1])])
         elif kind == "rename" and done:
-            self.changes.append({words[2]: None, words[3]: self.current()[words[2]]})
+            self.change({words[2]: None, words[3]: self.current()[words[2]]})
+        elif kind == "mkdir" and done:
+            self.change({words[2]: Folder()})
         elif kind == "unlink" and done:
-            self.changes.append({words[2]: None})
+            self.change({words[2]: None})
         elif kind == "other":
             raise ValueError(f"a call that the model doesn't know: {line}")
 
@@ -163,7 +191,7 @@ class Disk:
             self.folders[number] = path.rstrip("/")
         elif what == "made":
             self.files[number] = File()
-            self.changes.append({path: self.files[number]})
+            self.change({path: self.files[number]})
         else:
             file = self.current().get(path)
             if file is None:
@@ -173,9 +201,6 @@ class Disk:
                 file.cut(0)
 
     def sync_folder(self, folder):
-        """All changes up to the last one of this folder are on the disk."""
-        own = [at for at, change in enumerate(self.changes) if any(os.path.dirname(path) == folder for path in change)]
-        if own:
-            for change in self.changes[: own[-1] + 1]:
-                self.names.update(change)
-            del self.changes[: own[-1] + 1]
+        """The names in this folder are on the disk, whatever is to become of the folder's own name."""
+        for change in self.changes.pop(folder, []):
+            self.names.update(change)

@@ -35,7 +35,7 @@ PROGRAMS = {PROGRAM: "", f"{PROGRAM}.by-rattle": " (built by Rattle's own compil
 # the most runs that one test gets so
 MOST = "500"
 # what the names of tests have that are run with each allocation refused, or MOST of them
-TESTS = ("played_on", "a_held_frame_has_its_place", "ep_world_tests::generations")
+TESTS = ("played_on", "a_held_frame_has_its_place", "ep_world_tests::generations", "a_life_with_little_memory")
 # scripts that are played, made into a bundle, and audited so
 SCRIPTS = ("examples/one_put.script", "examples/crossing_puts.script", "examples/swap.script", ".ci/scripts/seven.script")
 # what the names of rows begin with whose last run is made again so
@@ -226,6 +226,16 @@ def sweeps(*sweeps):
     return well.count(True), well.count(False)
 
 
+def lives():
+    """A short life of nodes that are killed, through generations."""
+    node, program = store.BUILT
+    if not os.path.isfile(node) or not os.path.isfile(program):
+        print("no life is played: `rt ci` has not built both programs", flush=True)
+        return 0, 0
+    with tempfile.TemporaryDirectory(prefix="epaxos-lives-") as scratch:
+        return counted("tools/lives", "--short", "--epaxos", store.joined(scratch, node, program))
+
+
 @dataclass
 class Part:
     """A part of the gate: what it is, what runs it and gives how many passed and how many failed, and whether it goes over the programs that `rt ci` built."""
@@ -248,6 +258,7 @@ PARTS = (
     Part("refused memory", lambda: sweeps(refused_memory, refused_views)),
     Part("failing devices", lambda: sweeps(failing_devices)),
     Part("turned bundles", lambda: sweeps(lambda: [swept("turned-bundles", [])])),
+    Part("lives", lives),
     Part("hosts/store", store.tried),
 )
 

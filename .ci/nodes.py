@@ -49,7 +49,7 @@ def refused(fault):
 # Requests that are whole and malformed, and how they are answered; the node goes on behind each.
 MALFORMED = (
     ("kind 0", asked(0), malformed(1, 4)),
-    ("kind 11 with a body", asked(11, "0102"), malformed(1, 4)),
+    ("kind 13 with a body", asked(13, "0102"), malformed(1, 4)),
     ("client 0", put(0, 1, b"x", b"1"), malformed(2, 5)),
     ("request 0", put(1, 0, b"x", b"1"), malformed(3, 9)),
     ("a cut seen stamp", asked(1, "00000001 00000001 000000"), malformed(4, 13)),
@@ -62,6 +62,8 @@ MALFORMED = (
     ("replica 3 of 3", asked(4, "03 0001"), malformed(10, 5)),
     ("number 2001", asked(3, "00 07d1"), malformed(11, 6)),
     ("a body of a sync", asked(10, "00"), malformed(12, 5)),
+    ("a body of a state", asked(11, "00"), malformed(12, 5)),
+    ("a body of an execution of all", asked(12, "00"), malformed(12, 5)),
     ("a key of 256 bytes", asked(7, "78" * 256), malformed(8, 5)),
 )
 

@@ -13,6 +13,7 @@
      cut RESULT FILE LENGTH
      fsync RESULT FILE, fdatasync RESULT FILE, folder RESULT FILE       (folder: an fsync of a folder)
      rename RESULT FILE FROM TO        (FILE: the one that was moved)
+     mkdir RESULT FILE PATH            (a folder is made)
      unlink RESULT FILE PATH
      out RESULT BYTES, err RESULT BYTES
      other NAME                        a call that changes files in a way that isn't told here
@@ -192,6 +193,11 @@ static const char *told(struct task *t, long call) {
         t->file = number_of_path(t->path);
         return is_told ? "rename" : NULL;
     }
+    case SYS_mkdir:
+    case SYS_mkdirat: {
+        int apart = call == SYS_mkdirat;
+        return path_named(t->id, apart ? file : AT_FDCWD, t->args[apart], t->path) ? "mkdir" : NULL;
+    }
     case SYS_unlink:
     case SYS_unlinkat: {
         int apart = call == SYS_unlinkat;
@@ -321,6 +327,8 @@ static void ends(struct task *t) {
         fprintf(trace, "open %lld %llu %s %s\n", result, result < 0 ? 0 : number_of_file(t->id, file), what, t->path);
     } else if (!strcmp(kind, "rename")) {
         fprintf(trace, "rename %lld %llu %s %s\n", result, t->file, t->path, t->other);
+    } else if (!strcmp(kind, "mkdir")) {
+        fprintf(trace, "mkdir %lld %llu %s\n", result, number_of_path(t->path), t->path);
     } else if (!strcmp(kind, "unlink")) {
         fprintf(trace, "unlink %lld %llu %s\n", result, t->file, t->path);
     } else if (!strcmp(kind, "write")) {

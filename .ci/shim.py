@@ -1,5 +1,6 @@
 """Runs of `epaxos node` under .ci/shim.c, and what its requests, answers and logs are in bytes (docs/FORMATS.md, sections 9 and 10)."""
 
+import copy
 import os
 import shutil
 import struct
@@ -35,12 +36,19 @@ def propose(client, number, key, value, seen=0):
     return request(1, struct.pack(">IIQBBH", client, number, seen, 3, len(key), len(value)) + key + value)
 
 
+def propose_in(client, number, op, key=b"", body=b"", seen=0):
+    """A proposal to a node of a generation; its op by number."""
+    return request(1, struct.pack(">IIQBBBI", client, number, seen, op, len(key), 0, len(body)) + key + body)
+
+
 def frame(content):
     return request(2, content)
 
 
 ADVANCE = request(6)
 SYNC = request(10)
+STATE = request(11)
+ALL = request(12)
 
 
 @dataclass
@@ -59,20 +67,22 @@ class Answer:
     entries: list
     # of `synced`
     synced: int = 0
+    # all of it, without its length and kind
+    body: bytes = b""
 
 
-def answers(told):
-    """The answers that stand whole at the beginning of these bytes, and how many bytes they have."""
+def answers(told, version=2):
+    """The answers that stand whole at the beginning of these bytes, of a node of this version, and how many bytes they have."""
     at, whole = 0, []
     while at + 4 <= len(told) and at + 4 + (size := struct.unpack_from(">I", told, at)[0]) <= len(told):
         body = told[at + 4 : at + 4 + size]
         synced = struct.unpack(">I", body[1:])[0] if body[0] == 6 else 0
-        whole.append(Answer(body[0], list(entries_told(body)) if body[0] == 1 else [], synced))
+        whole.append(Answer(body[0], list(entries_told(body, version)) if body[0] == 1 else [], synced, body[1:]))
         at += 4 + size
     return whole, at
 
 
-def entries_told(body):
+def entries_told(body, version):
     (count,), at = struct.unpack_from(">I", body, 1), 5
     for _ in range(count):
         number, frames, at = struct.unpack_from(">I", body, at)[0], [], at + 15
@@ -86,7 +96,8 @@ def entries_told(body):
             at += 32
             reply, at = body[at], at + 1
             if reply == 1:
-                at += 2 + struct.unpack_from(">H", body, at)[0]
+                size = 2 * (version - 1)
+                at += size + int.from_bytes(body[at : at + size], "big")
         yield Entry(number, frames)
 
 
@@ -120,6 +131,8 @@ def records(log):
 class Case:
     """Starts of a node on one disk. After each call it is looked at whether what was told would outlast a power loss."""
 
+    version = 2
+
     def __init__(self, shim, node, folder):
         self.shim, self.node, self.folder = shim, node, folder
         self.starts = 0
@@ -140,18 +153,27 @@ class Case:
         """Starts the node, which reads these requests."""
         self.starts += 1
         trace = f"{self.folder}/{self.starts}.trace"
-        run = [self.shim, trace, self.place, *rules, "--", self.node, "node", "--replicas", "3", "--replica", "0", "--log", self.log]
+        run = [self.shim, trace, self.place, *rules, "--", self.node, "node", "--replicas", "3", "--replica", "0", *self.where()]
         run += [*words, *(["--new"] if is_new else [])]
         ended = subprocess.run(run, input=requests, capture_output=True, timeout=SECONDS)
         self.status, self.errors = ended.returncode, ended.stderr.decode(errors="replace")
         with open(trace, encoding="ascii") as it:
             self.lines = it.read().splitlines()
+        self.follow(self.lines)
+        return self.status
+
+    def where(self):
+        """The words that name the place."""
+        return ["--log", self.log]
+
+    def follow(self, lines):
+        """Does with the disk what these calls did, and looks after each."""
         out, read = b"", 0
-        for line in self.lines:
+        for line in lines:
             kind, *rest = line.split(" ")
             if kind == "out" and int(rest[0]) > 0:
                 out += bytes.fromhex(rest[1])
-                whole, size = answers(out[read:])
+                whole, size = answers(out[read:], self.version)
                 read += size
                 self.hear(whole)
             elif kind == "unused":
@@ -165,7 +187,6 @@ class Case:
             self.look(line)
         if read != len(out):
             self.faults.append("an answer is cut")
-        return self.status
 
     def hear(self, whole):
         for answer in whole:
@@ -193,12 +214,15 @@ class Case:
         place = f"{self.folder}/{self.starts}"
         os.makedirs(place)
         self.disk = disk.Disk()
-        for path, content in left.items():
-            path = f"{place}/{os.path.basename(path)}"
-            with open(path, "wb") as it:
-                it.write(content)
+        for path, content in sorted(left.items()):
+            path = place + path.removeprefix(self.place)
+            if content is None:
+                os.mkdir(path)
+            else:
+                with open(path, "wb") as it:
+                    it.write(content)
             self.disk.put(path)
-        self.place, self.log = place, f"{place}/log"
+        self.place, self.log = place, place + self.log.removeprefix(self.place)
 
     def wants(self, is_so, what):
         if not is_so:
@@ -207,3 +231,73 @@ class Case:
     def calls(self, *kinds):
         """How many calls of these kinds there were in the last start."""
         return sum(line.split(" ")[0] in kinds for line in self.lines)
+
+
+class FolderCase(Case):
+    """The same of a node in the folder of a replica that lives through generations. What was told is of the generation that is served last."""
+
+    version = 3
+
+    def forget(self):
+        super().forget()
+        self.generation, self.log = 1, f"{self.place}/1/log"
+        # the answers of the last start
+        self.answers = []
+
+    def where(self):
+        return ["--dir", self.place]
+
+    def put(self, tree):
+        """Has the folder hold these files and folders, all on the disk, by their names in it."""
+        for name, content in sorted(tree.items()):
+            path = f"{self.place}/{name}"
+            if content is None:
+                os.mkdir(path)
+            else:
+                with open(path, "wb") as it:
+                    it.write(content)
+            self.disk.put(path)
+
+    def start(self, requests, *rules, words=(), is_new=False):
+        self.answers = []
+        # what there was before it, for a start that is followed again
+        self.saved = copy.deepcopy((self.place, self.log, self.generation, self.told, self.entries, self.disk))
+        return super().start(requests, *rules, words=words, is_new=is_new)
+
+    def restore(self, saved):
+        """From now on there is what there was before a start."""
+        self.answers = []
+        self.place, self.log, self.generation, self.told, self.entries, self.disk = copy.deepcopy(saved)
+
+    def hear(self, whole):
+        self.answers += whole
+        for it in whole:
+            if it.kind == 8:
+                self.serves(int.from_bytes(it.body[:4], "big"))
+        super().hear(whole)
+
+    def serves(self, generation):
+        """The node says that this is its generation: what was told of another one is in the map that this one opened with."""
+        if generation < self.generation:
+            self.faults.append(f"generation {generation} is served after generation {self.generation}")
+        if generation != self.generation:
+            self.generation, self.log = generation, f"{self.place}/{generation}/log"
+            self.told, self.entries = -1, []
+
+    def state(self):
+        """The generation that the last start served, and how many entries were on the disk; None where it told none."""
+        told = [it.body for it in self.answers if it.kind == 8]
+        return struct.unpack_from(">II", told[-1]) if told else None
+
+
+def tree_of(folder):
+    """The files and folders in a folder, but for locks: the bytes of each file, None of a folder."""
+    tree = {}
+    for at, folders, files in os.walk(folder):
+        for it in folders:
+            tree[os.path.relpath(f"{at}/{it}", folder)] = None
+        for it in files:
+            if not it.endswith(".lock"):
+                with open(f"{at}/{it}", "rb") as file:
+                    tree[os.path.relpath(f"{at}/{it}", folder)] = file.read()
+    return tree

@@ -12,10 +12,10 @@ use Rattle.ep_folder.specs.declared.wish.Wish.{Wish}
 use Rattle.ep_folder.specs.declared.wish.Wish.TheVariants as wish
 
 -- what is seen of a plan, by the greatest generation that has an opening and the greatest that a mark names
-record Keeps (newest left : ℕ) (p : Plan) : Type 0 where
+record Keeps (top left : ℕ) (p : Plan) : Type 0 where
   marks : left ≤ p.generation
   begun : (has_log : Bool) → begins p.log has_log ≡ true → left < p.generation
-  openings : newest ≤ p.generation
+  openings : top ≤ p.generation
 
 -- each is at most the greatest
 marks_under : (hs : List Held) (g : ℕ) → left_for hs ≤ g → AllByRecursion (λ h. h.left_for ≤ g) hs
@@ -33,14 +33,14 @@ openings_under (h ∷ hs) g le = (omega arith, openings_under hs g (omega arith)
 all_of : (hs : List Held) (p : Plan) → Keeps (newest hs) (left_for hs) p → NeverGoesBack hs p
 all_of hs p k = record {
   marks = marks_under hs p.generation k.marks;
-  begun = λ has_log yes. marks_below hs p.generation (k.begun has_log yes);
+  begun = λ has_log begun. marks_below hs p.generation (k.begun has_log begun);
   openings = openings_under hs p.generation k.openings;
 }
 
 -- what holds of a plan that was answered
-KeepsIn : ℕ → ℕ → Result Plan Refusal → Type 0
-KeepsIn newest left (Ok p) = Keeps newest left p
-KeepsIn newest left (Err e) = Unit {0}
+abbrev KeepsIn : ℕ → ℕ → Result Plan Refusal → Type 0
+KeepsIn top left (Ok p) = Keeps top left p
+KeepsIn top left (Err e) = Unit {0}
 
 -- a log that may be begun where none is, is one of a generation that no mark names
 unmarked : (g left : ℕ) (has_log : Bool) → begins (where_unmarked g left) has_log ≡ true → left < g
@@ -51,41 +51,41 @@ unmarked g left has_log = go (ltb left g) refl
     go false is bad = absurd (false≢true bad)
 
 unmarked_if : (before : Bool) (g left : ℕ) (has_log : Bool) → begins (cond before (where_unmarked g left) log.Existing) has_log ≡ true → left < g
-unmarked_if true g left has_log yes = unmarked g left has_log yes
+unmarked_if true g left has_log begun = unmarked g left has_log begun
 unmarked_if false g left has_log bad = absurd (false≢true bad)
 
-keeps_go_on : (newest left : ℕ) (before : Bool) → KeepsIn newest left (go_on newest left before)
-keeps_go_on newest left before =
-    cond_both (ltb newest left) _ _ (KeepsIn newest left) (λ _. tt) (λ fits. cond_both (eqb newest 0) _ _ (KeepsIn newest left) (λ _. tt)
-    (λ _. record { marks = ltb-false newest left fits; begun = unmarked_if before newest left; openings = omega arith }))
+keeps_go_on : (top left : ℕ) (before : Bool) → KeepsIn top left (go_on top left before)
+keeps_go_on top left before =
+    cond_both (ltb top left) _ _ (KeepsIn top left) (λ _. tt) (λ fits. cond_both (eqb top 0) _ _ (KeepsIn top left) (λ _. tt)
+    (λ _. record { marks = ltb-false top left fits; begun = unmarked_if before top left; openings = omega arith }))
 
-keeps_begin : (newest left : ℕ) (same : Bool) → KeepsIn newest left (begin newest left same)
-keeps_begin newest left same =
-    cond_both (ltb newest left) _ _ (KeepsIn newest left) (λ _. tt) (λ fits. cond_both (eqb newest 0) _ _ (KeepsIn newest left) (λ none. first (ltb-false newest left fits) (eqb-true newest 0 none))
-    (λ _. cond_both (eqb newest 1 && eqb left 0 && same) _ _ (KeepsIn newest left) (λ all. again (and_parts (eqb newest 1 && eqb left 0) same all).0) (λ _. tt)))
+keeps_begin : (top left : ℕ) (same : Bool) → KeepsIn top left (begin top left same)
+keeps_begin top left same =
+    cond_both (ltb top left) _ _ (KeepsIn top left) (λ _. tt) (λ fits. cond_both (eqb top 0) _ _ (KeepsIn top left) (λ none. first (ltb-false top left fits) (eqb-true top 0 none))
+    (λ _. cond_both (eqb top 1 && eqb left 0 && same) _ _ (KeepsIn top left) (λ all. again (and_parts (eqb top 1 && eqb left 0) same all).0) (λ _. tt)))
   where
-    first : left ≤ newest → newest ≡ 0 → Keeps newest left (start 1 true log.New)
+    first : left ≤ top → top ≡ 0 → Keeps top left (start 1 true log.New)
     first fits none = record { marks = omega arith; begun = λ _ _. omega arith; openings = omega arith }
 
-    again : (eqb newest 1 && eqb left 0) ≡ true → Keeps newest left (start 1 false log.New)
+    again : (eqb top 1 && eqb left 0) ≡ true → Keeps top left (start 1 false log.New)
     again both =
-        let one : newest ≡ 1 = eqb-true newest 1 (and_parts (eqb newest 1) (eqb left 0) both).0 in
-        let none : left ≡ 0 = eqb-true left 0 (and_parts (eqb newest 1) (eqb left 0) both).1 in
+        let one : top ≡ 1 = eqb-true top 1 (and_parts (eqb top 1) (eqb left 0) both).0 in
+        let none : left ≡ 0 = eqb-true left 0 (and_parts (eqb top 1) (eqb left 0) both).1 in
         record { marks = omega arith; begun = λ _ _. omega arith; openings = omega arith }
 
-keeps_again : (newest left : ℕ) (same : Bool) → KeepsIn newest left (take_again newest left same)
-keeps_again newest left same =
-    cond_both (ltb newest left) _ _ (KeepsIn newest left) (λ _. tt) (λ fits. cond_both same _ _ (KeepsIn newest left)
-    (λ _. record { marks = ltb-false newest left fits; begun = unmarked newest left; openings = omega arith }) (λ _. tt))
+keeps_again : (top left : ℕ) (same : Bool) → KeepsIn top left (take_again top left same)
+keeps_again top left same =
+    cond_both (ltb top left) _ _ (KeepsIn top left) (λ _. tt) (λ fits. cond_both same _ _ (KeepsIn top left)
+    (λ _. record { marks = ltb-false top left fits; begun = unmarked top left; openings = omega arith }) (λ _. tt))
 
-keeps_later : (newest g left : ℕ) → newest ≤ g → KeepsIn newest left (take_later g left)
-keeps_later newest g left le =
-    cond_both (ltb left g) _ _ (KeepsIn newest left) (λ above. let less : left < g = ltb-true left g above in record { marks = omega arith; begun = λ _ _. less; openings = le }) (λ _. tt)
+keeps_later : (top g left : ℕ) → top ≤ g → KeepsIn top left (take_later g left)
+keeps_later top g left le =
+    cond_both (ltb left g) _ _ (KeepsIn top left) (λ above. let less : left < g = ltb-true left g above in record { marks = omega arith; begun = λ _ _. less; openings = le }) (λ _. tt)
 
-keeps_take : (newest left g : ℕ) (same : Bool) → KeepsIn newest left (take newest left g same)
-keeps_take newest left g same =
-    cond_both (ltb g newest) _ _ (KeepsIn newest left) (λ _. tt) (λ above. cond_both (eqb g newest) _ _ (KeepsIn newest left) (λ _. keeps_again newest left same)
-    (λ _. keeps_later newest g left (ltb-false g newest above)))
+keeps_take : (top left g : ℕ) (same : Bool) → KeepsIn top left (take top left g same)
+keeps_take top left g same =
+    cond_both (ltb g top) _ _ (KeepsIn top left) (λ _. tt) (λ above. cond_both (eqb g top) _ _ (KeepsIn top left) (λ _. keeps_again top left same)
+    (λ _. keeps_later top g left (ltb-false g top above)))
 
 keeps : (hs : List Held) (w : Wish) → KeepsIn (newest hs) (left_for hs) (plan hs w)
 keeps hs wish.GoOn = keeps_go_on (newest hs) (left_for hs) (has_opening (newest hs - 1) hs)

@@ -5,6 +5,7 @@ use crate::named::{generation_in, left_in};
 use crate::paths::{log_path, mark_path, opening_path};
 use ep_base::Generation;
 use ep_device::{DeviceFault, fault_of};
+use std::alloc::AllocError;
 use std::fs;
 use std::io;
 use std::io::ErrorKind;
@@ -25,10 +26,15 @@ pub fn look<R: Files + AllocGlobal>(rt: &R, folder: &str) -> Result<Vec<Held>, D
             Err(error) => return Err(fault_of(&error)),
         };
         if let Some(held) = held_of(rt, folder, number)? {
-            all.push(held)?;
+            append(&mut all, held)?;
         }
     }
     Ok(all)
+}
+
+fn append(all: &mut Vec<Held>, held: Held) -> Result<(), AllocError> {
+    all.push(held)?;
+    Ok(())
 }
 
 /// What it has of the generation of this number, where that is one.

@@ -62,17 +62,24 @@ fn has_opening(generation: u32, held: &[Held]) -> bool
 fn where_unmarked(generation: u32, left: u32) -> LogStart
     ensures { result ≡ where_unmarked generation left }
 {
-    if left < generation {
+    if generation > left {
         LogStart::Either
     } else {
         LogStart::Existing
     }
 }
 
+/// Whether the replica has been in a later generation than the newest one here.
+fn is_gone(newest: u32, left: u32) -> bool
+    ensures { result ≡ ltb newest left }
+{
+    newest < left
+}
+
 fn go_on(newest: u32, left: u32, before: bool) -> Result<Plan, Refusal>
     ensures { result ≡ go_on newest left before }
 {
-    if newest < left {
+    if is_gone(newest, left) {
         return Err(Refusal::Left(left));
     }
     if newest == 0 {
@@ -93,7 +100,7 @@ fn go_on(newest: u32, left: u32, before: bool) -> Result<Plan, Refusal>
 fn begin(newest: u32, left: u32, is_same: bool) -> Result<Plan, Refusal>
     ensures { result ≡ begin newest left is_same }
 {
-    if newest < left {
+    if is_gone(newest, left) {
         return Err(Refusal::Left(left));
     }
     if newest == 0 {
@@ -116,7 +123,7 @@ fn begin(newest: u32, left: u32, is_same: bool) -> Result<Plan, Refusal>
 fn take_again(newest: u32, left: u32, is_same: bool) -> Result<Plan, Refusal>
     ensures { result ≡ take_again newest left is_same }
 {
-    if newest < left {
+    if is_gone(newest, left) {
         return Err(Refusal::Left(left));
     }
     if !is_same {
@@ -156,10 +163,15 @@ fn take(newest: u32, left: u32, generation: u32, is_same: bool) -> Result<Plan, 
 }
 
 /// How a replica whose folder has this starts, or why it doesn't.
-#[tactic(auto, using(crate::proofs::Planned::never_goes_back))]
 pub fn plan_for(held: &[Held], wish: Wish) -> Result<Plan, Refusal>
     ensures value { result ≡ plan held.now wish }
     ensures never { IfOk result (NeverGoesBack held.now) }
+{
+    chosen(held, wish)
+}
+
+fn chosen(held: &[Held], wish: Wish) -> Result<Plan, Refusal>
+    ensures { result ≡ plan held.now wish }
 {
     let newest = newest_in(held);
     let left = left_for(held);

@@ -15,15 +15,15 @@ use Rattle.ep_rules.proofs.JournalsCommitted.{of_both}
 use Rattle.ep_rules.proofs.JournalsGrow.{numbered_grow, own_entries_leave_lem}
 use Rattle.ep_rules.proofs.Lives.{runs_make_lives_lem}
 use Rattle.ep_rules.proofs.LivesLinear.{lives_are_linearizable_lem}
-use Rattle.ep_node.specs.Crashes.{Start, Cluster, fresh_cluster, Move, Take, HandOut, ComeBack, mover, IsMove, with_at, moved, AreMoves, cluster_after, handed_out, kept, stand_after, standing, IsOneRun, IsBeginning}
-use Rattle.ep_node.specs.CrashLives.{Generations, newborn, start_of, store_out, LifeMove, Within, OpensNext, IsLifeMove, opened_next, after_move, AreLifeMoves, life_after, Stood, Took, Opened, is_lost, kept_in, stand_on, stood, taken_in, turn_of, turns_of, IsLifeInRealTime, CrashingLivesAreLinearizable}
+use Rattle.ep_node.specs.Crashes.{Start, Cluster, fresh_cluster, Move, Take, HandOut, ComeBack, mover, IsMove, with_at, moved, AreMoves, cluster_after, handed_out, without, is_beyond, stand_after, standing, IsOneRun, IsBeginning}
+use Rattle.ep_node.specs.CrashLives.{Generations, newborn, start_of, store_out, LifeMove, Within, OpensNext, IsLifeMove, opened_next, after_move, AreLifeMoves, life_after, Stood, Took, Opened, is_lost, stand_on, taken_in, turn_of, turns_of, IsLifeInRealTime, CrashingLivesAreLinearizable}
 use Rattle.ep_node.proofs.CrashMoves.{at_each, take_begins, numbered_take, stamp_least}
-use Rattle.ep_node.proofs.CrashOrders.{low, low_take, kept_here, kept_other, own_move, crashing_runs_are_linearizable_lem}
+use Rattle.ep_node.proofs.CrashOrders.{kept, without_both, low, low_take, kept_here, kept_other, own_move, crashing_runs_are_linearizable_lem}
 use Rattle.ep_node.proofs.CrashRuns.{crashing_runs_are_runs_lem}
 use Rattle.ep_node.proofs.CrashTraces.{out_next}
 
 -- What holds of the new value, and of the old ones elsewhere, holds everywhere.
-at_gen : {X : Type 0} (P : ℕ → X → Type 0) (g : ℕ) (x : X) (was : ℕ → X) → P g x → ((h : ℕ) → eqb g h ≡ false → P h (was h)) → (h : ℕ) → P h (with_at g x was h)
+pub at_gen : {X : Type 0} (P : ℕ → X → Type 0) (g : ℕ) (x : X) (was : ℕ → X) → P g x → ((h : ℕ) → eqb g h ≡ false → P h (was h)) → (h : ℕ) → P h (with_at g x was h)
 at_gen P g x was here there h = go (eqb g h) refl
   where
     go : (b : Bool) → eqb g h ≡ b → P h (cond b x (was h))
@@ -42,30 +42,31 @@ taken_both g (Took h a ∷ xs) ys = go (eqb h g) (taken_both g xs ys)
     go false rec = rec
 taken_both g (Opened h r q ∷ xs) ys = taken_both g xs ys
 
+-- these without the entries of the generation at r that are beyond its first n
+abbrev kept_in : ℕ → ℕ → ℕ → List Stood → List Stood
+kept_in g r n these = without (is_lost g r n) these
+
 module _ (g h r n k : ℕ) (a : Scheduled) (K : List Stood) (T : List Scheduled) where
   own_first : taken_in g (Took g a ∷ K) ≡ a ∷ taken_in g K
   own_first = ap (λ z. cond z (a ∷ taken_in g K) (taken_in g K)) (eq-eqb g g refl)
 
-  own_kept : (b x y : Bool) → taken_in g K ≡ cond b (kept r n T) T →
-      taken_in g (cond (b && (x && y)) K (Took g a ∷ K)) ≡ cond b (cond x (cond y (kept r n T) (a ∷ kept r n T)) (a ∷ kept r n T)) (a ∷ T)
-  own_kept true true true rec = rec
-  own_kept true true false rec = own_first ∙ ap (λ l. a ∷ l) rec
-  own_kept true false y rec = own_first ∙ ap (λ l. a ∷ l) rec
-  own_kept false x y rec = own_first ∙ ap (λ l. a ∷ l) rec
+  own_kept : (b z : Bool) → taken_in g K ≡ cond b (kept r n T) T → taken_in g (cond (b && z) K (Took g a ∷ K)) ≡ cond b (cond z (kept r n T) (a ∷ kept r n T)) (a ∷ T)
+  own_kept true true rec = rec
+  own_kept true false rec = own_first ∙ ap (λ l. a ∷ l) rec
+  own_kept false z rec = own_first ∙ ap (λ l. a ∷ l) rec
 
-  other_kept : (b x y : Bool) → eqb k g ≡ false → taken_in g (cond (b && (x && y)) K (Took k a ∷ K)) ≡ taken_in g K
-  other_kept true true true e = refl
-  other_kept true true false e = ap (λ z. cond z (a ∷ taken_in g K) (taken_in g K)) e
-  other_kept true false y e = ap (λ z. cond z (a ∷ taken_in g K) (taken_in g K)) e
-  other_kept false x y e = ap (λ z. cond z (a ∷ taken_in g K) (taken_in g K)) e
+  other_kept : (b z : Bool) → eqb k g ≡ false → taken_in g (cond (b && z) K (Took k a ∷ K)) ≡ taken_in g K
+  other_kept true true e = refl
+  other_kept true false e = ap (λ z. cond z (a ∷ taken_in g K) (taken_in g K)) e
+  other_kept false z e = ap (λ z. cond z (a ∷ taken_in g K) (taken_in g K)) e
 
   kept_step : (b : Bool) → eqb k g ≡ b → taken_in g K ≡ cond (eqb h g) (kept r n T) T →
-      taken_in g (cond (eqb h k && (eqb a.replica r && ltb n a.entry.number)) K (Took k a ∷ K)) ≡ cond (eqb h g) (kept r n (cond b (a ∷ T) T)) (cond b (a ∷ T) T)
+      taken_in g (cond (eqb h k && is_beyond r n a) K (Took k a ∷ K)) ≡ cond (eqb h g) (kept r n (cond b (a ∷ T) T)) (cond b (a ∷ T) T)
   kept_step true e rec = subst
-      (λ j. taken_in g (cond (eqb h j && (eqb a.replica r && ltb n a.entry.number)) K (Took j a ∷ K)) ≡ cond (eqb h g) (kept r n (a ∷ T)) (a ∷ T))
+      (λ j. taken_in g (cond (eqb h j && is_beyond r n a) K (Took j a ∷ K)) ≡ cond (eqb h g) (kept r n (a ∷ T)) (a ∷ T))
       (sym (eqb-true k g e))
-      (own_kept (eqb h g) (eqb a.replica r) (ltb n a.entry.number) rec)
-  kept_step false e rec = other_kept (eqb h k) (eqb a.replica r) (ltb n a.entry.number) e ∙ rec
+      (own_kept (eqb h g) (is_beyond r n a) rec)
+  kept_step false e rec = other_kept (eqb h k) (is_beyond r n a) e ∙ rec
 
 kept_taken : (g h r n : ℕ) (these : List Stood) → taken_in g (kept_in h r n these) ≡ cond (eqb h g) (kept r n (taken_in g these)) (taken_in g these)
 kept_taken g h r n [] = go (eqb h g)
@@ -106,15 +107,15 @@ cluster_in f l (Within h m ∷ ms) g = cluster_in f (after_move f l (Within h m)
     go true e = ap (λ k. cluster_after (moved (l.cluster k) m) (moves_in g ms)) (eqb-true h g e)
     go false e = refl
 
-standing_in : (g : ℕ) (ms : List LifeMove) (these : List Stood) → taken_in g (stood these ms) ≡ standing (taken_in g these) (moves_in g ms)
+standing_in : (g : ℕ) (ms : List LifeMove) (these : List Stood) → taken_in g (standing stand_on these ms) ≡ standing stand_after (taken_in g these) (moves_in g ms)
 standing_in g [] these = refl
 standing_in g (OpensNext h r q since ∷ ms) these =
-    standing_in g ms (these ++ (Opened h r q ∷ [])) ∙ ap (λ l. standing l (moves_in g ms)) (taken_both g these (Opened h r q ∷ []) ∙ append-nil (taken_in g these))
+    standing_in g ms (these ++ (Opened h r q ∷ [])) ∙ ap (λ l. standing stand_after l (moves_in g ms)) (taken_both g these (Opened h r q ∷ []) ∙ append-nil (taken_in g these))
 standing_in g (Within h m ∷ ms) these = standing_in g ms (stand_on (Within h m) these) ∙ go (eqb h g) refl
   where
-    go : (b : Bool) → eqb h g ≡ b → standing (taken_in g (stand_on (Within h m) these)) (moves_in g ms) ≡ standing (taken_in g these) (cond b (m ∷ moves_in g ms) (moves_in g ms))
-    go true e = ap (λ l. standing l (moves_in g ms)) (subst (λ k. taken_in g (stand_on (Within k m) these) ≡ stand_after m (taken_in g these)) (sym (eqb-true h g e)) (taken_here g m these))
-    go false e = ap (λ l. standing l (moves_in g ms)) (taken_there h g m these e)
+    go : (b : Bool) → eqb h g ≡ b → standing stand_after (taken_in g (stand_on (Within h m) these)) (moves_in g ms) ≡ standing stand_after (taken_in g these) (cond b (m ∷ moves_in g ms) (moves_in g ms))
+    go true e = ap (λ l. standing stand_after l (moves_in g ms)) (subst (λ k. taken_in g (stand_on (Within k m) these) ≡ stand_after m (taken_in g these)) (sym (eqb-true h g e)) (taken_here g m these))
+    go false e = ap (λ l. standing stand_after l (moves_in g ms)) (taken_there h g m these e)
 
 -- Who has opened what.
 
@@ -131,7 +132,7 @@ has_both o (Opened g r q ∷ xs) ys = has_both (opened_next g r o) xs ys
 has_kept : (g r n : ℕ) (o : ℕ → ℕ → Bool) (xs : List Stood) → has_over o (kept_in g r n xs) ≡ has_over o xs
 has_kept g r n o [] = refl
 has_kept g r n o (Opened h p q ∷ xs) = has_kept g r n (opened_next h p o) xs
-has_kept g r n o (Took h a ∷ xs) = go (eqb g h && (eqb a.replica r && ltb n a.entry.number)) (has_kept g r n o xs)
+has_kept g r n o (Took h a ∷ xs) = go (eqb g h && is_beyond r n a) (has_kept g r n o xs)
   where
     go : (b : Bool) → has_over o (kept_in g r n xs) ≡ has_over o xs → has_over o (cond b (kept_in g r n xs) (Took h a ∷ kept_in g r n xs)) ≡ has_over o xs
     go true rec = rec
@@ -142,7 +143,7 @@ lived_over f l [] = refl
 lived_over f l (Took g a ∷ xs) = lived_over f (turned f l (Steps g (act_of a))) xs
 lived_over f l (Opened g r q ∷ xs) = lived_over f (turned f l (Opens g r q)) xs
 
-still_open : (g r : ℕ) (o : ℕ → ℕ → Bool) (h p : ℕ) → o h p ≡ true → opened_next g r o h p ≡ true
+pub still_open : (g r : ℕ) (o : ℕ → ℕ → Bool) (h p : ℕ) → o h p ≡ true → opened_next g r o h p ≡ true
 still_open g r o h p e = go (eqb (suc g) h) (eqb r p)
   where
     go : (a b : Bool) → cond a (b || o h p) (o h p) ≡ true
@@ -161,12 +162,12 @@ has_on f l (Within g (HandOut r n)) o these is = is
 has_on f l (Within g (ComeBack r n)) o these is = has_kept g r n o these ∙ is
 has_on f l (OpensNext g r q since) o these is = has_both o these (Opened g r q ∷ []) ∙ ap (λ was. opened_next g r was) is
 
-has_after : (f : ℕ → ℕ) (l : Generations) (ms : List LifeMove) (o : ℕ → ℕ → Bool) (these : List Stood) → has_over o these ≡ l.has_opened → has_over o (stood these ms) ≡ (life_after f l ms).has_opened
+has_after : (f : ℕ → ℕ) (l : Generations) (ms : List LifeMove) (o : ℕ → ℕ → Bool) (these : List Stood) → has_over o these ≡ l.has_opened → has_over o (standing stand_on these ms) ≡ (life_after f l ms).has_opened
 has_after f l [] o these is = is
 has_after f l (m ∷ ms) o these is = has_after f (after_move f l m) ms o (stand_on m these) (has_on f l m o these is)
 
 -- What it was opened with stays.
-record Same (l l' : Generations) (g r : ℕ) : Type 0 where
+pub record Same (l l' : Generations) (g r : ℕ) : Type 0 where
   pub has : l'.has_opened g r ≡ true
   pub map : l'.map g r ≡ l.map g r
   pub since : l'.since g r ≡ l.since g r
@@ -174,11 +175,11 @@ record Same (l l' : Generations) (g r : ℕ) : Type 0 where
 same_trans : (l l' l'' : Generations) (g r : ℕ) → Same l l' g r → Same l' l'' g r → Same l l'' g r
 same_trans l l' l'' g r s t = record { has = t.has; map = t.map ∙ s.map; since = t.since ∙ s.since }
 
-not_both : (b : Bool) → b ≡ true → b ≡ false → ⊥
+pub not_both : (b : Bool) → b ≡ true → b ≡ false → ⊥
 not_both true e h = absurd (let c : true ≡ false = h in cc)
 not_both false e h = absurd (let c : false ≡ true = e in cc)
 
-same_on : (f : ℕ → ℕ) (l : Generations) (m : LifeMove) → IsLifeMove f l m → (g r : ℕ) → l.has_opened g r ≡ true → Same l (after_move f l m) g r
+pub same_on : (f : ℕ → ℕ) (l : Generations) (m : LifeMove) → IsLifeMove f l m → (g r : ℕ) → l.has_opened g r ≡ true → Same l (after_move f l m) g r
 same_on f l (Within h m) k g r is = record { has = is; map = refl; since = refl }
 same_on f l (OpensNext h p q since) k g r is = record { has = still_open h p l.has_opened g r is; map = go _ _ (eqb (suc h) g) (eqb p r) refl refl; since = go _ _ (eqb (suc h) g) (eqb p r) refl refl }
   where
@@ -247,14 +248,14 @@ record Fits (l : Generations) (these : List Stood) : Type 0 where
   pub numbered : (g r : ℕ) → AreNumbered 1 0 ((l.cluster g).journal r)
   pub within : (g r : ℕ) → (l.cluster g).out r ≤ length ((l.cluster g).journal r)
 
-numbered_move : (s : Start) (f : ℕ) (c : Cluster) (m : Move) → ((r : ℕ) → AreNumbered 1 0 (c.journal r)) → IsMove s f c m → (r : ℕ) → AreNumbered 1 0 ((moved c m).journal r)
+pub numbered_move : (s : Start) (f : ℕ) (c : Cluster) (m : Move) → ((r : ℕ) → AreNumbered 1 0 (c.journal r)) → IsMove s f c m → (r : ℕ) → AreNumbered 1 0 ((moved c m).journal r)
 numbered_move s f c (Take r e) h k =
     at_each (λ q es. AreNumbered 1 0 es) r (c.journal r ++ (e ∷ [])) c.journal
     (numbered_grow 1 0 (c.journal r) e (h r) (let n = k.1.number in omega arith) (let t = k.1.stamp in let l = stamp_least (s.since r) (c.journal r) in omega arith) k.1.marked) h
 numbered_move s f c (HandOut r n) h k = h
 numbered_move s f c (ComeBack r n) h k = at_each (λ q es. AreNumbered 1 0 es) r (take n (c.journal r)) c.journal (numbered_take n (c.journal r) (h r)) h
 
-within_move : (s : Start) (f : ℕ) (c : Cluster) (m : Move) → ((r : ℕ) → c.out r ≤ length (c.journal r)) → IsMove s f c m → (r : ℕ) → (moved c m).out r ≤ length ((moved c m).journal r)
+pub within_move : (s : Start) (f : ℕ) (c : Cluster) (m : Move) → ((r : ℕ) → c.out r ≤ length (c.journal r)) → IsMove s f c m → (r : ℕ) → (moved c m).out r ≤ length ((moved c m).journal r)
 within_move s f c (Take r e) h k = at_each (λ q es. c.out q ≤ length es) r (c.journal r ++ (e ∷ [])) c.journal (let le = h r in omega (arith, length-append (c.journal r) (e ∷ []))) h
 within_move s f c (HandOut r n) h k = at_each (λ q j. j ≤ length (c.journal q)) r n c.out k.1.most h
 within_move s f c (ComeBack r n) h k =
@@ -337,15 +338,6 @@ low_begins : (n : ℕ) (handed all : List Entry) → AreNumbered 1 0 handed → 
 low_begins n handed all numbered le b =
     (low n b.0, ap (λ l. l ++ low n b.0) (sym (low_take n 1 n 0 handed numbered (omega arith) ∙ take_all n handed le)) ∙ sym (low_both n handed b.0) ∙ ap (low n) b.1)
 
-kept_in_both : (g r n : ℕ) (xs ys : List Stood) → kept_in g r n (xs ++ ys) ≡ kept_in g r n xs ++ kept_in g r n ys
-kept_in_both g r n [] ys = refl
-kept_in_both g r n (s ∷ xs) ys = go (is_lost g r n s) (kept_in_both g r n xs ys)
-  where
-    go : (b : Bool) → kept_in g r n (xs ++ ys) ≡ kept_in g r n xs ++ kept_in g r n ys →
-        cond b (kept_in g r n (xs ++ ys)) (s ∷ kept_in g r n (xs ++ ys)) ≡ cond b (kept_in g r n xs) (s ∷ kept_in g r n xs) ++ kept_in g r n ys
-    go true rec = rec
-    go false rec = ap (λ l. s ∷ l) rec
-
 -- what is lost of an entry's journal, as its replica's
 lost_of : (g r n : ℕ) (xs : List Stood) (h q : ℕ) → ((handed : List Entry) → AreNumbered 1 0 handed → (g ≡ h → r ≡ q → length handed ≤ n) → IsBeginning handed (of q (taken_in h xs)) →
     IsBeginning handed (of q (taken_in h (kept_in g r n xs))))
@@ -387,7 +379,7 @@ module _ (M : ℕ → ℕ → Contents) (f : ℕ → ℕ) (o : ℕ → ℕ → B
   ready_kept : (before rest : List Stood) → AreReady M f o out before rest → AreReady M f o out (kept_in g r n before) (kept_in g r n rest)
   ready_kept before [] h = tt
   ready_kept before (s ∷ rest) h =
-      go (is_lost g r n s) (for_kept before s h.0) (subst (λ l. AreReady M f o out l (kept_in g r n rest)) (kept_in_both g r n before (s ∷ [])) (ready_kept (before ++ (s ∷ [])) rest h.1))
+      go (is_lost g r n s) (for_kept before s h.0) (subst (λ l. AreReady M f o out l (kept_in g r n rest)) (without_both (is_lost g r n) before (s ∷ [])) (ready_kept (before ++ (s ∷ [])) rest h.1))
     where
       go : (b : Bool) → IsReadyFor M f o out (kept_in g r n before) s → AreReady M f o out (kept_in g r n before ++ cond b [] (s ∷ [])) (kept_in g r n rest) →
           AreReady M f o out (kept_in g r n before) (cond b (kept_in g r n rest) (s ∷ kept_in g r n rest))
@@ -447,7 +439,7 @@ module _ (f : ℕ → ℕ) (o : ℕ → ℕ → Bool) where
     pub ready : AreReady last.map f o (outs last) [] these
 
   stays_after : (l : Generations) (ms : List LifeMove) (these : List Stood) → AreLifeMoves f l ms → has_over o these ≡ l.has_opened → Fits l these →
-      AreReady (life_after f l ms).map f o (outs l) [] these → Stays l (life_after f l ms) (stood these ms)
+      AreReady (life_after f l ms).map f o (outs l) [] these → Stays l (life_after f l ms) (standing stand_on these ms)
   stays_after l [] these k is h rec = record { fits = h; ready = rec }
   stays_after l (m ∷ ms) these k is h rec =
       let t = stays_after (after_move f l m) ms (stand_on m these) k.1 (has_on f l m o these is) (fits_move f l these h m k.0) (ready_move l m ms these k is h rec) in
@@ -503,7 +495,7 @@ record Came (M : ℕ → ℕ → Contents) (f : ℕ → ℕ) (o : ℕ → ℕ �
   pub shut : Shut M f out g r from before
 
 -- the replica that it makes one of those that have opened the generation
-opens_it : (h p g r : ℕ) (was : ℕ → ℕ → Bool) → was (suc g) r ≡ false → opened_next h p was (suc g) r ≡ true → (h ≡ g) × (p ≡ r)
+pub opens_it : (h p g r : ℕ) (was : ℕ → ℕ → Bool) → was (suc g) r ≡ false → opened_next h p was (suc g) r ≡ true → (h ≡ g) × (p ≡ r)
 opens_it h p g r was before after = go (eqb (suc h) (suc g)) (eqb p r) refl refl after
   where
     go : (a b : Bool) → eqb (suc h) (suc g) ≡ a → eqb p r ≡ b → cond a (b || was (suc g) r) (was (suc g) r) ≡ true → (h ≡ g) × (p ≡ r)
@@ -562,7 +554,7 @@ module _ (start : Start) (f : ℕ → ℕ) (sizes : (g : ℕ) → (0 < f g) × (
   last = life_after f (newborn start) moves
 
   abbrev these : List Stood
-  these = stood [] moves
+  these = standing stand_on [] moves
 
   abbrev map_at : ℕ → Contents
   map_at g = opening_map start.map f (turns_of these) g

@@ -1,7 +1,7 @@
 -- What holds of a cluster stays so by each move.
-use Rattle.std.proofs.Common.{◌≡◌, ℕ, suc, ◌≤◌, length, Bool, true, false, cond, eqb, inl, inr, List, [], ◌∷◌, ◌++◌, take, drop, refl, sym, ap, subst, ◌∙◌, arith, append-nil, append_assoc}
+use Rattle.std.proofs.Common.{◌≡◌, ℕ, zero, suc, ◌≤◌, length, Bool, true, false, cond, eqb, inl, inr, List, [], ◌∷◌, ◌++◌, take, drop, refl, sym, ap, subst, ◌∙◌, arith, append-nil, append_assoc}
 use Rattle.std.proofs.lemmas.Bool.{eq-eqb, eqb-true}
-use Rattle.std.proofs.lemmas.List.{take-append-drop, take-take, take-append-le, length-take-le, length-append}
+use Rattle.std.proofs.lemmas.List.{take-append-drop, take-take, length-take-le, length-append}
 use Rattle.ep_base.specs.Quorums.{size}
 use Rattle.ep_rules.specs.Journals.{Entry, AreSteps, AreNumbered, IsLocalRun, stamp_after, last_stamp, AreClocked, IsAmong}
 use Rattle.ep_rules.specs.States.{State, fresh_state}
@@ -28,6 +28,11 @@ take_begins n xs = (drop n xs, take-append-drop n xs)
 
 pub takes_begin : {X : Type 0} (k n : ℕ) (xs : List X) → k ≤ n → IsBeginning (take k xs) (take n xs)
 takes_begin k n xs le = (drop k (take n xs), ap (λ l. l ++ drop k (take n xs)) (sym (take-take k n xs le)) ∙ take-append-drop k (take n xs))
+
+pub takes_more : {X : Type 0} (n : ℕ) (xs ys : List X) → IsBeginning (take n xs) (take n (xs ++ ys))
+takes_more zero xs ys = ([], refl)
+takes_more (suc n) [] ys = (take (suc n) ys, refl)
+takes_more (suc n) (x ∷ xs) ys = let b = takes_more n xs ys in (b.0, ap (λ l. x ∷ l) b.1)
 
 pub in_begins : {X : Type 0} (x : X) (xs ys : List X) → IsBeginning xs ys → In x xs → In x ys
 in_begins x xs ys b h = subst (λ l. In x l) b.1 (in_left x xs b.0 h)
@@ -111,22 +116,22 @@ fresh_holds start f = record {
   given = λ m h. absurd h;
 }
 
-module _ (start : Start) (f : ℕ) (c : Cluster) (h : Holds start f c) where
-  -- A move leaves what was handed out.
-  pub handed : (m : Move) → IsMove start f c m → (r : ℕ) → IsBeginning (handed_out c r) (handed_out (moved c m) r)
-  handed (Take r e) k =
-      at_each (λ q es. IsBeginning (take (c.out q) (c.journal q)) (take (c.out q) es)) r (c.journal r ++ (e ∷ [])) c.journal
-      (begins_same (take (c.out r) (c.journal r)) (take (c.out r) (c.journal r ++ (e ∷ []))) (take-append-le (c.out r) (c.journal r) (e ∷ []) (h.within r)))
-      (λ q. begins_refl (take (c.out q) (c.journal q)))
-  handed (HandOut r n) k =
-      at_each (λ q j. IsBeginning (take (c.out q) (c.journal q)) (take j (c.journal q))) r n c.out
-      (takes_begin (c.out r) n (c.journal r) k.1.least)
-      (λ q. begins_refl (take (c.out q) (c.journal q)))
-  handed (ComeBack r n) k =
-      at_each (λ q es. IsBeginning (take (c.out q) (c.journal q)) (take (c.out q) es)) r (take n (c.journal r)) c.journal
-      (begins_same (take (c.out r) (c.journal r)) (take (c.out r) (take n (c.journal r))) (take-take (c.out r) n (c.journal r) k.1.least))
-      (λ q. begins_refl (take (c.out q) (c.journal q)))
+-- A move leaves what was handed out.
+pub handed : (start : Start) (f : ℕ) (c : Cluster) (m : Move) → IsMove start f c m → (r : ℕ) → IsBeginning (handed_out c r) (handed_out (moved c m) r)
+handed start f c (Take r e) k =
+    at_each (λ q es. IsBeginning (take (c.out q) (c.journal q)) (take (c.out q) es)) r (c.journal r ++ (e ∷ [])) c.journal
+    (takes_more (c.out r) (c.journal r) (e ∷ []))
+    (λ q. begins_refl (take (c.out q) (c.journal q)))
+handed start f c (HandOut r n) k =
+    at_each (λ q j. IsBeginning (take (c.out q) (c.journal q)) (take j (c.journal q))) r n c.out
+    (takes_begin (c.out r) n (c.journal r) k.1.least)
+    (λ q. begins_refl (take (c.out q) (c.journal q)))
+handed start f c (ComeBack r n) k =
+    at_each (λ q es. IsBeginning (take (c.out q) (c.journal q)) (take (c.out q) es)) r (take n (c.journal r)) c.journal
+    (begins_same (take (c.out r) (c.journal r)) (take (c.out r) (take n (c.journal r))) (take-take (c.out r) n (c.journal r) k.1.least))
+    (λ q. begins_refl (take (c.out q) (c.journal q)))
 
+module _ (start : Start) (f : ℕ) (c : Cluster) (h : Holds start f c) where
   pub given_grows : (m : Move) → IsBeginning c.given (moved c m).given
   given_grows (Take r e) = begins_refl c.given
   given_grows (HandOut r n) = (frames_in (drop (c.out r) (take n (c.journal r))), refl)
@@ -136,7 +141,7 @@ module _ (start : Start) (f : ℕ) (c : Cluster) (h : Holds start f c) where
   out_still m k x o = record {
     node = o.node;
     entry = o.entry;
-    stands = in_begins o.entry (handed_out c o.node) (handed_out (moved c m) o.node) (handed m k o.node) o.stands;
+    stands = in_begins o.entry (handed_out c o.node) (handed_out (moved c m) o.node) (handed start f c m k o.node) o.stands;
     out = o.out;
   }
 
@@ -209,7 +214,7 @@ after_both c (m ∷ early) late = after_both (moved c m) early late
 pub handed_on : (start : Start) (f : ℕ) (c : Cluster) (ms : List Move) → Holds start f c → AreMoves start f c ms → (r : ℕ) → IsBeginning (handed_out c r) (handed_out (cluster_after c ms) r)
 handed_on start f c [] h k r = begins_refl (handed_out c r)
 handed_on start f c (m ∷ ms) h k r =
-    begins_trans (handed_out c r) (handed_out (moved c m) r) (handed_out (cluster_after (moved c m) ms) r) (handed start f c h m k.0 r) (handed_on start f (moved c m) ms (move_holds start f c h m k.0) k.1 r)
+    begins_trans (handed_out c r) (handed_out (moved c m) r) (handed_out (cluster_after (moved c m) ms) r) (handed start f c m k.0 r) (handed_on start f (moved c m) ms (move_holds start f c h m k.0) k.1 r)
 
 pub given_on : (start : Start) (f : ℕ) (c : Cluster) (ms : List Move) → Holds start f c → AreMoves start f c ms → IsBeginning c.given (cluster_after c ms).given
 given_on start f c [] h k = begins_refl c.given

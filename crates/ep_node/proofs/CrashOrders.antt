@@ -1,5 +1,5 @@
 -- What stands, in the order in which it was taken, is a run.
-use Rattle.std.proofs.Common.{◌≡◌, ℕ, zero, suc, ◌+◌, ◌<◌, ◌≤◌, length, Bool, true, false, cond, eqb, ltb, inl, inr, List, [], ◌∷◌, ◌++◌, take, drop, refl, sym, ap, subst, ◌∙◌, arith, append-nil, append_assoc, ⊎_elim}
+use Rattle.std.proofs.Common.{◌≡◌, ℕ, zero, suc, ◌+◌, ◌<◌, ◌≤◌, length, Bool, true, false, ◌&&◌, cond, eqb, ltb, inl, inr, List, [], ◌∷◌, ◌++◌, take, drop, refl, sym, ap, subst, ◌∙◌, arith, append-nil, append_assoc, ⊎_elim}
 use Rattle.std.proofs.lemmas.Bool.{eq-eqb, eqb-true, ne_eqb, ltb-true, lt-ltb, le-ltb, cases_eq}
 use Rattle.std.proofs.lemmas.List.{length-take}
 use Rattle.ep_base.specs.Quorums.{size}
@@ -12,13 +12,25 @@ use Rattle.ep_rules.proofs.JournalsGrow.{of_grows, frames_grow}
 use Rattle.ep_rules.proofs.Merged.{in_left, in_right, in_split, of_in, in_of, in_journal}
 use Rattle.ep_rules.proofs.Played.{played_is_a_run_lem}
 use Rattle.ep_rules.proofs.RunsLinear.{linearizability_holds}
-use Rattle.ep_node.specs.Crashes.{Start, Cluster, fresh_cluster, Move, Take, HandOut, ComeBack, IsMove, frames_in, with_at, moved, AreMoves, cluster_after, kept, stand_after, standing, CrashingRunsAreLinearizable}
+use Rattle.ep_node.specs.Crashes.{Start, Cluster, fresh_cluster, Move, Take, HandOut, ComeBack, IsMove, frames_in, with_at, moved, AreMoves, cluster_after, without, is_beyond, stand_after, standing, CrashingRunsAreLinearizable}
 use Rattle.ep_node.proofs.CrashMoves.{Holds, fresh_holds, move_holds, moves_hold, at_same, in_frames, in_drop, in_begins, take_begins, numbered_take}
 use Rattle.ep_node.proofs.CrashRuns.{steps_next}
 use Rattle.ep_node.proofs.CrashTraces.{at_other, out_next}
 use Rattle.ep_rules.specs.OneMap.{opened}
 
 -- What is kept of each replica.
+
+abbrev pub kept : ℕ → ℕ → List Scheduled → List Scheduled
+kept r n these = without (is_beyond r n) these
+
+pub without_both : {X : Type 0} (lost : X → Bool) (xs ys : List X) → without lost (xs ++ ys) ≡ without lost xs ++ without lost ys
+without_both lost [] ys = refl
+without_both {X} lost (x ∷ xs) ys = go (lost x) (without_both lost xs ys)
+  where
+    go : (b : Bool) → without lost (xs ++ ys) ≡ without lost xs ++ without lost ys →
+        cond b (without lost (xs ++ ys)) (x ∷ without lost (xs ++ ys)) ≡ cond b (without lost xs) (x ∷ without lost xs) ++ without lost ys
+    go true rec = rec
+    go false rec = ap (λ (l : List X). x ∷ l) rec
 
 -- the entries whose numbers are at most n
 abbrev pub low : ℕ → List Entry → List Entry
@@ -42,7 +54,7 @@ kept_here r n [] = refl
 kept_here r n (a ∷ these) = go (eqb a.replica r) (ltb n a.entry.number) refl refl (kept_here r n these)
   where
     go : (b t : Bool) → eqb a.replica r ≡ b → ltb n a.entry.number ≡ t → of r (kept r n these) ≡ low n (of r these) →
-        of r (cond b (cond t (kept r n these) (a ∷ kept r n these)) (a ∷ kept r n these)) ≡ low n (cond b (a.entry ∷ of r these) (of r these))
+        of r (cond (b && t) (kept r n these) (a ∷ kept r n these)) ≡ low n (cond b (a.entry ∷ of r these) (of r these))
     go true true e u rec = rec ∙ sym (ap (λ z. cond z (low n (of r these)) (a.entry ∷ low n (of r these))) u)
     go true false e u rec =
         ap (λ z. cond z (a.entry ∷ of r (kept r n these)) (of r (kept r n these))) e ∙ ap (λ l. a.entry ∷ l) rec
@@ -54,28 +66,17 @@ kept_other r n q [] ne = refl
 kept_other r n q (a ∷ these) ne = go (eqb a.replica r) (ltb n a.entry.number) refl (kept_other r n q these ne)
   where
     go : (b t : Bool) → eqb a.replica r ≡ b → of q (kept r n these) ≡ of q these →
-        of q (cond b (cond t (kept r n these) (a ∷ kept r n these)) (a ∷ kept r n these)) ≡ cond (eqb a.replica q) (a.entry ∷ of q these) (of q these)
+        of q (cond (b && t) (kept r n these) (a ∷ kept r n these)) ≡ cond (eqb a.replica q) (a.entry ∷ of q these) (of q these)
     go true true e rec = rec ∙ sym (ap (λ z. cond z (a.entry ∷ of q these) (of q these)) (ne_eqb a.replica q (λ x. ne (sym (eqb-true a.replica r e) ∙ x))))
     go true false e rec = ap (λ l. cond (eqb a.replica q) (a.entry ∷ l) l) rec
     go false t e rec = ap (λ l. cond (eqb a.replica q) (a.entry ∷ l) l) rec
-
-kept_both : (r n : ℕ) (xs ys : List Scheduled) → kept r n (xs ++ ys) ≡ kept r n xs ++ kept r n ys
-kept_both r n [] ys = refl
-kept_both r n (a ∷ xs) ys = go (eqb a.replica r) (ltb n a.entry.number) (kept_both r n xs ys)
-  where
-    go : (b t : Bool) → kept r n (xs ++ ys) ≡ kept r n xs ++ kept r n ys →
-        cond b (cond t (kept r n (xs ++ ys)) (a ∷ kept r n (xs ++ ys))) (a ∷ kept r n (xs ++ ys))
-        ≡ cond b (cond t (kept r n xs) (a ∷ kept r n xs)) (a ∷ kept r n xs) ++ kept r n ys
-    go true true rec = rec
-    go true false rec = ap (λ l. a ∷ l) rec
-    go false t rec = ap (λ l. a ∷ l) rec
 
 in_kept : (r n : ℕ) (x : Scheduled) (these : List Scheduled) → In x these → (x.replica ≡ r → x.entry.number ≤ n) → In x (kept r n these)
 in_kept r n x [] h low = absurd h
 in_kept r n x (a ∷ these) h low = go (eqb a.replica r) (ltb n a.entry.number) refl refl h (λ k. in_kept r n x these k low)
   where
     go : (b t : Bool) → eqb a.replica r ≡ b → ltb n a.entry.number ≡ t → In x (a ∷ these) → (In x these → In x (kept r n these)) →
-        In x (cond b (cond t (kept r n these) (a ∷ kept r n these)) (a ∷ kept r n these))
+        In x (cond (b && t) (kept r n these) (a ∷ kept r n these))
     go true true e u (inl is) rec =
         let le : a.entry.number ≤ n = subst (λ (z : Scheduled). z.replica ≡ r → z.entry.number ≤ n) (sym is) low (eqb-true a.replica r e) in
         let lt : n < a.entry.number = ltb-true n a.entry.number u in absurd (omega arith)
@@ -125,14 +126,12 @@ sound_later out out' le before (a ∷ rest) h = ((λ m is. out_in_later out out'
 sound_kept : (out : ℕ → ℕ) (r n : ℕ) → out r ≤ n → (before rest : List Scheduled) → IsSound out before rest → IsSound out (kept r n before) (kept r n rest)
 sound_kept out r n le before [] h = tt
 sound_kept out r n le before (a ∷ rest) h =
-    go (eqb a.replica r) (ltb n a.entry.number)
-    (subst (λ l. IsSound out l (kept r n rest)) (kept_both r n before (a ∷ [])) (sound_kept out r n le (before ++ (a ∷ [])) rest h.1))
+    go (is_beyond r n a)
+    (subst (λ l. IsSound out l (kept r n rest)) (without_both (is_beyond r n) before (a ∷ [])) (sound_kept out r n le (before ++ (a ∷ [])) rest h.1))
   where
-    go : (b t : Bool) → IsSound out (kept r n before ++ cond b (cond t [] (a ∷ [])) (a ∷ [])) (kept r n rest) →
-        IsSound out (kept r n before) (cond b (cond t (kept r n rest) (a ∷ kept r n rest)) (a ∷ kept r n rest))
-    go true true k = subst (λ l. IsSound out l (kept r n rest)) (append-nil (kept r n before)) k
-    go true false k = ((λ m is. out_in_kept out r n le before m (h.0 m is)), k)
-    go false t k = ((λ m is. out_in_kept out r n le before m (h.0 m is)), k)
+    go : (b : Bool) → IsSound out (kept r n before ++ cond b [] (a ∷ [])) (kept r n rest) → IsSound out (kept r n before) (cond b (kept r n rest) (a ∷ kept r n rest))
+    go true k = subst (λ l. IsSound out l (kept r n rest)) (append-nil (kept r n before)) k
+    go false k = ((λ m is. out_in_kept out r n le before m (h.0 m is)), k)
 
 -- What stands of a cluster.
 
@@ -208,7 +207,7 @@ module _ (start : Start) (f : ℕ) (c : Cluster) (h : Holds start f c) (these : 
     given = λ m g. out_in_kept c.out r n k.1.least these m (s.given m g);
   }
 
-stands_after : (start : Start) (f : ℕ) (c : Cluster) (ms : List Move) (these : List Scheduled) → Holds start f c → Stands c these → AreMoves start f c ms → Stands (cluster_after c ms) (standing these ms)
+stands_after : (start : Start) (f : ℕ) (c : Cluster) (ms : List Move) (these : List Scheduled) → Holds start f c → Stands c these → AreMoves start f c ms → Stands (cluster_after c ms) (standing stand_after these ms)
 stands_after start f c [] these h s k = s
 stands_after start f c (m ∷ ms) these h s k = stands_after start f (moved c m) ms (stand_after m these) (move_holds start f c h m k.0) (stand_move start f c h these s m k.0) k.1
 
@@ -242,7 +241,7 @@ plays f out before (a ∷ rest) w below steps h =
 pub crashing_runs_are_linearizable_lem : CrashingRunsAreLinearizable
 crashing_runs_are_linearizable_lem start f some few moves k =
     let c : Cluster = cluster_after fresh_cluster moves in
-    let these : List Scheduled = standing [] moves in
+    let these : List Scheduled = standing stand_after [] moves in
     let h : Holds start f c = moves_hold start f fresh_cluster moves (fresh_holds start f) k in
     let s : Stands c these = stands_after start f fresh_cluster moves [] (fresh_holds start f) (record { own = λ r. refl; sound = tt; given = λ m g. absurd g }) k in
     let local : AreLocalRuns (opened start.map) f c.journal = record { local = h.local; others = h.others } in

@@ -1,7 +1,7 @@
 -- Replicas that crash and come back: their runs, and the laws of these.
 --
 -- A node is a replica of whose entries a crash may take the last ones, but none that something was handed out of: a frame, an answer, or what it committed.
-use Rattle.std.specs.Prelude.{◌≡◌, ◌≢◌, ◌⊎◌, ℕ, ◌+◌, ◌<◌, ◌≤◌, true, max, eqb, ltb, cond, length, List, [], ◌∷◌, ◌++◌, Some, take, drop}
+use Rattle.std.specs.Prelude.{◌≡◌, ◌≢◌, ◌⊎◌, ℕ, ◌+◌, ◌<◌, ◌≤◌, Bool, true, ◌&&◌, max, eqb, ltb, cond, length, List, [], ◌∷◌, ◌++◌, Some, take, drop}
 use Rattle.ep_base.specs.Interference.{interfere}
 use Rattle.ep_base.specs.Places.{place, Has}
 use Rattle.ep_base.specs.Quorums.{size}
@@ -127,20 +127,24 @@ CrashingRunsAreRuns = (start : Start) (f : ℕ) → 0 < f → size f ≤ 256 →
 
 -- In the order of real time.
 
--- these without the entries at r that are beyond its first n
-abbrev pub kept : ℕ → ℕ → List Scheduled → List Scheduled
-kept r n [] = []
-kept r n (a ∷ these) = cond (eqb a.replica r) (cond (ltb n a.entry.number) (kept r n these) (a ∷ kept r n these)) (a ∷ kept r n these)
+-- these without those that are lost
+abbrev pub without : {X : Type 0} → (X → Bool) → List X → List X
+without lost [] = []
+without lost (x ∷ these) = cond (lost x) (without lost these) (x ∷ without lost these)
+
+-- it is an entry at r, beyond its first n
+abbrev pub is_beyond : ℕ → ℕ → Scheduled → Bool
+is_beyond r n a = eqb a.replica r && ltb n a.entry.number
 
 abbrev pub stand_after : Move → List Scheduled → List Scheduled
 stand_after (Take r e) these = these ++ (record { replica = r; entry = e } ∷ [])
 stand_after (HandOut r n) these = these
-stand_after (ComeBack r n) these = kept r n these
+stand_after (ComeBack r n) these = without (is_beyond r n) these
 
--- the entries that stand after moves, in the order in which they were taken, after these
-abbrev pub standing : List Scheduled → List Move → List Scheduled
-standing these [] = these
-standing these (m ∷ ms) = standing (stand_after m these) ms
+-- what stands after moves, in the order in which it was done, after these
+abbrev pub standing : {M X : Type 0} → (M → List X → List X) → List X → List M → List X
+standing stand these [] = these
+standing stand these (m ∷ ms) = standing stand (stand m these) ms
 
 -- the entries, in this order, are the nodes', and a linearizable run
 pub record IsInRealTime (start : Start) (f : ℕ) (c : Cluster) (these : List Scheduled) : Type 0 where
@@ -152,7 +156,7 @@ pub record IsInRealTime (start : Start) (f : ℕ) (c : Cluster) (these : List Sc
 -- What stands of a run with crashes is linearizable, in the order in which it was taken.
 abbrev pub CrashingRunsAreLinearizable : Type 0
 CrashingRunsAreLinearizable =
-    (start : Start) (f : ℕ) → 0 < f → size f ≤ 256 → (moves : List Move) → AreMoves start f fresh_cluster moves → IsInRealTime start f (cluster_after fresh_cluster moves) (standing [] moves)
+    (start : Start) (f : ℕ) → 0 < f → size f ≤ 256 → (moves : List Move) → AreMoves start f fresh_cluster moves → IsInRealTime start f (cluster_after fresh_cluster moves) (standing stand_after [] moves)
 
 -- Without crashes.
 

@@ -1,7 +1,10 @@
 pub mod Calls
+pub mod Closing
 pub mod Crashes
 pub mod CrashLives
+pub mod LifeCalls
 pub mod Nodes
+pub mod Executing
 pub mod OpenFaults
 pub mod Opening
 pub mod OpenLaws

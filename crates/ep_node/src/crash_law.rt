@@ -1,8 +1,9 @@
 //! Laws of nodes that crash and come back with what they had handed out: their runs are runs without a crash.
 
 ghost use Rattle.ep_node.specs.Calls.{CallsAreMoves};
-ghost use Rattle.ep_node.specs.CrashLives.{CrashingLivesAreLinearizable};
+ghost use Rattle.ep_node.specs.CrashLives.{CrashingLivesAreChains, CrashingLivesAreLinearizable};
 ghost use Rattle.ep_node.specs.Crashes.{CrashesKeepAgreement, CrashesKeepReceipts, CrashesLeaveNoTrace, CrashingRunsAreLinearizable, CrashingRunsAreRuns, HandedOutStays, PlayedRunsAreMoves};
+ghost use Rattle.ep_node.specs.LifeCalls.{LifeCallsAreMoves};
 
 /// Whatever crashed, the nodes' entries are the journals of one run without a crash, and no audit of them finds a fault.
 pub fn crashing_runs_are_runs()
@@ -46,8 +47,20 @@ pub fn crashing_lives_are_linearizable()
     ensures { CrashingLivesAreLinearizable }
 {}
 
+/// The journals of such generations, up to one that somebody has opened, are a chain whose clocks go on. So what the laws on chains say holds of them: one
+/// history explains each answer, and keeps each caller's order by stamps, whatever the generations.
+pub fn crashing_lives_are_chains()
+    ensures { CrashingLivesAreChains }
+{}
+
 /// What a node's calls do are the moves of these laws: an event that was taken is a `Take`, the replica that is lent a `HandOut`
 /// of all entries, a crash and the next `open` a `ComeBack`; a sync is none.
 pub fn calls_are_moves()
     ensures { CallsAreMoves }
+{}
+
+/// What nodes' calls do through generations are the moves of the law on lives: within a generation as `calls_are_moves` says; a file that `close` hands out is
+/// a `HandOut` of all entries; and whoever opens the next generation with it, at whatever later point, makes an `OpensNext`.
+pub fn life_calls_are_moves()
+    ensures { LifeCallsAreMoves }
 {}

@@ -6,8 +6,10 @@
 #![tactic(auto)]
 
 mod begin;
+mod close_fault;
 mod crash_law;
 mod cut;
+mod executing;
 mod extent;
 mod node;
 mod node_fault;
@@ -21,10 +23,11 @@ mod taking;
 mod whose;
 
 pub use begin::Begin;
+pub use close_fault::CloseFault;
 pub use crash_law::{
     calls_are_moves, crashes_keep_agreement, crashes_keep_receipts, crashes_leave_no_trace,
-    crashing_lives_are_linearizable, crashing_runs_are_linearizable, crashing_runs_are_runs,
-    handed_out_stays, played_runs_are_moves,
+    crashing_lives_are_chains, crashing_lives_are_linearizable, crashing_runs_are_linearizable,
+    crashing_runs_are_runs, handed_out_stays, life_calls_are_moves, played_runs_are_moves,
 };
 pub use cut::Cut;
 pub use node::Node;

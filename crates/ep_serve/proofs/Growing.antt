@@ -9,12 +9,13 @@ use Rattle.ep_journal.specs.declared.event.Event.{Event as Happening}
 use Rattle.ep_journal.specs.declared.event.Event.TheVariants as event
 use Rattle.ep_node.specs.Nodes.{Takes}
 use Rattle.ep_replica.specs.Kept.{Kept}
-use Rattle.ep_serve.specs.Acting.{Acts, Executes, TakesOrRefuses}
+use Rattle.ep_serve.specs.Acting.{Acts, Executes, ExecutesEach, TakesOrRefuses}
 use Rattle.ep_serve.specs.Serving.{AllWait, AreServed, IsBatch, Waiting}
 use Rattle.ep_serve.specs.Lasting.{Crashes}
 use Rattle.ep_serve.specs.declared.due.Due.{Due}
-use Rattle.ep_serve.specs.declared.due.Due.TheVariants.{Taken, Refused, Value, Open, Leads, Synced, Malformed}
+use Rattle.ep_serve.specs.declared.due.Due.TheVariants.{Taken, Refused, Value, Open, Leads, Synced, State, Malformed}
 use Rattle.ep_serve.specs.declared.mode.Mode.{Mode}
+use Rattle.ep_wire.specs.declared.dialect.Dialect.{Dialect}
 use Rattle.ep_wire.specs.declared.request.Request.{Request}
 use Rattle.ep_wire.specs.declared.request.Request.TheVariants as request
 
@@ -39,6 +40,7 @@ takes_or_not k k' e (Value key) h = absurd h
 takes_or_not k k' e (Open after) h = absurd h
 takes_or_not k k' e (Leads i) h = absurd h
 takes_or_not k k' e Synced h = absurd h
+takes_or_not k k' e State h = absurd h
 takes_or_not k k' e (Malformed m) h = absurd h
 
 handles : {A B : Type 0} (r : Result A B) (k k' : Kept) (e : Happening) (d d' : Due) → MatchResult r (λ _. TakesOrRefuses k e d k') (λ _. (d ≡ d') × (k' ≡ k)) → Extends k k'
@@ -48,6 +50,10 @@ handles (Err x) k k' e d d' h = extends_same k k' h.1
 executes : (n : ℕ) (k k' : Kept) → Executes n k k' → Extends k k'
 executes zero k k' h = extends_same k k' h.1
 executes (suc n) k k' h = extends_more k h.0 k' (h.1.2.0 ∷ [], h.1.2.1.appended) (executes n h.0 k' h.2)
+
+executes_each : (k k' : Kept) (is : List ℕ) → ExecutesEach k is k' → Extends k k'
+executes_each k k' [] h = extends_same k k' h
+executes_each k k' (i ∷ is) h = extends_more k h.0 k' (takes_more k h.0 (event.Execute i) h.2) (executes_each h.0 k' is h.3)
 
 pub acts_more : (k k' : Kept) (r : Request) (d : Due) → Acts k r d k' → Extends k k'
 acts_more k k' (request.Propose client number seen command) d h = elim h [
@@ -63,21 +69,23 @@ acts_more k k' (request.Get key) d h = extends_same k k' h.1
 acts_more k k' (request.NextOpen after) d h = extends_same k k' h.1
 acts_more k k' (request.Leads i) d h = extends_same k k' h.1
 acts_more k k' request.Sync d h = extends_same k k' h.1
+acts_more k k' request.State d h = extends_same k k' h.1
+acts_more k k' request.ExecuteAll d h = executes_each k k' h.0 h.1
 acts_more k k' (request.Malformed m) d h = extends_same k k' h.1
 
 wait_more : (mode : Mode) (n : ℕ) (k k' : Kept) (rs : List Request) (ds : List Due) → AllWait mode n k rs ds k' → Extends k k'
 wait_more mode n k k' [] ds h = extends_same k k' h.1
 wait_more mode n k k' (r ∷ rs) ds h = extends_more k h.2 k' (acts_more k h.2 r h.0 h.3) (wait_more mode n h.2 k' rs h.1 h.5)
 
-pub waiting_more : (mode : Mode) (n : ℕ) (k k' : Kept) (l l' : Left) (ds : List Due) → Waiting mode n k l ds k' l' → Extends k k'
-waiting_more mode n k k' l l' ds w = wait_more mode (length k.entries) k k' w.requests ds w.acted
+pub waiting_more : (mode : Mode) (how : Dialect) (k k' : Kept) (l l' : Left) (ds : List Due) → Waiting mode how k l ds k' l' → Extends k k'
+waiting_more mode how k k' l l' ds w = wait_more mode (length k.entries) k k' w.requests ds w.acted
 
-batch_more : (mode : Mode) (n : ℕ) (k k' : Kept) (l l' : Left) (out : List ℕ) → IsBatch mode n k l out k' l' → Extends k k'
-batch_more mode n k k' l l' out b = extends_more k b.before k' (waiting_more mode n k b.before l b.from b.dues b.waiting) (acts_more b.before k' b.last b.due b.acted)
+batch_more : (mode : Mode) (how : Dialect) (k k' : Kept) (l l' : Left) (out : List ℕ) → IsBatch mode how k l out k' l' → Extends k k'
+batch_more mode how k k' l l' out b = extends_more k b.before k' (waiting_more mode how k b.before l b.from b.dues b.waiting) (acts_more b.before k' b.last b.due b.acted)
 
-pub served_more_entries : (b : ℕ) (mode : Mode) (n : ℕ) (w : Crashes) (k k' : Kept) (l l' : Left) (out : List ℕ) → AreServed b mode n w k l out k' l' → Extends k k'
-served_more_entries zero mode n w k k' l l' out h = extends_same k k' h.1
-served_more_entries (suc b) mode n w k k' l l' out h = extends_more k h.2 k' (batch_more mode n k h.2 l h.3 h.0 h.4) (served_more_entries b mode n w h.2 k' h.3 l' h.1 h.6)
+pub served_more_entries : (b : ℕ) (mode : Mode) (how : Dialect) (w : Crashes) (k k' : Kept) (l l' : Left) (out : List ℕ) → AreServed b mode how w k l out k' l' → Extends k k'
+served_more_entries zero mode how w k k' l l' out h = extends_same k k' h.1
+served_more_entries (suc b) mode how w k k' l l' out h = extends_more k h.2 k' (batch_more mode how k h.2 l h.3 h.0 h.4) (served_more_entries b mode how w h.2 k' h.3 l' h.1 h.6)
 
 -- The first entries of what was extended are those that there were.
 pub first_of : (k k' : Kept) (n : ℕ) → n ≤ length k.entries → Extends k k' → take n k'.entries ≡ take n k.entries

@@ -4,3 +4,4 @@ pub mod Growing
 pub mod Keeping
 pub mod Runs
 pub mod States
+pub mod Sweeping

@@ -5,6 +5,7 @@ use Rattle.std.proofs.KnownBytes.{Appends-nil, Appends-trans}
 use Rattle.ep_bundle.specs.Reading.{Left}
 use Rattle.ep_replica.specs.Kept.{Kept}
 use Rattle.ep_wire.specs.Requests.{next_request, ReadsRequest}
+use Rattle.ep_wire.specs.declared.dialect.Dialect.{Dialect}
 use Rattle.ep_wire.specs.declared.request.Request.{Request}
 use Rattle.ep_wire.specs.declared.request_fault.RequestFault.{RequestFault}
 use Rattle.ep_wire.specs.declared.request_fault.RequestFault.TheVariants as request
@@ -21,50 +22,50 @@ use Rattle.ep_serve.proofs.Growing.{Extends, served_more_entries, extends_more}
 use Rattle.ep_serve.proofs.Keeping.{Passes, lasts_on, lasts_from_on}
 use Rattle.ep_serve.proofs.Lists.{take_more}
 
-pub read_more : (n : ℕ) (l l' m : Left) (rs : List Request) (r : Request) → AreRead n l rs l' → next_request n l' ≡ Ok (Some r, m) → AreRead n l (rs ++ r ∷ []) m
-read_more n l l' m [] r e next = (m, subst (λ (x : Left). next_request n x ≡ Ok (Some r, m)) e next, refl)
-read_more n l l' m (q ∷ rs) r h next = (h.0, h.1, read_more n h.0 l' m rs r h.2 next)
+pub read_more : (how : Dialect) (l l' m : Left) (rs : List Request) (r : Request) → AreRead how l rs l' → next_request how l' ≡ Ok (Some r, m) → AreRead how l (rs ++ r ∷ []) m
+read_more how l l' m [] r e next = (m, subst (λ (x : Left). next_request how x ≡ Ok (Some r, m)) e next, refl)
+read_more how l l' m (q ∷ rs) r h next = (h.0, h.1, read_more how h.0 l' m rs r h.2 next)
 
 pub wait_more : (mode : Mode) (n : ℕ) (k k' m : Kept) (rs : List Request) (ds : List Due) (r : Request) (d : Due) → AllWait mode n k rs ds k' → Acts k' r d m → MayWait mode n r m → AllWait mode n k (rs ++ r ∷ []) (ds ++ d ∷ []) m
 wait_more mode n k k' m [] ds r d h a w = (d, [], m, subst (λ (x : Kept). Acts x r d m) h.1 a, w, (refl, refl), ap (λ (x : List Due). x ++ d ∷ []) h.0)
 wait_more mode n k k' m (q ∷ rs) ds r d h a w = (h.0, h.1 ++ d ∷ [], h.2, h.3, h.4, wait_more mode n h.2 k' m rs h.1 r d h.5 a w, ap (λ (x : List Due). x ++ d ∷ []) h.6)
 
-pub served_more : (b : ℕ) (mode : Mode) (n : ℕ) (w : Crashes) (k m k' : Kept) (l l1 l' : Left) (out more : List ℕ) → AreServed b mode n w k l out m l1 → IsBatch mode n m l1 more k' l' → Lasts w k' → AreServed (suc b) mode n w k l (out ++ more) k' l'
-served_more zero mode n w k m k' l l1 l' out more h batch lasts =
-    (more, [], k', l', subst (λ (x : Kept). IsBatch mode n x l more k' l') h.1 (subst (λ (x : Left). IsBatch mode n m x more k' l') h.2 batch), lasts, (refl, refl, refl), ap (λ (x : List ℕ). x ++ more) h.0 ∙ sym (append-nil more))
-served_more (suc b) mode n w k m k' l l1 l' out more h batch lasts =
-    (h.0, h.1 ++ more, h.2, h.3, h.4, h.5, served_more b mode n w h.2 m k' h.3 l1 l' h.1 more h.6 batch lasts, ap (λ (x : List ℕ). x ++ more) h.7 ∙ append_assoc h.0 h.1 more)
+pub served_more : (b : ℕ) (mode : Mode) (how : Dialect) (w : Crashes) (k m k' : Kept) (l l1 l' : Left) (out more : List ℕ) → AreServed b mode how w k l out m l1 → IsBatch mode how m l1 more k' l' → Lasts w k' → AreServed (suc b) mode how w k l (out ++ more) k' l'
+served_more zero mode how w k m k' l l1 l' out more h batch lasts =
+    (more, [], k', l', subst (λ (x : Kept). IsBatch mode how x l more k' l') h.1 (subst (λ (x : Left). IsBatch mode how m x more k' l') h.2 batch), lasts, (refl, refl, refl), ap (λ (x : List ℕ). x ++ more) h.0 ∙ sym (append-nil more))
+served_more (suc b) mode how w k m k' l l1 l' out more h batch lasts =
+    (h.0, h.1 ++ more, h.2, h.3, h.4, h.5, served_more b mode how w h.2 m k' h.3 l1 l' h.1 more h.6 batch lasts, ap (λ (x : List ℕ). x ++ more) h.7 ∙ append_assoc h.0 h.1 more)
 
 -- what lasted lasts on
-served_on : (b : ℕ) (mode : Mode) (n : ℕ) (w w' : Crashes) (s k k' : Kept) (l l' : Left) (out : List ℕ) → Passes w w' s → Extends k' s → AreServed b mode n w k l out k' l' → AreServed b mode n w' k l out k' l'
-served_on zero mode n w w' s k k' l l' out p e h = h
-served_on (suc b) mode n w w' s k k' l l' out p e h =
-    (h.0, h.1, h.2, h.3, h.4, lasts_on w w' s h.2 p (extends_more h.2 k' s (served_more_entries b mode n w h.2 k' h.3 l' h.1 h.6) e) h.5, served_on b mode n w w' s h.2 k' h.3 l' h.1 p e h.6, h.7)
+served_on : (b : ℕ) (mode : Mode) (how : Dialect) (w w' : Crashes) (s k k' : Kept) (l l' : Left) (out : List ℕ) → Passes w w' s → Extends k' s → AreServed b mode how w k l out k' l' → AreServed b mode how w' k l out k' l'
+served_on zero mode how w w' s k k' l l' out p e h = h
+served_on (suc b) mode how w w' s k k' l l' out p e h =
+    (h.0, h.1, h.2, h.3, h.4, lasts_on w w' s h.2 p (extends_more h.2 k' s (served_more_entries b mode how w h.2 k' h.3 l' h.1 h.6) e) h.5, served_on b mode how w w' s h.2 k' h.3 l' h.1 p e h.6, h.7)
 
-pub serves_on : (mode : Mode) (n : ℕ) (w w' : Crashes) (s k k' : Kept) (l l' : Left) (old new : Option (List ℕ)) → Passes w w' s → Extends k' s → Serves mode n w k l old new k' l' → Serves mode n w' k l old new k' l'
-serves_on mode n w w' s k k' l l' old new p e h = record {
+pub serves_on : (mode : Mode) (how : Dialect) (w w' : Crashes) (s k k' : Kept) (l l' : Left) (old new : Option (List ℕ)) → Passes w w' s → Extends k' s → Serves mode how w k l old new k' l' → Serves mode how w' k l old new k' l'
+serves_on mode how w w' s k k' l l' old new p e h = record {
   begun =
       subst (λ (t : ℕ). LastsFrom w' t k) (sym p.start)
-      (lasts_from_on w w' s k w.start p (extends_more k k' s (served_more_entries h.batches mode n w k k' l l' h.out h.served) e) h.begun);
+      (lasts_from_on w w' s k w.start p (extends_more k k' s (served_more_entries h.batches mode how w k k' l l' h.out h.served) e) h.begun);
   batches = h.batches;
   out = h.out;
-  served = served_on h.batches mode n w w' s k k' l l' h.out p e h.served;
+  served = served_on h.batches mode how w w' s k k' l l' h.out p e h.served;
   appended = h.appended;
 }
 
 pub same_extends : (k : Kept) → Extends k k
 same_extends k = ([], λ t. record k { entries = sym (append-nil k.entries) t })
 
-abbrev pub service_on : (mode : Mode) (n : ℕ) (w w' : Crashes) (k k' : Kept) (l l' : Left) (old new : Option (List ℕ)) (ds : List Due) (s : InService mode n w k l old new k' l' ds) → Passes w w' s.replica → InService mode n w' k l old new k' l' ds
-service_on mode n w w' k k' l l' old new ds s p = record {
+abbrev pub service_on : (mode : Mode) (how : Dialect) (w w' : Crashes) (k k' : Kept) (l l' : Left) (old new : Option (List ℕ)) (ds : List Due) (s : InService mode how w k l old new k' l' ds) → Passes w w' s.replica → InService mode how w' k l old new k' l' ds
+service_on mode how w w' k k' l l' old new ds s p = record {
   replica = s.replica;
   from = s.from;
-  served = serves_on mode n w w' s.replica k s.replica l s.from old new p (same_extends s.replica) s.served;
+  served = serves_on mode how w w' s.replica k s.replica l s.from old new p (same_extends s.replica) s.served;
   waiting = s.waiting;
 }
 
-abbrev pub begins : (mode : Mode) (n : ℕ) (w : Crashes) (k : Kept) (l : Left) (old : Option (List ℕ)) → LastsFrom w w.start k → InService mode n w k l old old k l []
-begins mode n w k l old begun = record {
+abbrev pub begins : (mode : Mode) (how : Dialect) (w : Crashes) (k : Kept) (l : Left) (old : Option (List ℕ)) → LastsFrom w w.start k → InService mode how w k l old old k l []
+begins mode how w k l old begun = record {
   replica = k;
   from = l;
   served = record { begun = begun; batches = zero; out = []; served = (refl, refl, refl); appended = Appends-nil old };
@@ -72,30 +73,30 @@ begins mode n w k l old begun = record {
 }
 
 -- its answer waits
-abbrev pub one_waits : (mode : Mode) (n : ℕ) (w : Crashes) (k k' m : Kept) (l l' l'' : Left) (old new : Option (List ℕ)) (ds : List Due) (r : Request) (d : Due) (s : InService mode n w k l old new k' l' ds)
-    → next_request n l' ≡ Ok (Some r, l'') → Acts k' r d m → MayWait mode (length s.replica.entries) r m → InService mode n w k l old new m l'' (ds ++ d ∷ [])
-one_waits mode n w k k' m l l' l'' old new ds r d s next a may = record {
+abbrev pub one_waits : (mode : Mode) (how : Dialect) (w : Crashes) (k k' m : Kept) (l l' l'' : Left) (old new : Option (List ℕ)) (ds : List Due) (r : Request) (d : Due) (s : InService mode how w k l old new k' l' ds)
+    → next_request how l' ≡ Ok (Some r, l'') → Acts k' r d m → MayWait mode (length s.replica.entries) r m → InService mode how w k l old new m l'' (ds ++ d ∷ [])
+one_waits mode how w k k' m l l' l'' old new ds r d s next a may = record {
   replica = s.replica;
   from = s.from;
   served = s.served;
   waiting = record {
     requests = s.waiting.requests ++ r ∷ [];
-    read = read_more n s.from l' l'' s.waiting.requests r s.waiting.read next;
+    read = read_more how s.from l' l'' s.waiting.requests r s.waiting.read next;
     acted = wait_more mode (length s.replica.entries) s.replica k' m s.waiting.requests ds r d s.waiting.acted a may;
   };
 }
 
 -- its answer is written, and all that waited
-abbrev pub one_is_written : (mode : Mode) (n : ℕ) (w : Crashes) (k k' m : Kept) (l l' l'' : Left) (old mid new : Option (List ℕ)) (ds : List Due) (r : Request) (d : Due) (s : InService mode n w k l old mid k' l' ds)
-    → next_request n l' ≡ Ok (Some r, l'') → Acts k' r d m → ¬ MayWait mode (length s.replica.entries) r m → Tell m (ds ++ d ∷ []) mid new → Lasts w m → InService mode n w k l old new m l'' []
-one_is_written mode n w k k' m l l' l'' old mid new ds r d s next a may t lasts = record {
+abbrev pub one_is_written : (mode : Mode) (how : Dialect) (w : Crashes) (k k' m : Kept) (l l' l'' : Left) (old mid new : Option (List ℕ)) (ds : List Due) (r : Request) (d : Due) (s : InService mode how w k l old mid k' l' ds)
+    → next_request how l' ≡ Ok (Some r, l'') → Acts k' r d m → ¬ MayWait mode (length s.replica.entries) r m → Tell m (ds ++ d ∷ []) mid new → Lasts w m → InService mode how w k l old new m l'' []
+one_is_written mode how w k k' m l l' l'' old mid new ds r d s next a may t lasts = record {
   replica = m;
   from = l'';
   served = record {
     begun = s.served.begun;
     batches = suc s.served.batches;
     out = s.served.out ++ t.bytes;
-    served = served_more s.served.batches mode n w k s.replica m l s.from l'' s.served.out t.bytes s.served.served
+    served = served_more s.served.batches mode how w k s.replica m l s.from l'' s.served.out t.bytes s.served.served
         (record { dues = ds; before = k'; from = l'; waiting = s.waiting; last = r; read = next; due = d; acted = a; written = may; told = t.told }) lasts;
     appended = Appends-trans old mid new s.served.out t.bytes s.served.appended t.appended;
   };
@@ -123,38 +124,38 @@ tell_next k i ds d old mid new lt is s t = subst (λ (xs : List Due). Tell k xs 
 
 -- The end of a run.
 
-pub all_served : (mode : Mode) (n : ℕ) (w : Crashes) (k k' : Kept) (l l' : Left) (old held new : Option (List ℕ)) (ds : List Due) → InService mode n w k l old held k' l' ds → Lasts w k' → Tell k' ds held new → ServesAll mode n w k l old new k' l'
-all_served mode n w k k' l l' old held new ds s lasts t = record { dues = ds; held = held; before = s; lasts = lasts; told = t }
+pub all_served : (mode : Mode) (how : Dialect) (w : Crashes) (k k' : Kept) (l l' : Left) (old held new : Option (List ℕ)) (ds : List Due) → InService mode how w k l old held k' l' ds → Lasts w k' → Tell k' ds held new → ServesAll mode how w k l old new k' l'
+all_served mode how w k k' l l' old held new ds s lasts t = record { dues = ds; held = held; before = s; lasts = lasts; told = t }
 
-short : (mode : Mode) (n : ℕ) (w : Crashes) (k k' m : Kept) (l l' : Left) (old held new : Option (List ℕ)) (ds : List Due) (e : ServeFault) → InService mode n w k l old held k' l' ds → IsSilent e held new → (e ≡ WriteFailed → Lasts w m) → Ends mode n w k l old new (Err e) m
-short mode n w k k' m l l' old held new ds Memory s is lasts = inl (s.replica, s.from, subst (λ (x : Option (List ℕ)). Serves mode n w k l old x s.replica s.from) (sym is) s.served)
-short mode n w k k' m l l' old held new ds ReadFailed s is lasts = absurd is
-short mode n w k k' m l l' old held new ds (BadRequest at) s is lasts = absurd is
-short mode n w k k' m l l' old held new ds WriteFailed s is lasts = (s.replica, s.from, held, s.served, lasts refl)
-short mode n w k k' m l l' old held new ds (LogFailed cause) s is lasts = (s.replica, s.from, subst (λ (x : Option (List ℕ)). Serves mode n w k l old x s.replica s.from) (sym is) s.served)
+short : (mode : Mode) (how : Dialect) (w : Crashes) (k k' m : Kept) (l l' : Left) (old held new : Option (List ℕ)) (ds : List Due) (e : ServeFault) → InService mode how w k l old held k' l' ds → IsSilent e held new → (e ≡ WriteFailed → Lasts w m) → Ends mode how w k l old new (Err e) m
+short mode how w k k' m l l' old held new ds Memory s is lasts = inl (s.replica, s.from, subst (λ (x : Option (List ℕ)). Serves mode how w k l old x s.replica s.from) (sym is) s.served)
+short mode how w k k' m l l' old held new ds ReadFailed s is lasts = absurd is
+short mode how w k k' m l l' old held new ds (BadRequest at) s is lasts = absurd is
+short mode how w k k' m l l' old held new ds WriteFailed s is lasts = (s.replica, s.from, held, s.served, lasts refl)
+short mode how w k k' m l l' old held new ds (LogFailed cause) s is lasts = (s.replica, s.from, subst (λ (x : Option (List ℕ)). Serves mode how w k l old x s.replica s.from) (sym is) s.served)
 
-pub cut_short : (mode : Mode) (n : ℕ) (w : Crashes) (k k' m : Kept) (l l' : Left) (old held new : Option (List ℕ)) (ds : List Due) (r : Result Unit ServeFault) (e : ServeFault) → InService mode n w k l old held k' l' ds → IsSilent e held new → (e ≡ WriteFailed → Lasts w m) → IsErrAnd r (λ x. x ≡ e)
-    → Ends mode n w k l old new r m
-cut_short mode n w k k' m l l' old held new ds (Ok x) e s silent lasts is = absurd is
-cut_short mode n w k k' m l l' old held new ds (Err f) e s silent lasts is = subst (λ (x : ServeFault). Ends mode n w k l old new (Err x) m) (sym is) (short mode n w k k' m l l' old held new ds e s silent lasts)
+pub cut_short : (mode : Mode) (how : Dialect) (w : Crashes) (k k' m : Kept) (l l' : Left) (old held new : Option (List ℕ)) (ds : List Due) (r : Result Unit ServeFault) (e : ServeFault) → InService mode how w k l old held k' l' ds → IsSilent e held new → (e ≡ WriteFailed → Lasts w m) → IsErrAnd r (λ x. x ≡ e)
+    → Ends mode how w k l old new r m
+cut_short mode how w k k' m l l' old held new ds (Ok x) e s silent lasts is = absurd is
+cut_short mode how w k k' m l l' old held new ds (Err f) e s silent lasts is = subst (λ (x : ServeFault). Ends mode how w k l old new (Err x) m) (sym is) (short mode how w k k' m l l' old held new ds e s silent lasts)
 
-pub ends_well : (mode : Mode) (n n' : ℕ) (w : Crashes) (k k' : Kept) (l l' : Left) (old new : Option (List ℕ)) (found : Option Request) (p : ℕ) (left : Option (List ℕ)) → n' ≡ n → ServesAll mode n w k l old new k' l' → ReadsRequest n' l' (Ok found) p left → found ≡ None
-    → Ends mode n w k l old new (Ok tt) k'
-ends_well mode n n' w k k' l l' old new found p left e s read is = (
+pub ends_well : (mode : Mode) (how how' : Dialect) (w : Crashes) (k k' : Kept) (l l' : Left) (old new : Option (List ℕ)) (found : Option Request) (p : ℕ) (left : Option (List ℕ)) → how' ≡ how → ServesAll mode how w k l old new k' l' → ReadsRequest how' l' (Ok found) p left → found ≡ None
+    → Ends mode how w k l old new (Ok tt) k'
+ends_well mode how how' w k k' l l' old new found p left e s read is = (
   l',
   s,
-  (record { at = p; bytes = read.0 }, subst (λ (x : ℕ). next_request x l' ≡ Ok (None, record { at = p; bytes = read.0 })) e (read.2 ∙ ap (λ (f : Option Request). Ok (f, record { at = p; bytes = read.0 })) is)),
+  (record { at = p; bytes = read.0 }, subst (λ (x : Dialect). next_request x l' ≡ Ok (None, record { at = p; bytes = read.0 })) e (read.2 ∙ ap (λ (f : Option Request). Ok (f, record { at = p; bytes = read.0 })) is)),
 )
 
-pub ends_badly : (mode : Mode) (n n' : ℕ) (w : Crashes) (k k' : Kept) (l l' : Left) (old new : Option (List ℕ)) (f : RequestFault) (e : ServeFault) (p : ℕ) (left : Option (List ℕ)) → n' ≡ n → ServesAll mode n w k l old new k' l' → ReadsRequest n' l' (Err f) p left → e ≡ of_request f
-    → Ends mode n w k l old new (Err e) k'
-ends_badly mode n n' w k k' l l' old new f e p left size_is all read is = subst (λ (x : ServeFault). Ends mode n w k l old new (Err x) k') (sym is) (go f (subst (λ (x : ℕ). ReadsRequest x l' (Err f) p left) size_is read))
+pub ends_badly : (mode : Mode) (how how' : Dialect) (w : Crashes) (k k' : Kept) (l l' : Left) (old new : Option (List ℕ)) (f : RequestFault) (e : ServeFault) (p : ℕ) (left : Option (List ℕ)) → how' ≡ how → ServesAll mode how w k l old new k' l' → ReadsRequest how' l' (Err f) p left → e ≡ of_request f
+    → Ends mode how w k l old new (Err e) k'
+ends_badly mode how how' w k k' l l' old new f e p left size_is all read is = subst (λ (x : ServeFault). Ends mode how w k l old new (Err x) k') (sym is) (go f (subst (λ (x : Dialect). ReadsRequest x l' (Err f) p left) size_is read))
   where
-    go : (f : RequestFault) → ReadsRequest n l' (Err f) p left → Ends mode n w k l old new (Err (of_request f)) k'
+    go : (f : RequestFault) → ReadsRequest how l' (Err f) p left → Ends mode how w k l old new (Err (of_request f)) k'
     go request.Memory h = inr (l', all)
     go request.ReadFailed h = (l', all)
     go (request.BadRequest at) h = (l', all, h.0, h.1)
 
 -- the loop's end, which no input reaches
-pub ends_never : (mode : Mode) (n : ℕ) (w : Crashes) (k k' m : Kept) (l l' : Left) (old held : Option (List ℕ)) (ds : List Due) → InService mode n w k l old held k' l' ds → Ends mode n w k l old held (Err Memory) m
-ends_never mode n w k k' m l l' old held ds s = inl (s.replica, s.from, s.served)
+pub ends_never : (mode : Mode) (how : Dialect) (w : Crashes) (k k' m : Kept) (l l' : Left) (old held : Option (List ℕ)) (ds : List Due) → InService mode how w k l old held k' l' ds → Ends mode how w k l old held (Err Memory) m
+ends_never mode how w k k' m l l' old held ds s = inl (s.replica, s.from, s.served)

@@ -2,16 +2,16 @@
 use Rattle.std.proofs.Common.{◌≡◌, ℕ, ◌≤◌, Bool, false, length, length-append, List, [], ◌∷◌, ◌++◌, Option, Some, Result, Ok, Err, inl, inr, refl, sym, ap, ◌∙◌, subst, arith}
 use Rattle.std.specs.Prelude.{IsErrAnd, IsTrue, ◌↔◌}
 use Rattle.std.proofs.lemmas.Bool.{false≢true}
-use Rattle.ep_base.specs.Quorums.{size}
 use Rattle.ep_device.specs.Device.{LeavesOnly}
 use Rattle.ep_node.specs.Nodes.{IsCut, IsQuiet, Logged}
 use Rattle.ep_replica.specs.Kept.{Kept}
 use Rattle.ep_wire.specs.Requests.{next_request, ReadsRequest}
+use Rattle.ep_wire.specs.declared.dialect.Dialect.{Dialect}
 use Rattle.ep_wire.specs.declared.request.Request.{Request}
 use Rattle.ep_serve.specs.Acting.{Acts}
 use Rattle.ep_serve.specs.Answering.{Tell}
 use Rattle.ep_serve.specs.Lasting.{crashes, Crashes, GoesOn, IsKept, Lasts, StaysKnown}
-use Rattle.ep_serve.specs.Serving.{Ends, IfSettled, IfUnwritten, InService, IsSilent, MayWait, ServesAll, Waits, is_sync}
+use Rattle.ep_serve.specs.Serving.{Ends, IfSettled, IfUnwritten, InService, IsSilent, MayWait, ServesAll, Waits, dialect_of, is_sync}
 use Rattle.ep_serve.specs.declared.due.Due.{Due}
 use Rattle.ep_serve.specs.declared.mode.Mode.{Mode}
 use Rattle.ep_serve.specs.declared.serve_fault.ServeFault.{ServeFault}
@@ -24,7 +24,7 @@ use Rattle.ep_serve.proofs.Runs.{all_served, begins, cut_short, one_is_written, 
 pub record Stands {D : Type 0} (seen : D → Option (List ℕ)) (moment : D → ℕ) (left_since : D → ℕ → List ℕ → Type 0) (mode : Mode) (start node : Logged D) (zs : List ℕ) (old held : Option (List ℕ)) (place : ℕ) (left : Option (List ℕ)) (dues : List Due) : Type 0 where
   pub ys : List ℕ
   pub left_is : left ≡ Some ys
-  pub service : InService mode (size start.replica.faults) (crashes start.digest seen moment left_since start.device node.device) start.replica (record { at = 0; bytes = zs }) old held node.replica (record { at = place; bytes = ys }) dues
+  pub service : InService mode (dialect_of start.replica) (crashes start.digest seen moment left_since start.device node.device) start.replica (record { at = 0; bytes = zs }) old held node.replica (record { at = place; bytes = ys }) dues
   pub synced : node.synced ≡ length service.replica.entries
 
 pub stands_first : {D : Type 0} (seen : D → Option (List ℕ)) (moment : D → ℕ) (left_since : D → ℕ → List ℕ → Type 0) (mode : Mode) (start : Logged D) (zs : List ℕ) (old left : Option (List ℕ)) (dues : List Due) → IsQuiet start → left ≡ Some zs → dues ≡ []
@@ -34,7 +34,7 @@ stands_first seen moment left_since mode start zs old left dues quiet is none at
     (record {
       ys = zs;
       left_is = is;
-      service = begins mode (size start.replica.faults) (crashes start.digest seen moment left_since start.device start.device) start.replica (record { at = 0; bytes = zs }) old
+      service = begins mode (dialect_of start.replica) (crashes start.digest seen moment left_since start.device start.device) start.replica (record { at = 0; bytes = zs }) old
           (lasts_first start.digest seen moment left_since start.device start.replica (rests start.digest seen moment left_since start start.device start.replica refl refl quiet (λ bytes was. (bytes, was)) at_rest));
       synced = quiet.synced;
     })
@@ -44,67 +44,67 @@ may_as mode a b r k same may = subst (λ (x : ℕ). MayWait mode x r k) same may
 
 -- its answer waits
 waits_on : {D : Type 0} (seen : D → Option (List ℕ)) (moment : D → ℕ) (left_since : D → ℕ → List ℕ → Type 0) (mode : Mode) (start node : Logged D) (k : Kept) (zs : List ℕ) (old held left : Option (List ℕ)) (p q : ℕ) (before : List Due) (r : Request) (d : Due) (xs : List ℕ)
-    (s : Stands seen moment left_since mode start node zs old held p left before) → next_request (size start.replica.faults) (record { at = p; bytes = s.ys }) ≡ Ok (Some r, record { at = q; bytes = xs }) → Acts node.replica r d k → MayWait mode node.synced r k
+    (s : Stands seen moment left_since mode start node zs old held p left before) → next_request (dialect_of start.replica) (record { at = p; bytes = s.ys }) ≡ Ok (Some r, record { at = q; bytes = xs }) → Acts node.replica r d k → MayWait mode node.synced r k
     → Stands seen moment left_since mode start (record node { replica = k }) zs old held q (Some xs) (before ++ d ∷ [])
 waits_on seen moment left_since mode start node k zs old held left p q before r d xs s next acted may = record {
   ys = xs;
   left_is = refl;
-  service = one_waits mode (size start.replica.faults) (crashes start.digest seen moment left_since start.device node.device) start.replica node.replica k (record { at = 0; bytes = zs }) (record { at = p; bytes = s.ys }) (record { at = q; bytes = xs }) old held before r d s.service next acted
+  service = one_waits mode (dialect_of start.replica) (crashes start.digest seen moment left_since start.device node.device) start.replica node.replica k (record { at = 0; bytes = zs }) (record { at = p; bytes = s.ys }) (record { at = q; bytes = xs }) old held before r d s.service next acted
       (may_as mode node.synced (length s.service.replica.entries) r k s.synced may);
   synced = s.synced;
 }
 
 -- its answer is written, with all that waited
 written_on : {D : Type 0} (seen : D → Option (List ℕ)) (moment : D → ℕ) (left_since : D → ℕ → List ℕ → Type 0) (mode : Mode) (start node node' : Logged D) (zs : List ℕ) (old held new left : Option (List ℕ)) (p q : ℕ) (before : List Due) (r : Request) (d : Due) (xs : List ℕ)
-    (s : Stands seen moment left_since mode start node zs old held p left before) → node.digest ≡ start.digest → next_request (size start.replica.faults) (record { at = p; bytes = s.ys }) ≡ Ok (Some r, record { at = q; bytes = xs }) → Acts node.replica r d node'.replica → ¬ MayWait mode node.synced r node'.replica
+    (s : Stands seen moment left_since mode start node zs old held p left before) → node.digest ≡ start.digest → next_request (dialect_of start.replica) (record { at = p; bytes = s.ys }) ≡ Ok (Some r, record { at = q; bytes = xs }) → Acts node.replica r d node'.replica → ¬ MayWait mode node.synced r node'.replica
     → Tell node'.replica (before ++ d ∷ []) held new → IsQuiet node' → IsKept node.digest seen moment left_since node.device node'.device node'.replica → GoesOn node.digest seen moment left_since node.device node'.device node.replica node.synced → StaysKnown seen start.device node.device
     → Stands seen moment left_since mode start node' zs old new q (Some xs) []
 written_on seen moment left_since mode start node node' zs old held new left p q before r d xs s own next acted may told quiet kept goes known =
     let stays : IsKept start.digest seen moment left_since node.device node'.device node'.replica = subst (λ (x : List ℕ). IsKept x seen moment left_since node.device node'.device node'.replica) own kept in
     let onward : GoesOn start.digest seen moment left_since node.device node'.device node.replica node.synced = subst (λ (x : List ℕ). GoesOn x seen moment left_since node.device node'.device node.replica node.synced) own goes in
-    let n : ℕ = size start.replica.faults in
+    let how : Dialect = dialect_of start.replica in
     let w' : Crashes = crashes start.digest seen moment left_since start.device node'.device in
-    let extends : Extends s.service.replica node.replica = waiting_more mode n s.service.replica node.replica s.service.from (record { at = p; bytes = s.ys }) before s.service.waiting in
-    let moved : InService mode n w' start.replica (record { at = 0; bytes = zs }) old held node.replica (record { at = p; bytes = s.ys }) before =
-    service_on mode n (crashes start.digest seen moment left_since start.device node.device) w' start.replica node.replica (record { at = 0; bytes = zs }) (record { at = p; bytes = s.ys }) old held before s.service
+    let extends : Extends s.service.replica node.replica = waiting_more mode how s.service.replica node.replica s.service.from (record { at = p; bytes = s.ys }) before s.service.waiting in
+    let moved : InService mode how w' start.replica (record { at = 0; bytes = zs }) old held node.replica (record { at = p; bytes = s.ys }) before =
+    service_on mode how (crashes start.digest seen moment left_since start.device node.device) w' start.replica node.replica (record { at = 0; bytes = zs }) (record { at = p; bytes = s.ys }) old held before s.service
     (passes start.digest seen moment left_since start.device node.device node'.device node.replica s.service.replica node.synced known s.synced extends onward) in
     record {
       ys = xs;
       left_is = refl;
-      service = one_is_written mode n w' start.replica node.replica node'.replica (record { at = 0; bytes = zs }) (record { at = p; bytes = s.ys }) (record { at = q; bytes = xs }) old held new before r d moved next acted
+      service = one_is_written mode how w' start.replica node.replica node'.replica (record { at = 0; bytes = zs }) (record { at = p; bytes = s.ys }) (record { at = q; bytes = xs }) old held new before r d moved next acted
           (λ m. may (may_as mode (length s.service.replica.entries) node.synced r node'.replica (sym s.synced) m)) told (lasts_now start.digest seen moment left_since start.device node.device node'.device node'.replica known stays);
       synced = quiet.synced;
     }
 
-pub stands_next : {D : Type 0} (seen : D → Option (List ℕ)) (moment : D → ℕ) (left_since : D → ℕ → List ℕ → Type 0) (mode : Mode) (start node node' : Logged D) (zs : List ℕ) (old held new left left' : Option (List ℕ)) (p q n : ℕ) (before after : List Due) (found : Option Request) (r : Request)
-    → (s : Stands seen moment left_since mode start node zs old held p left before) → node.digest ≡ start.digest → n ≡ size start.replica.faults → ReadsRequest n (record { at = p; bytes = s.ys }) (Ok found) q left' → found ≡ Some r
+pub stands_next : {D : Type 0} (seen : D → Option (List ℕ)) (moment : D → ℕ) (left_since : D → ℕ → List ℕ → Type 0) (mode : Mode) (start node node' : Logged D) (zs : List ℕ) (old held new left left' : Option (List ℕ)) (p q : ℕ) (how : Dialect) (before after : List Due) (found : Option Request) (r : Request)
+    → (s : Stands seen moment left_since mode start node zs old held p left before) → node.digest ≡ start.digest → how ≡ dialect_of start.replica → ReadsRequest how (record { at = p; bytes = s.ys }) (Ok found) q left' → found ≡ Some r
     → (m : Mode) → m ≡ mode → Waits m node r before held node' after new (IsKept node.digest seen moment left_since node.device node'.device node'.replica) → GoesOn node.digest seen moment left_since node.device node'.device node.replica node.synced → StaysKnown seen start.device node.device
     → Stands seen moment left_since mode start node' zs old new q left' after
-stands_next {D = D} seen moment left_since mode start node node' zs old held new left left' p q n before after found r s own same read is m mode_is w' goes known =
+stands_next {D = D} seen moment left_since mode start node node' zs old held new left left' p q how before after found r s own same read is m mode_is w' goes known =
     let w : Waits mode node r before held node' after new (IsKept node.digest seen moment left_since node.device node'.device node'.replica) = subst (λ (x : Mode). Waits x node r before held node' after new (IsKept node.digest seen moment left_since node.device node'.device node'.replica)) mode_is w' in
     subst (λ (x : Option (List ℕ)). Stands seen moment left_since mode start node' zs old new q x after) (sym read.1) (elim w.2 [
       | inl a ↦
           subst (λ (x : Logged D). Stands seen moment left_since mode start x zs old new q (Some read.0) after) (sym a.3)
           (subst (λ (x : Option (List ℕ)). Stands seen moment left_since mode start (record node { replica = node'.replica }) zs old x q (Some read.0) after) (sym a.2)
           (subst (λ (x : List Due). Stands seen moment left_since mode start (record node { replica = node'.replica }) zs old held q (Some read.0) x) (sym a.1)
-          (waits_on seen moment left_since mode start node node'.replica zs old held left p q before r w.0 read.0 s (next n same read.2) w.1 a.0)))
+          (waits_on seen moment left_since mode start node node'.replica zs old held left p q before r w.0 read.0 s (next how same read.2) w.1 a.0)))
       | inr a ↦
           subst (λ (x : List Due). Stands seen moment left_since mode start node' zs old new q (Some read.0) x) (sym a.1)
-          (written_on seen moment left_since mode start node node' zs old held new left p q before r w.0 read.0 s own (next n same read.2) w.1 a.0 a.2 a.3 a.4 goes known)
+          (written_on seen moment left_since mode start node node' zs old held new left p q before r w.0 read.0 s own (next how same read.2) w.1 a.0 a.2 a.3 a.4 goes known)
     ])
   where
-    next : (n : ℕ) → n ≡ size start.replica.faults → next_request n (record { at = p; bytes = s.ys }) ≡ Ok (found, record { at = q; bytes = read.0 }) → next_request (size start.replica.faults) (record { at = p; bytes = s.ys }) ≡ Ok (Some r, record { at = q; bytes = read.0 })
-    next n same e = subst (λ (x : ℕ). next_request x (record { at = p; bytes = s.ys }) ≡ Ok (Some r, record { at = q; bytes = read.0 })) same (e ∙ ap (λ (f : Option Request). Ok (f, record { at = q; bytes = read.0 })) is)
+    next : (how : Dialect) → how ≡ dialect_of start.replica → next_request how (record { at = p; bytes = s.ys }) ≡ Ok (found, record { at = q; bytes = read.0 }) → next_request (dialect_of start.replica) (record { at = p; bytes = s.ys }) ≡ Ok (Some r, record { at = q; bytes = read.0 })
+    next how same e = subst (λ (x : Dialect). next_request x (record { at = p; bytes = s.ys }) ≡ Ok (Some r, record { at = q; bytes = read.0 })) same (e ∙ ap (λ (f : Option Request). Ok (f, record { at = q; bytes = read.0 })) is)
 
 -- the service after a call that may have failed
 pub goes_on_to : {D : Type 0} (seen : D → Option (List ℕ)) (moment : D → ℕ) (left_since : D → ℕ → List ℕ → Type 0) (mode : Mode) (start node node' : Logged D) (zs : List ℕ) (old held left : Option (List ℕ)) (p : ℕ) (before : List Due)
     (s : Stands seen moment left_since mode start node zs old held p left before) → node.digest ≡ start.digest → GoesOn node.digest seen moment left_since node.device node'.device node.replica node.synced → StaysKnown seen start.device node.device
-    → InService mode (size start.replica.faults) (crashes start.digest seen moment left_since start.device node'.device) start.replica (record { at = 0; bytes = zs }) old held node.replica (record { at = p; bytes = s.ys }) before
+    → InService mode (dialect_of start.replica) (crashes start.digest seen moment left_since start.device node'.device) start.replica (record { at = 0; bytes = zs }) old held node.replica (record { at = p; bytes = s.ys }) before
 goes_on_to seen moment left_since mode start node node' zs old held left p before s own goes known =
     let onward : GoesOn start.digest seen moment left_since node.device node'.device node.replica node.synced = subst (λ (x : List ℕ). GoesOn x seen moment left_since node.device node'.device node.replica node.synced) own goes in
-    let n : ℕ = size start.replica.faults in
-    service_on mode n (crashes start.digest seen moment left_since start.device node.device) (crashes start.digest seen moment left_since start.device node'.device) start.replica node.replica (record { at = 0; bytes = zs }) (record { at = p; bytes = s.ys }) old held before s.service
-    (passes start.digest seen moment left_since start.device node.device node'.device node.replica s.service.replica node.synced known s.synced (waiting_more mode n s.service.replica node.replica s.service.from (record { at = p; bytes = s.ys }) before s.service.waiting) onward)
+    let how : Dialect = dialect_of start.replica in
+    service_on mode how (crashes start.digest seen moment left_since start.device node.device) (crashes start.digest seen moment left_since start.device node'.device) start.replica node.replica (record { at = 0; bytes = zs }) (record { at = p; bytes = s.ys }) old held before s.service
+    (passes start.digest seen moment left_since start.device node.device node'.device node.replica s.service.replica node.synced known s.synced (waiting_more mode how s.service.replica node.replica s.service.from (record { at = p; bytes = s.ys }) before s.service.waiting) onward)
 
 pub unwritten_so : (e : ServeFault) (P : Type 0) → IfUnwritten (Err e) P → e ≡ WriteFailed → P
 unwritten_so e P h is = subst (λ (x : ServeFault). IfUnwritten (Err x) P) is h
@@ -116,9 +116,9 @@ settled_so e P h is = subst (λ (x : ServeFault). IfSettled (Err x) P) is h
 pub stopped : {D : Type 0} (seen : D → Option (List ℕ)) (moment : D → ℕ) (left_since : D → ℕ → List ℕ → Type 0) (mode : Mode) (start node node' : Logged D) (zs : List ℕ) (old held new left : Option (List ℕ)) (p : ℕ) (before : List Due) (e : ServeFault) (r : Result Unit ServeFault)
     (s : Stands seen moment left_since mode start node zs old held p left before) → node.digest ≡ start.digest → IsSilent e held new → IfUnwritten (Err e) (IsQuiet node' × IsKept node.digest seen moment left_since node.device node'.device node'.replica)
     → GoesOn node.digest seen moment left_since node.device node'.device node.replica node.synced → StaysKnown seen start.device node.device → IsErrAnd r (λ x. x ≡ e)
-    → Ends mode (size start.replica.faults) (crashes start.digest seen moment left_since start.device node'.device) start.replica (record { at = 0; bytes = zs }) old new r node'.replica
+    → Ends mode (dialect_of start.replica) (crashes start.digest seen moment left_since start.device node'.device) start.replica (record { at = 0; bytes = zs }) old new r node'.replica
 stopped seen moment left_since mode start node node' zs old held new left p before e r s own silent unwritten goes known is =
-    cut_short mode (size start.replica.faults) (crashes start.digest seen moment left_since start.device node'.device) start.replica node.replica node'.replica (record { at = 0; bytes = zs }) (record { at = p; bytes = s.ys }) old held new before r e
+    cut_short mode (dialect_of start.replica) (crashes start.digest seen moment left_since start.device node'.device) start.replica node.replica node'.replica (record { at = 0; bytes = zs }) (record { at = p; bytes = s.ys }) old held new before r e
     (goes_on_to seen moment left_since mode start node node' zs old held left p before s own goes known) silent
     (λ failed. lasts_now start.digest seen moment left_since start.device node.device node'.device node'.replica known (subst (λ (x : List ℕ). IsKept x seen moment left_since node.device node'.device node'.replica) own (unwritten_so e (IsQuiet node' × IsKept node.digest seen moment left_since node.device node'.device node'.replica) unwritten failed).1)) is
 
@@ -126,9 +126,9 @@ stopped seen moment left_since mode start node node' zs old held new left p befo
 pub stopped_settling : {D : Type 0} (seen : D → Option (List ℕ)) (moment : D → ℕ) (left_since : D → ℕ → List ℕ → Type 0) (mode : Mode) (start node node' : Logged D) (zs : List ℕ) (old held new left : Option (List ℕ)) (p : ℕ) (before : List Due) (e : ServeFault) (r : Result Unit ServeFault)
     (s : Stands seen moment left_since mode start node zs old held p left before) → node.digest ≡ start.digest → node'.replica ≡ node.replica → IsSilent e held new → IfSettled (Err e) (IsKept node.digest seen moment left_since node.device node'.device node.replica)
     → GoesOn node.digest seen moment left_since node.device node'.device node.replica node.synced → StaysKnown seen start.device node.device → IsErrAnd r (λ x. x ≡ e)
-    → Ends mode (size start.replica.faults) (crashes start.digest seen moment left_since start.device node'.device) start.replica (record { at = 0; bytes = zs }) old new r node'.replica
+    → Ends mode (dialect_of start.replica) (crashes start.digest seen moment left_since start.device node'.device) start.replica (record { at = 0; bytes = zs }) old new r node'.replica
 stopped_settling seen moment left_since mode start node node' zs old held new left p before e r s own same silent kept goes known is =
-    cut_short mode (size start.replica.faults) (crashes start.digest seen moment left_since start.device node'.device) start.replica node.replica node'.replica (record { at = 0; bytes = zs }) (record { at = p; bytes = s.ys }) old held new before r e
+    cut_short mode (dialect_of start.replica) (crashes start.digest seen moment left_since start.device node'.device) start.replica node.replica node'.replica (record { at = 0; bytes = zs }) (record { at = p; bytes = s.ys }) old held new before r e
     (goes_on_to seen moment left_since mode start node node' zs old held left p before s own goes known) silent
     (λ failed. subst (λ (x : Kept). Lasts (crashes start.digest seen moment left_since start.device node'.device) x) (sym same)
     (lasts_now start.digest seen moment left_since start.device node.device node'.device node.replica known (subst (λ (x : List ℕ). IsKept x seen moment left_since node.device node'.device node.replica) own (settled_so e (IsKept node.digest seen moment left_since node.device node'.device node.replica) kept failed)))) is
@@ -137,13 +137,13 @@ stopped_settling seen moment left_since mode start node node' zs old held new le
 pub all_settled : {D : Type 0} (seen : D → Option (List ℕ)) (moment : D → ℕ) (left_since : D → ℕ → List ℕ → Type 0) (mode : Mode) (start node node' : Logged D) (zs : List ℕ) (old held new left : Option (List ℕ)) (p : ℕ) (before after : List Due)
     (s : Stands seen moment left_since mode start node zs old held p left before) → node.digest ≡ start.digest → node'.replica ≡ node.replica → Tell node.replica before held new × (after ≡ []) → IsKept node.digest seen moment left_since node.device node'.device node.replica
     → GoesOn node.digest seen moment left_since node.device node'.device node.replica node.synced → StaysKnown seen start.device node.device
-    → ServesAll mode (size start.replica.faults) (crashes start.digest seen moment left_since start.device node'.device) start.replica (record { at = 0; bytes = zs }) old new node'.replica (record { at = p; bytes = s.ys })
+    → ServesAll mode (dialect_of start.replica) (crashes start.digest seen moment left_since start.device node'.device) start.replica (record { at = 0; bytes = zs }) old new node'.replica (record { at = p; bytes = s.ys })
 all_settled seen moment left_since mode start node node' zs old held new left p before after s own same told kept goes known =
     let stays : IsKept start.digest seen moment left_since node.device node'.device node.replica = subst (λ (x : List ℕ). IsKept x seen moment left_since node.device node'.device node.replica) own kept in
-    let n : ℕ = size start.replica.faults in
+    let how : Dialect = dialect_of start.replica in
     let w' : Crashes = crashes start.digest seen moment left_since start.device node'.device in
-    subst (λ (x : Kept). ServesAll mode n w' start.replica (record { at = 0; bytes = zs }) old new x (record { at = p; bytes = s.ys })) (sym same)
-    (all_served mode n w' start.replica node.replica (record { at = 0; bytes = zs }) (record { at = p; bytes = s.ys }) old held new before (goes_on_to seen moment left_since mode start node node' zs old held left p before s own goes known)
+    subst (λ (x : Kept). ServesAll mode how w' start.replica (record { at = 0; bytes = zs }) old new x (record { at = p; bytes = s.ys })) (sym same)
+    (all_served mode how w' start.replica node.replica (record { at = 0; bytes = zs }) (record { at = p; bytes = s.ys }) old held new before (goes_on_to seen moment left_since mode start node node' zs old held left p before s own goes known)
     (lasts_now start.digest seen moment left_since start.device node.device node'.device node.replica known stays) told.0)
 
 -- the node still works, and what is on its disk it has

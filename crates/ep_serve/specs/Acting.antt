@@ -1,17 +1,19 @@
 -- What a request does to a node's replica, and the answer that is due for it.
-use Rattle.std.specs.Prelude.{◌≡◌, ◌⊎◌, ℕ, zero, suc, ◌+◌, ◌-◌, ◌<◌, ◌^◌, true, false, List, length, MatchResult}
+use Rattle.std.specs.Prelude.{◌≡◌, ◌⊎◌, ℕ, zero, suc, ◌+◌, ◌-◌, ◌<◌, ◌^◌, Bool, true, false, List, [], ◌∷◌, length, MatchResult}
+use Rattle.ep_base.specs.Instances.{leader_of}
 use Rattle.ep_frame.specs.Faults.{fault_of}
 use Rattle.ep_journal.specs.Entries.{entries_of}
 use Rattle.ep_journal.specs.declared.event.Event.{Event as Happening}
 use Rattle.ep_journal.specs.declared.event.Event.TheVariants as event
 use Rattle.ep_journal.specs.declared.step_fault.StepFault.TheVariants.{StampFull}
+use Rattle.ep_node.specs.Executing.{IsOutstanding, IsTried}
 use Rattle.ep_node.specs.Nodes.{Takes}
 use Rattle.ep_replica.specs.Applied.{IsDeclined}
 use Rattle.ep_replica.specs.Kept.{Kept}
-use Rattle.ep_replica.specs.Pending.{ExecutesNext}
+use Rattle.ep_replica.specs.Pending.{ExecutesNext, IsWaiting}
 use Rattle.ep_rules.specs.Journals.{stamp_after}
 use Rattle.ep_serve.specs.declared.due.Due.{Due}
-use Rattle.ep_serve.specs.declared.due.Due.TheVariants.{Taken, Refused, Value, Open, Leads, Synced, Malformed}
+use Rattle.ep_serve.specs.declared.due.Due.TheVariants.{Taken, Refused, Value, Open, Leads, Synced, State, Malformed}
 use Rattle.ep_wire.specs.declared.refusal.Refusal.{Refusal}
 use Rattle.ep_wire.specs.declared.refusal.Refusal.TheVariants.{BadFrame, Step}
 use Rattle.ep_wire.specs.declared.request.Request.{Request}
@@ -30,6 +32,7 @@ TakesOrRefuses k happening (Value key) k' = ⊥
 TakesOrRefuses k happening (Open after) k' = ⊥
 TakesOrRefuses k happening (Leads i) k' = ⊥
 TakesOrRefuses k happening Synced k' = ⊥
+TakesOrRefuses k happening State k' = ⊥
 TakesOrRefuses k happening (Malformed m) k' = ⊥
 
 -- the stamp that a client has seen is more than 2^40 above that of the replica's last entry
@@ -52,6 +55,36 @@ Executes (suc n) k k' = (m : Kept) × ExecutesNext k true m × Executes n m k'
 abbrev pub AdvancesAll : Kept → Due → Kept → Type 0
 AdvancesAll k due k' = (times : ℕ) × Executes times k k' × (due ≡ Taken (length k.entries) (length k'.entries - length k.entries))
 
+-- Executing all that is ready, own or not.
+
+-- each of these instances in its turn was committed and not executed, and was executed, with all that it waits for
+abbrev pub ExecutesEach : Kept → List ℕ → Kept → Type 0
+ExecutesEach k [] k' = k' ≡ k
+ExecutesEach k (i ∷ is) k' = (m : Kept) × IsOutstanding k i × Takes k (event.Execute i) m × ExecutesEach m is k'
+
+-- one is committed and not executed, and its entry would have no stamp
+abbrev pub IsStampless : Kept → Type 0
+IsStampless k = (i : ℕ) × IsOutstanding k i × IsDeclined k (event.Execute i) StampFull
+
+-- each that is committed and not executed waits for one that isn't committed; or no stamp is left
+abbrev pub NoneIsReady : Kept → Type 0
+NoneIsReady k = ((i : ℕ) → IsOutstanding k i → IsWaiting k i) ⊎ IsStampless k
+
+abbrev pub ExecutesAll : Kept → Due → Kept → Type 0
+ExecutesAll k due k' = (roots : List ℕ) × ExecutesEach k roots k' × NoneIsReady k' × (due ≡ Taken (length k.entries) (length k'.entries - length k.entries))
+
+-- The way there, instance by instance and leader by leader.
+
+-- an instance was tried; or no stamp is left for its entry, and nothing changed
+abbrev pub TriesOne : Kept → ℕ → Bool → Kept → Type 0
+TriesOne k i true k' = (executed : Bool) × IsTried k i executed k'
+TriesOne k i false k' = (IsOutstanding k i × IsDeclined k (event.Execute i) StampFull) × (k' ≡ k)
+
+-- none of this leader's is ready; or no stamp is left
+abbrev pub IsSwept : ℕ → Bool → Kept → Type 0
+IsSwept r true k = (i : ℕ) → leader_of i ≡ r → IsOutstanding k i → IsWaiting k i
+IsSwept r false k = IsStampless k
+
 -- a request that asks changes nothing
 abbrev pub Asks : Kept → Due → Due → Kept → Type 0
 Asks k asked due k' = (due ≡ asked) × (k' ≡ k)
@@ -67,4 +100,6 @@ Acts k (request.Get key) due k' = Asks k (Value key) due k'
 Acts k (request.NextOpen after) due k' = Asks k (Open after) due k'
 Acts k (request.Leads i) due k' = Asks k (Leads i) due k'
 Acts k request.Sync due k' = Asks k Synced due k'
+Acts k request.State due k' = Asks k State due k'
+Acts k request.ExecuteAll due k' = ExecutesAll k due k'
 Acts k (request.Malformed m) due k' = Asks k (Malformed m) due k'

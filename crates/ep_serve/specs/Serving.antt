@@ -15,13 +15,18 @@ use Rattle.ep_serve.specs.declared.mode.Mode.TheVariants.{Asked}
 use Rattle.ep_serve.specs.declared.serve_fault.ServeFault.{ServeFault}
 use Rattle.ep_serve.specs.declared.serve_fault.ServeFault.TheVariants.{Memory, ReadFailed, BadRequest, WriteFailed, LogFailed}
 use Rattle.ep_wire.specs.Requests.{next_request}
+use Rattle.ep_wire.specs.declared.dialect.Dialect.{Dialect}
 use Rattle.ep_wire.specs.declared.request.Request.{Request}
 use Rattle.ep_wire.specs.declared.request.Request.TheVariants as request
 
--- the requests stand there, one after the other, in a cluster of n
-abbrev pub AreRead : ℕ → Left → List Request → Left → Type 0
-AreRead n l [] l' = l' ≡ l
-AreRead n l (r ∷ rs) l' = (m : Left) × (next_request n l ≡ Ok (Some r, m)) × AreRead n m rs l'
+-- what requests to a node of this replica are spelled in
+abbrev pub dialect_of : Kept → Dialect
+dialect_of k = record { version = k.version; size = k.faults }
+
+-- the requests stand there, one after the other, in a node's dialect
+abbrev pub AreRead : Dialect → Left → List Request → Left → Type 0
+AreRead how l [] l' = l' ≡ l
+AreRead how l (r ∷ rs) l' = (m : Left) × (next_request how l ≡ Ok (Some r, m)) × AreRead how m rs l'
 
 -- Which answers may wait.
 
@@ -36,6 +41,8 @@ is_sync (request.Get key) = false
 is_sync (request.NextOpen after) = false
 is_sync (request.Leads i) = false
 is_sync request.Sync = true
+is_sync request.State = false
+is_sync request.ExecuteAll = false
 is_sync (request.Malformed m) = false
 
 -- At a node with so many entries on the disk, which the request leaves so: its answer may wait. It isn't that of each request that is wanted, no sync is
@@ -51,67 +58,67 @@ AllWait mode synced k [] ds k' = (ds ≡ []) × (k' ≡ k)
 AllWait mode synced k (r ∷ rs) ds k' = (d : Due) × (more : List Due) × (m : Kept) × Acts k r d m × MayWait mode synced r m × AllWait mode synced m rs more k' × (ds ≡ d ∷ more)
 
 -- Requests whose answers wait, of a replica all of whose entries are on the disk.
-pub record Waiting (mode : Mode) (n : ℕ) (k : Kept) (l : Left) (ds : List Due) (k' : Kept) (l' : Left) : Type 0 where
+pub record Waiting (mode : Mode) (how : Dialect) (k : Kept) (l : Left) (ds : List Due) (k' : Kept) (l' : Left) : Type 0 where
   pub requests : List Request
-  pub read : AreRead n l requests l'
+  pub read : AreRead how l requests l'
   pub acted : AllWait mode (length k.entries) k requests ds k'
 
 -- Requests whose answers are written together: those that wait, and the first one whose answer may not. They are told by the replica that they leave.
-pub record IsBatch (mode : Mode) (n : ℕ) (k : Kept) (l : Left) (out : List ℕ) (k' : Kept) (l' : Left) : Type 0 where
+pub record IsBatch (mode : Mode) (how : Dialect) (k : Kept) (l : Left) (out : List ℕ) (k' : Kept) (l' : Left) : Type 0 where
   pub dues : List Due
   pub before : Kept
   pub from : Left
-  pub waiting : Waiting mode n k l dues before from
+  pub waiting : Waiting mode how k l dues before from
   pub last : Request
-  pub read : next_request n from ≡ Ok (Some last, l')
+  pub read : next_request how from ≡ Ok (Some last, l')
   pub due : Due
   pub acted : Acts before last due k'
   pub written : ¬ MayWait mode (length k.entries) last k'
   pub told : AllTold k' (dues ++ due ∷ []) out
 
 -- So many batches, one after the other. Of each the entries of the replica that told it are on the disk from a moment on, which isn't after this one.
-abbrev pub AreServed : ℕ → Mode → ℕ → Crashes → Kept → Left → List ℕ → Kept → Left → Type 0
-AreServed zero mode n w k l out k' l' = (out ≡ []) × (k' ≡ k) × (l' ≡ l)
-AreServed (suc b) mode n w k l out k' l' =
-    (first rest : List ℕ) × (m : Kept) × (l1 : Left) × IsBatch mode n k l first m l1 × Lasts w m × AreServed b mode n w m l1 rest k' l' × (out ≡ first ++ rest)
+abbrev pub AreServed : ℕ → Mode → Dialect → Crashes → Kept → Left → List ℕ → Kept → Left → Type 0
+AreServed zero mode how w k l out k' l' = (out ≡ []) × (k' ≡ k) × (l' ≡ l)
+AreServed (suc b) mode how w k l out k' l' =
+    (first rest : List ℕ) × (m : Kept) × (l1 : Left) × IsBatch mode how k l first m l1 × Lasts w m × AreServed b mode how w m l1 rest k' l' × (out ≡ first ++ rest)
 
 -- In batches requests were answered, and nothing but these answers was written. What was on the disk at first is there at each moment.
-pub record Serves (mode : Mode) (n : ℕ) (w : Crashes) (k : Kept) (l : Left) (old new : Option (List ℕ)) (k' : Kept) (l' : Left) : Type 0 where
+pub record Serves (mode : Mode) (how : Dialect) (w : Crashes) (k : Kept) (l : Left) (old new : Option (List ℕ)) (k' : Kept) (l' : Left) : Type 0 where
   pub begun : LastsFrom w w.start k
   pub batches : ℕ
   pub out : List ℕ
-  pub served : AreServed batches mode n w k l out k' l'
+  pub served : AreServed batches mode how w k l out k' l'
   pub appended : Appends old new out
 
 -- requests are served up to `replica` and `from`, and those since then wait for their answers
-pub record InService (mode : Mode) (n : ℕ) (w : Crashes) (k : Kept) (l : Left) (old new : Option (List ℕ)) (k' : Kept) (l' : Left) (dues : List Due) : Type 0 where
+pub record InService (mode : Mode) (how : Dialect) (w : Crashes) (k : Kept) (l : Left) (old new : Option (List ℕ)) (k' : Kept) (l' : Left) (dues : List Due) : Type 0 where
   pub replica : Kept
   pub from : Left
-  pub served : Serves mode n w k l old new replica from
-  pub waiting : Waiting mode n replica from dues k' l'
+  pub served : Serves mode how w k l old new replica from
+  pub waiting : Waiting mode how replica from dues k' l'
 
 -- all requests were answered, those too that waited at the end, which are told in the same way
-pub record ServesAll (mode : Mode) (n : ℕ) (w : Crashes) (k : Kept) (l : Left) (old new : Option (List ℕ)) (k' : Kept) (l' : Left) : Type 0 where
+pub record ServesAll (mode : Mode) (how : Dialect) (w : Crashes) (k : Kept) (l : Left) (old new : Option (List ℕ)) (k' : Kept) (l' : Left) : Type 0 where
   pub dues : List Due
   pub held : Option (List ℕ)
-  pub before : InService mode n w k l old held k' l' dues
+  pub before : InService mode how w k l old held k' l' dues
   pub lasts : Lasts w k'
   pub told : Tell k' dues held new
 
 -- no request follows
-abbrev pub IsOver : ℕ → Left → Type 0
-IsOver n l = (m : Left) × (next_request n l ≡ Ok (None, m))
+abbrev pub IsOver : Dialect → Left → Type 0
+IsOver how l = (m : Left) × (next_request how l ≡ Ok (None, m))
 
 -- What is written when a node no longer serves, of its replica k' then: at the end of the input, where it can't be read, and where its bytes are no request,
 -- all requests before were answered; for want of memory all, or some batches of them; where the log failed, some batches; where writing failed, these and what the sink made of one
 -- more, of which nothing is known but that what it tells is on the disk.
-abbrev pub Ends : Mode → ℕ → Crashes → Kept → Left → Option (List ℕ) → Option (List ℕ) → Result Unit ServeFault → Kept → Type 0
-Ends mode n w k l old new (Ok x) k' = (l' : Left) × ServesAll mode n w k l old new k' l' × IsOver n l'
-Ends mode n w k l old new (Err Memory) k' = ((m : Kept) × (l' : Left) × Serves mode n w k l old new m l') ⊎ ((l' : Left) × ServesAll mode n w k l old new k' l')
-Ends mode n w k l old new (Err ReadFailed) k' = (l' : Left) × ServesAll mode n w k l old new k' l'
-Ends mode n w k l old new (Err (BadRequest at)) k' = (l' : Left) × ServesAll mode n w k l old new k' l' × (at ≡ l'.at) × IsErr (next_request n l')
-Ends mode n w k l old new (Err WriteFailed) k' = (m : Kept) × (l' : Left) × (held : Option (List ℕ)) × Serves mode n w k l old held m l' × Lasts w k'
-Ends mode n w k l old new (Err (LogFailed cause)) k' = (m : Kept) × (l' : Left) × Serves mode n w k l old new m l'
+abbrev pub Ends : Mode → Dialect → Crashes → Kept → Left → Option (List ℕ) → Option (List ℕ) → Result Unit ServeFault → Kept → Type 0
+Ends mode how w k l old new (Ok x) k' = (l' : Left) × ServesAll mode how w k l old new k' l' × IsOver how l'
+Ends mode how w k l old new (Err Memory) k' = ((m : Kept) × (l' : Left) × Serves mode how w k l old new m l') ⊎ ((l' : Left) × ServesAll mode how w k l old new k' l')
+Ends mode how w k l old new (Err ReadFailed) k' = (l' : Left) × ServesAll mode how w k l old new k' l'
+Ends mode how w k l old new (Err (BadRequest at)) k' = (l' : Left) × ServesAll mode how w k l old new k' l' × (at ≡ l'.at) × IsErr (next_request how l')
+Ends mode how w k l old new (Err WriteFailed) k' = (m : Kept) × (l' : Left) × (held : Option (List ℕ)) × Serves mode how w k l old held m l' × Lasts w k'
+Ends mode how w k l old new (Err (LogFailed cause)) k' = (m : Kept) × (l' : Left) × Serves mode how w k l old new m l'
 
 -- Where all was answered, as far as the sink took it.
 abbrev pub IfSettled : Result Unit ServeFault → Type 0 → Type 0

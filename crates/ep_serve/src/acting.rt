@@ -6,6 +6,7 @@ ghost use Rattle.ep_replica.specs.Kept.{Kept};
 ghost use Rattle.ep_serve.specs.Acting.{Acts, AdvancesAll, Handles, IsFarAhead, Proposes, TakesOrRefuses};
 
 use crate::due::Due;
+use crate::executing::execute_all;
 use bytes::Bytes;
 use ep_device::Device;
 use ep_frame::Frame;
@@ -112,6 +113,8 @@ pub(crate) fn act<D: Device>(node: &mut Node<D>, request: Request) -> Result<Due
         Request::NextOpen(after) => Ok(Due::Open(after)),
         Request::Leads(instance) => Ok(Due::Leads(instance)),
         Request::Sync => Ok(Due::Synced),
+        Request::State => Ok(Due::State),
+        Request::ExecuteAll => execute_all(node),
         Request::Malformed(malformed) => Ok(Due::Malformed(malformed)),
     }
 }

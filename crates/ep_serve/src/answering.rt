@@ -6,7 +6,7 @@ ghost use Rattle.ep_journal.specs.declared.entry.Entry.{Entry as Written};
 ghost use Rattle.ep_serve.specs.Answering.{told_entry, told_from, AllTold, Tell, Tells};
 ghost use Rattle.ep_serve.specs.declared.due.Due.TheVariants.{Synced, Taken};
 
-use crate::asked::{put_asked_lead, put_asked_open, put_asked_value};
+use crate::asked::{put_asked_lead, put_asked_open, put_asked_state, put_asked_value};
 use crate::due::Due;
 use crate::no_room::NoRoom;
 use ep_base::{Noted, Sink};
@@ -34,7 +34,8 @@ fn put_told_entry<K: Sink>(
     if receipts.len() >= 0x1_0000 {
         return Err(NoRoom);
     }
-    put_entry(sink, &journal.entries()[place], &receipts)?;
+    let version = replica.version();
+    put_entry(sink, version, &journal.entries()[place], &receipts)?;
     Ok(())
 }
 
@@ -115,6 +116,7 @@ fn put_due<K: Sink>(alloc: Global, sink: &mut K, replica: &Replica, due: &Due) -
         Due::Open(after) => put_asked_open(sink, replica, *after),
         Due::Leads(instance) => put_asked_lead(sink, replica, *instance),
         Due::Synced => put_synced(sink, replica),
+        Due::State => put_asked_state(sink, replica),
         Due::Malformed(malformed) => Ok(write_malformed(sink, *malformed)?),
     }
 }

@@ -2,13 +2,14 @@
 
 ghost use Rattle.std.specs.Prelude.{◌≡◌, ℕ, List, OnOk};
 ghost use Rattle.ep_serve.specs.Answering.{leading_of, Tells};
-ghost use Rattle.ep_serve.specs.declared.due.Due.TheVariants.{Leads, Open, Value};
+ghost use Rattle.ep_serve.specs.declared.due.Due.TheVariants.{Leads, Open, State, Value};
 
 use crate::no_room::NoRoom;
+use crate::telling::told_state;
 use ep_base::{InstanceId, Key, Sink};
 use ep_phase::LeadPhase;
 use ep_replica::Replica;
-use ep_wire::{Leading, write_instance, write_leading, write_no_value, write_value};
+use ep_wire::{Leading, write_instance, write_leading, write_no_value, write_state, write_value};
 
 /// What the replica's map has at the key.
 pub(crate) fn put_asked_value<K: Sink>(
@@ -62,5 +63,16 @@ pub(crate) fn put_asked_lead<K: Sink>(
         None => None,
     };
     write_leading(sink, &leading)?;
+    Ok(())
+}
+
+/// What the node tells of itself.
+pub(crate) fn put_asked_state<K: Sink>(sink: &mut K, replica: &Replica) -> Result<(), NoRoom>
+    ensures { OnOk result (Tells replica.now State (K.held sink.old) (K.held sink.new)) }
+{
+    let Some(state) = told_state(replica) else {
+        return Err(NoRoom);
+    };
+    write_state(sink, &state)?;
     Ok(())
 }

@@ -18,6 +18,8 @@ pub enum Due {
     Leads(InstanceId),
     /// How many entries are on the disk is asked.
     Synced,
+    /// What the node is is asked.
+    State,
     /// The request is malformed.
     Malformed(Malformed),
 }

@@ -2,8 +2,8 @@
 //!
 //! It keeps to docs/FORMATS.md, section 10.
 //!
-//! Start with `serving.rt` and specs/Serving.antt; then `acting.rt` (what a request does), `queue.rt` (the answers that wait),
-//! `durable.rt` (what is on the disk from then on) and `answering.rt` (what an answer tells).
+//! Start with `serving.rt` and specs/Serving.antt; then `acting.rt` and `executing.rt` (what a request does), `queue.rt` (the
+//! answers that wait), `durable.rt` (what is on the disk from then on), `answering.rt` and `telling.rt` (what an answer tells).
 //!
 //! An answer that waits says what happened; its bytes are made when all that the node took is on the disk, from the replica
 //! that the node then lends.
@@ -14,11 +14,13 @@ mod answering;
 mod asked;
 mod due;
 mod durable;
+mod executing;
 mod mode;
 mod no_room;
 mod queue;
 mod serve_fault;
 mod serving;
+mod telling;
 
 pub use mode::Mode;
 pub use serve_fault::ServeFault;

@@ -2,10 +2,9 @@
 
 ghost use Rattle.std.specs.Prelude.{◌≡◌, ℕ, List, Some, IfErr};
 ghost use Rattle.ep_base.specs.Devices.{FailsAsTold};
-ghost use Rattle.ep_base.specs.Quorums.{size};
 ghost use Rattle.ep_node.specs.Nodes.{IsQuiet};
 ghost use Rattle.ep_serve.specs.Lasting.{crashes};
-ghost use Rattle.ep_serve.specs.Serving.{is_log_failed, is_write_failed, Ends, IfSettled, IsReadTo, Names};
+ghost use Rattle.ep_serve.specs.Serving.{dialect_of, is_log_failed, is_write_failed, Ends, IfSettled, IsReadTo, Names};
 
 use crate::mode::Mode;
 use crate::queue::Queue;
@@ -13,8 +12,18 @@ use crate::serve_fault::ServeFault;
 use ep_base::{Sink, Source};
 use ep_device::Device;
 use ep_node::Node;
-use ep_wire::read_request;
+use ep_wire::{Dialect, read_request};
 use std::alloc::Global;
+
+/// What requests to the node are spelled in.
+fn dialect_of<D: Device>(node: &Node<D>) -> Dialect
+    ensures { result ≡ dialect_of node.now.replica }
+{
+    Dialect {
+        version: node.version(),
+        size: node.size(),
+    }
+}
 
 /// Reads requests from the source until it is over, and answers each on the sink, in their order. What an answer tells is on
 /// the node's disk before it is written, whatever stops the node after it. At the end, and where a request can't be read, all
@@ -30,7 +39,7 @@ pub fn serve<D: Device, S: Source, K: Sink>(
 
     // What was read, done and answered. What an answer tells is on the disk when this ends, also by a fault; so it is before the
     // answer is written, as any later sync may fail. At no moment a crash takes what was there before.
-    ensures served { (zs : List ℕ) → S.left source.old ≡ Some zs → Ends mode (size node.old.replica.faults) (crashes node.old.digest D.seen D.moment D.left_since node.old.device node.new.device) node.old.replica (record { at = 0; bytes = zs }) (K.held sink.old) (K.held sink.new) result node.new.replica }
+    ensures served { (zs : List ℕ) → S.left source.old ≡ Some zs → Ends mode (dialect_of node.old.replica) (crashes node.old.digest D.seen D.moment D.left_since node.old.device node.new.device) node.old.replica (record { at = 0; bytes = zs }) (K.held sink.old) (K.held sink.new) result node.new.replica }
     ensures quiet { IfSettled result (IsQuiet node.new) }
 
     // which device failed, in this call, and why the log's did
@@ -39,12 +48,12 @@ pub fn serve<D: Device, S: Source, K: Sink>(
     ensures log_why { IfErr result (λ fault. Names fault (D.why node.new.device)) }
     ensures source_cause { IsReadTo result (S.has_failed source.old) (S.has_failed source.new) }
 {
-    let size = node.size();
+    let dialect = dialect_of(node);
     let mut queue = Queue::new(alloc, mode);
     let mut place = 0;
     node.is_at_rest();
     for _ in 0..u64::MAX {
-        match read_request(alloc, source, &mut place, size) {
+        match read_request(alloc, source, &mut place, &dialect) {
             Ok(Some(request)) => queue.serve(node, sink, request)?,
             Ok(None) => {
                 queue.settle(node, sink)?;

@@ -1,32 +1,31 @@
 -- A node that is opened has served.
 use Rattle.std.proofs.Common.{◌≡◌, inl, inr, ℕ, Bool, true, List, [], ◌++◌, Option, Some, None, Result, Ok, Err, append-nil, sym, subst}
 use Rattle.ep_base.specs.Devices.{Puts}
-use Rattle.ep_base.specs.Quorums.{size}
-use Rattle.ep_log.specs.Origins.{second as version_two}
+use Rattle.ep_log.specs.Origins.{Origin}
 use Rattle.ep_node.specs.Nodes.{Logged, origin_of}
 use Rattle.ep_node.specs.Opening.{IsOpened, IsWrittenAnew, Names}
 use Rattle.ep_node.specs.declared.cut.Cut.{Cut}
 use Rattle.ep_node.specs.declared.open_fault.OpenFault.{OpenFault}
 use Rattle.ep_node.specs.declared.open_fault.OpenFault.TheVariants as open_
 use Rattle.ep_serve.specs.Lasting.{crashes}
-use Rattle.ep_serve.specs.Serving.{Ends}
+use Rattle.ep_serve.specs.Serving.{dialect_of, Ends}
 use Rattle.ep_serve.specs.declared.serve_fault.ServeFault.{ServeFault}
 use Rattle.ep_server.proofs.Puts.{appends_twice}
 use Rattle.ep_server.specs.Faults.{line_of}
 use Rattle.ep_server.specs.Outputs.{Output, output, Told}
-use Rattle.ep_server.specs.Served.{told_first, of_serve, Concludes, Fails, Happens, HasServed, IsFailure, IsOver, Role, Shown}
+use Rattle.ep_server.specs.Served.{told_first, of_serve, EndsWith, Fails, Happens, HasServed, IsFailure, IsOver, Role, Shown}
 use Rattle.ep_server.specs.declared.fault.Fault.{Fault}
 use Rattle.ep_server.specs.declared.status.Status.{Status}
 
 pub has_served :
-    {D : Type 0} (shown : Shown D) (role : Role) (start : Logged D) (bytes zs log : List ℕ) (cut : Option Cut) (outcome : Result Unit Fault) (reader out : Output) →
-    start.replica.faults ≡ role.faults → start.replica.me ≡ role.me → origin_of start ≡ version_two → IsOpened role.begin version_two role.faults role.me bytes start.replica.entries cut →
-    shown.seen start.device ≡ Some log → IsWrittenAnew role.begin version_two role.faults role.me bytes log → IsOver shown role.mode start zs outcome reader out → Happens shown role bytes zs cut outcome reader out
-has_served {D = D} shown role start bytes zs log cut outcome reader out cluster replica origin opened known anew over =
-    subst (λ (x : Result Unit Fault). Happens shown role bytes zs cut x reader out) (sym over.2) (go over.1 over.3 over.4)
+    {D : Type 0} (shown : Shown D) (role : Role) (o : Origin) (start : Logged D) (bytes zs log : List ℕ) (cut : Option Cut) (outcome : Result Unit Fault) (reader out : Output) →
+    start.replica.faults ≡ role.faults → start.replica.me ≡ role.me → origin_of start ≡ o → IsOpened role.begin o role.faults role.me bytes start.replica.entries cut →
+    shown.seen start.device ≡ Some log → IsWrittenAnew role.begin o role.faults role.me bytes log → IsOver shown role.mode start zs outcome reader out → Happens shown role o bytes zs cut outcome reader out
+has_served {D = D} shown role o start bytes zs log cut outcome reader out cluster replica origin opened known anew over =
+    subst (λ (x : Result Unit Fault). Happens shown role o bytes zs cut x reader out) (sym over.2) (go over.1 over.3 over.4)
   where
-    served : (ended : Result Unit ServeFault) → Ends role.mode (size start.replica.faults) (crashes start.digest shown.seen shown.moment shown.left_since start.device over.0.device) start.replica (record { at = 0; bytes = zs }) out.before out.after ended over.0.replica
-        → Fails shown start.device over.0.device ended reader out → HasServed shown role bytes zs cut ended reader out
+    served : (ended : Result Unit ServeFault) → Ends role.mode (dialect_of start.replica) (crashes start.digest shown.seen shown.moment shown.left_since start.device over.0.device) start.replica (record { at = 0; bytes = zs }) out.before out.after ended over.0.replica
+        → Fails shown start.device over.0.device ended reader out → HasServed shown role o bytes zs cut ended reader out
     served ended ends fails = record {
       start = start;
       cluster = cluster;
@@ -37,33 +36,44 @@ has_served {D = D} shown role start bytes zs log cut outcome reader out cluster 
       known = known;
       anew = anew;
       end = over.0;
-      ends = subst (λ (n : ℕ). Ends role.mode (size n) (crashes start.digest shown.seen shown.moment shown.left_since start.device over.0.device) start.replica (record { at = 0; bytes = zs }) out.before out.after ended over.0.replica) cluster ends;
+      ends = ends;
       fails = fails;
     }
 
-    go : (ended : Result Unit ServeFault) → Ends role.mode (size start.replica.faults) (crashes start.digest shown.seen shown.moment shown.left_since start.device over.0.device) start.replica (record { at = 0; bytes = zs }) out.before out.after ended over.0.replica
-        → Fails shown start.device over.0.device ended reader out → Happens shown role bytes zs cut (of_serve ended) reader out
+    go : (ended : Result Unit ServeFault) → Ends role.mode (dialect_of start.replica) (crashes start.digest shown.seen shown.moment shown.left_since start.device over.0.device) start.replica (record { at = 0; bytes = zs }) out.before out.after ended over.0.replica
+        → Fails shown start.device over.0.device ended reader out → Happens shown role o bytes zs cut (of_serve ended) reader out
     go (Ok x) ends fails = served (Ok x) ends fails
     go (Err why) ends fails = served (Err why) ends fails
 
 -- What was cut off is told, and then how it ended.
 
-told_after : {E : Type 0} (a b c : Option (List ℕ)) (first second third : Bool) (xs ys : List ℕ) (r : Result Unit E) → Puts a b first second r xs → (second ≡ true → third ≡ true) → Told (output b c second third) ys → Told (output a c first third) (xs ++ ys)
-told_after a b c first second third xs ys (Ok x) p stays t = elim t [
-  | inl failed ↦ inl failed
-  | inr wrote ↦ inr (appends_twice a b c xs ys p.0 wrote)
+pub told_twice : (a b c : Option (List ℕ)) (first second third : Bool) (xs ys : List ℕ) → Told (output a b first second) xs → (second ≡ true → third ≡ true) → Told (output b c second third) ys → Told (output a c first third) (xs ++ ys)
+told_twice a b c first second third xs ys before stays after = elim before [
+  | inl failed ↦ inl (stays failed)
+  | inr wrote ↦ elim after [
+    | inl failed ↦ inl failed
+    | inr more ↦ inr (appends_twice a b c xs ys wrote more)
+  ]
 ]
-told_after a b c first second third xs ys (Err e) p stays t = inl (stays p)
+
+-- what was told before, and then how it ended
+pub ends_after :
+    (outcome : Result Unit Fault) (status : Status) (a b c : Option (List ℕ)) (first second third : Bool) (xs : List ℕ) → Told (output a b first second) xs → (second ≡ true → third ≡ true) →
+    EndsWith [] outcome status (output b c second third) → EndsWith xs outcome status (output a c first third)
+ends_after (Ok x) status a b c first second third xs t stays h = (h.0, subst (λ (l : List ℕ). Told (output a c first third) l) (append-nil xs) (told_twice a b c first second third xs [] t stays h.1))
+ends_after (Err e) status a b c first second third xs t stays h = (h.0, told_twice a b c first second third xs (line_of e) t stays h.1)
+
+-- what a call has put is told
+pub told_by : {E : Type 0} (a b : Option (List ℕ)) (first second : Bool) (xs : List ℕ) (r : Result Unit E) → Puts a b first second r xs → Told (output a b first second) xs
+told_by a b first second xs (Ok x) p = inr p.0
+told_by a b first second xs (Err e) p = inl p
 
 pub concludes_after :
     {E : Type 0} (cut told : Option Cut) (outcome : Result Unit Fault) (status : Status) (a b c : Option (List ℕ)) (first second third : Bool) (r : Result Unit E) → told ≡ cut → Puts a b first second r (told_first told) →
-    (second ≡ true → third ≡ true) → Concludes None outcome status (output b c second third) → Concludes cut outcome status (output a c first third)
-concludes_after {E = E} cut told (Ok x) status a b c first second third r is q stays h =
-    let p : Puts a b first second r (told_first cut) = subst (λ (z : Option Cut). Puts a b first second r (told_first z)) is q in
-    (h.0, subst (λ (l : List ℕ). Told (output a c first third) l) (append-nil (told_first cut)) (told_after a b c first second third (told_first cut) [] r p stays h.1))
-concludes_after {E = E} cut told (Err e) status a b c first second third r is q stays h =
-    let p : Puts a b first second r (told_first cut) = subst (λ (z : Option Cut). Puts a b first second r (told_first z)) is q in
-    (h.0, told_after a b c first second third (told_first cut) (line_of e) r p stays h.1)
+    (second ≡ true → third ≡ true) → EndsWith [] outcome status (output b c second third) → EndsWith (told_first cut) outcome status (output a c first third)
+concludes_after {E = E} cut told outcome status a b c first second third r is q stays h =
+    ends_after outcome status a b c first second third (told_first cut)
+    (told_by a b first second (told_first cut) r (subst (λ (z : Option Cut). Puts a b first second r (told_first z)) is q)) stays h
 
 -- where the device failed, it did so first for the reason that is told
 pub is_failure : {D : Type 0} (shown : Shown D) (device : D) (why : OpenFault) → Names why (shown.why device) → IsFailure shown why

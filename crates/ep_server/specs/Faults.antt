@@ -2,15 +2,23 @@
 use Rattle.std.specs.Prelude.{ℕ, List, ◌++◌, codes, decimal}
 use Rattle.ep_device.specs.declared.cause.Cause.{Cause}
 use Rattle.ep_device.specs.declared.cause.Cause.TheVariants as cause
+use Rattle.ep_device.specs.declared.device_fault.DeviceFault.{DeviceFault}
+use Rattle.ep_device.specs.declared.device_fault.DeviceFault.TheVariants as device
+use Rattle.ep_folder.specs.declared.refusal.Refusal.{Refusal}
+use Rattle.ep_folder.specs.declared.refusal.Refusal.TheVariants.{Empty, There, Left, Older, Other}
 use Rattle.ep_log.specs.declared.log_fault.LogFault.{LogFault}
 use Rattle.ep_log.specs.declared.log_fault.LogFault.TheVariants as log
 use Rattle.ep_node.specs.declared.cut.Cut.{Cut}
 use Rattle.ep_node.specs.declared.open_fault.OpenFault.{OpenFault}
 use Rattle.ep_node.specs.declared.open_fault.OpenFault.TheVariants as open_
+use Rattle.ep_opening.specs.declared.opening_fault.OpeningFault.{OpeningFault}
+use Rattle.ep_opening.specs.declared.opening_fault.OpeningFault.TheVariants as opening
 use Rattle.ep_serve.specs.declared.serve_fault.ServeFault.{ServeFault}
 use Rattle.ep_serve.specs.declared.serve_fault.ServeFault.TheVariants as serve
 use Rattle.ep_server.specs.declared.fault.Fault.{Fault}
-use Rattle.ep_server.specs.declared.fault.Fault.TheVariants.{Open, Serve, Memory, Write}
+use Rattle.ep_server.specs.declared.fault.Fault.TheVariants.{Open, Serve, Folder, Memory, Write}
+use Rattle.ep_server.specs.declared.folder_fault.FolderFault.{FolderFault}
+use Rattle.ep_server.specs.declared.folder_fault.FolderFault.TheVariants as folder
 use Rattle.ep_server.specs.declared.status.Status.{Status}
 use Rattle.ep_server.specs.declared.status.Status.TheVariants.{Done, Refused, OutOfMemory, Failed}
 
@@ -85,9 +93,46 @@ line_of_serve (serve.BadRequest at) = codes "request refused at byte " ++ decima
 line_of_serve serve.WriteFailed = writing_failed
 line_of_serve (serve.LogFailed cause) = log_failed cause
 
+-- what a device's fault is here
+abbrev pub of_device : DeviceFault → FolderFault
+of_device device.Memory = folder.Memory
+of_device (device.Failed cause) = folder.Failed cause
+
+-- a number between words
+abbrev pub numbered : List ℕ → ℕ → List ℕ → List ℕ
+numbered before n after = before ++ decimal n ++ after
+
+-- why bytes are no opening
+abbrev pub line_of_opening : OpeningFault → List ℕ
+line_of_opening opening.Memory = codes "out of memory\n"
+line_of_opening (opening.CutShort at) = numbered (codes "cut short at byte ") at (codes "\n")
+line_of_opening (opening.Damaged at) = numbered (codes "damaged: no digest of the bytes before it at byte ") at (codes "\n")
+line_of_opening (opening.Wrong at field) = numbered (codes "wrong field at byte ") at (codes "\n")
+
+abbrev pub line_of_refusal : Refusal → List ℕ
+line_of_refusal Empty = codes "folder refused: no generation is here; --new begins the first one of a new replica, --take FILE goes on with a peer's opening\n"
+line_of_refusal (There g) = numbered (codes "folder refused: generation ") g (codes " is here already; --new is for a new replica\n")
+line_of_refusal (Left g) = numbered (codes "folder refused: the replica has been in generation ") g (codes ", which is gone; --take FILE goes on with the opening of a later one\n")
+line_of_refusal (Older g) = numbered (codes "opening refused: it is of an earlier generation than ") g (codes ", which is here; start without --take\n")
+line_of_refusal (Other g) = numbered (codes "opening refused: generation ") g (codes " has another one here; start without --take\n")
+
+abbrev pub line_of_folder : FolderFault → List ℕ
+line_of_folder folder.Memory = out_of_memory
+line_of_folder (folder.Failed cause) = codes "folder failed: " ++ words_of cause ++ codes "\n"
+line_of_folder (folder.Unread cause) = codes "opening failed: " ++ words_of cause ++ codes "\n"
+line_of_folder (folder.Refused why) = line_of_refusal why
+line_of_folder (folder.NoLog g) = numbered (codes "folder refused: generation ") g (codes " has no log; repeat the --take that was broken off, or go on with the opening of a later one by --take FILE\n")
+line_of_folder (folder.Opening g why) = numbered (codes "folder refused: the opening of generation ") g (codes ": ") ++ line_of_opening why
+line_of_folder (folder.OtherGeneration g h) = numbered (codes "folder refused: the opening of generation ") g (codes " is that of generation ") ++ (decimal h ++ codes "\n")
+line_of_folder (folder.OtherSize g n) = numbered (codes "folder refused: generation ") g (codes " has another size and isn't closed; go on with --replicas ") ++ (decimal n ++ codes "\n")
+line_of_folder (folder.NoOpening why) = codes "opening refused: " ++ line_of_opening why
+line_of_folder (folder.OtherCluster n) = numbered (codes "opening refused: it is for --replicas ") n (codes "\n")
+line_of_folder folder.Last = codes "folder refused: the last generation is closed, and there is none after it\n"
+
 abbrev pub line_of : Fault → List ℕ
 line_of (Open why) = line_of_open why
 line_of (Serve why) = line_of_serve why
+line_of (Folder why) = line_of_folder why
 line_of Memory = out_of_memory
 line_of Write = writing_failed
 
@@ -108,8 +153,22 @@ status_of_serve (serve.BadRequest at) = Refused
 status_of_serve serve.WriteFailed = Failed
 status_of_serve (serve.LogFailed cause) = Failed
 
+abbrev pub status_of_folder : FolderFault → Status
+status_of_folder folder.Memory = OutOfMemory
+status_of_folder (folder.Failed cause) = Failed
+status_of_folder (folder.Unread cause) = Failed
+status_of_folder (folder.Refused why) = Refused
+status_of_folder (folder.NoLog g) = Refused
+status_of_folder (folder.Opening g why) = Refused
+status_of_folder (folder.OtherGeneration g h) = Refused
+status_of_folder (folder.OtherSize g n) = Refused
+status_of_folder (folder.NoOpening why) = Refused
+status_of_folder (folder.OtherCluster n) = Refused
+status_of_folder folder.Last = Refused
+
 abbrev pub status_of : Fault → Status
 status_of (Open why) = status_of_open why
 status_of (Serve why) = status_of_serve why
+status_of (Folder why) = status_of_folder why
 status_of Memory = OutOfMemory
 status_of Write = Failed

@@ -1,17 +1,19 @@
 -- What the program does, by the status that it answers: of the bytes of its log and those that it reads, its output and its fault output.
 use Rattle.std.specs.Prelude.{◌≡◌, ◌++◌, ℕ, Bool, List, [], Option, Some, None, Result, Ok, Err, IfErr, string_bytes}
 use Rattle.ep_base.specs.Devices.{FailsAsTold}
-use Rattle.ep_base.specs.Quorums.{size}
 use Rattle.ep_device.specs.declared.cause.Cause.{Cause}
-use Rattle.ep_log.specs.Origins.{second}
+use Rattle.ep_base.specs.declared.version_kind.VersionKind.TheVariants.{V3}
+use Rattle.ep_log.specs.Origins.{Origin, second}
 use Rattle.ep_node.specs.Nodes.{Logged, origin_of}
 use Rattle.ep_node.specs.Opening.{IsOpened, IsUnopened, IsWrittenAnew}
 use Rattle.ep_node.specs.declared.begin.Begin.{Begin}
 use Rattle.ep_node.specs.declared.cut.Cut.{Cut}
 use Rattle.ep_node.specs.declared.open_fault.OpenFault.{OpenFault}
 use Rattle.ep_node.specs.declared.open_fault.OpenFault.TheVariants as open_
+use Rattle.ep_opening.specs.Bytes.{file_digest}
+use Rattle.ep_opening.specs.Files.{File}
 use Rattle.ep_serve.specs.Lasting.{crashes}
-use Rattle.ep_serve.specs.Serving.{Ends, IsReadTo, Names, is_log_failed, is_write_failed}
+use Rattle.ep_serve.specs.Serving.{dialect_of, Ends, IsReadTo, Names, is_log_failed, is_write_failed}
 use Rattle.ep_serve.specs.declared.mode.Mode.{Mode}
 use Rattle.ep_serve.specs.declared.serve_fault.ServeFault.{ServeFault}
 use Rattle.ep_server.specs.Faults.{command_line_refused, line_of, line_of_cut, status_of}
@@ -19,7 +21,7 @@ use Rattle.ep_server.specs.Outputs.{Output, Told, WroteNothing}
 use Rattle.ep_server.specs.declared.declined.Declined.{Declined}
 use Rattle.ep_server.specs.declared.declined.Declined.TheVariants as declined
 use Rattle.ep_server.specs.declared.fault.Fault.{Fault}
-use Rattle.ep_server.specs.declared.fault.Fault.TheVariants.{Open, Serve, Memory, Write}
+use Rattle.ep_server.specs.declared.fault.Fault.TheVariants.{Open, Serve, Folder, Memory, Write}
 use Rattle.ep_server.specs.declared.status.Status.{Status}
 use Rattle.ep_server.specs.declared.status.Status.TheVariants.{Done, Refused}
 
@@ -46,19 +48,19 @@ pub record Fails {D : Type 0} (shown : Shown D) (first last : D) (outcome : Resu
   pub why : IfErr outcome (λ fault. Names fault (shown.why last))
   pub read : IsReadTo outcome reader.had_failed reader.failed
 
--- The log holds this replica, which is of version 2, and from there the requests in zs were served, as `serve` tells, on a device whose bytes were known when the log had been
+-- The log holds this replica, which is of this origin, and from there the requests in zs were served, as `serve` tells, on a device whose bytes were known when the log had been
 -- written anew.
-pub record HasServed {D : Type 0} (shown : Shown D) (role : Role) (bytes zs : List ℕ) (cut : Option Cut) (outcome : Result Unit ServeFault) (reader out : Output) : Type 0 where
+pub record HasServed {D : Type 0} (shown : Shown D) (role : Role) (o : Origin) (bytes zs : List ℕ) (cut : Option Cut) (outcome : Result Unit ServeFault) (reader out : Output) : Type 0 where
   pub start : Logged D
   pub cluster : start.replica.faults ≡ role.faults
   pub replica : start.replica.me ≡ role.me
-  pub origin : origin_of start ≡ second
-  pub opened : IsOpened role.begin second role.faults role.me bytes start.replica.entries cut
+  pub origin : origin_of start ≡ o
+  pub opened : IsOpened role.begin o role.faults role.me bytes start.replica.entries cut
   pub log : List ℕ
   pub known : shown.seen start.device ≡ Some log
-  pub anew : IsWrittenAnew role.begin second role.faults role.me bytes log
+  pub anew : IsWrittenAnew role.begin o role.faults role.me bytes log
   pub end : Logged D
-  pub ends : Ends role.mode (size role.faults) (crashes start.digest shown.seen shown.moment shown.left_since start.device end.device) start.replica (record { at = 0; bytes = zs }) out.before out.after outcome end.replica
+  pub ends : Ends role.mode (dialect_of start.replica) (crashes start.digest shown.seen shown.moment shown.left_since start.device end.device) start.replica (record { at = 0; bytes = zs }) out.before out.after outcome end.replica
   pub fails : Fails shown start.device end.device outcome reader out
 
 -- how serving ended, as the program has it
@@ -70,7 +72,7 @@ of_serve (Err why) = Err (Serve why)
 abbrev pub IsOver : {D : Type 0} → Shown D → Mode → Logged D → List ℕ → Result Unit Fault → Output → Output → Type 0
 IsOver {D = D} shown mode start zs outcome reader out =
     (end : Logged D) × (ended : Result Unit ServeFault) × (outcome ≡ of_serve ended)
-    × Ends mode (size start.replica.faults) (crashes start.digest shown.seen shown.moment shown.left_since start.device end.device) start.replica (record { at = 0; bytes = zs }) out.before out.after ended end.replica
+    × Ends mode (dialect_of start.replica) (crashes start.digest shown.seen shown.moment shown.left_since start.device end.device) start.replica (record { at = 0; bytes = zs }) out.before out.after ended end.replica
     × Fails shown start.device end.device ended reader out
 
 -- where the log's device failed, there is one that did, first for this reason
@@ -85,12 +87,13 @@ IsFailure shown (open_.Log fault) = Unit {0}
 IsFailure shown (open_.NotClocked number) = Unit {0}
 
 -- before a fault is told: where the log isn't opened, why, and that nothing was written
-abbrev pub Happens : {D : Type 0} → Shown D → Role → List ℕ → List ℕ → Option Cut → Result Unit Fault → Output → Output → Type 0
-Happens shown role bytes zs cut (Ok x) reader out = HasServed shown role bytes zs cut (Ok x) reader out
-Happens shown role bytes zs cut (Err (Open why)) reader out = IsUnopened role.begin second role.faults role.me bytes why × IsFailure shown why × WroteNothing out × (cut ≡ None)
-Happens shown role bytes zs cut (Err (Serve why)) reader out = HasServed shown role bytes zs cut (Err why) reader out
-Happens shown role bytes zs cut (Err Memory) reader out = ⊥
-Happens shown role bytes zs cut (Err Write) reader out = ⊥
+abbrev pub Happens : {D : Type 0} → Shown D → Role → Origin → List ℕ → List ℕ → Option Cut → Result Unit Fault → Output → Output → Type 0
+Happens shown role o bytes zs cut (Ok x) reader out = HasServed shown role o bytes zs cut (Ok x) reader out
+Happens shown role o bytes zs cut (Err (Open why)) reader out = IsUnopened role.begin o role.faults role.me bytes why × IsFailure shown why × WroteNothing out × (cut ≡ None)
+Happens shown role o bytes zs cut (Err (Serve why)) reader out = HasServed shown role o bytes zs cut (Err why) reader out
+Happens shown role o bytes zs cut (Err (Folder why)) reader out = ⊥
+Happens shown role o bytes zs cut (Err Memory) reader out = ⊥
+Happens shown role o bytes zs cut (Err Write) reader out = ⊥
 
 -- what was cut off the log is told first
 abbrev pub told_first : Option Cut → List ℕ
@@ -98,16 +101,74 @@ told_first None = []
 told_first (Some cut) = line_of_cut cut
 
 -- then a fault is told, and decides on the status
-abbrev pub Concludes : Option Cut → Result Unit Fault → Status → Output → Type 0
-Concludes cut (Ok x) status fault = (status ≡ Done) × Told fault (told_first cut)
-Concludes cut (Err e) status fault = (status ≡ status_of e) × Told fault (told_first cut ++ line_of e)
+abbrev pub EndsWith : List ℕ → Result Unit Fault → Status → Output → Type 0
+EndsWith told (Ok x) status fault = (status ≡ Done) × Told fault told
+EndsWith told (Err e) status fault = (status ≡ status_of e) × Told fault (told ++ line_of e)
 
--- at the status Done all requests were read and answered; at any other the line says what stopped that
+-- Of a replica of version 2. At the status Done all requests were read and answered; at any other the line says what stopped that.
 pub record IsNode {D : Type 0} (shown : Shown D) (role : Role) (bytes zs : List ℕ) (status : Status) (reader out fault : Output) : Type 0 where
   pub cut : Option Cut
   pub outcome : Result Unit Fault
-  pub happens : Happens shown role bytes zs cut outcome reader out
-  pub concluded : Concludes cut outcome status fault
+  pub happens : Happens shown role second bytes zs cut outcome reader out
+  pub concluded : EndsWith (told_first cut) outcome status fault
+
+-- A node in the folder of a replica that lives through generations.
+
+-- what the replica of a generation begins with, by the file that the generation opens with
+abbrev pub origin_from : File → Origin
+origin_from f = record { version = V3 f.generation; opening = f.opening; digest = file_digest f }
+
+-- The node's replica is of the generation that a file opens, for a cluster of this size, and began with what that file has: its log names the file's digest.
+pub record IsOfFile {D : Type 0} (faults me : ℕ) (node : Logged D) : Type 0 where
+  pub file : File
+  pub size : file.faults ≡ faults
+  pub origin : origin_of node ≡ origin_from file
+  pub cluster : node.replica.faults ≡ faults
+  pub replica : node.replica.me ≡ me
+
+-- why there is no such node: its log isn't opened, or the folder or what is asked for doesn't allow it
+abbrev pub IsUnready : Fault → Type 0
+IsUnready (Open why) = Unit {0}
+IsUnready (Serve why) = ⊥
+IsUnready (Folder why) = Unit {0}
+IsUnready Memory = ⊥
+IsUnready Write = ⊥
+
+-- such a node has served
+pub record HasServedThere {D : Type 0} (shown : Shown D) (mode : Mode) (faults me : ℕ) (zs : List ℕ) (outcome : Result Unit Fault) (reader out : Output) : Type 0 where
+  pub start : Logged D
+  pub of : IsOfFile faults me start
+  pub over : IsOver shown mode start zs outcome reader out
+
+-- before a fault is told: such a node has served; or there is none, and nothing was written
+abbrev pub HappensThere : {D : Type 0} → Shown D → Mode → ℕ → ℕ → List ℕ → Result Unit Fault → Output → Output → Type 0
+HappensThere shown mode faults me zs (Ok x) reader out = HasServedThere shown mode faults me zs (Ok x) reader out
+HappensThere shown mode faults me zs (Err (Serve why)) reader out = HasServedThere shown mode faults me zs (Err (Serve why)) reader out
+HappensThere shown mode faults me zs (Err (Open why)) reader out = WroteNothing out
+HappensThere shown mode faults me zs (Err (Folder why)) reader out = WroteNothing out
+HappensThere shown mode faults me zs (Err Memory) reader out = ⊥
+HappensThere shown mode faults me zs (Err Write) reader out = ⊥
+
+-- what was cut off one log, or two, is told, and nothing else; an output that has failed has failed for good
+pub record TellsCut (fault : Output) : Type 0 where
+  pub cut : Option Cut
+  pub told : Told fault (told_first cut)
+  pub for_good : fault.had_failed ≡ true → fault.failed ≡ true
+
+pub record TellsCuts (fault : Output) : Type 0 where
+  pub first : Option Cut
+  pub then_ : Option Cut
+  pub told : Told fault (told_first first ++ told_first then_)
+  pub for_good : fault.had_failed ≡ true → fault.failed ≡ true
+
+-- Whatever the folder has. At the status Done all requests were read and answered; at any other the line says what stopped that.
+pub record IsFolderNode {D : Type 0} (shown : Shown D) (mode : Mode) (faults me : ℕ) (zs : List ℕ) (status : Status) (reader out fault : Output) : Type 0 where
+  -- what was cut off the logs of the generation that was closed, and of that which is served
+  pub first : Option Cut
+  pub then_ : Option Cut
+  pub outcome : Result Unit Fault
+  pub happens : HappensThere shown mode faults me zs outcome reader out
+  pub concluded : EndsWith (told_first first ++ told_first then_) outcome status fault
 
 -- why nothing is done is told, and decides on the status
 abbrev pub TellsWhy : Declined → Status → Output → Type 0

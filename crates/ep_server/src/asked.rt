@@ -1,5 +1,6 @@
 //! What the program is asked for.
 
+use crate::folder_options::FolderOptions;
 use crate::generation_asked::GenerationAsked;
 use crate::names::Names;
 use crate::options::Options;
@@ -7,8 +8,10 @@ use crate::options::Options;
 /// What the words of the command line ask for.
 #[derive(Drop)]
 pub enum Asked {
-    /// To serve as a node.
+    /// To serve as a node of version 2, with its log in a file.
     Node(Options),
+    /// To serve as a node that lives through generations, in a folder.
+    Folder(FolderOptions),
     /// To make the bundle of logs and receipts.
     Collect(Names),
     /// To make the bundle of a generation, of folders and receipts.

@@ -1,7 +1,9 @@
 //! The words of the command line.
 
 use crate::asked::Asked;
+use crate::asks::Asks;
 use crate::declined::Declined;
+use crate::folder_options::FolderOptions;
 use crate::generation_asked::GenerationAsked;
 use crate::names::Names;
 use crate::options::Options;
@@ -21,15 +23,20 @@ Standard input is requests, standard output their answers, one for each, in orde
 A log is gone on with; with --new it is begun. An answer is written once all that it tells is on the disk. A replica whose log is
 lost must never be begun again under its number: it would have forgotten what it told.
 
+With --dir the replica lives through generations: FOLDER/G has the opening and the log of generation G, and the newest one is served.
+Where a seal was executed in it, a start closes it, writes the opening of the next generation, of N replicas, and serves that. So to go
+on after a seal, end the input and start the program again. A replica that comes late, or whose disk was lost, goes on with a peer's
+FOLDER/G/opening by --take. Once FOLDER/G/left is there, the rest of FOLDER/G may be dropped, and then the mark.
+
 Example (client 1 proposes its request 1, to put x = 1, and a sync, by which the answers come):
   printf '\\0\\0\\0\\27\\1\\0\\0\\0\\1\\0\\0\\0\\1\\0\\0\\0\\0\\0\\0\\0\\0\\3\\1\\0\\1x1\\0\\0\\0\\1\\12' |
     epaxos node --replicas 3 --replica 0 --log zero.log --new | od -An -tx1
 
 Exit status:
   0  the input is over, all that was taken is on the disk, and each request is answered
-  2  the command line, the log or the length of a request is refused; standard error says why, or at which byte
+  2  the command line, the log, the folder or the length of a request is refused; standard error says why, or at which byte
   3  memory was refused
-  4  reading, writing or the log failed";
+  4  reading, writing, the log or the folder failed";
 
 /// What the help of `collect` says at its end.
 const AFTER_COLLECT: &str = "\
@@ -89,8 +96,87 @@ fn asked_instead(alloc: Global, error: &Error) -> Result<Asked, Declined> {
 
 fn asked_by(alloc: Global, matches: &ArgMatches<'_>) -> Result<Asked, Declined> {
     match matches.subcommand_matches("node") {
-        Some(options) => Ok(Asked::Node(options_of(alloc, options)?)),
+        Some(options) => node_by(alloc, options),
         None => collect_by(alloc, matches),
+    }
+}
+
+/// Which node is asked for: one with its log in a file, or one in a folder.
+fn node_by(alloc: Global, options: &ArgMatches<'_>) -> Result<Asked, Declined> {
+    check_places(alloc, options)?;
+    check_begins(alloc, options)?;
+    match options.get_str("dir") {
+        Some(folder) => Ok(Asked::Folder(folder_options_of(alloc, options, folder)?)),
+        None => Ok(Asked::Node(options_of(alloc, options)?)),
+    }
+}
+
+/// Whether one place is named, and no more.
+fn check_places(alloc: Global, options: &ArgMatches<'_>) -> Result<(), Declined> {
+    let has_log = options.get_str("log").is_some();
+    let has_folder = options.get_str("dir").is_some();
+    if has_log && has_folder {
+        return Err(declined(alloc, "'--log' and '--dir' don't go together"));
+    }
+    if !has_log && !has_folder {
+        return Err(declined(alloc, "'--log' or '--dir' is missing"));
+    }
+    Ok(())
+}
+
+/// Whether what is to be begun or taken goes with the place.
+fn check_begins(alloc: Global, options: &ArgMatches<'_>) -> Result<(), Declined> {
+    let takes = options.get_str("take").is_some();
+    if takes && options.get_str("log").is_some() {
+        return Err(declined(alloc, "'--take' goes with '--dir' alone"));
+    }
+    if takes && options.get_flag("new") {
+        return Err(declined(alloc, "'--new' and '--take' don't go together"));
+    }
+    Ok(())
+}
+
+/// The words are refused, for this reason.
+fn declined(alloc: Global, why: &str) -> Declined {
+    match words_refused(alloc, why) {
+        Ok(text) => Declined::Words(text),
+        Err(fault) => Declined::from(fault),
+    }
+}
+
+fn words_refused(alloc: Global, why: &str) -> Result<String, AllocError> {
+    let mut text = String::from_str(alloc, "error: ")?;
+    text.push_str(why)?;
+    text.push_str("\n\nFor more information, try '--help'.\n")?;
+    Ok(text)
+}
+
+/// What a node in this folder is asked to be, by its options.
+fn folder_options_of(
+    alloc: Global,
+    options: &ArgMatches<'_>,
+    folder: &str,
+) -> Result<FolderOptions, Declined> {
+    let size = size_of(alloc, options)?;
+    let me = replica_of(alloc, options, size)?;
+    let mode = mode_of(alloc, options)?;
+    let asks = asks_of(alloc, options)?;
+    let folder = String::from_str(alloc, folder)?;
+    Ok(FolderOptions {
+        size,
+        me,
+        folder,
+        asks,
+        mode,
+    })
+}
+
+/// What is asked of the folder.
+fn asks_of(alloc: Global, options: &ArgMatches<'_>) -> Result<Asks, AllocError> {
+    match options.get_str("take") {
+        Some(name) => Ok(Asks::Take(String::from_str(alloc, name)?)),
+        None if options.get_flag("new") => Ok(Asks::New),
+        None => Ok(Asks::GoOn),
     }
 }
 
@@ -314,13 +400,30 @@ fn node_command<'a>(alloc: Global) -> Result<Command<'a>, AllocError> {
         "How many replicas the cluster has: 3, 5 or 7",
     ))?;
     let command = command.arg(required(alloc, "replica", "R", "Which of them this is, from 0 on"))?;
-    let command = command.arg(required(alloc, "log", "FILE", "Its log"))?;
+    let command = command.arg(valued(
+        alloc,
+        "log",
+        "FILE",
+        "Its log, of a cluster that has one generation",
+    ))?;
+    let command = command.arg(valued(
+        alloc,
+        "dir",
+        "FOLDER",
+        "The folder of its generations, in the place of --log",
+    ))?;
     let command = command.arg(
         Arg::new(alloc, "new")
             .long("new")
-            .help("Begins the log: the replica is new, and there is no such file yet")
+            .help("Begins the log: the replica is new, and there is none yet")
             .action(ArgAction::SetTrue),
     )?;
+    let command = command.arg(valued(
+        alloc,
+        "take",
+        "FILE",
+        "With --dir: goes on with the opening of a later generation, which a peer has",
+    ))?;
     command.arg(
         Arg::new(alloc, "sync")
             .long("sync")
@@ -334,10 +437,14 @@ fn node_command<'a>(alloc: Global) -> Result<Command<'a>, AllocError> {
 
 /// An option that can't be left out.
 fn required<'a>(alloc: Global, name: &'a str, value: &'a str, help: &'a str) -> Arg<'a> {
+    valued(alloc, name, value, help).required(true)
+}
+
+/// An option with a value.
+fn valued<'a>(alloc: Global, name: &'a str, value: &'a str, help: &'a str) -> Arg<'a> {
     Arg::new(alloc, name)
         .long(name)
         .value_name(value)
         .help(help)
-        .required(true)
         .action(ArgAction::Set)
 }

@@ -2,8 +2,9 @@
 
 ghost use Rattle.std.specs.Prelude.{◌≡◌};
 ghost use Rattle.ep_server.specs.Faults.{status_of};
-ghost use Rattle.ep_server.specs.declared.fault.Fault.TheVariants.{Open, Serve};
+ghost use Rattle.ep_server.specs.declared.fault.Fault.TheVariants.{Folder, Open, Serve};
 
+use crate::folder_fault::FolderFault;
 use crate::status::Status;
 use ep_node::OpenFault;
 use ep_serve::ServeFault;
@@ -15,6 +16,8 @@ pub enum Fault {
     Open(OpenFault),
     /// The node no longer serves.
     Serve(ServeFault),
+    /// No node is opened in the folder.
+    Folder(FolderFault),
     /// Memory was refused.
     Memory,
     /// Writing failed.
@@ -27,6 +30,7 @@ impl Fault {
         ensures { result ≡ status_of self.now }
     {
         match self {
+            Fault::Folder(why) => why.status(),
             Fault::Open(
                 OpenFault::OutOfRange
                 | OpenFault::NoLog
@@ -61,5 +65,13 @@ impl From<ServeFault> for Fault {
 
     fn from(fault: ServeFault) -> Fault {
         Fault::Serve(fault)
+    }
+}
+
+impl From<FolderFault> for Fault {
+    ghost from_gives = { λ fault e. e ≡ Folder fault };
+
+    fn from(fault: FolderFault) -> Fault {
+        Fault::Folder(fault)
     }
 }

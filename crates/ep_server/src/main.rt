@@ -1,9 +1,11 @@
 //! `epaxos node`: a replica with its log in a file, which serves requests on standard input. `epaxos collect`: the bundle of
 //! logs and receipts.
 //!
-//! `main` hands the words to `read_words`, in `command_line.rt`. For a node it opens the log, and hands it and the standard
+//! `main` hands the words to `read_words`, in `command_line.rt`. For a node of version 2 it opens the log, and hands it and the standard
 //! streams to `serve_log`, in `program.rt`, which is all of the node: over any device, source and sinks, so that its contract can
-//! say what the bytes and the status mean. It does no more than call `Node::open` and `ep_serve`'s `serve`. `collect_named`, in
+//! say what the bytes and the status mean. It does no more than call `Node::opened` and `ep_serve`'s `serve`. `serve_folder`, in
+//! `in_folder.rt`, does the same in the folder of a replica that lives through generations: `staging.rt` says which generation is opened,
+//! by `ep_folder`'s plan, and a generation that is closed is gone on from at once. `collect_named`, in
 //! `collecting.rt`, is the same for `epaxos collect`, of the bytes that the files gave: it calls `ep_assemble`'s `collect_files`.
 //!
 //! Start with `program.rt` and specs/Served.antt, `collecting.rt` and specs/Collected.antt. A fault has one line on the fault
@@ -12,18 +14,25 @@
 
 mod ahead;
 mod asked;
+mod asks;
 mod collecting;
 mod command_line;
 mod contents;
 mod declined;
 mod fault;
+mod folder_fault;
+mod folder_options;
 mod gathered;
 mod generation_asked;
 mod generation_collecting;
 mod generation_gathered;
+mod handed;
+mod in_folder;
 mod names;
 mod options;
 mod program;
+mod stage;
+mod staging;
 mod status;
 mod telling;
 
@@ -34,12 +43,16 @@ use crate::command_line::read_words;
 use crate::contents::show_contents;
 use crate::declined::Declined;
 use crate::fault::Fault;
+use crate::folder_fault::FolderFault;
+use crate::folder_options::FolderOptions;
 use crate::generation_collecting::collect_folders;
+use crate::in_folder::serve_folder;
 use crate::options::Options;
 use crate::program::{decline, serve_log};
 use crate::status::Status;
 use ep_base::{Noted, Sink};
 use ep_device::{Cause, FileDevice};
+use ep_folder::lock_folder;
 use ep_node::OpenFault;
 use std::alloc::AllocError;
 use std::fs::{File, Files};
@@ -67,6 +80,7 @@ fn run<R: Env + AllocGlobal + Files<File = File>, I: Read + Drop, W: Sink, F: Si
     let words = words(rt)?;
     match read_words(rt.alloc(), words.as_slice())? {
         Asked::Node(options) => run_node(rt, &options, input, writer, fault_writer),
+        Asked::Folder(options) => run_folder(rt, &options, input, writer, fault_writer),
         Asked::Collect(names) => Ok(collect_named(rt, &names, writer, fault_writer)),
         Asked::CollectGeneration(asked) => collect_folders(rt, asked, writer, fault_writer),
         Asked::Contents(folder) => show_contents(rt, folder.as_str(), writer, fault_writer),
@@ -91,6 +105,26 @@ fn run_node<R: AllocGlobal + Files<File = File>, I: Read + Drop, W: Sink, F: Sin
         Err(fault) => return Err(Declined::Fault(Fault::Open(OpenFault::from(fault)))),
     };
     let status = serve_log(alloc, options, device, &mut reader, writer, fault_writer);
+    drop(held);
+    Ok(status)
+}
+
+/// Locks the folder and serves in it.
+fn run_folder<R: AllocGlobal + Files<File = File>, I: Read + Drop, W: Sink, F: Sink>(
+    rt: &R,
+    options: &FolderOptions,
+    input: I,
+    writer: &mut W,
+    fault_writer: &mut F,
+) -> Result<Status, Declined> {
+    let mut reader = read_ahead(rt.alloc(), input)?;
+    let held = hold_streams(rt)?;
+    let lock = match lock_folder(rt, options.folder.as_str()) {
+        Ok(lock) => lock,
+        Err(fault) => return Err(Declined::Fault(Fault::Folder(FolderFault::from(fault)))),
+    };
+    let status = serve_folder(rt, options, &mut reader, writer, fault_writer);
+    drop(lock);
     drop(held);
     Ok(status)
 }

@@ -1,12 +1,12 @@
 //! The program, over any device, source and sinks.
 
-ghost use Rattle.std.specs.Prelude.{◌≡◌, ℕ, List, None, Some, true, IfOk, IfErr};
+ghost use Rattle.std.specs.Prelude.{◌≡◌, ℕ, List, [], Some, true, IfOk, IfErr};
 ghost use Rattle.ep_base.specs.Devices.{Puts};
 ghost use Rattle.ep_log.specs.Origins.{second};
 ghost use Rattle.ep_node.specs.Nodes.{IsQuiet, origin_of};
 ghost use Rattle.ep_node.specs.Opening.{IsOpened, IsUnopened, IsWrittenAnew};
 ghost use Rattle.ep_server.specs.Outputs.{output};
-ghost use Rattle.ep_server.specs.Served.{told_first, Concludes, IsFailure, IsNode, IsOver, TellsWhy};
+ghost use Rattle.ep_server.specs.Served.{told_first, EndsWith, IsFailure, IsNode, IsOver, TellsWhy};
 
 use crate::declined::Declined;
 use crate::fault::Fault;
@@ -15,7 +15,8 @@ use crate::status::Status;
 use crate::telling::{tell, tell_cut, tell_words};
 use ep_base::{Sink, Source, WriteFailed};
 use ep_device::Device;
-use ep_node::{Cut, Node, OpenFault};
+use ep_log::Origin;
+use ep_node::{Begin, Cut, Node, OpenFault, Whose};
 use ep_serve::{Mode, serve};
 use std::alloc::Global;
 use std::mem::forget;
@@ -47,8 +48,32 @@ pub fn serve_log<D: Device + Drop, S: Source, W: Sink, F: Sink>(
     }
 }
 
+/// The node of the device's log, of a replica with this origin.
+pub(crate) fn opened_as<D: Device + Drop>(
+    alloc: Global,
+    device: D,
+    whose: Whose,
+    begin: Begin,
+) -> Result<Node<D>, OpenFault>
+    ensures ok { IfOk result (λ node. IsQuiet node × (node.replica.faults ≡ whose.cluster) × (node.replica.me ≡ whose.me)
+        × ((bytes : List ℕ) → D.seen device ≡ Some bytes → IsOpened begin whose.origin whose.cluster whose.me bytes node.replica.entries node.cut)) }
+    ensures origin { IfOk result (λ node. origin_of node ≡ whose.origin) }
+    ensures written { IfOk result (λ node. (bytes : List ℕ) → D.seen device ≡ Some bytes
+        → (log : List ℕ) × (D.seen node.device ≡ Some log) × IsWrittenAnew begin whose.origin whose.cluster whose.me bytes log) }
+    ensures err { IfErr result (λ fault. ((bytes : List ℕ) → D.seen device ≡ Some bytes → IsUnopened begin whose.origin whose.cluster whose.me bytes fault)
+        × IsFailure (record { has_failed = D.has_failed; why = D.why; seen = D.seen; moment = D.moment; left_since = D.left_since }) fault) }
+{
+    match Node::opened(alloc, device, whose, begin) {
+        Ok(node) => Ok(node),
+        Err((fault, device)) => {
+            drop(device);
+            Err(fault)
+        }
+    }
+}
+
 /// Serves with a node that is opened. The process ends then, and its end frees the node's memory: to let it go by parts would cost an eighth of a run.
-fn served<D: Device + Drop, S: Source, W: Sink>(
+pub(crate) fn served<D: Device + Drop, S: Source, W: Sink>(
     alloc: Global,
     node: Node<D>,
     reader: &mut S,
@@ -73,7 +98,7 @@ fn served<D: Device + Drop, S: Source, W: Sink>(
     }
 }
 
-/// The node of the device's log.
+/// The node of the device's log, of version 2.
 fn opened<D: Device + Drop>(
     alloc: Global,
     options: &Options,
@@ -87,17 +112,16 @@ fn opened<D: Device + Drop>(
     ensures err { IfErr result (λ fault. ((bytes : List ℕ) → D.seen device ≡ Some bytes → IsUnopened options.now.begin second options.now.size options.now.me bytes fault)
         × IsFailure (record { has_failed = D.has_failed; why = D.why; seen = D.seen; moment = D.moment; left_since = D.left_since }) fault) }
 {
-    match Node::open(alloc, device, options.size, options.me, options.begin) {
-        Ok(node) => Ok(node),
-        Err((fault, device)) => {
-            drop(device);
-            Err(fault)
-        }
-    }
+    let whose = Whose {
+        cluster: options.size,
+        me: options.me,
+        origin: Origin::second(alloc),
+    };
+    opened_as(alloc, device, whose, options.begin)
 }
 
 /// Tells what was cut off the log, if anything was.
-fn tell_first<F: Sink>(cut: Option<Cut>, fault_writer: &mut F) -> Result<(), WriteFailed>
+pub(crate) fn tell_first<F: Sink>(cut: Option<Cut>, fault_writer: &mut F) -> Result<(), WriteFailed>
     ensures { Puts (F.held fault_writer.old) (F.held fault_writer.new) (F.has_failed fault_writer.old) (F.has_failed fault_writer.new) result (told_first cut) }
 {
     match cut {
@@ -108,7 +132,7 @@ fn tell_first<F: Sink>(cut: Option<Cut>, fault_writer: &mut F) -> Result<(), Wri
 
 /// How the program ends. A fault is told on the fault output; where that fails, the status stays.
 pub(crate) fn concluded<F: Sink>(outcome: Result<(), Fault>, fault_writer: &mut F) -> Status
-    ensures concluded { Concludes None outcome result (output (F.held fault_writer.old) (F.held fault_writer.new) (F.has_failed fault_writer.old) (F.has_failed fault_writer.new)) }
+    ensures concluded { EndsWith [] outcome result (output (F.held fault_writer.old) (F.held fault_writer.new) (F.has_failed fault_writer.old) (F.has_failed fault_writer.new)) }
     ensures for_good { F.has_failed fault_writer.old ≡ true → F.has_failed fault_writer.new ≡ true }
 {
     match outcome {

@@ -7,8 +7,10 @@ use Rattle.ep_bundle.specs.Reading.{Left, Reading, and_then, number, Reads}
 use Rattle.ep_bundle.specs.declared.bundle_fault.BundleFault.{BundleFault}
 use Rattle.ep_bundle.specs.declared.bundle_fault.BundleFault.TheVariants.{BadBundle, NotARun}
 use Rattle.ep_bundle.proofs.Readings.{cut, fails, goes_on, numbered, same_reading, taken}
+use Rattle.ep_base.specs.declared.version.Version.{Version}
 use Rattle.ep_wire.specs.Front.{Gathers}
 use Rattle.ep_wire.specs.Requests.{is_length, next_request, size_field, sized, some, unless_over}
+use Rattle.ep_wire.specs.declared.dialect.Dialect.{Dialect}
 use Rattle.ep_wire.specs.declared.request.Request.{Request}
 use Rattle.std.specs.Prelude.{IsErr, IsErrAnd}
 
@@ -28,15 +30,15 @@ there : {A : Type 0} (at : ℕ) (zs : List ℕ) (o : Reading A) → length zs �
 there {A = A} at zs o some_bytes = ap (λ b. cond b (Ok (None, from at zs)) (some o)) (ne_eqb (length zs) 0 some_bytes)
 
 -- it ends within the length
-pub cut_length : (n at : ℕ) (zs buf : List ℕ) (left : Option (List ℕ)) → n ≢ 0 → n < 4 → length buf ≡ 4 → Gathers n zs buf left → unless_over (record { at = at; bytes = zs }) (size_field (record { at = at; bytes = zs })) ≡ Err (BadBundle at)
-cut_length n at zs buf left more few len g =
+pub cut_length : (v : Version) (n at : ℕ) (zs buf : List ℕ) (left : Option (List ℕ)) → n ≢ 0 → n < 4 → length buf ≡ 4 → Gathers n zs buf left → unless_over (record { at = at; bytes = zs }) (size_field v (record { at = at; bytes = zs })) ≡ Err (BadBundle at)
+cut_length v n at zs buf left more few len g =
     let rest : g.rest ≡ [] = g.all (omega arith) in
     let is : zs ≡ take n buf = g.bytes ∙ ap (λ (x : List ℕ). take n buf ++ x) rest ∙ append-nil (take n buf) in
     let long : length zs ≡ n = ap length is ∙ length-take-le n buf (omega arith) in
     let fills : Fills false zs buf left = (omega arith, g.left_is ∙ ap Some rest) in
     let none = cut zs buf 4 at left len fills in
-    there at zs (size_field (from at zs)) (λ e. more (sym long ∙ e))
-    ∙ ap (λ (o : Reading (List ℕ)). some (and_then (and_then o (λ b l. Ok (number_at 0 4 b, l))) (λ x m. cond (is_length x) (Ok (x, m)) (Err (BadBundle at))))) none
+    there at zs (size_field v (from at zs)) (λ e. more (sym long ∙ e))
+    ∙ ap (λ (o : Reading (List ℕ)). some (and_then (and_then o (λ b l. Ok (number_at 0 4 b, l))) (λ x m. cond (is_length v x) (Ok (x, m)) (Err (BadBundle at))))) none
 
 -- the length's bytes are there
 filled : (n at : ℕ) (zs buf : List ℕ) (left : Option (List ℕ)) → 4 ≤ n → n ≤ length buf → length buf ≡ 4 → Gathers n zs buf left → Fills true zs buf left
@@ -49,25 +51,25 @@ numbered_so : (n at place x : ℕ) (zs buf : List ℕ) (left : Option (List ℕ)
 numbered_so n at place x zs buf left len f to is = numbered 4 (from at zs) buf x place left (taken zs buf 4 at place left len f to) is
 
 -- it is out of range
-pub bad_length : (n at x : ℕ) (zs buf : List ℕ) (left : Option (List ℕ)) → 4 ≤ n → n ≤ length buf → length buf ≡ 4 → Gathers n zs buf left → x ≡ number_at 0 4 buf → is_length x ≡ false
-    → unless_over (record { at = at; bytes = zs }) (size_field (record { at = at; bytes = zs })) ≡ Err (BadBundle at)
-bad_length n at x zs buf left all within len g is test =
+pub bad_length : (v : Version) (n at x : ℕ) (zs buf : List ℕ) (left : Option (List ℕ)) → 4 ≤ n → n ≤ length buf → length buf ≡ 4 → Gathers n zs buf left → x ≡ number_at 0 4 buf → is_length v x ≡ false
+    → unless_over (record { at = at; bytes = zs }) (size_field v (record { at = at; bytes = zs })) ≡ Err (BadBundle at)
+bad_length v n at x zs buf left all within len g is test =
     let f = filled n at zs buf left all within len g in
     let read = numbered_so n at (min (at + 4) 18446744073709551615) x zs buf left len f refl is in
-    there at zs (size_field (from at zs)) (not_over zs buf left len f)
-    ∙ ap (λ (o : Reading ℕ). some (and_then o (λ y m. cond (is_length y) (Ok (y, m)) (Err (BadBundle at))))) read.2
+    there at zs (size_field v (from at zs)) (not_over zs buf left len f)
+    ∙ ap (λ (o : Reading ℕ). some (and_then o (λ y m. cond (is_length v y) (Ok (y, m)) (Err (BadBundle at))))) read.2
     ∙ ap (λ b. some (cond b (Ok (x, record { at = min (at + 4) 18446744073709551615; bytes = read.0 })) (Err (BadBundle at)))) test
 
 -- it is in range
-pub good_length : (n at place x : ℕ) (zs buf : List ℕ) (left : Option (List ℕ)) → 4 ≤ n → n ≤ length buf → length buf ≡ 4 → Gathers n zs buf left → place ≡ min (at + 4) 18446744073709551615 → x ≡ number_at 0 4 buf → is_length x ≡ true
-    → Reads (unless_over (record { at = at; bytes = zs }) (size_field (record { at = at; bytes = zs }))) (Ok (Some x)) place left
-good_length n at place x zs buf left all within len g to is test =
+pub good_length : (v : Version) (n at place x : ℕ) (zs buf : List ℕ) (left : Option (List ℕ)) → 4 ≤ n → n ≤ length buf → length buf ≡ 4 → Gathers n zs buf left → place ≡ min (at + 4) 18446744073709551615 → x ≡ number_at 0 4 buf → is_length v x ≡ true
+    → Reads (unless_over (record { at = at; bytes = zs }) (size_field v (record { at = at; bytes = zs }))) (Ok (Some x)) place left
+good_length v n at place x zs buf left all within len g to is test =
     let f = filled n at zs buf left all within len g in
     let read = numbered_so n at place x zs buf left len f to is in (
       read.0,
       read.1,
-      there at zs (size_field (from at zs)) (not_over zs buf left len f)
-          ∙ ap (λ (o : Reading ℕ). some (and_then o (λ y m. cond (is_length y) (Ok (y, m)) (Err (BadBundle at))))) read.2
+      there at zs (size_field v (from at zs)) (not_over zs buf left len f)
+          ∙ ap (λ (o : Reading ℕ). some (and_then o (λ y m. cond (is_length v y) (Ok (y, m)) (Err (BadBundle at))))) read.2
           ∙ ap (λ b. some (cond b (Ok (x, record { at = place; bytes = read.0 })) (Err (BadBundle at)))) test,
     )
 
@@ -88,18 +90,25 @@ split {A = A} {B = B} l o k = go (eqb (length l.bytes) 0) o
     go false (Err x) = refl
 
 -- the length is at fault
-pub next_fails : (n at : ℕ) (zs : List ℕ) (e : BundleFault) (r : Result (Option Request) BundleFault) (p q : ℕ) (left left' : Option (List ℕ)) → Reads (unless_over (record { at = at; bytes = zs }) (size_field (record { at = at; bytes = zs }))) (Err e) p left → IsErrAnd r (λ x. x ≡ e)
-    → Reads (next_request n (record { at = at; bytes = zs })) r q left'
-next_fails n at zs e r p q left left' h is =
-    same_reading (next_request n (from at zs)) (and_then (unless_over (from at zs) (size_field (from at zs))) (after (sized n))) r q left' (split (from at zs) (size_field (from at zs)) (sized n))
-    (fails (unless_over (from at zs) (size_field (from at zs))) (after (sized n)) e r p q left left' h is)
+pub next_fails : (how : Dialect) (at : ℕ) (zs : List ℕ) (e : BundleFault) (r : Result (Option Request) BundleFault) (p q : ℕ) (left left' : Option (List ℕ)) → Reads (unless_over (record { at = at; bytes = zs }) (size_field how.version (record { at = at; bytes = zs }))) (Err e) p left → IsErrAnd r (λ x. x ≡ e)
+    → Reads (next_request how (record { at = at; bytes = zs })) r q left'
+next_fails how at zs e r p q left left' h is =
+    same_reading (next_request how (from at zs)) (and_then (unless_over (from at zs) (size_field how.version (from at zs))) (after (sized how))) r q left' (split (from at zs) (size_field how.version (from at zs)) (sized how))
+    (fails (unless_over (from at zs) (size_field how.version (from at zs))) (after (sized how)) e r p q left left' h is)
 
 -- what comes after the length, or none
-pub next_goes_on : (n at : ℕ) (zs : List ℕ) (len : Option ℕ) (p : ℕ) (left : Option (List ℕ)) (r : Result (Option Request) BundleFault) (q : ℕ) (left' : Option (List ℕ)) → Reads (unless_over (record { at = at; bytes = zs }) (size_field (record { at = at; bytes = zs }))) (Ok len) p left
-    → ((ys : List ℕ) → left ≡ Some ys → Reads (after (sized n) len (record { at = p; bytes = ys })) r q left') → Reads (next_request n (record { at = at; bytes = zs })) r q left'
-next_goes_on n at zs len p left r q left' h next =
-    same_reading (next_request n (from at zs)) (and_then (unless_over (from at zs) (size_field (from at zs))) (after (sized n))) r q left' (split (from at zs) (size_field (from at zs)) (sized n))
-    (goes_on (unless_over (from at zs) (size_field (from at zs))) (after (sized n)) len p left r q left' h next)
+pub next_goes_on : (how : Dialect) (at : ℕ) (zs : List ℕ) (len : Option ℕ) (p : ℕ) (left : Option (List ℕ)) (r : Result (Option Request) BundleFault) (q : ℕ) (left' : Option (List ℕ)) → Reads (unless_over (record { at = at; bytes = zs }) (size_field how.version (record { at = at; bytes = zs }))) (Ok len) p left
+    → ((ys : List ℕ) → left ≡ Some ys → Reads (after (sized how) len (record { at = p; bytes = ys })) r q left') → Reads (next_request how (record { at = at; bytes = zs })) r q left'
+next_goes_on how at zs len p left r q left' h next =
+    same_reading (next_request how (from at zs)) (and_then (unless_over (from at zs) (size_field how.version (from at zs))) (after (sized how))) r q left' (split (from at zs) (size_field how.version (from at zs)) (sized how))
+    (goes_on (unless_over (from at zs) (size_field how.version (from at zs))) (after (sized how)) len p left r q left' h next)
+
+-- a length, and a request behind it
+pub next_ends : (how : Dialect) (at : ℕ) (zs : List ℕ) (len p : ℕ) (left : Option (List ℕ)) (r : Request) (q : ℕ) (left' : Option (List ℕ)) → Reads (unless_over (record { at = at; bytes = zs }) (size_field how.version (record { at = at; bytes = zs }))) (Ok (Some len)) p left
+    → ((ys : List ℕ) → left ≡ Some ys → Reads (sized how len (record { at = p; bytes = ys })) (Ok r) q left') → Reads (next_request how (record { at = at; bytes = zs })) (Ok (Some r)) q left'
+next_ends how at zs len p left r q left' h read =
+    next_goes_on how at zs (Some len) p left (Ok (Some r)) q left' h
+    (λ ys is. goes_on (sized how len (from p ys)) (λ a l. Ok (Some a, l)) r q left' (Ok (Some r)) q left' (read ys is) (λ xs e. (xs, e, refl)))
 
 -- a fault of a stage
 pub is_bad : {A : Type 0} (o : Reading A) (e : BundleFault) (at p : ℕ) (left : Option (List ℕ)) → e ≡ BadBundle at → Reads o (Err e) p left → IsErr o

@@ -1,7 +1,7 @@
 -- The bytes of answers: the length of what follows, a kind, and a body.
-use Rattle.std.specs.Prelude.{ℕ, ◌+◌, ◌<◌, ◌^◌, List, [], ◌∷◌, ◌++◌, length, Option, Some, None}
+use Rattle.std.specs.Prelude.{ℕ, ◌+◌, ◌<◌, ◌^◌, Bool, cond, List, [], ◌∷◌, ◌++◌, length, Option, Some, None}
 use Rattle.std.specs.List.{flat_map}
-use Rattle.ep_base.specs.declared.version_kind.VersionKind.TheVariants.{V2}
+use Rattle.ep_base.specs.declared.version.Version.{Version}
 use Rattle.ep_bundle.specs.Bytes.{frame_bytes, receipt_bytes}
 use Rattle.ep_bundle.specs.Writing.{FramesFit}
 use Rattle.ep_frame.specs.Fields.{number_bytes, dep_bytes}
@@ -13,10 +13,11 @@ use Rattle.ep_journal.specs.declared.step_fault.StepFault.{StepFault}
 use Rattle.ep_journal.specs.declared.step_fault.StepFault.TheVariants.{Memory, OtherVersion, OtherGeneration, OutOfRange, NotMine, StampFull, SpaceFull, SeqExhausted, NotLeading, TooFewAnswers, AlreadyCommitted, BallotsExhausted, NotCommitted}
 use Rattle.ep_rules.specs.declared.receipt.Receipt.{Receipt}
 use Rattle.ep_wire.specs.declared.field.Field.{Field}
-use Rattle.ep_wire.specs.declared.field.Field.TheVariants.{Kind, Client, ClientRequest, Seen, Op, KeyLength, ValueLength, Key, Value, Replica, Number, Rest}
+use Rattle.ep_wire.specs.declared.field.Field.TheVariants.{Kind, Client, ClientRequest, Seen, Op, KeyLength, ValueLength, Key, Value, Replica, Number, Rest, FirstLength, SecondLength, BodyLength, FirstKey, SecondKey, Body}
 use Rattle.ep_wire.specs.declared.leading.Leading.{Leading}
 use Rattle.ep_wire.specs.declared.leading.Leading.TheVariants.{Proposing, Accepting, Preparing}
 use Rattle.ep_wire.specs.declared.malformed.Malformed.{Malformed}
+use Rattle.ep_wire.specs.declared.node_state.NodeState.{NodeState}
 use Rattle.ep_wire.specs.declared.refusal.Refusal.{Refusal}
 use Rattle.ep_wire.specs.declared.refusal.Refusal.TheVariants.{BadFrame, Step}
 
@@ -49,12 +50,13 @@ head_bytes e = number_bytes 4 e.number ++ number_bytes 8 e.stamp ++ instance_or_
 abbrev pub frames_bytes : List (List ℕ) → List ℕ
 frames_bytes bs = number_bytes 2 (length bs) ++ flat_map sent_bytes bs
 
-abbrev pub receipts_bytes : List Receipt → List ℕ
-receipts_bytes rs = number_bytes 2 (length rs) ++ flat_map (receipt_bytes V2) rs
+-- each as it stands in a bundle of the version
+abbrev pub receipts_bytes : Version → List Receipt → List ℕ
+receipts_bytes v rs = number_bytes 2 (length rs) ++ flat_map (receipt_bytes v) rs
 
 -- an entry as it is answered: what it sends, and the receipts of what it executed
-abbrev pub entry_bytes : Entry → List Receipt → List ℕ
-entry_bytes e rs = head_bytes e ++ (frames_bytes e.frames ++ receipts_bytes rs)
+abbrev pub entry_bytes : Version → Entry → List Receipt → List ℕ
+entry_bytes v e rs = head_bytes e ++ (frames_bytes e.frames ++ receipts_bytes v rs)
 
 -- its counts fit their fields
 abbrev pub Fits : List (List ℕ) → List Receipt → Type 0
@@ -145,6 +147,26 @@ field_code Value = 9
 field_code Replica = 10
 field_code Number = 11
 field_code Rest = 12
+field_code FirstLength = 13
+field_code SecondLength = 14
+field_code BodyLength = 15
+field_code FirstKey = 16
+field_code SecondKey = 17
+field_code Body = 18
 
 abbrev pub malformed_bytes : Malformed → List ℕ
 malformed_bytes m = number_bytes 4 10 ++ number_bytes 1 7 ++ number_bytes 1 (field_code m.field) ++ number_bytes 8 m.at
+
+abbrev pub sealed_code : Bool → ℕ
+sealed_code is_sealed = cond is_sealed 1 0
+
+-- its generation, and how many entries it has
+abbrev pub counts_bytes : NodeState → List ℕ
+counts_bytes s = number_bytes 4 s.generation ++ number_bytes 4 s.entries
+
+-- what tells when to seal, and its stamp
+abbrev pub space_bytes : NodeState → List ℕ
+space_bytes s = number_bytes 2 s.used ++ number_bytes 2 s.deps ++ number_bytes 1 (sealed_code s.is_sealed) ++ number_bytes 8 s.stamp
+
+abbrev pub state_bytes : NodeState → List ℕ
+state_bytes s = number_bytes 4 22 ++ number_bytes 1 8 ++ (counts_bytes s ++ space_bytes s)

@@ -1,17 +1,17 @@
 //! Writing answers.
 
-ghost use Rattle.ep_base.specs.declared.version_kind.VersionKind.TheVariants.{V2};
 ghost use Rattle.std.specs.Prelude.{◌≡◌, ◌<◌, ◌+◌, ◌≤◌, ◌^◌, ◌++◌, ℕ, List, Some, None, length};
 ghost use Rattle.std.specs.List.{flat_map};
 ghost use Rattle.ep_base.specs.Devices.{Puts};
 ghost use Rattle.ep_bundle.specs.Bytes.{receipt_bytes};
 ghost use Rattle.ep_frame.specs.Fields.{number_bytes};
 ghost use Rattle.ep_bundle.specs.Writing.{All, FrameFits, FramesFit};
-ghost use Rattle.ep_wire.specs.Answers.{answer_count, code_of, entry_bytes, first_about, frames_bytes, head_bytes, instance_bytes, field_code, instance_or_none, leading_bytes, malformed_bytes, names, phase_code, receipts_bytes, refused_bytes, sent_bytes, step_code, synced_bytes, taken_as, taken_bytes, value_bytes, Fits};
+ghost use Rattle.ep_wire.specs.Answers.{answer_count, code_of, counts_bytes, entry_bytes, first_about, frames_bytes, head_bytes, instance_bytes, field_code, instance_or_none, leading_bytes, malformed_bytes, names, phase_code, receipts_bytes, refused_bytes, sealed_code, sent_bytes, space_bytes, state_bytes, step_code, synced_bytes, taken_as, taken_bytes, value_bytes, Fits};
 
 use crate::field::Field;
 use crate::leading::Leading;
 use crate::malformed::Malformed;
+use crate::node_state::NodeState;
 use crate::refusal::Refusal;
 use ep_base::{InstanceId, Sink, Value, Version, WriteFailed};
 use ep_bundle::{
@@ -44,8 +44,8 @@ fn first_about(frames: &[Frame]) -> Option<InstanceId>
     }
 }
 
-/// The instance that the entry's proposal took.
-fn taken_as(entry: &Entry) -> Option<InstanceId>
+/// The instance that the entry's proposal took; none where its event is another.
+pub fn taken_as(entry: &Entry) -> Option<InstanceId>
     ensures { result ≡ taken_as entry.now.event entry.now.frames }
 {
     match &entry.event {
@@ -81,21 +81,29 @@ fn put_frames<K: Sink>(sink: &mut K, frames: &[Frame]) -> Result<(), WriteFailed
     put_each_sent(sink, frames)
 }
 
-fn put_each_receipt<K: Sink>(sink: &mut K, receipts: &[Receipt]) -> Result<(), WriteFailed>
-    ensures { Puts (K.held sink.old) (K.held sink.new) (K.has_failed sink.old) (K.has_failed sink.new) result (flat_map (receipt_bytes V2) receipts.now) }
+fn put_each_receipt<K: Sink>(
+    sink: &mut K,
+    version: Version,
+    receipts: &[Receipt],
+) -> Result<(), WriteFailed>
+    ensures { Puts (K.held sink.old) (K.held sink.new) (K.has_failed sink.old) (K.has_failed sink.new) result (flat_map (receipt_bytes version) receipts.now) }
 {
     for receipt in receipts {
-        put_receipt(sink, Version::V2, receipt)?;
+        put_receipt(sink, version, receipt)?;
     }
     Ok(())
 }
 
-fn put_receipts<K: Sink>(sink: &mut K, receipts: &[Receipt]) -> Result<(), WriteFailed>
+fn put_receipts<K: Sink>(
+    sink: &mut K,
+    version: Version,
+    receipts: &[Receipt],
+) -> Result<(), WriteFailed>
     requires { length receipts.now < 2 ^ 16 }
-    ensures { Puts (K.held sink.old) (K.held sink.new) (K.has_failed sink.old) (K.has_failed sink.new) result (receipts_bytes receipts.now) }
+    ensures { Puts (K.held sink.old) (K.held sink.new) (K.has_failed sink.old) (K.has_failed sink.new) result (receipts_bytes version receipts.now) }
 {
     put_u16(sink, receipts.len() as u16)?;
-    put_each_receipt(sink, receipts)
+    put_each_receipt(sink, version, receipts)
 }
 
 /// An entry's number, stamp and instance.
@@ -107,18 +115,19 @@ fn put_head<K: Sink>(sink: &mut K, entry: &Entry) -> Result<(), WriteFailed>
     put_instance_or_none(sink, taken_as(entry))
 }
 
-/// Writes an entry as it is answered, with these receipts.
+/// Writes an entry as it is answered by a node of the version, with these receipts.
 pub fn put_entry<K: Sink>(
     sink: &mut K,
+    version: Version,
     entry: &Entry,
     receipts: &[Receipt],
 ) -> Result<(), WriteFailed>
     requires { Fits entry.now.frames receipts.now }
-    ensures { Puts (K.held sink.old) (K.held sink.new) (K.has_failed sink.old) (K.has_failed sink.new) result (entry_bytes entry.now receipts.now) }
+    ensures { Puts (K.held sink.old) (K.held sink.new) (K.has_failed sink.old) (K.has_failed sink.new) result (entry_bytes version entry.now receipts.now) }
 {
     put_head(sink, entry)?;
     put_frames(sink, entry.frames.as_slice())?;
-    put_receipts(sink, receipts)
+    put_receipts(sink, version, receipts)
 }
 
 /// Writes that a node took an event, or several: `body` is the count of the entries, and each entry.
@@ -191,7 +200,7 @@ fn write_none<K: Sink>(sink: &mut K, kind: u8) -> Result<(), WriteFailed>
     put_u8(sink, 0)
 }
 
-/// Writes the value that a replica's map has at a key.
+/// Writes the value that a replica's map has at a key: in each version its length takes two bytes, which suffice.
 pub fn write_value<K: Sink>(sink: &mut K, value: &Value) -> Result<(), WriteFailed>
     ensures { Puts (K.held sink.old) (K.held sink.new) (K.has_failed sink.old) (K.has_failed sink.new) result (value_bytes (Some value.now)) }
 {
@@ -284,6 +293,12 @@ fn field_code(field: Field) -> u8
         Field::Replica => 10,
         Field::Number => 11,
         Field::Rest => 12,
+        Field::FirstLength => 13,
+        Field::SecondLength => 14,
+        Field::BodyLength => 15,
+        Field::FirstKey => 16,
+        Field::SecondKey => 17,
+        Field::Body => 18,
     }
 }
 
@@ -295,4 +310,39 @@ pub fn write_malformed<K: Sink>(sink: &mut K, malformed: Malformed) -> Result<()
     put_u8(sink, 7)?;
     put_u8(sink, field_code(malformed.field))?;
     put_u64(sink, malformed.at)
+}
+
+/// 1 where a seal was executed.
+fn sealed_code(is_sealed: bool) -> u8
+    ensures { result ≡ sealed_code is_sealed }
+{
+    if is_sealed { 1 } else { 0 }
+}
+
+/// The generation, and how many entries there are.
+fn put_counts<K: Sink>(sink: &mut K, state: &NodeState) -> Result<(), WriteFailed>
+    ensures { Puts (K.held sink.old) (K.held sink.new) (K.has_failed sink.old) (K.has_failed sink.new) result (counts_bytes state.now) }
+{
+    put_u32(sink, state.generation)?;
+    put_u32(sink, state.entries)
+}
+
+/// What tells when to seal, and the last stamp.
+fn put_space<K: Sink>(sink: &mut K, state: &NodeState) -> Result<(), WriteFailed>
+    ensures { Puts (K.held sink.old) (K.held sink.new) (K.has_failed sink.old) (K.has_failed sink.new) result (space_bytes state.now) }
+{
+    put_u16(sink, state.used)?;
+    put_u16(sink, state.deps)?;
+    put_u8(sink, sealed_code(state.is_sealed))?;
+    put_u64(sink, state.stamp)
+}
+
+/// Writes what a node tells of itself.
+pub fn write_state<K: Sink>(sink: &mut K, state: &NodeState) -> Result<(), WriteFailed>
+    ensures { Puts (K.held sink.old) (K.held sink.new) (K.has_failed sink.old) (K.has_failed sink.new) result (state_bytes state.now) }
+{
+    put_u32(sink, 22)?;
+    put_u8(sink, 8)?;
+    put_counts(sink, state)?;
+    put_space(sink, state)
 }

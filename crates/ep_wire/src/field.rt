@@ -13,13 +13,13 @@ pub enum Field {
     Seen,
     /// The command's operation.
     Op,
-    /// The length of the command's key.
+    /// The length of the command's key, in version 2.
     KeyLength,
-    /// The length of the command's value, or of a swap's second key.
+    /// The length of the command's value, or of a swap's second key, in version 2.
     ValueLength,
-    /// A key.
+    /// A key: of a request that is a key alone, or of a command of version 2.
     Key,
-    /// A command's value, or a swap's second key.
+    /// A command's value, or a swap's second key, in version 2.
     Value,
     /// An instance's replica.
     Replica,
@@ -27,4 +27,16 @@ pub enum Field {
     Number,
     /// Bytes behind the last field.
     Rest,
+    /// The length of the command's first key, in version 3.
+    FirstLength,
+    /// The length of its second key.
+    SecondLength,
+    /// The length of its body.
+    BodyLength,
+    /// Its first key.
+    FirstKey,
+    /// Its second key.
+    SecondKey,
+    /// Its body.
+    Body,
 }

@@ -3,7 +3,7 @@
 //! `ep_serve` reads requests and writes answers by this crate. It keeps to docs/FORMATS.md, section 10: a request is read
 //! exactly where its bytes are one, a malformed one is told by its first wrong field, and an answer's bytes are those of specs/Answers.antt.
 //!
-//! Start with `request.rt`, `reading.rt` and specs/Requests.antt; then `answers.rt` and specs/Answers.antt.
+//! Start with `request.rt`, `dialect.rt`, `reading.rt` and specs/Requests.antt; then `answers.rt` and specs/Answers.antt.
 //!
 //! A request's length, kind and body are read before kind and body are judged; then a body is read by `ep_bundle`'s stages, of
 //! which nothing may be left. So a malformed request is read to its end, and the next one can be read.
@@ -11,10 +11,12 @@
 
 mod answers;
 mod bodies;
+mod dialect;
 mod field;
 mod front;
 mod leading;
 mod malformed;
+mod node_state;
 mod places;
 mod reading;
 mod refusal;
@@ -22,12 +24,14 @@ mod request;
 mod request_fault;
 
 pub use answers::{
-    put_entry, write_instance, write_leading, write_malformed, write_no_value, write_refused,
-    write_synced, write_taken, write_value,
+    put_entry, taken_as, write_instance, write_leading, write_malformed, write_no_value,
+    write_refused, write_state, write_synced, write_taken, write_value,
 };
+pub use dialect::Dialect;
 pub use field::Field;
 pub use leading::Leading;
 pub use malformed::Malformed;
+pub use node_state::NodeState;
 pub use reading::read_request;
 pub use refusal::Refusal;
 pub use request::Request;

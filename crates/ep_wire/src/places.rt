@@ -1,11 +1,12 @@
 //! Which field of a request stands at a place.
 
-ghost use Rattle.std.specs.Prelude.{◌≡◌, ◌<◌, ◌^◌, ◌∷◌, []};
-ghost use Rattle.ep_wire.specs.Requests.{byte_at, field_in, fields_of, instance_fields, proposal_fields};
+ghost use Rattle.std.specs.Prelude.{◌≡◌, ◌<◌, ◌+◌, ◌^◌, ◌∷◌, []};
+ghost use Rattle.ep_wire.specs.Requests.{byte_at, early_fields, field_in, fields_of, four_at, instance_fields, is_bare, late_fields, proposal_fields, two_at};
 ghost use Rattle.ep_wire.specs.declared.field.Field.TheVariants.{Key};
 
 use crate::field::Field;
 use crate::malformed::Malformed;
+use ep_base::{Version, VersionKind};
 
 /// A byte of a body, 0 where it isn't there.
 fn byte_at(body: &[u8], place: usize) -> u8
@@ -17,11 +18,29 @@ fn byte_at(body: &[u8], place: usize) -> u8
     }
 }
 
-/// The field of a proposal at this place of its request, where key and value have so many bytes.
-fn proposal_field(key: u64, value: u64, at: u64) -> Field
+/// Two bytes of a body as a number.
+fn two_at(body: &[u8], place: usize) -> u64
+    requires { place < 2 ^ 32 }
+    ensures value { result ≡ two_at body.now place }
+    ensures range { result < 2 ^ 16 }
+{
+    256 * u64::from(byte_at(body, place)) + u64::from(byte_at(body, place + 1))
+}
+
+/// Four bytes of a body as a number.
+fn four_at(body: &[u8], place: usize) -> u64
+    requires { place < 2 ^ 31 }
+    ensures value { result ≡ four_at body.now place }
+    ensures range { result < 2 ^ 32 }
+{
+    65_536 * two_at(body, place) + two_at(body, place + 2)
+}
+
+/// The field at this place of a proposal of version 1 or 2, where key and value have so many bytes.
+fn early_field(key: u64, value: u64, at: u64) -> Field
     requires key { key < 2 ^ 8 }
     requires value { value < 2 ^ 16 }
-    ensures { result ≡ field_in (proposal_fields key value) at }
+    ensures { result ≡ field_in (early_fields key value) at }
 {
     if at < 9 {
         Field::Client
@@ -41,6 +60,64 @@ fn proposal_field(key: u64, value: u64, at: u64) -> Field
         Field::Value
     } else {
         Field::Rest
+    }
+}
+
+/// The same of version 3, where both keys and the body have so many bytes.
+fn late_field(first: u64, second: u64, body: u64, at: u64) -> Field
+    requires first { first < 2 ^ 8 }
+    requires second { second < 2 ^ 8 }
+    requires body { body < 2 ^ 32 }
+    ensures { result ≡ field_in (late_fields first second body) at }
+{
+    if at < 9 {
+        Field::Client
+    } else if at < 13 {
+        Field::ClientRequest
+    } else if at < 21 {
+        Field::Seen
+    } else if at < 22 {
+        Field::Op
+    } else if at < 23 {
+        Field::FirstLength
+    } else if at < 24 {
+        Field::SecondLength
+    } else if at < 28 {
+        Field::BodyLength
+    } else if at < 28 + first {
+        Field::FirstKey
+    } else if at < 28 + first + second {
+        Field::SecondKey
+    } else if at < 28 + first + second + body {
+        Field::Body
+    } else {
+        Field::Rest
+    }
+}
+
+/// The field at this place of a proposal of version 1 or 2, with this body.
+fn early_field_in(body: &[u8], at: u64) -> Field
+    ensures { result ≡ field_in (early_fields (byte_at body.now 17) (two_at body.now 18)) at }
+{
+    early_field(u64::from(byte_at(body, 17)), two_at(body, 18), at)
+}
+
+/// The same of version 3.
+fn late_field_in(body: &[u8], at: u64) -> Field
+    ensures { result ≡ field_in (late_fields (byte_at body.now 17) (byte_at body.now 18) (four_at body.now 19)) at }
+{
+    let first = u64::from(byte_at(body, 17));
+    let second = u64::from(byte_at(body, 18));
+    late_field(first, second, four_at(body, 19), at)
+}
+
+/// The same of the version.
+fn proposal_field(version: Version, body: &[u8], at: u64) -> Field
+    ensures { result ≡ field_in (proposal_fields version body.now) at }
+{
+    match version.kind() {
+        VersionKind::V1 | VersionKind::V2 => early_field_in(body, at),
+        VersionKind::V3(_) => late_field_in(body, at),
     }
 }
 
@@ -64,28 +141,36 @@ fn key_field(at: u64) -> Field
     if at < 260 { Field::Key } else { Field::Rest }
 }
 
-/// The field at this place of a request of this kind with this body.
-fn field_at(kind: u8, body: &[u8], at: u64) -> Field
-    ensures { result ≡ field_in (fields_of kind body.now) at }
+/// Whether a request of this kind, 1 to 12, has no body.
+fn is_bare(kind: u8) -> bool
+    ensures { result ≡ is_bare kind }
 {
-    match kind {
-        1 => {
-            let key = u64::from(byte_at(body, 17));
-            let value = 256 * u64::from(byte_at(body, 18)) + u64::from(byte_at(body, 19));
-            proposal_field(key, value, at)
-        }
-        6 | 10 => Field::Rest,
-        7 => key_field(at),
-        _ => instance_field(at),
+    kind == 6 || 10 <= kind
+}
+
+/// The field at this place of a request of this kind with this body.
+fn field_at(version: Version, kind: u8, body: &[u8], at: u64) -> Field
+    ensures { result ≡ field_in (fields_of version kind body.now) at }
+{
+    if kind == 1 {
+        return proposal_field(version, body, at);
+    }
+    if kind == 7 {
+        return key_field(at);
+    }
+    if is_bare(kind) {
+        Field::Rest
+    } else {
+        instance_field(at)
     }
 }
 
 /// That a request of this kind with this body is malformed at this place.
-pub(crate) fn malformed_at(kind: u8, body: &[u8], at: u64) -> Malformed
-    ensures { result ≡ record { field = field_in (fields_of kind body.now) at; at = at } }
+pub(crate) fn malformed_at(version: Version, kind: u8, body: &[u8], at: u64) -> Malformed
+    ensures { result ≡ record { field = field_in (fields_of version kind body.now) at; at = at } }
 {
     Malformed {
-        field: field_at(kind, body, at),
+        field: field_at(version, kind, body, at),
         at,
     }
 }

@@ -33,6 +33,10 @@ pub enum Request {
     Leads(InstanceId),
     /// All that was taken is to be on the disk, and answered.
     Sync,
+    /// What the node is.
+    State,
+    /// All that is committed and waits for nothing that isn't is executed, own or not.
+    ExecuteAll,
     /// None of these: a request whose bytes all came, but of no such kind, or with a body that isn't one of its kind.
     Malformed(Malformed),
 }

@@ -1,5 +1,4 @@
-use Rattle.std.proofs.Common.{ap, arith, refl, ◌∙◌}
-use Rattle.ep_base.specs.Quorums.{size}
+use Rattle.std.proofs.Common.{arith, refl, ◌∙◌}
 use Rattle.ep_serve.proofs.Keeping.{known_on}
 use Rattle.ep_serve.proofs.Runs.{ends_badly, ends_never, ends_well}
 use Rattle.ep_serve.proofs.States.{all_settled, stands_first, stands_next, stopped, stopped_settling, within_on, works_on}
@@ -29,7 +28,7 @@ returns-in_err-settle-in-Ok-None-clause-served g c = λ zs h.
 pub returns-in-Ok-None-clause-served : goal.returns-in-Ok-None-clause-served
 returns-in-Ok-None-clause-served g c = λ zs h.
     let i = c.loop.invariant.served _ c.new-queue.ensures.1 zs h in
-    ends_well _ _ _ _ _ _ _ _ _ _ _ _ _ (ap size c.size-size.ensures)
+    ends_well _ _ _ _ _ _ _ _ _ _ _ _ _ c.dialect_of-dialect.ensures
     (all_settled g.D.Device.seen g.D.Device.moment g.D.Device.left_since _ _ _ c.settle.new.node zs _ _ _ _ _ _ _ i c.loop.invariant.own c.settle.ensures.replica c.in_ok-settle-in-Ok-None.ensures.ok c.in_ok-settle-in-Ok-None.ensures.kept c.settle.ensures.onward c.loop.invariant.known)
     (c.in-Ok-None.ensures.bytes i.ys i.left_is) c.in-Ok-None.field-0-is
 
@@ -40,7 +39,7 @@ returns-in_err-settle-in-Err-clause-served g c = λ zs h.
 pub returns-in-Err-clause-served : goal.returns-in-Err-clause-served
 returns-in-Err-clause-served g c = λ zs h.
     let i = c.loop.invariant.served _ c.new-queue.ensures.1 zs h in
-    ends_badly _ _ _ _ _ _ _ _ _ _ _ _ _ _ (ap size c.size-size.ensures)
+    ends_badly _ _ _ _ _ _ _ _ _ _ _ _ _ _ c.dialect_of-dialect.ensures
     (all_settled g.D.Device.seen g.D.Device.moment g.D.Device.left_since _ _ _ c.settle-in-Err.new.node zs _ _ _ _ _ _ _ i c.loop.invariant.own c.settle-in-Err.ensures.replica c.in_ok-settle-in-Err.ensures.ok c.in_ok-settle-in-Err.ensures.kept c.settle-in-Err.ensures.onward c.loop.invariant.known)
     (c.in-Err.ensures.bytes i.ys i.left_is) c.into.ensures
 
@@ -56,7 +55,7 @@ loop-preserved g c = record {
   source = c.in-Ok-Some.ensures.told ∙ c.loop.invariant.source;
   served = λ mode is zs h.
       let i = c.loop.invariant.served mode is zs h in
-      stands_next g.D.Device.seen g.D.Device.moment g.D.Device.left_since mode _ _ _ zs _ _ _ _ _ _ _ _ _ _ _ _ i c.loop.invariant.own (ap size c.size-size.ensures) (c.in-Ok-Some.ensures.bytes i.ys i.left_is) c.in-Ok-Some.field-0-is _ (c.loop.invariant.mode ∙ is) c.in_ok-serve-in-Ok-Some.ensures.ok c.serve.ensures.onward c.loop.invariant.known;
+      stands_next g.D.Device.seen g.D.Device.moment g.D.Device.left_since mode _ _ _ zs _ _ _ _ _ _ _ _ _ _ _ _ i c.loop.invariant.own c.dialect_of-dialect.ensures (c.in-Ok-Some.ensures.bytes i.ys i.left_is) c.in-Ok-Some.field-0-is _ (c.loop.invariant.mode ∙ is) c.in_ok-serve-in-Ok-Some.ensures.ok c.serve.ensures.onward c.loop.invariant.known;
 }
 
 pub returns-clause-served : goal.returns-clause-served

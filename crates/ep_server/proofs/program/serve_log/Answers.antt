@@ -11,7 +11,7 @@ returns-in-Ok g c = λ bytes zs was left.
     record {
       cut = c.in-Ok.node.cut;
       outcome = c.served-outcome.result;
-      happens = has_served _ _ c.in-Ok.node bytes zs written.0 _ _ _ _ ok.1 ok.2 c.in-Ok.ensures.origin (ok.3 bytes was) written.1 written.2 (c.served-outcome.ensures zs left);
+      happens = has_served _ _ _ c.in-Ok.node bytes zs written.0 _ _ _ _ ok.1 ok.2 c.in-Ok.ensures.origin (ok.3 bytes was) written.1 written.2 (c.served-outcome.ensures zs left);
       concluded = concludes_after _ _ _ _ _ _ _ _ _ _ _ c.cut.ensures c.tell_first.ensures c.concluded.ensures.for_good c.concluded.ensures.concluded;
     }
 

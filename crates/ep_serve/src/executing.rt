@@ -1,0 +1,83 @@
+//! Executing all that is ready, own or not.
+
+ghost use Rattle.std.specs.Prelude.{◌≡◌, ◌≤◌, false, ℕ, List, IfOk, OnOk};
+ghost use Rattle.ep_base.specs.Instances.{instance_of, highest_number};
+ghost use Rattle.ep_journal.specs.declared.step_fault.StepFault.TheVariants as step;
+ghost use Rattle.ep_node.specs.Nodes.{Logged};
+ghost use Rattle.ep_serve.specs.Acting.{ExecutesAll, ExecutesEach, IsSwept, NoneIsReady, TriesOne};
+
+use crate::due::Due;
+use ep_base::{InstanceId, ReplicaId};
+use ep_device::Device;
+use ep_journal::StepFault;
+use ep_node::{Node, NodeFault};
+use std::alloc::AllocError;
+
+/// The replica's instance of this number.
+pub(crate) fn instance_at(replica: ReplicaId, number: u16) -> InstanceId
+    requires { (1 ≤ number) × (number ≤ highest_number) }
+    ensures { result ≡ instance_of replica number }
+{
+    InstanceId::new(replica, number).unwrap()
+}
+
+/// That no stamp is left; any other fault of an execution is want of memory.
+fn stampless(fault: StepFault) -> Result<bool, AllocError>
+    ensures { IfOk result (λ tried. (tried ≡ false) × (fault ≡ step.StampFull)) }
+{
+    match fault {
+        StepFault::StampFull => Ok(false),
+        _ => Err(AllocError),
+    }
+}
+
+/// Executes the instance, if it is ready; `false` where no stamp is left for that.
+fn try_one<D: Device>(node: &mut Node<D>, instance: InstanceId) -> Result<bool, AllocError>
+    ensures ok { IfOk result (λ tried. TriesOne node.old.replica instance tried node.new.replica) }
+    ensures same { node.new ≡ record node.old { replica = node.new.replica } }
+{
+    match node.execute(instance) {
+        Ok(_) => Ok(true),
+        Err(NodeFault::Refused(fault)) => stampless(fault),
+        Err(_) => Err(AllocError),
+    }
+}
+
+/// Executes those of this leader's instances that are ready, in rising order; `false` where no stamp is left for one.
+fn execute_led<D: Device>(node: &mut Node<D>, leader: ReplicaId) -> Result<bool, AllocError>
+    ensures ok { IfOk result (λ swept. (roots : List ℕ) × ExecutesEach node.old.replica roots node.new.replica × IsSwept leader swept node.new.replica) }
+    ensures same { node.new ≡ record node.old { replica = node.new.replica } }
+{
+    for number in 1..2001 {
+        let tried = try_one(node, instance_at(leader, number))?;
+        if !tried {
+            return Ok(false);
+        }
+    }
+    Ok(true)
+}
+
+/// Executes all instances that are ready, in rising order. One try of each suffices: an execution commits nothing.
+fn execute_every<D: Device>(node: &mut Node<D>) -> Result<(), AllocError>
+    ensures ok { OnOk result ((roots : List ℕ) × ExecutesEach node.old.replica roots node.new.replica × NoneIsReady node.new.replica) }
+    ensures same { node.new ≡ record node.old { replica = node.new.replica } }
+{
+    for index in 0..7 {
+        let swept = execute_led(node, ReplicaId::known(index))?;
+        if !swept {
+            return Ok(());
+        }
+    }
+    Ok(())
+}
+
+/// The node executes all that is committed and waits for nothing that isn't, own or not.
+pub(crate) fn execute_all<D: Device>(node: &mut Node<D>) -> Result<Due, AllocError>
+    ensures ok { IfOk result (λ due. ExecutesAll node.old.replica due node.new.replica) }
+    ensures same { node.new ≡ record node.old { replica = node.new.replica } }
+{
+    let from = node.taken();
+    execute_every(node)?;
+    let count = node.taken().saturating_sub(from);
+    Ok(Due::Taken { from, count })
+}
