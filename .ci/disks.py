@@ -16,6 +16,7 @@ import tempfile
 sys.dont_write_bytecode = True
 TOP = os.path.dirname(os.path.dirname(os.path.abspath(__file__)))
 
+import folders
 import shim
 from shim import SYNC, propose
 
@@ -184,6 +185,146 @@ def failed_calls(make):
 ROWS = (asked, each, short_writes, full_disk, failed_sync, a_disk_that_lies)
 
 
+# Of a node in the folder of a replica that lives through generations: the power is lost after each call of a start.
+
+# what a start is asked for: which generation it serves, the value of x there, and a proposal of each op that is needed
+LIVES = shim.STATE + shim.request(7, b"x") + shim.propose_in(1, 9, 3, b"w", b"9") + SYNC
+
+
+def sealed(node, folder):
+    """Replica 0 of three, which has executed a seal and isn't closed; the same before it handles the frames that commit the seal, and those; and the
+    opening of the next generation that replica 1 has. By starts without the shim."""
+    it = folders.Cluster(node, folder)
+    it.begin()
+    it.settle(folders.put(1, b"x", b"1"), 0, 1)
+    it.start(0, shim.ADVANCE)
+    it.start(1)
+    it.start(0, folders.seal(2))
+    it.start(1)
+    before, frames = shim.tree_of(it.place(0)), b"".join(map(shim.frame, it.frames[0]))
+    it.start(0, shim.ADVANCE)
+    after = shim.tree_of(it.place(0))
+    it.start(1)
+    it.start(1, shim.ALL)
+    it.start(1)
+    return before, frames, after, it.opening(1, 2)
+
+
+def goes_on(case, seed, told, words=()):
+    """A start after a power loss: it serves, and has all that was told; and it doesn't act in a generation that was left."""
+    generation = case.generation
+    is_left = os.path.exists(f"{case.place}/1/left")
+    case.start(LIVES, words=words)
+    case.wants(case.status == 0, f"(chance {seed}) status {case.status}, {case.errors.strip()}")
+    if case.status:
+        return
+    served, entries = case.state()
+    value = next(it.body[3:] for it in case.answers if it.kind == 3)
+    case.wants(value == b"1", f"(chance {seed}) x is {value!r} in generation {served}")
+    case.wants(served == 2 or not is_left, f"(chance {seed}) generation {served} is served, and was left")
+    case.wants(served > generation or entries >= told, f"(chance {seed}) {told} entries were told in generation {generation}, and {entries} came back")
+
+
+def lost_after_each_call(case, words=(), retried=()):
+    """A start that begins the next generation, and the power is lost after each of its calls; and then a start again, twice."""
+    case.start(LIVES, words=words)
+    case.wants(case.status == 0 and case.state()[0] == 2, f"the start: status {case.status}, {case.errors.strip()}")
+    lines, before = case.lines, case.saved
+    for moment in range(len(lines)):
+        if lines[moment].startswith(("read ", "lock ", "err ", "end ")):
+            continue
+        for seed in range(3):
+            case.restore(before)
+            case.follow(lines[: moment + 1])
+            told = case.told
+            case.lose_power(random.Random(f"{moment} {seed}") if seed else None)
+            goes_on(case, f"{moment} {seed}", told, retried)
+            if case.faults:
+                case.faults[-1] += f", after: {lines[moment][:80]}"
+                return
+
+
+def closes(case):
+    """The generation is closed at a start, and the next one begun."""
+    case.put(case.trees[2])
+    lost_after_each_call(case)
+
+
+def takes(case):
+    """An opening is taken, by a replica that hasn't seen the seal."""
+    case.put(case.trees[0])
+    with open(f"{case.folder}/taken", "wb") as it:
+        it.write(case.trees[3])
+    words = ("--take", f"{case.folder}/taken")
+    lost_after_each_call(case, words, words)
+
+
+def executes_the_seal(case):
+    """The seal is executed, told, and the power is lost: the next start closes the generation."""
+    case.put(case.trees[0])
+    case.start(case.trees[1] + shim.ADVANCE + SYNC)
+    told = case.told
+    case.wants(case.status == 0 and told > 0, f"status {case.status}, {told} entries told")
+    case.lose_power()
+    goes_on(case, 0, told)
+    case.wants(case.generation == 2, f"generation {case.generation} is served behind the seal")
+
+
+def begins_a_folder(case):
+    """`--new`, and the power is lost after each call: the same again goes on, or a start without it."""
+    case.start(SYNC + LIVES, is_new=True)
+    case.wants(case.status == 0, f"the first start: status {case.status}, {case.errors.strip()}")
+    lines, before = case.lines, case.saved
+    for moment in range(len(lines)):
+        case.restore(before)
+        case.follow(lines[: moment + 1])
+        told = case.told
+        case.lose_power(random.Random(moment))
+        case.start(SYNC, is_new=True)
+        if case.status == 2 and "there is one already" in case.errors:
+            case.start(SYNC)
+        case.wants(case.status == 0, f"status {case.status}, {case.errors.strip()}, after: {lines[moment][:80]}")
+        case.wants(case.told >= told, f"{told} entries were told, and {case.told} came back, after: {lines[moment][:80]}")
+
+
+def failed_in_a_folder(kind, place, error, is_taken):
+    """The place-th call of a kind fails in a start that closes or takes; then a start again, and then a power loss."""
+
+    def row(case):
+        words = ("--take", f"{case.folder}/taken") if is_taken else ()
+        case.put(case.trees[0 if is_taken else 2])
+        with open(f"{case.folder}/taken", "wb") as it:
+            it.write(case.trees[3])
+        case.start(LIVES, f"fail={kind}:{place}:{place}:{error}", words=words)
+        wanted = CAUSES[error]
+        case.wants(case.status == 4, f"status {case.status}, and 4 was wanted")
+        case.wants(case.errors.lower() in (f"log failed: {wanted}\n", f"folder failed: {wanted}\n"), f"{case.errors.strip()!r} in the place of {wanted!r}")
+        told = case.told
+        goes_on(case, "none", told, words)
+        told = case.told
+        case.lose_power(random.Random(1))
+        goes_on(case, 1, told, words)
+
+    return row
+
+
+def failed_in_folders(make):
+    """A row for each call of a start that closes, and of one that takes."""
+    for is_taken in (False, True):
+        case = make()
+        case.put(case.trees[0 if is_taken else 2])
+        with open(f"{case.folder}/taken", "wb") as it:
+            it.write(case.trees[3])
+        case.start(LIVES, words=("--take", f"{case.folder}/taken") if is_taken else ())
+        for kind, errors in (*ERRORS.items(), ("mkdir", (SPACE,))):
+            for place in range(1, case.calls(kind) + 1):
+                # (a lock file is made and never written: whether that fails is the folder's matter)
+                yield f"{'take' if is_taken else 'close'}, {kind} {place}: {CAUSES[errors[0]]}", failed_in_a_folder(kind, place, errors[0], is_taken)
+
+
+FOLDER_ROWS = (closes, takes, executes_the_seal, begins_a_folder)
+
+
 def tried(node=NODE, word=""):
     """How many rows passed, and how many failed; the images are one."""
     if not os.path.isfile(node):
@@ -213,11 +354,22 @@ def rows(node, word):
             made += 1
             return shim.Case(built, node, f"{folder}/{made}")
 
+        trees = sealed(node, f"{folder}/sealed")
+
+        def make_folder():
+            nonlocal made
+            made += 1
+            case = shim.FolderCase(built, node, f"{folder}/{made}")
+            case.trees = trees
+            return case
+
+        plain = [(it.__name__.replace("_", " "), it, make) for it in ROWS] + [(*it, make) for it in failed_calls(make)]
+        lives = [(it.__name__.replace("_", " "), it, make_folder) for it in FOLDER_ROWS] + [(*it, make_folder) for it in failed_in_folders(make_folder)]
         passed = failed = 0
-        for name, row in (*((it.__name__.replace("_", " "), it) for it in ROWS), *failed_calls(make)):
+        for name, row, made_for in (*plain, *lives):
             if word not in name:
                 continue
-            case = make()
+            case = made_for()
             try:
                 row(case)
             except (subprocess.TimeoutExpired, LookupError) as fault:

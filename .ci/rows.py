@@ -247,6 +247,14 @@ def noded(program):
     return nodes.every(program_of(program, ["node"]))
 
 
+def foldered(program):
+    """The runs of .ci/folders.py, likewise."""
+    sys.path.insert(0, f"{TOP}/.ci")
+    import folders
+
+    return folders.every(program_of(program, ["node"]))
+
+
 def drawn(program):
     """The chains of .ci/drawn.py, likewise."""
     sys.path.insert(0, f"{TOP}/.ci")
@@ -264,7 +272,8 @@ def tried(program, word="", by=""):
             passed, failed = passed + (not wrong), failed + bool(wrong)
             if wrong:
                 print(f"row {row.name}{by}: {wrong}", flush=True)
-    for others in ([] if is_passed_over(program, ["node"]) else noded(program), drawn(program)):
+    nodes = () if is_passed_over(program, ["node"]) else (noded(program), foldered(program))
+    for others in (*nodes, drawn(program)):
         for name, wrong in others:
             if word in name:
                 passed, failed = passed + (not wrong), failed + bool(wrong)

@@ -1,5 +1,6 @@
 """Runs of `epaxos node` under .ci/shim.c, and what its requests, answers and logs are in bytes (docs/FORMATS.md, sections 9 and 10)."""
 
+import copy
 import os
 import shutil
 import struct
@@ -259,7 +260,14 @@ class FolderCase(Case):
 
     def start(self, requests, *rules, words=(), is_new=False):
         self.answers = []
+        # what there was before it, for a start that is followed again
+        self.saved = copy.deepcopy((self.place, self.log, self.generation, self.told, self.entries, self.disk))
         return super().start(requests, *rules, words=words, is_new=is_new)
+
+    def restore(self, saved):
+        """From now on there is what there was before a start."""
+        self.answers = []
+        self.place, self.log, self.generation, self.told, self.entries, self.disk = copy.deepcopy(saved)
 
     def hear(self, whole):
         self.answers += whole

@@ -226,9 +226,23 @@ def check(command, given, plain):
         raise Refused("a FILE stands with '--chain' alone\n" + (f"\n  tip: {tip}\n" if tip else ""))
     if command == "audit" and "chain" in given and not plain:
         raise Refused("'--chain' takes one FILE or more\n")
+    if command == "node":
+        check_node({*given})
     for option, is_value, wanted in VALUES.get(command, ()):
         if option in given and not is_value(given[option]):
             raise Refused(wanted.format(value=quoted(given[option]), shown=f"--{option}"))
+
+
+def check_node(given):
+    """Refuses options of a node that don't go together."""
+    for is_so, why in (
+        ({"log", "dir"} <= given, "'--log' and '--dir' don't go together"),
+        (not {"log", "dir"} & given, "'--log' or '--dir' is missing"),
+        ({"take", "log"} <= given, "'--take' goes with '--dir' alone"),
+        ({"take", "new"} <= given, "'--new' and '--take' don't go together"),
+    ):
+        if is_so:
+            raise Refused(f"{why}\n")
 
 
 def quoted(word):

@@ -23,7 +23,7 @@ use Rattle.ep_verdict.specs.Closings.{operations_in}
 use Rattle.ep_verdict.specs.Verdicts.{places_of}
 use Rattle.ep_verdict.specs.declared.verdict.Verdict.{Verdict}
 use Rattle.ep_audit.specs.Audited.{IsOneClosing}
-use Rattle.ep_audit.specs.Chained.{AreLinked, GoesOn, IsChainFault, IsChainRefused, IsChained, IsGood, IsJudged, IsParted, IsReached, parted, refused, unclosed, faults_at, faults_in, journals_at, journals_in, map_in, maps_at, number_of, receipts_at, receipts_in}
+use Rattle.ep_audit.specs.Chained.{AreLinked, GoesOn, IsChainFault, IsChainRefused, IsChained, IsGood, IsJudged, IsParted, IsReached, parted, refused, unclosed, faults_at, faults_in, journals_at, journals_in, map_after, map_in, maps_at, number_of, receipts_at, receipts_in}
 use Rattle.ep_audit.specs.Following.{IsOwnFault, IsUnfollowed, IsUnfollowedBy, IsUnjudged, left_open, refused_by, parted_by}
 use Rattle.ep_audit.specs.declared.chain_refusal.ChainRefusal.{ChainRefusal}
 use Rattle.ep_audit.specs.declared.chain_refusal.ChainRefusal.TheVariants.{Memory, Fault}
@@ -100,7 +100,7 @@ all_later c r e are k = elim (cases_lt r (size c.faults)) [
 ]
 
 -- it goes on where all three tests pass
-pub goes_on : (p : Link) (v : Verdict) (c : Closing) (next : Link) → AreJournals next.journals → v.closing ≡ Some c → number_of next ≡ suc (number_of p) → next.journals.opening.contents ≡ v.contents → ¬ (next.journals.opening.since < c.stamp) → GoesOn p v next
+pub goes_on : (p : Link) (v : Verdict) (c : Closing) (next : Link) → AreJournals next.journals → v.closing ≡ Some c → number_of next ≡ suc (number_of p) → next.journals.opening.contents ≡ map_after p v → ¬ (next.journals.opening.since < c.stamp) → GoesOn p v next
 goes_on p v c next are closed consecutive opening clocks = record {
   closing = c;
   closed = closed;
@@ -184,7 +184,7 @@ module _ (links : List Link) (verdicts : List Verdict) (count : length verdicts 
       let b = facts (suc g) lt in
       let on = goes_at g a b in
       let s = a.closing.somebody on.closing on.closed in
-      let opening : maps_at links (suc g) ≡ a.verdict.contents = ap map_in b.there ∙ on.opening in (
+      let opening : maps_at links (suc g) ≡ map_after a.link a.verdict = ap map_in b.there ∙ on.opening in (
         s.0,
         on.closing.value,
         subst (λ (o : Option Link). store_left (map_in o) (faults_in o) (journals_in o) s.0 ≡ record { contents = maps_at links (suc g); seal = Some on.closing.value }) (sym a.there)

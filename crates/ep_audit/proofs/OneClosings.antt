@@ -32,7 +32,7 @@ use Rattle.ep_rules.proofs.Sealing.{closed_stays, not_seal, sealed_here, stays_o
 use Rattle.ep_report.specs.declared.closing.Closing.{Closing}
 use Rattle.ep_report.specs.declared.happening.Happening.{Happening}
 use Rattle.ep_verdict.specs.Closings.{operations_in, IsExecuted, IsFirstSeal, IsClosing}
-use Rattle.ep_verdict.specs.Verdicts.{commands_in, instances_in, IsVerdict}
+use Rattle.ep_verdict.specs.Verdicts.{commands_in, instances_in, left_after, IsVerdict}
 use Rattle.ep_verdict.specs.declared.verdict.Verdict.{Verdict}
 use Rattle.ep_audit.specs.Audited.{IsOneClosing}
 
@@ -153,7 +153,7 @@ module _ (m : Contents) (f : ℕ) (journal : Journals) (schedule : List Schedule
       let shut : is_closed (after_all (told_in (opened m) f acts) (opened m) own) ≡ true = closed_by (told_in (opened m) f acts) m own i has (ap is_seal (told_same i) ∙ seals) in
       subst (λ s. is_closed s ≡ true) (sym (store_is (opened m) f given.some given.few acts run r) ∙ ap (λ (s : State). s.store) state) shut
 
-  module _ (v : Verdict) (same : operations_in v.history.items ≡ history_from m f schedule) (closing : IsClosing journal (operations_in v.history.items) v.closing) (contents : v.contents ≡ (after_commands (opened m) (commands_in v.history.items)).contents) where
+  module _ (v : Verdict) (same : operations_in v.history.items ≡ history_from m f schedule) (closing : IsClosing journal (operations_in v.history.items) v.closing) where
     abbrev h : List Operation
     h = history_from m f schedule
 
@@ -166,23 +166,23 @@ module _ (m : Contents) (f : ℕ) (journal : Journals) (schedule : List Schedule
             let t : IsFirstSeal journal h c = subst (IsClosing journal h) is k in
             (last_of h t.before _ t.seals t.last).first ∙ ap (λ o. option_map (λ (c : Closing). c.value) o) (sym is)
 
-    pub left_is : (r : ℕ) → is_closed (store_left m f journal r) ≡ true → store_left m f journal r ≡ record { contents = v.contents; seal = option_map (λ (c : Closing). c.value) v.closing }
+    pub left_is : (r : ℕ) → is_closed (store_left m f journal r) ≡ true → store_left m f journal r ≡ record { contents = left_after (opened m) v; seal = option_map (λ (c : Closing). c.value) v.closing }
     left_is r shut =
         let t = closes_left m f journal schedule given r shut in
         let after : after_commands (opened m) (commands_of h) ≡ map_of (written_by m (up_to_seal h)) (first_seal h) = seal_closes_lem m h t.0 in
-        let told : v.contents ≡ written_by m (up_to_seal h) =
-        contents ∙ ap (λ cs. (after_commands (opened m) cs).contents) (commands_are_of v.history.items ∙ ap commands_of same) ∙ ap (λ (s : Store). s.contents) after
+        let told : left_after (opened m) v ≡ written_by m (up_to_seal h) =
+        ap (λ cs. (after_commands (opened m) cs).contents) (commands_are_of v.history.items ∙ ap commands_of same) ∙ ap (λ (s : Store). s.contents) after
         in
         t.1 ∙ ap₂ (λ (n : Contents) (o : Option (List ℕ)). map_of n o) (sym told) (seal_told t.0)
 
-    somebody : (c : Closing) → v.closing ≡ Some c → (r : ℕ) × (store_left m f journal r ≡ record { contents = v.contents; seal = Some c.value })
+    somebody : (c : Closing) → v.closing ≡ Some c → (r : ℕ) × (store_left m f journal r ≡ record { contents = left_after (opened m) v; seal = Some c.value })
     somebody c is =
         let t : IsFirstSeal journal h c = subst (λ (o : Option Closing). IsClosing journal h o) is (subst (λ (os : List Operation). IsClosing journal os v.closing) same closing) in
         let l = last_of h t.before _ t.seals t.last in
         let x : IsExecuted journal c.instance = t.stamp.executed in
         let command : command_at (opened m) f journal c.instance ≡ Seal c.value = sym (command_is (command_at (opened m) f journal) h _ are_of l.stands) in
         let shut = closed_left x.replica x.entry c.instance x.stands x.executes (ap is_seal command) in
-        (x.replica, left_is x.replica shut ∙ ap (λ o. map_of v.contents (option_map (λ (c : Closing). c.value) o)) is)
+        (x.replica, left_is x.replica shut ∙ ap (λ o. map_of (left_after (opened m) v) (option_map (λ (c : Closing). c.value) o)) is)
 
     pub one_closing : IsOneClosing m f journal v
     one_closing = record { left = left_is; somebody = somebody }
@@ -197,7 +197,7 @@ closing_of_verdict base f journal v is given m e =
     go m (subst (λ b. (k : IsVerdict b f journal v) × Merges b f journal k.order) e (is, given))
   where
     go : (m : Contents) → ((k : IsVerdict (opened m) f journal v) × Merges (opened m) f journal k.order) → IsOneClosing m f journal v
-    go m p = one_closing m f journal p.0.order p.1 v (same_operations m f journal v p.0 p.1) p.0.closing p.0.contents
+    go m p = one_closing m f journal p.0.order p.1 v (same_operations m f journal v p.0 p.1) p.0.closing
 
 -- the verdict's seal is executed, by an entry of its stamp
 pub record IsThere (m : Contents) (f : ℕ) (journal : Journals) (c : Closing) : Type 0 where

@@ -16,7 +16,7 @@ use Rattle.ep_rules.specs.Worlds.{In, IsRun, opening}
 use Rattle.ep_rules.specs.declared.receipt.Receipt.{Receipt}
 use Rattle.ep_report.specs.Refusals.{fault_of}
 use Rattle.ep_report.specs.declared.closing.Closing.{Closing}
-use Rattle.ep_verdict.specs.Verdicts.{instances_in, IsVerdict}
+use Rattle.ep_verdict.specs.Verdicts.{instances_in, left_after, IsVerdict}
 use Rattle.ep_verdict.specs.declared.verdict.Verdict.{Verdict}
 use Rattle.ep_audit.specs.declared.refusal.Refusal.{Refusal}
 use Rattle.ep_audit.specs.declared.refusal.Refusal.TheVariants.{Memory, Fault}
@@ -55,10 +55,10 @@ pub record IsOneHistory (base : Store) (f : ℕ) (journal : Journals) (receipts 
 
 -- The journals of replicas that open with the map m have one closing, which the verdict tells.
 pub record IsOneClosing (m : Contents) (f : ℕ) (journal : Journals) (v : Verdict) : Type 0 where
-  -- whose journal has executed a seal leaves the verdict's map, closed by the verdict's seal
-  pub left : (r : ℕ) → is_closed (store_left m f journal r) ≡ true → store_left m f journal r ≡ record { contents = v.contents; seal = option_map (λ c. c.value) v.closing }
+  -- whose journal has executed a seal leaves the map that the verdict's history leaves, closed by the verdict's seal
+  pub left : (r : ℕ) → is_closed (store_left m f journal r) ≡ true → store_left m f journal r ≡ record { contents = left_after (opened m) v; seal = option_map (λ c. c.value) v.closing }
   -- and where the history has a seal, somebody has executed it
-  pub somebody : (c : Closing) → v.closing ≡ Some c → (r : ℕ) × (store_left m f journal r ≡ record { contents = v.contents; seal = Some c.value })
+  pub somebody : (c : Closing) → v.closing ≡ Some c → (r : ℕ) × (store_left m f journal r ≡ record { contents = left_after (opened m) v; seal = Some c.value })
 
 -- the verdict of journals and receipts that are accepted: its schedule and its history are those of the run
 pub record IsAudited (base : Store) (f : ℕ) (journal : Journals) (receipts : List Receipt) (v : Verdict) : Type 0 where

@@ -16,7 +16,7 @@ use Rattle.ep_rules.specs.OneMap.{Contents, empty}
 use Rattle.ep_rules.specs.Worlds.{In}
 use Rattle.ep_rules.specs.declared.receipt.Receipt.{Receipt}
 use Rattle.ep_verdict.specs.Closings.{operations_in}
-use Rattle.ep_verdict.specs.Verdicts.{places_of}
+use Rattle.ep_verdict.specs.Verdicts.{left_after, places_of}
 use Rattle.ep_verdict.specs.declared.verdict.Verdict.{Verdict}
 use Rattle.ep_audit.specs.Audited.{IsAudited}
 use Rattle.ep_audit.specs.Differences.{IsLeastDifference}
@@ -38,12 +38,16 @@ IsGood l = IsAccepted (opens l.journals.opening) l.journals.faults (journals_of 
 abbrev pub IsJudged : Link → Verdict → Type 0
 IsJudged l v = IsAudited (opens l.journals.opening) l.journals.faults (journals_of l.journals) l.receipts.items v
 
+-- and this is the map that its history leaves
+abbrev pub map_after : Link → Verdict → Contents
+map_after l v = left_after (opens l.journals.opening) v
+
 -- the next generation goes on from p, whose verdict is v
 pub record GoesOn (p : Link) (v : Verdict) (next : Link) : Type 0 where
   pub closing : Closing
   pub closed : v.closing ≡ Some closing
   pub consecutive : number_of next ≡ suc (number_of p)
-  pub opening : next.journals.opening.contents ≡ v.contents
+  pub opening : next.journals.opening.contents ≡ map_after p v
   pub clocks : closing.stamp ≤ next.journals.opening.since
   -- so each of its stamps is above that of the seal
   pub later : (r : ℕ) (e : Entry) → In e (journals_of next.journals r) → closing.stamp < e.stamp
@@ -52,9 +56,9 @@ pub record GoesOn (p : Link) (v : Verdict) (next : Link) : Type 0 where
 abbrev pub IsParted : Link → Verdict → Closing → Link → ChainFault → Type 0
 IsParted p v c next (Audit fault) = ⊥
 IsParted p v c next NotConsecutive = number_of next ≢ suc (number_of p)
-IsParted p v c next (OpeningDiffers key) = (number_of next ≡ suc (number_of p)) × IsLeastDifference next.journals.opening.contents v.contents key
+IsParted p v c next (OpeningDiffers key) = (number_of next ≡ suc (number_of p)) × IsLeastDifference next.journals.opening.contents (map_after p v) key
 IsParted p v c next StampsGoBack =
-    (number_of next ≡ suc (number_of p)) × (next.journals.opening.contents ≡ v.contents) × (next.journals.opening.since < c.stamp)
+    (number_of next ≡ suc (number_of p)) × (next.journals.opening.contents ≡ map_after p v) × (next.journals.opening.since < c.stamp)
 IsParted p v c next NotClosed = ⊥
 
 -- Generations, one after the other.

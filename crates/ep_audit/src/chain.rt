@@ -1,7 +1,8 @@
 //! The audit of a chain: generations, one after the other.
 
 ghost use Rattle.std.specs.Prelude.{◌≡◌, ◌<◌, ◌≤◌, ◌++◌, [], ◌∷◌, length, IfOk, IfErr, Some, MatchOption};
-ghost use Rattle.ep_audit.specs.Chained.{AreLinked, GoesOn, IsChained, IsChainRefused, IsJudged, IsParted};
+ghost use Rattle.ep_audit.specs.Chained.{AreLinked, GoesOn, IsChained, IsChainRefused, IsJudged, IsParted, map_after};
+ghost use Rattle.ep_audit.specs.Differences.{IsLeastDifference};
 ghost use Rattle.ep_audit.specs.Following.{IsUnfollowed, IsUnjudged};
 
 use crate::auditing::audit;
@@ -9,9 +10,24 @@ use crate::chain_refusal::ChainRefusal;
 use crate::difference::first_difference;
 use crate::link::Link;
 use crate::refusal::Refusal;
+use ep_base::Key;
 use ep_report::{ChainFault, Closing};
 use ep_verdict::Verdict;
 use std::alloc::{AllocError, Global};
+
+/// The least key that the generation opens with another value of than the history of the one before leaves; none where it opens with just
+/// that map.
+fn opens_otherwise(
+    alloc: Global,
+    before: &Link,
+    verdict: &Verdict,
+    link: &Link,
+) -> Result<Option<Key>, AllocError>
+    ensures { IfOk result (λ key. MatchOption key (link.now.journals.opening.contents ≡ map_after before.now verdict.now) (λ k. IsLeastDifference link.now.journals.opening.contents (map_after before.now verdict.now) k)) }
+{
+    let left = verdict.contents(alloc, &before.journals)?;
+    first_difference(alloc, link.journals.opening().contents(), &left)
+}
 
 /// Why the generation doesn't go on from the one before, which this seal closed.
 #[tactic(auto, using(crate::proofs::Linking::goes_on, crate::proofs::Linking::not_next))]
@@ -32,7 +48,7 @@ fn parting(
         return Ok(Some(ChainFault::NotConsecutive));
     }
     let opening = link.journals.opening();
-    if let Some(key) = first_difference(alloc, opening.contents(), &verdict.contents)? {
+    if let Some(key) = opens_otherwise(alloc, before, verdict, link)? {
         return Ok(Some(ChainFault::OpeningDiffers(key)));
     }
     if opening.since() < closing.stamp.ticks() {

@@ -6,7 +6,9 @@ ghost use Rattle.ep_bundle.specs.Reading.{map_ok, field, number, run, is_read_fa
 ghost use Rattle.ep_bundle.specs.Filling.{Begun, Fills};
 
 use crate::bundle_fault::BundleFault;
+use crate::room::Room;
 use byteorder::{BigEndian, ByteOrder};
+use bytes::{Bytes, BytesMut};
 use ep_base::{ReadFailed, Source};
 use std::alloc::Global;
 
@@ -95,6 +97,34 @@ pub(crate) fn read_over<S: Source>(
 {
     bytes.resize(len, 0)?;
     take(source, place, bytes)
+}
+
+/// Fills the block with a run of as many bytes, and takes it out.
+fn take_block<S: Source>(
+    source: &mut S,
+    place: &mut u64,
+    block: &mut BytesMut,
+) -> Result<Bytes, BundleFault>
+    ensures bytes { (zs : List ℕ) → S.left source.old ≡ Some zs → Reads (run (length block.old.items) (record { at = place.old; bytes = zs })) result place.new (S.left source.new) }
+    ensures told { FailsAsTold is_read_failed result (S.has_failed source.old) (S.has_failed source.new) }
+{
+    take(source, place, block.as_mut_slice())?;
+    let run = block.freeze_to(block.len())?;
+    Ok(run)
+}
+
+/// Takes a run of this many bytes, which shares the room's block with others.
+pub(crate) fn read_shared<S: Source>(
+    source: &mut S,
+    place: &mut u64,
+    len: usize,
+    room: &mut Room,
+) -> Result<Bytes, BundleFault>
+    ensures bytes { (zs : List ℕ) → S.left source.old ≡ Some zs → Reads (run len (record { at = place.old; bytes = zs })) result place.new (S.left source.new) }
+    ensures told { FailsAsTold is_read_failed result (S.has_failed source.old) (S.has_failed source.new) }
+{
+    room.open(len)?;
+    take_block(source, place, &mut room.block)
 }
 
 pub(crate) fn read_u8<S: Source>(source: &mut S, place: &mut u64) -> Result<u8, BundleFault>

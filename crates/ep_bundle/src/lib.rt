@@ -31,6 +31,7 @@ mod parts;
 mod putting;
 mod read_laws;
 mod receipts;
+mod room;
 mod write_laws;
 mod writing;
 

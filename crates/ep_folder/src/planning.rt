@@ -62,17 +62,24 @@ fn has_opening(generation: u32, held: &[Held]) -> bool
 fn where_unmarked(generation: u32, left: u32) -> LogStart
     ensures { result ≡ where_unmarked generation left }
 {
-    if left < generation {
+    if generation > left {
         LogStart::Either
     } else {
         LogStart::Existing
     }
 }
 
+/// Whether the replica has been in a later generation than the newest one here.
+fn is_gone(newest: u32, left: u32) -> bool
+    ensures { result ≡ ltb newest left }
+{
+    newest < left
+}
+
 fn go_on(newest: u32, left: u32, before: bool) -> Result<Plan, Refusal>
     ensures { result ≡ go_on newest left before }
 {
-    if newest < left {
+    if is_gone(newest, left) {
         return Err(Refusal::Left(left));
     }
     if newest == 0 {
@@ -93,7 +100,7 @@ fn go_on(newest: u32, left: u32, before: bool) -> Result<Plan, Refusal>
 fn begin(newest: u32, left: u32, is_same: bool) -> Result<Plan, Refusal>
     ensures { result ≡ begin newest left is_same }
 {
-    if newest < left {
+    if is_gone(newest, left) {
         return Err(Refusal::Left(left));
     }
     if newest == 0 {
@@ -116,7 +123,7 @@ fn begin(newest: u32, left: u32, is_same: bool) -> Result<Plan, Refusal>
 fn take_again(newest: u32, left: u32, is_same: bool) -> Result<Plan, Refusal>
     ensures { result ≡ take_again newest left is_same }
 {
-    if newest < left {
+    if is_gone(newest, left) {
         return Err(Refusal::Left(left));
     }
     if !is_same {

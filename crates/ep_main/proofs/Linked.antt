@@ -107,13 +107,6 @@ chains_written links OutOfMemory result text out fault says (inl h) = absurd say
 chains_written links Failed result text out fault says (inl h) = absurd says
 chains_written links status result text out fault says (inr (is, failed, told)) = subst (λ s. Chains links s out fault) (sym is) (failed, told)
 
--- of a chain that is accepted, each verdict has fewer keys than a line can tell
-pub few_of : (ls : List Link) (vs : List Verdict) → length vs ≡ length ls → AreLinked ls vs → All (λ (v : Verdict). length (entries v.contents) < 2 ^ 32) vs
-few_of [] vs same linked k d less = let none : length vs ≡ 0 = same in absurd (omega arith)
-few_of (l ∷ ls) vs same linked k d less =
-    let there : k < length (l ∷ ls) = omega arith in
-    (linked.judged k (get_or (l ∷ ls) k l) (get_or vs k d) (slice_get-get_or (l ∷ ls) k l there) (slice_get-get_or vs k d less)).verdict.few
-
 -- a fault's generation is one of them
 
 there_less : (ls : List Link) (k : ℕ) (l : Link) → slice_get ls k ≡ Some l → k < length ls

@@ -10,7 +10,7 @@ ghost use Rattle.ep_main.specs.declared.fault.Fault.TheVariants.{Memory};
 
 use crate::fault::Fault;
 use crate::judged::Judged;
-use crate::life::life_of;
+use crate::life::{life_of, told_contents};
 use crate::status::Status;
 use ep_audit::{Refusal, audit};
 use ep_base::{Sink, Source};
@@ -46,7 +46,8 @@ fn judge_bundle(alloc: Global, bundle: &Bundle) -> Result<Judged, Fault>
 {
     match audit(alloc, &bundle.journals, bundle.receipts.as_slice()) {
         Ok(verdict) => {
-            let life = life_of(&bundle.journals, &verdict);
+            let contents = told_contents(alloc, &bundle.journals, &verdict)?;
+            let life = life_of(&bundle.journals, &verdict, &contents);
             let found = Findings {
                 life: life.as_ref(),
                 committed: verdict.committed.as_slice(),

@@ -1,17 +1,15 @@
 //! Audits of chains, whose bundles are files.
 
-ghost use Rattle.std.specs.Prelude.{◌≡◌, ◌<◌, ◌^◌, ◌++◌, All, codes, length, map, string_bytes, IfOk, IfErr, OnOk};
-ghost use Rattle.std.specs.FinMap.{entries};
+ghost use Rattle.std.specs.Prelude.{◌≡◌, ◌<◌, ◌++◌, codes, length, map, string_bytes, IfOk, IfErr, OnOk};
 ghost use Rattle.ep_audit.specs.Chained.{IsChained, IsChainFault};
 ghost use Rattle.ep_main.specs.Chains.{Chains, ChainsFiles, EndsOfFiles, IsFaultText, IsWritten, SaysOfChain, TurnsAway, chain_text, link_text};
 ghost use Rattle.ep_main.specs.Outputs.{Told, output};
 ghost use Rattle.ep_main.specs.declared.fault.Fault.TheVariants.{Memory};
-ghost use Rattle.ep_verdict.specs.declared.verdict.Verdict.{Verdict as Judgement};
 
 use crate::chain_files::read_links;
 use crate::fault::Fault;
 use crate::judged::Judged;
-use crate::life::life_of;
+use crate::life::{life_of, told_contents};
 use crate::program::concluded;
 use crate::status::Status;
 use ep_assemble::FilesFault;
@@ -106,24 +104,28 @@ fn accepted_chain(
     links: &[Link],
     verdicts: &[Verdict],
 ) -> Result<Vec<u8>, AllocError>
-    requires count { length verdicts.now ≡ length links.now }
-    requires few { All (λ (v : Judgement). length (entries v.contents) < 2 ^ 32) verdicts.now }
+    requires { length verdicts.now ≡ length links.now }
     ensures { IfOk result (λ t. t.items ≡ chain_text links.now verdicts.now) }
 {
     let mut text = Vec::from_slice(alloc, b"verdict accepted\n")?;
     for place in 0..links.len() {
-        push_link(&mut text, &links[place], &verdicts[place])?;
+        push_link(alloc, &mut text, &links[place], &verdicts[place])?;
     }
     Ok(text)
 }
 
 /// Appends the line of a generation.
 #[tactic(auto, using(crate::proofs::Linked::link_told, crate::proofs::Linked::link_silent))]
-fn push_link(text: &mut Vec<u8>, link: &Link, verdict: &Verdict) -> Result<(), AllocError>
-    requires { length (entries verdict.now.contents) < 2 ^ 32 }
+fn push_link(
+    alloc: Global,
+    text: &mut Vec<u8>,
+    link: &Link,
+    verdict: &Verdict,
+) -> Result<(), AllocError>
     ensures { OnOk result (text.new.items ≡ text.old.items ++ link_text link.now verdict.now) }
 {
-    let Some(life) = life_of(&link.journals, verdict) else {
+    let contents = told_contents(alloc, &link.journals, verdict)?;
+    let Some(life) = life_of(&link.journals, verdict, &contents) else {
         return Ok(());
     };
     push_link_line(text, &life, verdict.committed.len(), verdict.history.len())

@@ -14,7 +14,7 @@ ghost use Rattle.ep_main.specs.declared.fault.Fault.TheVariants.{Memory};
 
 use crate::fault::Fault;
 use crate::gathering::gather_bundle;
-use crate::life::life_of;
+use crate::life::{life_of, told_contents};
 use crate::status::Status;
 use ep_audit::{Refusal, audit};
 use ep_base::{Sink, Source};
@@ -83,7 +83,8 @@ fn report_of(alloc: Global, played: &Replayed) -> Result<Vec<u8>, Fault>
 {
     match audit(alloc, &played.journals, played.receipts.as_slice()) {
         Ok(verdict) => {
-            let life = life_of(&played.journals, &verdict);
+            let contents = told_contents(alloc, &played.journals, &verdict)?;
+            let life = life_of(&played.journals, &verdict, &contents);
             let found = Findings {
                 life: life.as_ref(),
                 committed: verdict.committed.as_slice(),

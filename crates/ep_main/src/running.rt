@@ -19,7 +19,7 @@ use crate::fault::Fault;
 use crate::gathering::gather_bundle;
 use crate::host::Host;
 use crate::judged::Judged;
-use crate::life::life_of;
+use crate::life::{life_of, told_contents};
 use crate::run_options::RunOptions;
 use crate::status::Status;
 use ep_base::{Sink, Source};
@@ -99,7 +99,8 @@ fn judge_reported(alloc: Global, ran: &Ran) -> Result<Judged, Fault>
                 refused: ran.refused.as_slice(),
                 lost: ran.lost,
             };
-            let life = life_of(&ran.finished.journals, verdict);
+            let contents = told_contents(alloc, &ran.finished.journals, verdict)?;
+            let life = life_of(&ran.finished.journals, verdict, &contents);
             let found = Findings {
                 life: life.as_ref(),
                 committed: verdict.committed.as_slice(),

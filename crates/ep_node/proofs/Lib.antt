@@ -6,13 +6,14 @@ pub mod CrashPlayed
 pub mod CrashOrders
 pub mod CrashLives
 pub mod CallMoves
+pub mod Sealed
+pub mod LifeStays
+pub mod LifeChains
 pub mod LifeFrames
 pub mod LifeMoves
-mod Closings
 pub mod Growing
 mod Renewing
 mod Moments
 mod Syncing
 mod Opened
 mod EachTaken
-mod Outstanding

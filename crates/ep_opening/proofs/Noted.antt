@@ -127,7 +127,7 @@ noted_more done k j x a b c lt is p q =
     (gains_more (WasAnsweredIn (take k done)) (λ i. (i ≡ j) × WasDone x) (WasAnsweredIn (take k done ++ (j, x) ∷ [])) a b c (answered_push (take k done) j x) p q)
 
 pub noted_all : (done : List (ℕ × Answer)) (k : ℕ) (a b : List ℕ) → length done ≤ k → Gains (WasAnsweredIn (take k done)) a b → Gains (WasAnsweredIn done) a b
-noted_all done k a b le g = subst (λ (ds : List (ℕ × Answer)). Gains (WasAnsweredIn ds) a b) (take_all done k le) g
+noted_all done k a b le g = subst (λ (ds : List (ℕ × Answer)). Gains (WasAnsweredIn ds) a b) (take_all k done le) g
 
 -- entries
 
@@ -162,7 +162,7 @@ gathered_more es k e a b c lt is p q =
     (gains_more (WasAnswered (entries_of (take k es))) (WasAnsweredIn e.done) (WasAnswered (entries_of (take k es) ++ entry_of e ∷ [])) a b c (entry_push (entries_of (take k es)) (entry_of e)) p q)
 
 pub gathered_all : (es : List Entry) (k : ℕ) (a b : List ℕ) → length es ≤ k → Gains (WasAnswered (entries_of (take k es))) a b → Gains (WasAnswered (entries_of es)) a b
-gathered_all es k a b le g = subst (λ (these : List Entry). Gains (WasAnswered (entries_of these)) a b) (take_all es k le) g
+gathered_all es k a b le g = subst (λ (these : List Entry). Gains (WasAnswered (entries_of these)) a b) (take_all k es le) g
 
 -- all of a set that was empty are instances
 pub all_instances : (P : ℕ → Type 0) (xs : List ℕ) → Gains P [] xs → (i : ℕ) → Has xs i → IsInstance i

@@ -1,3 +1,4 @@
 mod FilesCollected
+mod InFolders
 mod Puts
 mod Serving

@@ -28,11 +28,11 @@ pub enum FolderFault {
     /// The opening that stands in the place of that of the first of these generations is of the second.
     OtherGeneration(u32, u32),
     /// This generation has so many replicas, and another number was told.
-    OtherSize(u32, u8),
+    OtherSize(u32, u32),
     /// What is to be taken is no opening.
     NoOpening(OpeningFault),
     /// What is to be taken is for so many replicas, and another number was told.
-    OtherCluster(u8),
+    OtherCluster(u32),
     /// The last generation has been closed.
     Last,
 }

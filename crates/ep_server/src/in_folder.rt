@@ -4,6 +4,8 @@ ghost use Rattle.std.specs.Prelude.{◌≡◌, ◌++◌, ℕ, List, Option, None
 ghost use Rattle.ep_node.specs.Nodes.{IsQuiet};
 ghost use Rattle.ep_node.specs.declared.cut.Cut.{Cut as CutOff};
 ghost use Rattle.ep_opening.specs.Bytes.{file_digest};
+ghost use Rattle.ep_opening.specs.Closing.{store_of};
+ghost use Rattle.ep_rules.specs.OneMap.{is_closed};
 ghost use Rattle.ep_server.specs.Outputs.{output};
 ghost use Rattle.ep_server.specs.Served.{origin_from, told_first, IsFolderNode, IsOfFile, IsUnready, TellsCut, TellsCuts};
 
@@ -12,7 +14,7 @@ use crate::folder_fault::FolderFault;
 use crate::folder_options::FolderOptions;
 use crate::program::{concluded, opened_as, served, tell_first};
 use crate::stage::Stage;
-use crate::staging::{first_stage, next_stage, put_next};
+use crate::staging::{check_stage, first_stage, next_stage, put_next};
 use crate::status::Status;
 use ep_base::{Generation, ReplicaId, Sink, Size, Source};
 use ep_device::{Device, FileDevice};
@@ -26,14 +28,14 @@ use std::rt::Files;
 /// Serves as the replica of this folder, in the generation that it is in, until the source is over or a fault stops it, and answers how the
 /// program ends. What was cut off a log is told by a line on the fault output before anything is answered, and what stops the node by one more;
 /// where telling fails, the status stays.
-pub fn serve_folder<R: Files<File = File> + AllocGlobal, S: Source, W: Sink, F: Sink>(
-    rt: &R,
+pub fn serve_folder<'a, R: Files<File = File> + AllocGlobal, S: Source, W: Sink, F: Sink>(
+    rt: &'a R,
     options: &FolderOptions,
     reader: &mut S,
     writer: &mut W,
     fault_writer: &mut F,
 ) -> Status
-    ensures { (zs : List ℕ) → S.left reader.old ≡ Some zs → IsFolderNode (record { has_failed = ⟦<FileDevice<R> as Device>⟧.has_failed; why = ⟦<FileDevice<R> as Device>⟧.why; seen = ⟦<FileDevice<R> as Device>⟧.seen; moment = ⟦<FileDevice<R> as Device>⟧.moment; left_since = ⟦<FileDevice<R> as Device>⟧.left_since })
+    ensures { (zs : List ℕ) → S.left reader.old ≡ Some zs → IsFolderNode (record { has_failed = ⟦<FileDevice<'a, R> as Device>⟧.has_failed; why = ⟦<FileDevice<'a, R> as Device>⟧.why; seen = ⟦<FileDevice<'a, R> as Device>⟧.seen; moment = ⟦<FileDevice<'a, R> as Device>⟧.moment; left_since = ⟦<FileDevice<'a, R> as Device>⟧.left_since })
         options.now.mode options.now.size options.now.me zs result
         (output (S.left reader.old) (S.left reader.new) (S.has_failed reader.old) (S.has_failed reader.new))
         (output (W.held writer.old) (W.held writer.new) (W.has_failed writer.old) (W.has_failed writer.new))
@@ -49,6 +51,7 @@ pub fn serve_folder<R: Files<File = File> + AllocGlobal, S: Source, W: Sink, F: 
 }
 
 /// The node of the generation that is served: of the cluster's size, and with the origin that a file has.
+#[tactic(auto, using(crate::proofs::InFolders::tells_nothing, crate::proofs::InFolders::one_cut, crate::proofs::InFolders::both_cuts))]
 fn ready<'a, R: Files<File = File> + AllocGlobal, F: Sink>(
     rt: &'a R,
     options: &FolderOptions,
@@ -59,6 +62,7 @@ fn ready<'a, R: Files<File = File> + AllocGlobal, F: Sink>(
     ensures told { TellsCuts (output (F.held fault_writer.old) (F.held fault_writer.new) (F.has_failed fault_writer.old) (F.has_failed fault_writer.new)) }
 {
     let stage = first_stage(rt, options)?;
+    check_stage(options.size, &stage)?;
     let generation = stage.file.generation();
     let node = open_stage(rt, options, stage, fault_writer)?;
     match closed(rt, options, &node) {
@@ -75,6 +79,7 @@ fn ready<'a, R: Files<File = File> + AllocGlobal, F: Sink>(
 }
 
 /// The node of the generation that was opened by closing the one before.
+#[tactic(auto, using(crate::proofs::InFolders::tells_nothing))]
 fn ready_again<'a, R: Files<File = File> + AllocGlobal, F: Sink>(
     rt: &'a R,
     options: &FolderOptions,
@@ -85,6 +90,7 @@ fn ready_again<'a, R: Files<File = File> + AllocGlobal, F: Sink>(
     ensures told { TellsCut (output (F.held fault_writer.old) (F.held fault_writer.new) (F.has_failed fault_writer.old) (F.has_failed fault_writer.new)) }
 {
     let stage = next_stage(rt, options.folder.as_str())?;
+    check_stage(options.size, &stage)?;
     let generation = stage.file.generation();
     let node = open_stage(rt, options, stage, fault_writer)?;
     of_size(options.size, generation, node)
@@ -106,7 +112,7 @@ fn of_size<D: Device + Drop>(
         drop(node);
         Err(Fault::Folder(FolderFault::OtherSize(
             generation.number(),
-            found.count(),
+            u32::from(found.count()),
         )))
     }
 }
@@ -117,7 +123,7 @@ fn closed<R: Files<File = File> + AllocGlobal, D: Device>(
     options: &FolderOptions,
     node: &Node<D>,
 ) -> Result<bool, FolderFault>
-    requires { IsQuiet node.now }
+    ensures { IfOk result (λ is. is ≡ is_closed (store_of node.now.replica)) }
 {
     match node.close(rt.alloc(), options.size) {
         Ok(file) => {
@@ -126,7 +132,7 @@ fn closed<R: Files<File = File> + AllocGlobal, D: Device>(
         }
         Err(CloseFault::NotSealed) => Ok(false),
         Err(CloseFault::LastGeneration) => Err(FolderFault::Last),
-        // (the node is quiet, so that there is no other fault)
+        // (or it isn't quiet, which a node that was just opened is)
         Err(_) => Err(FolderFault::Memory),
     }
 }
@@ -166,6 +172,7 @@ fn device_of<'a, R: Files<File = File> + AllocGlobal>(
 }
 
 /// The node of a generation, whose log is on the disk. The generations before it are left then.
+#[tactic(auto, using(crate::proofs::InFolders::tells_nothing, crate::proofs::InFolders::tells_cut))]
 fn open_stage<'a, R: Files<File = File> + AllocGlobal, F: Sink>(
     rt: &'a R,
     options: &FolderOptions,

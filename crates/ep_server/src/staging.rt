@@ -1,7 +1,8 @@
 //! Which generation is opened, and with what.
 
-ghost use Rattle.std.specs.Prelude.{◌≡◌, IfOk, OnOk};
+ghost use Rattle.std.specs.Prelude.{◌≡◌, IfOk};
 ghost use Rattle.ep_opening.specs.Bytes.{file_digest, opening_bytes};
+ghost use Rattle.ep_opening.specs.Files.{File as Written};
 
 use crate::asks::Asks;
 use crate::folder_fault::FolderFault;
@@ -67,7 +68,7 @@ fn read_taken<R: Files + AllocGlobal>(rt: &R, name: &str) -> Result<Vec<u8>, Fol
 
 /// The generation of an opening that is to be taken, by its bytes: they are one, digest and all, for a cluster of this size.
 fn taken_generation(alloc: Global, bytes: &[u8], size: Size) -> Result<Generation, FolderFault>
-    ensures { IfOk result (λ g. (f : File) × (bytes.now ≡ opening_bytes f) × (g ≡ f.generation) × (f.faults ≡ size)) }
+    ensures { IfOk result (λ g. (f : Written) × (bytes.now ≡ opening_bytes f) × (g ≡ f.generation) × (f.faults ≡ size)) }
 {
     match read_opening(alloc, bytes) {
         Ok(file) => {
@@ -76,7 +77,7 @@ fn taken_generation(alloc: Global, bytes: &[u8], size: Size) -> Result<Generatio
             if found == size {
                 Ok(generation)
             } else {
-                Err(FolderFault::OtherCluster(found.count()))
+                Err(FolderFault::OtherCluster(u32::from(found.count())))
             }
         }
         Err(OpeningFault::Memory) => Err(FolderFault::Memory),
@@ -167,7 +168,7 @@ fn of_generation(generation: Generation, file: OpeningFile) -> Result<OpeningFil
 
 /// The digest of the file of these bytes.
 fn digest_of(bytes: &[u8]) -> Result<[u8; 32], FolderFault>
-    ensures { IfOk result (λ digest. (f : File) → bytes.now ≡ opening_bytes f → digest ≡ file_digest f) }
+    ensures { IfOk result (λ digest. (f : Written) → bytes.now ≡ opening_bytes f → digest ≡ file_digest f) }
 {
     match digest_in(bytes) {
         Some(digest) => Ok(digest),
@@ -306,4 +307,16 @@ pub(crate) fn put_next<R: Files<File = File> + AllocGlobal>(
             bytes,
         },
     )
+}
+
+/// Whether the opening is for a cluster of this size, where its log is begun: it can't be closed then.
+pub(crate) fn check_stage(size: Size, stage: &Stage) -> Result<(), FolderFault> {
+    let found = stage.file.size();
+    if stage.begin == Begin::New && found != size {
+        return Err(FolderFault::OtherSize(
+            stage.file.generation().number(),
+            u32::from(found.count()),
+        ));
+    }
+    Ok(())
 }

@@ -3,7 +3,7 @@
 ghost use Rattle.std.specs.Prelude.{◌++◌, codes, decimal};
 ghost use Rattle.ep_base.specs.Devices.{Puts};
 ghost use Rattle.ep_log.specs.declared.log_fault.LogFault.TheVariants.{Turned};
-ghost use Rattle.ep_server.specs.Faults.{command_line_refused, line_of, line_of_cut, line_of_folder, line_of_log, line_of_open, line_of_opening, line_of_refusal, line_of_serve, log_failed, record_line, words_of};
+ghost use Rattle.ep_server.specs.Faults.{command_line_refused, line_of, line_of_cut, line_of_folder, line_of_log, line_of_open, line_of_opening, line_of_refusal, line_of_serve, log_failed, numbered, record_line, words_of};
 ghost use Rattle.ep_server.specs.declared.folder_fault.FolderFault.TheVariants.{NoOpening, Opening, OtherGeneration, OtherSize};
 
 use crate::fault::Fault;
@@ -94,9 +94,9 @@ fn tell_folder<F: Sink>(why: FolderFault, sink: &mut F) -> Result<(), WriteFaile
         FolderFault::Failed(cause) => tell_failure(b"folder failed: ", cause, sink),
         FolderFault::Unread(cause) => tell_failure(b"opening failed: ", cause, sink),
         FolderFault::Refused(refusal) => tell_refusal(refusal, sink),
-        FolderFault::NoLog(generation) => tell_place(
+        FolderFault::NoLog(generation) => tell_between(
             b"folder refused: generation ",
-            u64::from(generation),
+            generation,
             b" has no log; repeat the --take that was broken off, or go on with the opening of a later one by --take FILE\n",
             sink,
         ),
@@ -106,9 +106,9 @@ fn tell_folder<F: Sink>(why: FolderFault, sink: &mut F) -> Result<(), WriteFaile
         }
         FolderFault::OtherSize(generation, count) => tell_other_size(generation, count, sink),
         FolderFault::NoOpening(fault) => tell_no_opening(fault, sink),
-        FolderFault::OtherCluster(count) => tell_place(
+        FolderFault::OtherCluster(count) => tell_between(
             b"opening refused: it is for --replicas ",
-            u64::from(count),
+            count,
             b"\n",
             sink,
         ),
@@ -122,27 +122,27 @@ fn tell_refusal<F: Sink>(why: Refusal, sink: &mut F) -> Result<(), WriteFailed>
 {
     match why {
         Refusal::Empty => sink.put(b"folder refused: no generation is here; --new begins the first one of a new replica, --take FILE goes on with a peer's opening\n"),
-        Refusal::There(generation) => tell_place(
+        Refusal::There(generation) => tell_between(
             b"folder refused: generation ",
-            u64::from(generation),
+            generation,
             b" is here already; --new is for a new replica\n",
             sink,
         ),
-        Refusal::Left(generation) => tell_place(
+        Refusal::Left(generation) => tell_between(
             b"folder refused: the replica has been in generation ",
-            u64::from(generation),
+            generation,
             b", which is gone; --take FILE goes on with the opening of a later one\n",
             sink,
         ),
-        Refusal::Older(generation) => tell_place(
+        Refusal::Older(generation) => tell_between(
             b"opening refused: it is of an earlier generation than ",
-            u64::from(generation),
+            generation,
             b", which is here; start without --take\n",
             sink,
         ),
-        Refusal::Other(generation) => tell_place(
+        Refusal::Other(generation) => tell_between(
             b"opening refused: generation ",
-            u64::from(generation),
+            generation,
             b" has another one here; start without --take\n",
             sink,
         ),
@@ -173,9 +173,9 @@ fn tell_bad_opening<F: Sink>(
 ) -> Result<(), WriteFailed>
     ensures { Puts (F.held sink.old) (F.held sink.new) (F.has_failed sink.old) (F.has_failed sink.new) result (line_of_folder (Opening generation why)) }
 {
-    tell_place(
+    tell_between(
         b"folder refused: the opening of generation ",
-        u64::from(generation),
+        generation,
         b": ",
         sink,
     )?;
@@ -198,30 +198,30 @@ fn tell_other_generation<F: Sink>(
 ) -> Result<(), WriteFailed>
     ensures { Puts (F.held sink.old) (F.held sink.new) (F.has_failed sink.old) (F.has_failed sink.new) result (line_of_folder (OtherGeneration generation found)) }
 {
-    tell_place(
+    tell_between(
         b"folder refused: the opening of generation ",
-        u64::from(generation),
+        generation,
         b" is that of generation ",
         sink,
     )?;
-    tell_place(b"", u64::from(found), b"\n", sink)
+    tell_between(b"", found, b"\n", sink)
 }
 
 /// Writes that a generation has another size.
 fn tell_other_size<F: Sink>(
     generation: u32,
-    count: u8,
+    count: u32,
     sink: &mut F,
 ) -> Result<(), WriteFailed>
     ensures { Puts (F.held sink.old) (F.held sink.new) (F.has_failed sink.old) (F.has_failed sink.new) result (line_of_folder (OtherSize generation count)) }
 {
-    tell_place(
+    tell_between(
         b"folder refused: generation ",
-        u64::from(generation),
+        generation,
         b" has another size and isn't closed; go on with --replicas ",
         sink,
     )?;
-    tell_place(b"", u64::from(count), b"\n", sink)
+    tell_between(b"", count, b"\n", sink)
 }
 
 /// Writes what failed, and why.
@@ -327,5 +327,20 @@ fn tell_place<F: Sink>(
     let mut digits = Buffer::new();
     sink.put(before)?;
     sink.put(digits.format(place).as_bytes())?;
+    sink.put(after)
+}
+
+/// Writes a generation or the like, and what stands before and after it.
+fn tell_between<F: Sink>(
+    before: &[u8],
+    number: u32,
+    after: &[u8],
+    sink: &mut F,
+) -> Result<(), WriteFailed>
+    ensures { Puts (F.held sink.old) (F.held sink.new) (F.has_failed sink.old) (F.has_failed sink.new) result (numbered before.now number after.now) }
+{
+    let mut digits = Buffer::new();
+    sink.put(before)?;
+    sink.put(digits.format(number).as_bytes())?;
     sink.put(after)
 }

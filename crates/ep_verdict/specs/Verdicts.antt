@@ -1,13 +1,12 @@
 -- What journals say, as the code tells it.
-use Rattle.std.specs.Prelude.{◌≡◌, ◌<◌, ◌^◌, ℕ, List, [], ◌∷◌, ◌++◌, length, map}
-use Rattle.std.specs.FinMap.{entries}
+use Rattle.std.specs.Prelude.{◌≡◌, ℕ, List, [], ◌∷◌, ◌++◌, map}
 use Rattle.ep_base.specs.Places.{Has}
 use Rattle.ep_base.specs.Commands.{Command}
 use Rattle.ep_base.specs.declared.reply.Answer.{Answer}
 use Rattle.ep_base.specs.declared.reply.Reply.{Reply}
 use Rattle.ep_rules.specs.Journals.{Journals, Scheduled, IsSchedule}
 use Rattle.ep_rules.specs.Merging.{Merges}
-use Rattle.ep_rules.specs.OneMap.{Store, replies, after_commands}
+use Rattle.ep_rules.specs.OneMap.{Contents, Store, replies, after_commands}
 use Rattle.ep_rules.specs.Steps.{order_of}
 use Rattle.ep_rules.specs.Verdicts.{command_at, history_of, IsTable}
 use Rattle.ep_rules.specs.Worlds.{In}
@@ -50,8 +49,7 @@ pub record IsHistory (base : Store) (f : ℕ) (journal : Journals) (schedule : L
   pub told : (h : Happening) → In h lines → (answer : Answer) × AnswersFirst schedule h.instance answer × (told_by answer ≡ h.reply)
   pub replies : Merges base f journal schedule → replies_in lines ≡ replies base (commands_in lines)
 
--- the schedule of the journals of replicas that open with the map base, all that they commit, their history, its first seal, and what the keys have after
--- all of it: a seal closes the map, so what comes after it changes nothing
+-- the schedule of the journals of replicas that open with the map base, all that they commit, their history, and its first seal
 pub record IsVerdict (base : Store) (f : ℕ) (journal : Journals) (verdict : Verdict) : Type 0 where
   pub order : List Scheduled
   pub scheduled : IsSchedule journal order
@@ -59,6 +57,7 @@ pub record IsVerdict (base : Store) (f : ℕ) (journal : Journals) (verdict : Ve
   pub committed : IsTable base f journal verdict.committed.items
   pub history : IsHistory base f journal order verdict.history.items
   pub closing : IsClosing journal (operations_in verdict.history.items) verdict.closing
-  pub contents : verdict.contents ≡ (after_commands base (commands_in verdict.history.items)).contents
-  -- so many that a report can tell
-  pub few : length (entries verdict.contents) < 2 ^ 32
+
+-- what the keys have after all of the verdict's history, from base on: a seal closes the map, so what comes after it changes nothing
+abbrev pub left_after : Store → Verdict → Contents
+left_after base verdict = (after_commands base (commands_in verdict.history.items)).contents

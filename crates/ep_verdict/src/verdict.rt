@@ -1,9 +1,10 @@
 //! What journals say.
 
-ghost use Rattle.std.specs.Prelude.{IfOk};
+ghost use Rattle.std.specs.Prelude.{◌≡◌, ◌<◌, ◌^◌, length, IfOk};
+ghost use Rattle.std.specs.FinMap.{entries};
 ghost use Rattle.ep_journal.specs.Entries.{journals_of};
 ghost use Rattle.ep_journal.specs.Openings.{opens};
-ghost use Rattle.ep_verdict.specs.Verdicts.{IsVerdict};
+ghost use Rattle.ep_verdict.specs.Verdicts.{IsVerdict, left_after};
 
 use crate::closing::closing_of;
 use crate::contents::contents_of;
@@ -27,8 +28,6 @@ pub struct Verdict {
     pub history: Vec<Happening>,
     /// The first seal of the history, with the least stamp of an entry that executes it; none where the history has no seal.
     pub closing: Option<Closing>,
-    /// What the keys have after all of the history, from the journals' opening on. What comes after a seal changes nothing.
-    pub contents: Contents,
 }
 
 impl Verdict {
@@ -44,13 +43,20 @@ impl Verdict {
         let committed = table_of(alloc, journals)?;
         let history = history_of(alloc, journals, &schedule)?;
         let closing = closing_of(alloc, journals, &history)?;
-        let contents = contents_of(alloc, journals.opening(), &history)?;
         Ok(Verdict {
             schedule,
             committed,
             history,
             closing,
-            contents,
         })
+    }
+
+    /// What the keys have after all of the history, from these journals' opening on. What comes after a seal changes nothing. A report counts the
+    /// keys in 32 bits: more are want of memory.
+    pub fn contents(&self, alloc: Global, journals: &Journals) -> Result<Contents, AllocError>
+        ensures value { IfOk result (λ m. m ≡ left_after (opens journals.now.opening) self.now) }
+        ensures few { IfOk result (λ m. length (entries m) < 2 ^ 32) }
+    {
+        contents_of(alloc, journals.opening(), &self.history)
     }
 }

@@ -26,7 +26,6 @@ pub fn schedule(alloc: Global, journals: &Journals) -> Result<Vec<(ReplicaId, u3
         committed: _,
         history: _,
         closing: _,
-        contents: _,
     } = verdict;
     Ok(schedule)
 }

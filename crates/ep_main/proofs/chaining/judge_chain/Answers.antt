@@ -1,18 +1,11 @@
-use Rattle.std.proofs.Common.{rules, ◌≡◌, ◌<◌, ◌^◌, List, length, sym, subst}
-use Rattle.std.specs.FinMap.{entries}
-use Rattle.std.specs.Prelude.{All}
+use Rattle.std.proofs.Common.{rules, ◌≡◌, List, length, sym, subst}
 use Rattle.ep_audit.specs.Chained.{IsChainRefused}
 use Rattle.ep_verdict.specs.declared.verdict.Verdict.{Verdict}
-use Rattle.ep_main.proofs.Linked.{fault_less, few_of}
+use Rattle.ep_main.proofs.Linked.{fault_less}
 use Rattle.ep_main.proofs.chaining.judge_chain.Goals as goal
 
-pub accepted_chain-requires-clause-count : goal.accepted_chain-requires-clause-count
-accepted_chain-requires-clause-count c = subst (λ (vs : List Verdict). length vs ≡ length c.args.links.now) (sym c.deref.ensures.value) c.in-Ok.ensures.ok.count
-
-pub accepted_chain-requires-clause-few : goal.accepted_chain-requires-clause-few
-accepted_chain-requires-clause-few c =
-    subst (λ (vs : List Verdict). All (λ (v : Verdict). length (entries v.contents) < 2 ^ 32) vs) (sym c.deref.ensures.value)
-    (few_of c.args.links.now c.in-Ok.verdicts.items c.in-Ok.ensures.ok.count c.in-Ok.ensures.ok.linked)
+pub accepted_chain-requires : goal.accepted_chain-requires
+accepted_chain-requires c = subst (λ (vs : List Verdict). length vs ≡ length c.args.links.now) (sym c.deref.ensures.value) c.in-Ok.ensures.ok.count
 
 pub refused_chain-requires-clause-there : goal.refused_chain-requires-clause-there
 refused_chain-requires-clause-there c =

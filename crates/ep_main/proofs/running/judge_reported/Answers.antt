@@ -3,9 +3,6 @@ use Rattle.ep_report.specs.Refusals.{fault_of}
 use Rattle.ep_main.proofs.Verdicts.{accepted_in, refused_in}
 use Rattle.ep_main.proofs.running.judge_reported.Goals as goal
 
-pub life_of-life-requires : goal.life_of-life-requires
-life_of-life-requires c = (accepted_in c.args.ran.now c.in-Ok.verdict (search rules) c.requires).verdict.few
-
 pub returns-in_ok-text-in-Ok-clause-value : goal.returns-in_ok-text-in-Ok-clause-value
 returns-in_ok-text-in-Ok-clause-value c = (c.in-Ok.verdict, accepted_in c.args.ran.now c.in-Ok.verdict (search rules) c.requires, search rules)
 

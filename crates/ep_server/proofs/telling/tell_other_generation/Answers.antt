@@ -3,4 +3,4 @@ use Rattle.ep_server.proofs.Puts.{puts_in_two}
 use Rattle.ep_server.proofs.telling.tell_other_generation.Goals as goal
 
 pub returns : goal.returns
-returns g c = puts_in_two _ _ _ _ _ _ _ _ _ _ c.in_ok-tell_place.ensures.0 c.in_ok-tell_place.ensures.1 refl c.tell_place-2.ensures
+returns g c = puts_in_two _ _ _ _ _ _ _ _ _ _ c.in_ok-tell_between.ensures.0 c.in_ok-tell_between.ensures.1 refl c.tell_between-2.ensures

@@ -1,11 +1,9 @@
-use Rattle.std.proofs.Common.{List, ap, subst, ◌∙◌}
+use Rattle.std.proofs.Common.{List, subst}
 use Rattle.ep_journal.specs.Entries.{journals_of}
-use Rattle.ep_journal.specs.Openings.{Opening, opens}
+use Rattle.ep_journal.specs.Openings.{opens}
 use Rattle.ep_report.specs.declared.happening.Happening.{Happening}
-use Rattle.ep_rules.specs.OneMap.{after_commands}
 use Rattle.ep_rules.specs.Worlds.{In}
 use Rattle.ep_verdict.specs.Closings.{operations_in, IsClosing}
-use Rattle.ep_verdict.specs.Verdicts.{commands_in}
 use Rattle.ep_verdict.proofs.FirstSeals.{line_executed}
 use Rattle.ep_verdict.proofs.Saying.{verdict_is}
 use Rattle.ep_verdict.proofs.verdict.Verdict.of.Goals as goal
@@ -18,8 +16,5 @@ closing_of-requires c = λ h there.
 pub returns : goal.returns
 returns c =
     verdict_is (opens c.args.journals.now.opening) c.args.journals.now.faults (journals_of c.args.journals.now)
-    (record { schedule = c.in_ok-schedule.schedule; committed = c.in_ok-committed.committed; history = c.in_ok-history.history; closing = c.in_ok-closing.closing; contents = c.in_ok-contents.contents }) c.are_local_runs.ensures c.in_ok-schedule.ensures
+    (record { schedule = c.in_ok-schedule.schedule; committed = c.in_ok-committed.committed; history = c.in_ok-history.history; closing = c.in_ok-closing.closing }) c.are_local_runs.ensures c.in_ok-schedule.ensures
     c.in_ok-committed.ensures c.in_ok-history.ensures (subst (λ (l : List Happening). IsClosing (journals_of c.args.journals.now) (operations_in l) c.in_ok-closing.closing) c.deref-2.ensures.value c.in_ok-closing.ensures)
-    (c.in_ok-contents.ensures.value ∙ ap (λ (o : Opening). (after_commands (opens o) (commands_in c.deref-3.result.now)).contents) c.opening.ensures
-    ∙ ap (λ (l : List Happening). (after_commands (opens c.args.journals.now.opening) (commands_in l)).contents) c.deref-3.ensures.value)
-    c.in_ok-contents.ensures.few

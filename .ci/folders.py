@@ -1,0 +1,389 @@
+"""Runs of `epaxos node --dir`: what is refused, and lives through generations, of which each start is a process of its own.
+
+Requests and answers are those of docs/FORMATS.md, section 10, openings those of section 12, and folders those of section 13."""
+
+import hashlib
+import os
+import shutil
+import struct
+import subprocess
+import tempfile
+
+import shim
+from shim import ADVANCE, ALL, STATE, SYNC
+
+SECONDS = 60
+PUT, GET, SEAL = 3, 2, 9
+EMPTY = {3: bytes.fromhex("45504f50 03 03 00000001 0000000000000000 00 00000000 00000000")}
+for _size in (5, 7):
+    EMPTY[_size] = EMPTY[3][:5] + bytes([_size]) + EMPTY[3][6:]
+EMPTY = {size: it + hashlib.sha256(it).digest() for size, it in EMPTY.items()}
+
+
+def digested(front):
+    """An opening of these bytes, with their digest."""
+    return front + hashlib.sha256(front).digest()
+
+
+def opening(size=3, generation=2, since=5, seal=b"x", held=(), executed=()):
+    """An opening."""
+    front = b"EPOP" + struct.pack(">BBIQ", 3, size, generation, since)
+    front += b"\0" if generation == 1 else b"\1" + struct.pack(">I", len(seal)) + seal
+    front += struct.pack(">I", len(held)) + b"".join(struct.pack(">BI", len(key), len(value)) + key + value for key, value in held)
+    front += struct.pack(">I", len(executed)) + b"".join(struct.pack(">BH", *it) for it in executed)
+    return digested(front)
+
+
+def parts_of(bytes_):
+    """Of an opening: N, generation, since, the seal's value, the map, and the executed instances."""
+    assert bytes_[:5] == b"EPOP\3" and bytes_ == digested(bytes_[:-32])
+    size, generation, since, mark = struct.unpack_from(">BIQB", bytes_, 5)
+    at, seal, held, executed = 19, None, {}, []
+    if mark:
+        length = struct.unpack_from(">I", bytes_, at)[0]
+        seal, at = bytes_[at + 4 : at + 4 + length], at + 4 + length
+    count, at = struct.unpack_from(">I", bytes_, at)[0], at + 4
+    for _ in range(count):
+        key, value = struct.unpack_from(">BI", bytes_, at)
+        held[bytes_[at + 5 : at + 5 + key]] = bytes_[at + 5 + key : at + 5 + key + value]
+        at += 5 + key + value
+    count, at = struct.unpack_from(">I", bytes_, at)[0], at + 4
+    executed = [struct.unpack_from(">BH", bytes_, at + 3 * it) for it in range(count)]
+    return size, generation, since, seal, held, executed
+
+
+class Cluster:
+    """Replicas in folders of a folder. Frames are given to a replica by its next start."""
+
+    def __init__(self, program, folder, size=3):
+        self.program, self.folder, self.size = program, folder, size
+        self.frames = [[] for _ in range(7)]
+
+    def place(self, replica):
+        return f"{self.folder}/{replica}"
+
+    def words(self, replica, *more):
+        return [self.program, "node", "--replicas", str(self.size), "--replica", str(replica), "--dir", self.place(replica), *more]
+
+    def start(self, replica, requests=b"", *more):
+        """Status, the answers and the fault output of a start, which handles what frames there are first."""
+        given = b"".join(map(shim.frame, self.frames[replica])) + requests + SYNC
+        it = subprocess.run(self.words(replica, *more), input=given, capture_output=True, timeout=SECONDS, check=False)
+        if it.returncode == 0:
+            self.frames[replica] = []
+        answers, size = shim.answers(it.stdout, 3)
+        assert size == len(it.stdout)
+        for answer in answers:
+            for entry in answer.entries:
+                for to, frame in entry.frames:
+                    self.frames[to].append(frame)
+        return it.returncode, answers, it.stderr.decode()
+
+    def begin(self, *replicas):
+        for replica in replicas or range(self.size):
+            os.makedirs(self.place(replica), exist_ok=True)
+            status, _, told = self.start(replica, b"", "--new")
+            assert not status, told
+
+    def settle(self, requests, *replicas):
+        """Has replica 0 propose, and these replicas handle frames until there is none for them, and execute what they can."""
+        self.start(0, requests)
+        replicas = replicas or tuple(range(self.size))
+        while any(self.frames[it] for it in replicas):
+            for replica in replicas:
+                if self.frames[replica]:
+                    self.start(replica)
+
+    def opening(self, replica, generation):
+        with open(f"{self.place(replica)}/{generation}/opening", "rb") as it:
+            return it.read()
+
+    def has(self, replica, name):
+        return os.path.exists(f"{self.place(replica)}/{name}")
+
+
+def put(number, key, value):
+    return shim.propose_in(1, number, PUT, key, value)
+
+
+def seal(number, value=b""):
+    return shim.propose_in(1, number, SEAL, b"", value)
+
+
+def generation_of(answers):
+    """The generation that a state tells."""
+    return next((int.from_bytes(it.body[:4], "big") for it in answers if it.kind == 8), None)
+
+
+def value_of(answers):
+    """The value that a get by kind 7 is told."""
+    body = next(it.body for it in answers if it.kind == 3)
+    return body[3:] if body[0] else None
+
+
+def get(key):
+    return shim.request(7, key)
+
+
+def differs(got, wanted):
+    return "" if got == wanted else f"{got!r} and not {wanted!r}"
+
+
+def told(cluster, replica, *more):
+    """Status and fault output of a start that asks for a state."""
+    status, answers, line = cluster.start(replica, STATE, *more)
+    return status, generation_of(answers), line
+
+
+def line(words):
+    return f"{words}\n"
+
+
+EMPTY_LINE = line("folder refused: no generation is here; --new begins the first one of a new replica, --take FILE goes on with a peer's opening")
+
+
+def left_line(generation):
+    return line(f"folder refused: the replica has been in generation {generation}, which is gone; --take FILE goes on with the opening of a later one")
+
+
+def no_log_line(generation):
+    return line(f"folder refused: generation {generation} has no log; repeat the --take that was broken off, or go on with the opening of a later one by --take FILE")
+
+
+def first_starts(program, folder):
+    """A first start, and what is refused then."""
+    it = Cluster(program, folder)
+    no_folder = line("folder failed: no such file or directory")
+    yield "no folder", differs(told(it, 0, "--new"), (4, None, no_folder))
+    os.mkdir(it.place(0))
+    yield "an empty folder", differs(told(it, 0), (2, None, EMPTY_LINE))
+    yield "an empty folder is left so", differs(os.listdir(it.place(0)), ["node.lock"])
+    yield "--new", differs(told(it, 0, "--new"), (0, 1, ""))
+    yield "its opening", differs(it.opening(0, 1), EMPTY[3])
+    with open(f"{it.place(0)}/1/log", "rb") as log:
+        yield "its log", differs(log.read(), b"EPLG\3\3\0" + struct.pack(">I", 1) + EMPTY[3][-32:])
+    yield "--new again", differs(told(it, 0, "--new"), (2, None, line("log refused: there is one already")))
+    yield "come back", differs(told(it, 0), (0, 1, ""))
+    it.size = 5
+    yield "another size", differs(told(it, 0), (2, None, line("folder refused: generation 1 has another size and isn't closed; go on with --replicas 3")))
+    there = line("folder refused: generation 1 is here already; --new is for a new replica")
+    yield "another size and --new", differs(told(it, 0, "--new"), (2, None, there))
+    it.size = 3
+    shutil.copytree(it.place(0), it.place(1))
+    yield "the folder of another", differs(told(it, 1), (2, None, line("log refused: a log of another cluster or replica")))
+    os.remove(f"{it.place(0)}/1/log")
+    yield "no log", differs(told(it, 0), (2, None, no_log_line(1)))
+    yield "no log, --new", differs(told(it, 0, "--new"), (0, 1, ""))
+    # what isn't a generation's is passed over
+    for name in ("0", "01", "x", "4294967296", "-1", "2"):
+        os.mkdir(f"{it.place(0)}/{name}")
+    yield "other folders", differs(told(it, 0), (0, 1, ""))
+    for name, damaged, wanted in (
+        ("cut", EMPTY[3][:58], "cut short at byte 58"),
+        ("turned", EMPTY[3][:10] + b"\1" + EMPTY[3][11:], "damaged: no digest of the bytes before it at byte 27"),
+        ("wrong", digested(EMPTY[3][:5] + b"\4" + EMPTY[3][6:27]), "wrong field at byte 5"),
+    ):
+        with open(f"{it.place(0)}/1/opening", "wb") as file:
+            file.write(damaged)
+        yield f"an opening that is {name}", differs(told(it, 0), (2, None, line(f"folder refused: the opening of generation 1: {wanted}")))
+    with open(f"{it.place(0)}/1/opening", "wb") as file:
+        file.write(opening())
+    yield "the opening of another generation", differs(told(it, 0), (2, None, line("folder refused: the opening of generation 1 is that of generation 2")))
+    with open(f"{it.place(0)}/1/opening", "wb") as file:
+        file.write(opening(generation=1, held=((b"a", b"1"),)))
+    yield "another opening than the log's", differs(told(it, 0), (2, None, line("log refused: a log of another generation")))
+
+
+def one_at_a_time(program, folder):
+    """A folder that a node has isn't another one's, whatever it asks for."""
+    it = Cluster(program, folder)
+    it.begin(0)
+    with open(f"{folder}/taken", "wb") as file:
+        file.write(opening(generation=7))
+    first = subprocess.Popen(it.words(0), stdin=subprocess.PIPE, stdout=subprocess.PIPE)
+    try:
+        first.stdin.write(STATE)
+        first.stdin.flush()
+        first.stdout.read(26)
+        for words in ((), ("--new",), ("--take", f"{folder}/taken")):
+            yield f"a second one {' '.join(words[:1])}", differs(told(it, 0, *words), (4, None, line("folder failed: another process has it open")))
+    finally:
+        first.communicate(timeout=SECONDS)
+    yield "nothing was taken", differs(told(it, 0), (0, 1, ""))
+
+
+def a_life(program, folder):
+    """Three replicas through two seals, of which one comes late, one has a lost disk, and one is new."""
+    it = Cluster(program, folder)
+    it.begin()
+    it.settle(put(1, b"x", b"1") + put(2, b"y", b"2"), 0, 1)
+    it.settle(seal(3, b"next") + put(4, b"z", b"3"), 0, 1)
+    # (nothing is executed so far but by nobody's word)
+    status, answers, words = it.start(0, ADVANCE + STATE)
+    state = next(a.body for a in answers if a.kind == 8)
+    yield "a seal is executed", differs((status, state[12], words), (0, 1, ""))
+    yield "the generation isn't closed at once", differs(it.has(0, "2"), False)
+    since = struct.unpack_from(">Q", state, 13)[0]
+    yield "a start after a seal", differs(told(it, 0), (0, 2, ""))
+    size, generation, stamp, value, held, executed = parts_of(it.opening(0, 2))
+    wanted = (3, 2, since, b"next", {b"x": b"1", b"y": b"2"}, [(0, 1), (0, 2), (0, 3)])
+    yield "the next opening", differs((size, generation, stamp, value, held, executed), wanted)
+    with open(f"{it.place(0)}/1/left", "rb") as file:
+        yield "the mark", differs(file.read(), b"2")
+    status, answers, _ = it.start(0, get(b"x") + get(b"z"))
+    yield "a read in the next one", differs(value_of(answers), b"1")
+    yield "a start after that", differs(told(it, 0), (0, 2, ""))
+    yield "replica 1 executes all", differs(told_all(it, 1), (0, 1, ""))
+    yield "replica 1 closes", differs(told(it, 1), (0, 2, ""))
+    yield "its map", differs(parts_of(it.opening(1, 2))[3:], wanted[3:])
+    yield from late(it, folder)
+    yield from lost(it, folder)
+    yield from larger(it, folder)
+
+
+def told_all(cluster, replica):
+    status, answers, words = cluster.start(replica, ALL + STATE)
+    return status, generation_of(answers), words
+
+
+def late(it, folder):
+    """A replica that hasn't seen the seal takes an opening."""
+    taken = f"{folder}/taken"
+
+    def take(content):
+        with open(taken, "wb") as file:
+            file.write(content)
+        return told(it, 2, "--take", taken)
+
+    good = it.opening(0, 2)
+    yield "a file that isn't there", differs(told(it, 2, "--take", f"{folder}/none"), (4, None, line("opening failed: no such file or directory")))
+    for name, content, wanted in (
+        ("cut", good[:-1], f"damaged: no digest of the bytes before it at byte {len(good) - 33}"),
+        ("short", good[:20], "cut short at byte 20"),
+        ("turned", good[:40] + bytes([good[40] ^ 1]) + good[41:], f"damaged: no digest of the bytes before it at byte {len(good) - 32}"),
+        ("of another size", opening(size=5), "it is for --replicas 5"),
+    ):
+        yield f"a taken opening that is {name}", differs(take(content), (2, None, line(f"opening refused: {wanted}")))
+    yield "nothing was taken", differs((it.has(2, "2"), told(it, 2)), (False, (0, 1, "")))
+    yield "an opening is taken", differs(take(good), (0, 2, ""))
+    yield "it is the very one", differs(it.opening(2, 2), good)
+    with open(f"{it.place(2)}/1/left", "rb") as file:
+        yield "and the generation before is left", differs(file.read(), b"2")
+    yield "it is taken again", differs(take(good), (0, 2, ""))
+    other = it.opening(1, 2)
+    if other != good:
+        yield "another one is taken", differs(take(other), (2, None, line("opening refused: generation 2 has another one here; start without --take")))
+    earlier = line("opening refused: it is of an earlier generation than 2, which is here; start without --take")
+    yield "an earlier one is taken", differs(take(EMPTY[3]), (2, None, earlier))
+    yield "without it", differs(told(it, 2), (0, 2, ""))
+
+
+def lost(it, folder):
+    """What is gone of a folder isn't begun again."""
+    place, kept = it.place(2), f"{folder}/kept"
+    shutil.copytree(place, kept)
+
+    def again():
+        shutil.rmtree(place)
+        shutil.copytree(kept, place)
+
+    taken = f"{folder}/taken"
+    with open(taken, "wb") as file:
+        file.write(it.opening(0, 2))
+    os.remove(f"{place}/2/log")
+    yield "the log is lost", differs(told(it, 2), (2, None, no_log_line(2)))
+    yield "the log is lost, and taken again", differs(told(it, 2, "--take", taken), (2, None, no_log_line(2)))
+    shutil.rmtree(f"{place}/2")
+    for words in ((), ("--new",), ("--take", taken)):
+        yield f"the folder is lost {' '.join(words[:1])}", differs(told(it, 2, *words), (2, None, left_line(2)))
+    yield "nothing was made of it", differs(it.has(2, "2"), False)
+    with open(taken, "wb") as file:
+        file.write(opening(generation=3))
+    yield "the folder is lost, and a later opening is taken", differs(told(it, 2, "--take", taken), (0, 3, ""))
+    with open(f"{place}/1/left", "rb") as file:
+        yield "the mark then", differs(file.read(), b"3")
+    again()
+    with open(f"{place}/1/left", "wb") as file:
+        file.write(b"?")
+    shutil.rmtree(f"{place}/2")
+    yield "a mark that can't be read", differs(told(it, 2), (2, None, left_line(2**32 - 1)))
+    for names in (("opening",), ("log",), ("opening", "log"), ("opening", "log", "left"), ("opening.lock", "log.lock", "left.lock")):
+        again()
+        for name in names:
+            if os.path.exists(f"{place}/1/{name}"):
+                os.remove(f"{place}/1/{name}")
+        yield f"dropped in part: {' '.join(names)}", differs(told(it, 2), (0, 2, ""))
+    again()
+    shutil.rmtree(f"{place}/1")
+    yield "dropped whole", differs(told(it, 2), (0, 2, ""))
+    again()
+
+
+def larger(it, folder):
+    """The size changes at a seal."""
+    it.settle(put(5, b"x", b"5") + seal(6, b"five"), 0, 1)
+    status, answers, _ = it.start(0, ADVANCE + STATE)
+    yield "a second seal", differs((status, next(a.body for a in answers if a.kind == 8)[12]), (0, 1))
+    it.size = 5
+    yield "with five", differs(told(it, 0), (0, 3, ""))
+    yield "its opening", differs(parts_of(it.opening(0, 3))[:5:2], (5, parts_of(it.opening(0, 3))[2], {b"x": b"5", b"y": b"2"}))
+    it.frames = [[] for _ in range(7)]
+    with open(f"{folder}/taken", "wb") as file:
+        file.write(it.opening(0, 3))
+    os.mkdir(it.place(4))
+    yield "a new one", differs(told(it, 4, "--take", f"{folder}/taken"), (0, 3, ""))
+    yield "a new one comes back", differs(told(it, 4), (0, 3, ""))
+    with open(f"{it.place(0)}/1/left", "rb") as file:
+        yield "marks name the newest", differs(file.read(), b"3")
+    os.mkdir(it.place(3))
+    os.mkdir(f"{it.place(3)}/2")
+    os.mkdir(f"{it.place(3)}/3")
+    for generation, content in ((2, opening(size=5)), (3, it.opening(0, 3))):
+        with open(f"{it.place(3)}/{generation}/opening", "wb") as file:
+            file.write(content)
+    it.size = 7
+    other = line("folder refused: generation 3 has another size and isn't closed; go on with --replicas 5")
+    yield "a log that isn't begun, with seven", differs((told(it, 3), it.has(3, "3/log"), it.has(3, "2/left")), ((2, None, other), False, False))
+    it.size = 5
+    yield "a log that isn't begun, with five", differs((told(it, 3), it.has(3, "2/left")), ((0, 3, ""), True))
+    it.size = 3
+    size = line("folder refused: generation 3 has another size and isn't closed; go on with --replicas 5")
+    yield "with three again", differs(told(it, 0), (2, None, size))
+
+
+def words_refused(program, folder):
+    """Words that don't go together."""
+    for words, why in (
+        ((), "'--log' or '--dir' is missing"),
+        (("--log", "l", "--dir", "d"), "'--log' and '--dir' don't go together"),
+        (("--log", "l", "--take", "f"), "'--take' goes with '--dir' alone"),
+        (("--dir", "d", "--take", "f", "--new"), "'--new' and '--take' don't go together"),
+    ):
+        it = subprocess.run([program, "node", "--replicas", "3", "--replica", "0", *words], input=b"", capture_output=True, timeout=SECONDS, check=False, cwd=folder)
+        wanted = f"command line refused\nerror: {why}\n\nFor more information, try '--help'.\n"
+        yield f"words {' '.join(words)}", differs((it.returncode, it.stdout, it.stderr.decode()), (2, b"", wanted))
+
+
+def every(program):
+    """The name of each run, and what is wrong with it, or nothing."""
+    with tempfile.TemporaryDirectory(dir="/dev/shm" if os.path.isdir("/dev/shm") else None) as folder:
+        for rows in (first_starts, one_at_a_time, a_life, words_refused):
+            place = f"{folder}/{rows.__name__}"
+            os.mkdir(place)
+            try:
+                yield from ((f"folder, {name}", wrong) for name, wrong in rows(program, place))
+            except (AssertionError, LookupError, OSError, StopIteration, struct.error, subprocess.TimeoutExpired) as fault:
+                yield f"folder, {rows.__name__.replace('_', ' ')}", repr(fault)[:300]
+
+
+if __name__ == "__main__":
+    import sys
+
+    sys.dont_write_bytecode = True
+    failed = 0
+    for at, (name, wrong) in enumerate(every(os.path.abspath(sys.argv[1])), 1):
+        failed += bool(wrong)
+        if wrong:
+            print(f"{name}: {wrong}")
+    print(f"{at - failed} passed, {failed} failed")
+    sys.exit(bool(failed))

@@ -1,0 +1,66 @@
+-- What a node in a folder has told, and that it has served.
+use Rattle.std.proofs.Common.{◌≡◌, inl, inr, ℕ, Bool, true, List, [], ◌++◌, Option, Some, None, Result, Ok, Err, refl, append-nil, sym, subst, ◌∙◌}
+use Rattle.std.proofs.KnownBytes.{Appends-nil}
+use Rattle.ep_base.specs.Devices.{Puts}
+use Rattle.ep_node.specs.Nodes.{Logged}
+use Rattle.ep_node.specs.declared.cut.Cut.{Cut}
+use Rattle.ep_serve.specs.Lasting.{crashes}
+use Rattle.ep_serve.specs.Serving.{dialect_of, Ends}
+use Rattle.ep_serve.specs.declared.mode.Mode.{Mode}
+use Rattle.ep_serve.specs.declared.serve_fault.ServeFault.{ServeFault}
+use Rattle.ep_server.proofs.Serving.{told_by, told_twice}
+use Rattle.ep_server.specs.Outputs.{Output, output, Told, WroteNothing}
+use Rattle.ep_server.specs.Served.{told_first, of_serve, Fails, HappensThere, HasServedThere, IsOfFile, IsOver, IsUnready, Shown, TellsCut, TellsCuts}
+use Rattle.ep_server.specs.declared.fault.Fault.{Fault}
+use Rattle.ep_server.specs.declared.fault.Fault.TheVariants.{Open, Serve, Folder, Memory, Write}
+
+-- nothing is told where nothing is written
+pub tells_nothing : (a : Option (List ℕ)) (first : Bool) → TellsCut (output a a first first)
+tells_nothing a first = record { cut = None; told = inr (Appends-nil a); for_good = λ e. e }
+
+-- what was cut off a log is told
+pub tells_cut : {E : Type 0} (cut : Option Cut) (a b : Option (List ℕ)) (first second : Bool) (r : Result Unit E) → Puts a b first second r (told_first cut) → TellsCut (output a b first second)
+tells_cut cut a b first second r p = record { cut = cut; told = told_by a b first second (told_first cut) r p; for_good = stays r p }
+  where
+    stays : {E : Type 0} (r : Result Unit E) → Puts a b first second r (told_first cut) → first ≡ true → second ≡ true
+    stays (Ok x) q had = q.1 ∙ had
+    stays (Err e) q had = q
+
+-- one log, of two at most
+pub one_cut : (a b : Option (List ℕ)) (first second : Bool) → TellsCut (output a b first second) → TellsCuts (output a b first second)
+one_cut a b first second t = record {
+  first = t.cut;
+  then_ = None;
+  told = subst (λ (l : List ℕ). Told (output a b first second) l) (sym (append-nil (told_first t.cut))) t.told;
+  for_good = t.for_good;
+}
+
+pub both_cuts : (a b c : Option (List ℕ)) (first second third : Bool) → TellsCut (output a b first second) → TellsCut (output b c second third) → TellsCuts (output a c first third)
+both_cuts a b c first second third t u = record {
+  first = t.cut;
+  then_ = u.cut;
+  told = told_twice a b c first second third (told_first t.cut) (told_first u.cut) t.told u.for_good u.told;
+  for_good = λ had. u.for_good (t.for_good had);
+}
+
+-- there is no node, and nothing was written
+pub unready_there :
+    {D : Type 0} (shown : Shown D) (mode : Mode) (faults me : ℕ) (zs : List ℕ) (e : Fault) (reader out : Output) → IsUnready e → WroteNothing out →
+    HappensThere shown mode faults me zs (Err e) reader out
+unready_there shown mode faults me zs (Open why) reader out is silent = silent
+unready_there shown mode faults me zs (Serve why) reader out is silent = absurd is
+unready_there shown mode faults me zs (Folder why) reader out is silent = silent
+unready_there shown mode faults me zs Memory reader out is silent = absurd is
+unready_there shown mode faults me zs Write reader out is silent = absurd is
+
+-- a node of a file has served
+pub has_served_there :
+    {D : Type 0} (shown : Shown D) (mode : Mode) (faults me : ℕ) (start : Logged D) (zs : List ℕ) (outcome : Result Unit Fault) (reader out : Output) → IsOfFile faults me start →
+    IsOver shown mode start zs outcome reader out → HappensThere shown mode faults me zs outcome reader out
+has_served_there {D = D} shown mode faults me start zs outcome reader out of over =
+    subst (λ (x : Result Unit Fault). HappensThere shown mode faults me zs x reader out) (sym over.2) (go over.1 over.3 over.4)
+  where
+    go : (ended : Result Unit ServeFault) → Ends mode (dialect_of start.replica) (crashes start.digest shown.seen shown.moment shown.left_since start.device over.0.device) start.replica (record { at = 0; bytes = zs }) out.before out.after ended over.0.replica
+        → Fails shown start.device over.0.device ended reader out → HappensThere shown mode faults me zs (of_serve ended) reader out
+    go (Ok x) ends fails = record { start = start; of = of; over = (over.0, Ok x, refl, ends, fails) }
+    go (Err why) ends fails = record { start = start; of = of; over = (over.0, Err why, refl, ends, fails) }
