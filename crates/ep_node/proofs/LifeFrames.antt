@@ -1,5 +1,5 @@
 -- Through generations, each frame of what was handed out of was handed out, and each frame that a node takes names its generation.
-use Rattle.std.proofs.Common.{◌≡◌, ℕ, ◌+◌, ◌≤◌, Bool, true, false, cond, eqb, inl, inr, Some, None, List, [], ◌∷◌, ◌++◌, length, take, drop, refl, sym, ap, subst, ◌∙◌, arith, ⊎_elim}
+use Rattle.std.proofs.Common.{◌≡◌, ℕ, ◌+◌, ◌≤◌, Bool, true, false, cond, eqb, inl, inr, Some, None, List, [], ◌∷◌, ◌++◌, length, take, drop, refl, sym, ap, subst, arith, ⊎_elim}
 use Rattle.std.proofs.lemmas.Bool.{eqb-true}
 use Rattle.std.proofs.lemmas.List.{take-append-drop, take-take, take-append-le}
 use Rattle.ep_base.specs.declared.version.Version.{Version}
@@ -10,7 +10,6 @@ use Rattle.ep_journal.specs.Events.{event_of, frame_at, lacking, spelled_in}
 use Rattle.ep_journal.specs.declared.entry.Entry.{Entry}
 use Rattle.ep_journal.specs.declared.event.Event.{Event as Happening}
 use Rattle.ep_journal.specs.declared.event.Event.TheVariants.{Propose, Handle, GiveUp, Recover, Execute}
-use Rattle.ep_journal.specs.declared.step_fault.StepFault.{StepFault}
 use Rattle.ep_journal.specs.declared.step_fault.StepFault.TheVariants.{OtherGeneration}
 use Rattle.ep_rules.specs.Journals.{IsAmong}
 use Rattle.ep_rules.specs.Journals as rules
@@ -64,9 +63,9 @@ given_move start f c (Take q x) k within h =
 given_move start f c (ComeBack q n) k within h =
     as_before c (with_at q (take n (c.journal q)) c.journal)
     (at_each (λ p es. take (c.out p) es ≡ take (c.out p) (c.journal p)) q (take n (c.journal q)) c.journal (take-take (c.out q) n (c.journal q) k.1.least) (λ p. refl)) h
-given_move start f c (HandOut q n) k within h r =
+given_move start f c (HandOut q n) k within h =
     at_each (λ p j. (e : rules.Entry) (m : Frame) → In e (take j (c.journal p)) → In m e.out → In m (c.given ++ frames_in (drop (c.out q) (take n (c.journal q))))) q n c.out here
-    (λ p e m there out. in_left m c.given (frames_in (drop (c.out q) (take n (c.journal q)))) (h p e m there out)) r
+    (λ p e m there out. in_left m c.given (frames_in (drop (c.out q) (take n (c.journal q)))) (h p e m there out))
   where
     here : (e : rules.Entry) (m : Frame) → In e (take n (c.journal q)) → In m e.out → In m (c.given ++ frames_in (drop (c.out q) (take n (c.journal q))))
     here e m there out = ⊎_elim
@@ -108,7 +107,7 @@ still_given c (HandOut r n) x h = in_left x c.given (frames_in (drop (c.out r) (
 still_given c (ComeBack r n) x h = h
 
 given_still : (f : ℕ → ℕ) (l : Generations) (m : LifeMove) (g : ℕ) (x : Frame) → In x (l.cluster g).given → In x ((after_move f l m).cluster g).given
-given_still f l (OpensNext h r q since) g x there = there
+given_still f l (OpensNext h r q since) g x = λ there. there
 given_still f l (Within h m) g x =
     at_gen (λ j c. In x (l.cluster j).given → In x c.given) h (moved (l.cluster h) m) l.cluster (still_given (l.cluster h) m x) (λ j e there. there) g
 

@@ -6,3 +6,8 @@ pub mod Refusals
 pub mod Steps
 pub mod Known
 pub mod Digests
+pub mod Noted
+pub mod Led
+pub mod Unsealed
+pub mod FileParts
+pub mod ClosedFiles

@@ -1,5 +1,5 @@
 -- Closing a generation: what the file of the next one says, where a journal has executed a seal.
-use Rattle.std.specs.Prelude.{◌≡◌, ◌≢◌, ◌↔◌, ℕ, suc, true, false, List}
+use Rattle.std.specs.Prelude.{◌≡◌, ◌≢◌, ◌≤◌, ◌↔◌, ℕ, suc, true, false, List}
 use Rattle.ep_base.specs.Places.{Has}
 use Rattle.ep_base.specs.Versions.{generation_of, version_number}
 use Rattle.ep_base.specs.declared.reply.Answer.TheVariants.{Told}
@@ -37,6 +37,13 @@ pub record IsClosing (j : Log) (next : ℕ) (f : File) : Type 0 where
   pub since : f.opening.since ≡ stamp_after j.opening.since (entries_of j.entries)
   -- all that was done up to the seal, with it
   pub executed : (i : ℕ) → Has f.executed i ↔ WasAnswered (entries_of j.entries) i
+
+-- the generation after the journal's, which a seal has closed
+pub record IsNext (j : Log) (g : ℕ) : Type 0 where
+  pub version : version_number j.version ≡ 3
+  pub generation : g ≡ suc (generation_of j.version)
+  pub later : 2 ≤ g
+  pub closed : is_closed (store_of j) ≡ true
 
 -- why there is no such file: for want of memory; no seal was executed; or no generation is left
 abbrev pub IsUnclosed : Log → ClosingFault → Type 0

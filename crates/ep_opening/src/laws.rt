@@ -1,9 +1,10 @@
-//! What is written is read back.
+//! What is written is read back; and what files say that close journals of one generation.
 
 ghost use Rattle.std.specs.Prelude.{◌≤◌, length};
 ghost use Rattle.ep_base.specs.Deps.{IsDeps};
 ghost use Rattle.ep_base.specs.Generations.{IsGeneration};
 ghost use Rattle.ep_base.specs.Values.{most_value};
+ghost use Rattle.ep_opening.specs.Closings.{ClosingsAgree, ClosingsGoOn};
 ghost use Rattle.ep_opening.specs.Files.{HasItsSeal, IsFile, SealFits};
 ghost use Rattle.ep_opening.specs.Reading.{FilesAreReadBack};
 
@@ -66,4 +67,16 @@ pub fn learn_file(file: &OpeningFile)
 #[tactic(auto, using(crate::proofs::WrittenFiles::files_back))]
 pub fn files_are_read_back()
     ensures { FilesAreReadBack }
+{}
+
+/// Where a file closes a journal of a generation, an entry of it executed a seal, whose stamp isn't above the one that the file's clocks go on from.
+///
+/// So where a next generation's stamps are all above the least such stamp of its openings, its clocks go on from those of the one before.
+pub fn closings_go_on()
+    ensures { ClosingsGoOn }
+{}
+
+/// Two files that close journals of one generation, for a next one of one size, differ in the stamps alone that their clocks go on from.
+pub fn closings_agree()
+    ensures { ClosingsAgree }
 {}

@@ -4,11 +4,14 @@
 //! generation, the instances that the one before executed up to that seal, and a digest of it all, which the generation's log names. A file is
 //! read exactly where its bytes are those that are written for it; other bytes are refused by the first field that is wrong, and its offset.
 //!
+//! A journal that has executed a seal gives the next generation's file (`closing.rt`, specs/Closing.antt).
+//!
 //! Start with `opening_file.rt` and specs/Bytes.antt; then `writing.rt`, and `reading.rt` with specs/Reading.antt.
 //!
 //! The digest is judged before all fields behind the version: a field's fault says that somebody wrote it so.
 #![tactic(auto)]
 
+mod answered;
 mod closing;
 mod closing_fault;
 mod digest;
@@ -26,7 +29,7 @@ mod writing;
 pub use closing::closing_of;
 pub use closing_fault::ClosingFault;
 pub use digest::digest_in;
-pub use laws::{files_are_read_back, learn_file};
+pub use laws::{closings_agree, closings_go_on, files_are_read_back, learn_file};
 pub use opening_fault::OpeningFault;
 pub use opening_field::OpeningField;
 pub use opening_file::OpeningFile;
