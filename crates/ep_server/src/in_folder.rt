@@ -110,10 +110,7 @@ fn of_size<D: Device + Drop>(
         Ok(node)
     } else {
         drop(node);
-        Err(Fault::Folder(FolderFault::OtherSize(
-            generation.number(),
-            u32::from(found.count()),
-        )))
+        Err(Fault::Folder(FolderFault::OtherSize(generation.number(), u32::from(found.count()))))
     }
 }
 

@@ -17,9 +17,7 @@ use ep_folder::{
 };
 use ep_journal::Opening;
 use ep_node::Begin;
-use ep_opening::{
-    OpeningFault, OpeningFile, digest_in, read_opening, write_opening,
-};
+use ep_opening::{OpeningFault, OpeningFile, digest_in, read_opening, write_opening};
 use std::alloc::Global;
 use std::fs::File;
 use std::rt::Files;
@@ -136,11 +134,7 @@ fn settled_bytes<R: Files<File = File> + AllocGlobal>(
 }
 
 /// The file that these bytes are, of this generation.
-fn file_of(
-    alloc: Global,
-    generation: Generation,
-    bytes: &[u8],
-) -> Result<OpeningFile, FolderFault>
+fn file_of(alloc: Global, generation: Generation, bytes: &[u8]) -> Result<OpeningFile, FolderFault>
     ensures { IfOk result (λ f. (bytes.now ≡ opening_bytes f) × (f.generation ≡ generation)) }
 {
     match read_opening(alloc, bytes) {
@@ -159,10 +153,7 @@ fn of_generation(generation: Generation, file: OpeningFile) -> Result<OpeningFil
         Ok(file)
     } else {
         drop(file);
-        Err(FolderFault::OtherGeneration(
-            generation.number(),
-            found.number(),
-        ))
+        Err(FolderFault::OtherGeneration(generation.number(), found.number()))
     }
 }
 
