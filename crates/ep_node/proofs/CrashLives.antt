@@ -248,7 +248,7 @@ record Fits (l : Generations) (these : List Stood) : Type 0 where
   pub numbered : (g r : ℕ) → AreNumbered 1 0 ((l.cluster g).journal r)
   pub within : (g r : ℕ) → (l.cluster g).out r ≤ length ((l.cluster g).journal r)
 
-numbered_move : (s : Start) (f : ℕ) (c : Cluster) (m : Move) → ((r : ℕ) → AreNumbered 1 0 (c.journal r)) → IsMove s f c m → (r : ℕ) → AreNumbered 1 0 ((moved c m).journal r)
+pub numbered_move : (s : Start) (f : ℕ) (c : Cluster) (m : Move) → ((r : ℕ) → AreNumbered 1 0 (c.journal r)) → IsMove s f c m → (r : ℕ) → AreNumbered 1 0 ((moved c m).journal r)
 numbered_move s f c (Take r e) h k =
     at_each (λ q es. AreNumbered 1 0 es) r (c.journal r ++ (e ∷ [])) c.journal
     (numbered_grow 1 0 (c.journal r) e (h r) (let n = k.1.number in omega arith) (let t = k.1.stamp in let l = stamp_least (s.since r) (c.journal r) in omega arith) k.1.marked) h
@@ -495,7 +495,7 @@ record Came (M : ℕ → ℕ → Contents) (f : ℕ → ℕ) (o : ℕ → ℕ �
   pub shut : Shut M f out g r from before
 
 -- the replica that it makes one of those that have opened the generation
-opens_it : (h p g r : ℕ) (was : ℕ → ℕ → Bool) → was (suc g) r ≡ false → opened_next h p was (suc g) r ≡ true → (h ≡ g) × (p ≡ r)
+pub opens_it : (h p g r : ℕ) (was : ℕ → ℕ → Bool) → was (suc g) r ≡ false → opened_next h p was (suc g) r ≡ true → (h ≡ g) × (p ≡ r)
 opens_it h p g r was before after = go (eqb (suc h) (suc g)) (eqb p r) refl refl after
   where
     go : (a b : Bool) → eqb (suc h) (suc g) ≡ a → eqb p r ≡ b → cond a (b || was (suc g) r) (was (suc g) r) ≡ true → (h ≡ g) × (p ≡ r)

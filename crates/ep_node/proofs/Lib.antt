@@ -6,9 +6,11 @@ pub mod CrashPlayed
 pub mod CrashOrders
 pub mod CrashLives
 pub mod CallMoves
+pub mod Sealed
+pub mod LifeStays
+pub mod LifeChains
 pub mod LifeFrames
 pub mod LifeMoves
-mod Closings
 pub mod Growing
 mod Renewing
 mod Moments

@@ -1,6 +1,6 @@
 -- What the calls of nodes do through generations are moves of a life.
-use Rattle.std.proofs.Common.{◌≡◌, ℕ, suc, ◌+◌, ◌<◌, Bool, true, false, cond, eqb, ◌||◌, None, List, [], ◌∷◌, ◌++◌, length, take, refl, sym, ap, subst, ◌∙◌, arith}
-use Rattle.std.proofs.lemmas.Bool.{eq-eqb, eqb-true}
+use Rattle.std.proofs.Common.{◌≡◌, ℕ, suc, ◌+◌, ◌<◌, ◌≤◌, Bool, true, false, cond, eqb, None, List, [], ◌∷◌, ◌++◌, length, take, refl, sym, ap, subst, ◌∙◌, arith}
+use Rattle.std.proofs.lemmas.Bool.{eqb-true}
 use Rattle.std.proofs.lemmas.List.{take_all}
 use Rattle.ep_base.specs.Quorums.{size}
 use Rattle.ep_base.specs.Versions.{generation_of}
@@ -17,22 +17,23 @@ use Rattle.ep_opening.specs.Closing.{IsClosing, store_of}
 use Rattle.ep_opening.specs.Files.{File}
 use Rattle.ep_replica.specs.Applied.{Applied}
 use Rattle.ep_replica.specs.Kept.{Kept}
-use Rattle.ep_rules.specs.Journals.{IsAmong, left}
+use Rattle.ep_rules.specs.Journals.{IsAmong, AreNumbered, left, stamp_after}
 use Rattle.ep_rules.specs.Journals as rules
 use Rattle.ep_rules.specs.OneMap.{Contents, Store, opened, is_closed}
 use Rattle.ep_rules.specs.States.{fresh_state}
 use Rattle.ep_rules.specs.Worlds.{In}
-use Rattle.ep_rules.proofs.ClosedJournals.{closed_entries_lem}
 use Rattle.ep_node.specs.Calls.{IsNode, Makes, StartsFrom}
-use Rattle.ep_node.specs.CrashLives.{Generations, newborn, start_of, store_out, LifeMove, Within, OpensNext, IsLifeMove, opened_next, after_move, AreLifeMoves, life_after, stand_on, IsLifeInRealTime}
-use Rattle.ep_node.specs.Crashes.{Start, Cluster, Move, Take, HandOut, ComeBack, mover, IsMove, with_at, moved, handed_out, standing, IsBeginning}
+use Rattle.ep_node.specs.CrashLives.{Generations, newborn, start_of, store_out, HasSealed, LifeMove, Within, OpensNext, IsLifeMove, after_move, AreLifeMoves, life_after, stand_on, IsLifeInRealTime, AreOpen, AreChained}
+use Rattle.ep_node.specs.Crashes.{Start, Cluster, Move, Take, HandOut, ComeBack, mover, IsMove, with_at, moved, handed_out, standing}
 use Rattle.ep_node.specs.LifeCalls.{HasLived, IsNodeIn, MakesIn, HasHandedOn, OpensWith, WasHandedOut, IsElsewhere, LifeCallsAreMoves}
 use Rattle.ep_node.proofs.CallMoves.{calls_are_moves_lem}
-use Rattle.ep_node.proofs.CrashLives.{at_gen, still_open, not_both, same_on, Same, crashing_lives_are_linearizable_lem}
-use Rattle.ep_node.proofs.CrashMoves.{at_same, begins_refl, handed}
-use Rattle.ep_node.proofs.CrashTraces.{at_other}
+use Rattle.ep_node.proofs.CrashLives.{same_on, Same, crashing_lives_are_linearizable_lem}
+use Rattle.ep_node.proofs.CrashMoves.{at_same}
+use Rattle.ep_node.proofs.LifeChains.{crashing_lives_are_chains_lem}
 use Rattle.ep_node.proofs.LifeFrames.{among_lem, frame_out, framed_in, in_entries_of, stays_out_lem}
+use Rattle.ep_node.proofs.LifeStays.{IsUntouched, AreUntouched, untouched_after, untouched_first, AllNumbered, numbered_after, store_stays, sealed_stays, at_opened, has_now}
 use Rattle.ep_node.proofs.Opened.{length-entries_of}
+use Rattle.ep_node.proofs.Sealed.{Seals, sealing, stamp_reached}
 
 -- One move more.
 
@@ -51,43 +52,13 @@ lives_on_lem start f l m h k = record {
   leave = after_more f (newborn start) h.moves m ∙ ap (λ (x : Generations). after_move f x m) h.leave;
 }
 
--- Who hasn't opened a generation has no entries there.
-
--- a node's move is no other node's
-left_alone : (c : Cluster) (m : Move) (r : ℕ) → (mover m ≡ r → ⊥) → ((moved c m).journal r ≡ c.journal r) × ((moved c m).out r ≡ c.out r)
-left_alone c (Take q e) r ne = (at_other q r (c.journal q ++ (e ∷ [])) c.journal ne, refl)
-left_alone c (HandOut q n) r ne = (refl, at_other q r n c.out ne)
-left_alone c (ComeBack q n) r ne = (at_other q r (take n (c.journal q)) c.journal ne, refl)
-
-abbrev IsUntouched : Cluster → ℕ → Type 0
-IsUntouched c r = (c.journal r ≡ []) × (c.out r ≡ 0)
-
-abbrev AreUntouched : Generations → Type 0
-AreUntouched l = (g r : ℕ) → l.has_opened g r ≡ false → IsUntouched (l.cluster g) r
-
--- who has opened it now hadn't before, or has still
-was_closed : (g r : ℕ) (o : ℕ → ℕ → Bool) (h p : ℕ) → opened_next g r o h p ≡ false → o h p ≡ false
-was_closed g r o h p e = go (o h p) refl
-  where
-    go : (b : Bool) → o h p ≡ b → b ≡ false
-    go true is = absurd (not_both (opened_next g r o h p) (still_open g r o h p is) e)
-    go false is = refl
-
-untouched_on : (f : ℕ → ℕ) (l : Generations) (m : LifeMove) → IsLifeMove f l m → AreUntouched l → AreUntouched (after_move f l m)
-untouched_on f l (OpensNext g r q since) k h = λ j p e. h j p (was_closed g r l.has_opened j p e)
-untouched_on f l (Within g m) k h =
-    at_gen (λ j c. (r : ℕ) → l.has_opened j r ≡ false → IsUntouched c r) g (moved (l.cluster g) m) l.cluster
-    (λ r e.
-    let alone = left_alone (l.cluster g) m r (λ (is : mover m ≡ r). not_both (l.has_opened g r) (subst (λ (p : ℕ). l.has_opened g p ≡ true) is k.0) e) in
-    (alone.0 ∙ (h g r e).0, alone.1 ∙ (h g r e).1))
-    (λ j e. h j)
-
-untouched_after : (f : ℕ → ℕ) (l : Generations) (ms : List LifeMove) → AreLifeMoves f l ms → AreUntouched l → AreUntouched (life_after f l ms)
-untouched_after f l [] k h = h
-untouched_after f l (m ∷ ms) k h = untouched_after f (after_move f l m) ms k.1 (untouched_on f l m k.0 h)
+-- What holds of what has lived.
 
 untouched : (start : Start) (f : ℕ → ℕ) (l : Generations) → HasLived start f l → AreUntouched l
-untouched start f l h = subst AreUntouched h.leave (untouched_after f (newborn start) h.moves h.are (λ g r e. (refl, refl)))
+untouched start f l h = subst AreUntouched h.leave (untouched_after f (newborn start) h.moves h.are (untouched_first start))
+
+numbered : (start : Start) (f : ℕ → ℕ) (l : Generations) → HasLived start f l → AllNumbered l
+numbered start f l h = subst AllNumbered h.leave (numbered_after f (newborn start) h.moves h.are (λ g r. tt))
 
 -- Within a generation.
 
@@ -185,61 +156,58 @@ module _ (first : ℕ) (f : ℕ → ℕ) (l : Generations) (g : ℕ) (k : Kept) 
       ∙ ap (λ (x : Contents). (left (f g) k.me (fresh_state (opened x)) (entries_of k.entries)).store) (sym h.node.opening.map)
       ∙ ap (λ (x : ℕ). (left x k.me (fresh_state (opened k.opening.contents)) (entries_of k.entries)).store) (sym h.node.faults)
 
-  closes_lem : (file : File) → IsClosing k (f (suc g)) file → HasHandedOn first f (after_move f l lent) g k.me file
-  closes_lem file c = record {
+  -- an entry executed the seal
+  sealed : (start : Start) (since : ℕ) → HasLived start f l → is_closed (store_of k) ≡ true → since ≡ stamp_after k.opening.since (entries_of k.entries) → HasSealed f (after_move f l lent) g k.me since
+  sealed start since lived closed is =
+      let own : is_closed (left (f g) k.me (fresh_state (opened (l.map g k.me))) (handed_out ((after_move f l lent).cluster g) k.me)).store ≡ true = ap is_closed store_is ∙ closed in
+      let s : Seals (f g) k.me (fresh_state (opened (l.map g k.me))) (handed_out ((after_move f l lent).cluster g) k.me) =
+      sealing (f g) k.me (fresh_state (opened (l.map g k.me))) (handed_out ((after_move f l lent).cluster g) k.me) refl own in
+      let rising : AreNumbered 1 0 (entries_of k.entries) = subst (λ (es : List rules.Entry). AreNumbered 1 0 es) h.node.journal (numbered start f l lived g k.me) in
+      let low : s.entry.stamp ≤ stamp_after k.opening.since (entries_of k.entries) =
+      stamp_reached 1 0 k.opening.since (entries_of k.entries) s.entry rising (subst (λ (es : List rules.Entry). In s.entry es) all_out s.stands) in
+      record {
+        entry = s.entry;
+        stands = s.stands;
+        instance = s.instance;
+        executes = s.executes;
+        decree = s.decree;
+        committed = s.committed;
+        seals = s.seals;
+        reached = omega (arith, low, is);
+      }
+
+  closes_lem : (start : Start) (file : File) → HasLived start f l → IsClosing k (f (suc g)) file → HasHandedOn first f (after_move f l lent) g k.me file
+  closes_lem start file lived c = record {
     generation = (let own : file.generation ≡ suc (first + g) = c.generation ∙ ap (λ (v : Version). suc (generation_of v)) h.version in omega (arith, own));
     faults = c.faults;
     has_opened = h.has_opened;
     closed = ap is_closed store_is ∙ c.closed;
     map = ap (λ (s : Store). s.contents) store_is ∙ sym c.contents;
+    sealed = sealed start file.opening.since lived c.closed c.since;
   }
 
--- What was handed out of only grows.
-handed_in : (f : ℕ → ℕ) (l : Generations) (m : LifeMove) → IsLifeMove f l m → (g r : ℕ) → IsBeginning (handed_out (l.cluster g) r) (handed_out ((after_move f l m).cluster g) r)
-handed_in f l (OpensNext h p q since) k g r = begins_refl (handed_out (l.cluster g) r)
-handed_in f l (Within h m) k g r =
-    at_gen (λ j c. IsBeginning (handed_out (l.cluster j) r) (handed_out c r)) h (moved (l.cluster h) m) l.cluster
-    (handed (start_of l h (mover m)) (f h) (l.cluster h) m k.1 r)
-    (λ j e. begins_refl (handed_out (l.cluster j) r))
-    g
-
 module _ (first : ℕ) (f : ℕ → ℕ) (l : Generations) (g q : ℕ) (file : File) (h : HasHandedOn first f l g q file) where
-  -- a map that was closed and handed on stays
-  store_stays : (m : LifeMove) → IsLifeMove f l m → store_out f (after_move f l m) g q ≡ store_out f l g q
-  store_stays m move =
-      let same : Same l (after_move f l m) g q = same_on f l m move g q h.has_opened in
-      let b : IsBeginning (handed_out (l.cluster g) q) (handed_out ((after_move f l m).cluster g) q) = handed_in f l m move g q in
-      ap (λ (x : Contents). (left (f g) q (fresh_state (opened x)) (handed_out ((after_move f l m).cluster g) q)).store) same.map
-      ∙ ap (λ (es : List rules.Entry). (left (f g) q (fresh_state (opened (l.map g q))) es).store) (sym b.1)
-      ∙ closed_entries_lem (opened (l.map g q)) (f g) q (handed_out (l.cluster g) q) b.0 h.closed
-
   stays_lem : (m : LifeMove) → IsLifeMove f l m → HasHandedOn first f (after_move f l m) g q file
   stays_lem m move =
       let same : Same l (after_move f l m) g q = same_on f l m move g q h.has_opened in
-      let is = store_stays m move in
+      let is = store_stays f l g q h.has_opened h.closed m move in
       record {
         generation = h.generation;
         faults = h.faults;
         has_opened = same.has;
         closed = ap is_closed is ∙ h.closed;
         map = ap (λ (s : Store). s.contents) is ∙ h.map;
+        sealed = sealed_stays f l g q h.has_opened file.opening.since h.sealed m move;
       }
 
 -- Opening the next generation.
-
--- what the replica opens it with
-at_opened : {X : Type 0} (g r : ℕ) (x y : X) → cond (eqb (suc g) (suc g)) (cond (eqb r r) x y) y ≡ x
-at_opened g r x y = ap (λ b. cond b (cond (eqb r r) x y) y) (eq-eqb (suc g) (suc g) refl) ∙ ap (λ b. cond b x y) (eq-eqb r r refl)
-
-has_now : (g r : ℕ) (o : ℕ → ℕ → Bool) → opened_next g r o (suc g) r ≡ true
-has_now g r o = ap (λ b. cond b (eqb r r || o (suc g) r) (o (suc g) r)) (eq-eqb (suc g) (suc g) refl) ∙ ap (λ b. b || o (suc g) r) (eq-eqb r r refl)
 
 opens_lem : (start : Start) (first : ℕ) (f : ℕ → ℕ) (l : Generations) (g q : ℕ) (file : File) (k : Kept) → HasLived start f l → HasHandedOn first f l g q file → OpensWith file k →
     l.has_opened (suc g) k.me ≡ false → MakesIn first f l (OpensNext g k.me q file.opening.since) (suc g) k 0
 opens_lem start first f l g q file k lived on w new =
     let none : IsUntouched (l.cluster (suc g)) k.me = untouched start f l lived (suc g) k.me new in
     record {
-      move = (new, on.has_opened, on.closed);
+      move = (new, on.has_opened, on.closed, on.sealed);
       node = record {
         version = w.version ∙ ap (λ (n : ℕ). V3 n) on.generation;
         has_opened = has_now g k.me l.has_opened;
@@ -279,6 +247,8 @@ life_calls_are_moves_lem = record {
   born = λ start f. record { moves = []; are = tt; leave = refl };
   lives_on = lives_on_lem;
   is_life = λ start f l sizes h. subst (λ (x : Generations). IsLifeInRealTime start f x (standing stand_on [] h.moves)) h.leave (crashing_lives_are_linearizable_lem start f sizes h.moves h.are);
+  is_chain = λ start f l sizes h.
+      subst (λ (x : Generations). (n : ℕ) → AreOpen x n → AreChained start f x (standing stand_on [] h.moves) n) h.leave (crashing_lives_are_chains_lem start f sizes h.moves h.are);
   begins = begins_lem;
   takes = λ first f l g n k k' event e h out a. takes_lem first f l g n k h k' event e out a;
   syncs = λ first f l g n k h. syncs_lem first f l g n k h;
@@ -286,7 +256,7 @@ life_calls_are_moves_lem = record {
   sends = λ start first f l g k e b lived h stands is out. sends_lem first f l g k h start e b lived stands is out;
   stays_out = stays_out_lem;
   comes_back = λ first f l g n k es h a. comes_back_lem first f l g n k h es a;
-  closes = λ first f l g k file h c. (lends_lem first f l g k h, closes_lem first f l g k h file c);
+  closes = λ start first f l g k file lived h c. (lends_lem first f l g k h, closes_lem first f l g k h start file lived c);
   stays = λ first f l g q file m h move. stays_lem first f l g q file h m move;
   opens = opens_lem;
   others = λ first f l g n k m h move other. others_lem first f l g n k h m move other;

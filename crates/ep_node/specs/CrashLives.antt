@@ -1,12 +1,18 @@
 -- Generations of nodes that crash and come back. Each opens with the map that a node of the one before handed out, after it executed a seal.
 --
 -- A replica whose disk is lost moves no more in the generations that it has opened, and may open the next one.
-use Rattle.std.specs.Prelude.{◌≡◌, ℕ, suc, ◌<◌, ◌≤◌, Bool, true, false, ◌&&◌, ◌||◌, eqb, cond, List, [], ◌∷◌, ◌++◌}
+use Rattle.std.specs.Prelude.{◌≡◌, ℕ, suc, ◌<◌, ◌≤◌, Bool, true, false, ◌&&◌, ◌||◌, eqb, cond, List, [], ◌∷◌, ◌++◌, Some}
+use Rattle.ep_base.specs.Interference.{is_seal}
+use Rattle.ep_base.specs.Places.{Has}
 use Rattle.ep_base.specs.Quorums.{size}
+use Rattle.ep_base.specs.declared.decree.Decree.{Decree}
+use Rattle.ep_rules.specs.Chains.{IsChain, ClocksGoOn}
 use Rattle.ep_rules.specs.Generations.{Turn, Opens, Steps, IsLife, birth, opening_map, one_history, IsOneHistory}
-use Rattle.ep_rules.specs.Journals.{left, Scheduled, of, act_of}
+use Rattle.ep_rules.specs.Journals.{Entry, left, Scheduled, of, act_of}
 use Rattle.ep_rules.specs.OneMap.{Contents, Store, opened, is_closed}
-use Rattle.ep_rules.specs.States.{fresh_state}
+use Rattle.ep_rules.specs.States.{fresh_state, committed_in}
+use Rattle.ep_rules.specs.Steps.{order_of}
+use Rattle.ep_rules.specs.Worlds.{In}
 use Rattle.ep_node.specs.Crashes.{Start, Cluster, fresh_cluster, Move, Take, HandOut, ComeBack, mover, IsMove, with_at, moved, handed_out, without, is_beyond, standing, IsOneRun}
 
 -- The nodes of all generations: which replicas have opened which, with what map, and from which stamp their clocks went on.
@@ -28,17 +34,29 @@ start_of l g r = record { map = l.map g r; since = l.since g }
 abbrev pub store_out : (ℕ → ℕ) → Generations → ℕ → ℕ → Store
 store_out f l g r = (left (f g) r (fresh_state (opened (l.map g r))) (handed_out (l.cluster g) r)).store
 
+-- an entry that the node has handed something out of executed a seal, and its stamp isn't above this one
+pub record HasSealed (f : ℕ → ℕ) (l : Generations) (g r since : ℕ) : Type 0 where
+  pub entry : Entry
+  pub stands : In entry (handed_out (l.cluster g) r)
+  pub instance : ℕ
+  pub executes : Has (order_of entry.done) instance
+  pub decree : Decree
+  pub committed : committed_in (left (f g) r (fresh_state (opened (l.map g r))) (handed_out (l.cluster g) r)).records instance ≡ Some decree
+  pub seals : is_seal decree.command ≡ true
+  pub reached : entry.stamp ≤ since
+
 pub data LifeMove : Type 0 where
   -- a node of the generation moves
   Within : (generation : ℕ) → (move : Move) → LifeMove
   -- the replica opens the generation after this one, with the map of a node of this one; its clock goes on from the stamp
   OpensNext : (generation replica from since : ℕ) → LifeMove
 
--- Only who has opened a generation moves in it. Whoever opens the next one takes a map that entries have closed which were handed out of.
+-- Only who has opened a generation moves in it. Whoever opens the next one takes a map that entries have closed which were handed out of, and its clock
+-- goes on from the stamp of one that executed a seal, or from a later one.
 -- f tells how many faults each generation stands.
 abbrev pub IsLifeMove : (ℕ → ℕ) → Generations → LifeMove → Type 0
 IsLifeMove f l (Within g m) = (l.has_opened g (mover m) ≡ true) × IsMove (start_of l g (mover m)) (f g) (l.cluster g) m
-IsLifeMove f l (OpensNext g r q since) = (l.has_opened (suc g) r ≡ false) × (l.has_opened g q ≡ true) × (is_closed (store_out f l g q) ≡ true)
+IsLifeMove f l (OpensNext g r q since) = (l.has_opened (suc g) r ≡ false) × (l.has_opened g q ≡ true) × (is_closed (store_out f l g q) ≡ true) × HasSealed f l g q since
 
 -- the replica has opened the generation after this one, too
 abbrev pub opened_next : ℕ → ℕ → (ℕ → ℕ → Bool) → ℕ → ℕ → Bool
@@ -110,3 +128,21 @@ abbrev pub CrashingLivesAreLinearizable : Type 0
 CrashingLivesAreLinearizable =
     (start : Start) (f : ℕ → ℕ) → ((g : ℕ) → (0 < f g) × (size (f g) ≤ 256)) → (moves : List LifeMove) → AreLifeMoves f (newborn start) moves →
     IsLifeInRealTime start f (life_after f (newborn start) moves) (standing stand_on [] moves)
+
+-- Stamps.
+
+-- the first n generations have all been opened by somebody
+abbrev pub AreOpen : Generations → ℕ → Type 0
+AreOpen l n = (g : ℕ) → suc g < n → (r : ℕ) × (l.has_opened (suc g) r ≡ true)
+
+-- the journals of the first n generations are a chain, whose clocks go on
+pub record AreChained (start : Start) (f : ℕ → ℕ) (l : Generations) (these : List Stood) (n : ℕ) : Type 0 where
+  pub schedule : ℕ → List Scheduled
+  pub chain : IsChain n f (opening_map start.map f (turns_of these)) (λ g. (l.cluster g).journal) schedule
+  pub clocks : ClocksGoOn n f (opening_map start.map f (turns_of these)) (λ g. (l.cluster g).journal)
+
+-- So what is said of chains holds of them: one history explains each answer, and keeps each caller's order by stamps, whatever the generations.
+abbrev pub CrashingLivesAreChains : Type 0
+CrashingLivesAreChains =
+    (start : Start) (f : ℕ → ℕ) → ((g : ℕ) → (0 < f g) × (size (f g) ≤ 256)) → (moves : List LifeMove) → AreLifeMoves f (newborn start) moves →
+    (n : ℕ) → AreOpen (life_after f (newborn start) moves) n → AreChained start f (life_after f (newborn start) moves) (standing stand_on [] moves) n

@@ -18,7 +18,7 @@ use Rattle.ep_replica.specs.Kept.{Kept}
 use Rattle.ep_rules.specs.OneMap.{is_closed}
 use Rattle.ep_rules.specs.Worlds.{In}
 use Rattle.ep_node.specs.Calls.{StartsFrom, IsNode}
-use Rattle.ep_node.specs.CrashLives.{Generations, newborn, start_of, store_out, LifeMove, Within, OpensNext, IsLifeMove, after_move, AreLifeMoves, life_after, stand_on, IsLifeInRealTime}
+use Rattle.ep_node.specs.CrashLives.{Generations, newborn, start_of, store_out, HasSealed, LifeMove, Within, OpensNext, IsLifeMove, after_move, AreLifeMoves, life_after, stand_on, IsLifeInRealTime, AreOpen, AreChained}
 use Rattle.ep_node.specs.Crashes.{Start, Take, HandOut, ComeBack, mover, standing}
 
 -- the generations are what moves of a life leave
@@ -41,13 +41,15 @@ pub record MakesIn (first : ℕ) (f : ℕ → ℕ) (l : Generations) (m : LifeMo
 
 -- Files.
 
--- replica q of the generation has handed out of entries that closed the map, and this file of the next generation has that map
+-- replica q of the generation has handed out of entries that closed the map, this file of the next generation has that map, and its stamp isn't below that
+-- of an entry that executed a seal
 pub record HasHandedOn (first : ℕ) (f : ℕ → ℕ) (l : Generations) (g q : ℕ) (file : File) : Type 0 where
   pub generation : file.generation ≡ first + suc g
   pub faults : file.faults ≡ f (suc g)
   pub has_opened : l.has_opened g q ≡ true
   pub closed : is_closed (store_out f l g q) ≡ true
   pub map : (store_out f l g q).contents ≡ file.opening.contents
+  pub sealed : HasSealed f l g q file.opening.since
 
 -- the replica, which has no entries, opened with the file
 pub record OpensWith (file : File) (k : Kept) : Type 0 where
@@ -76,11 +78,13 @@ IsElsewhere g r (OpensNext h p q since) = Unit {0}
 
 -- What the calls of nodes do, through generations, are the moves of the law on lives.
 pub record LifeCallsAreMoves : Type 0 where
-  -- A life begins, and goes on by each move. So what calls do, one after the other, are the moves of one life, of which the law on lives speaks.
+  -- A life begins, and goes on by each move. So what calls do, one after the other, are the moves of one life, of which the laws on lives speak.
   pub born : (start : Start) (f : ℕ → ℕ) → HasLived start f (newborn start)
   pub lives_on : (start : Start) (f : ℕ → ℕ) (l : Generations) (m : LifeMove) → HasLived start f l → IsLifeMove f l m → HasLived start f (after_move f l m)
   pub is_life :
       (start : Start) (f : ℕ → ℕ) (l : Generations) → ((g : ℕ) → (0 < f g) × (size (f g) ≤ 256)) → (h : HasLived start f l) → IsLifeInRealTime start f l (standing stand_on [] h.moves)
+  pub is_chain :
+      (start : Start) (f : ℕ → ℕ) (l : Generations) → ((g : ℕ) → (0 < f g) × (size (f g) ≤ 256)) → (h : HasLived start f l) → (n : ℕ) → AreOpen l n → AreChained start f l (standing stand_on [] h.moves) n
   -- a new node of the first generation has no entries
   pub begins :
       (start : Start) (first : ℕ) (f : ℕ → ℕ) (k : Kept) → StartsFrom start k → k.version ≡ V3 first → k.faults ≡ f 0 → k.me < size k.faults → k.entries ≡ [] →
@@ -106,7 +110,7 @@ pub record LifeCallsAreMoves : Type 0 where
       MakesIn first f l (Within g (ComeBack k.me (length es))) g (record k { entries = es }) (length es)
   -- to close, with all entries on the disk and for the size that the next generation has, is such a `HandOut` too: of a file that has then been handed on
   pub closes :
-      (first : ℕ) (f : ℕ → ℕ) (l : Generations) (g : ℕ) (k : Kept) (file : File) → IsNodeIn first f l g k (length k.entries) → IsClosing k (f (suc g)) file →
+      (start : Start) (first : ℕ) (f : ℕ → ℕ) (l : Generations) (g : ℕ) (k : Kept) (file : File) → HasLived start f l → IsNodeIn first f l g k (length k.entries) → IsClosing k (f (suc g)) file →
       MakesIn first f l (Within g (HandOut k.me (length k.entries))) g k (length k.entries)
       × HasHandedOn first f (after_move f l (Within g (HandOut k.me (length k.entries)))) g k.me file
   -- it stays so, whatever comes: the node that handed it on may crash, lag behind, open the next generation or lose its disk

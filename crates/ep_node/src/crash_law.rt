@@ -1,7 +1,7 @@
 //! Laws of nodes that crash and come back with what they had handed out: their runs are runs without a crash.
 
 ghost use Rattle.ep_node.specs.Calls.{CallsAreMoves};
-ghost use Rattle.ep_node.specs.CrashLives.{CrashingLivesAreLinearizable};
+ghost use Rattle.ep_node.specs.CrashLives.{CrashingLivesAreChains, CrashingLivesAreLinearizable};
 ghost use Rattle.ep_node.specs.Crashes.{CrashesKeepAgreement, CrashesKeepReceipts, CrashesLeaveNoTrace, CrashingRunsAreLinearizable, CrashingRunsAreRuns, HandedOutStays, PlayedRunsAreMoves};
 ghost use Rattle.ep_node.specs.LifeCalls.{LifeCallsAreMoves};
 
@@ -45,6 +45,12 @@ pub fn crashes_keep_receipts()
 /// keeps real time through all of them.
 pub fn crashing_lives_are_linearizable()
     ensures { CrashingLivesAreLinearizable }
+{}
+
+/// The journals of such generations, up to one that somebody has opened, are a chain whose clocks go on. So what the laws on chains say holds of them: one
+/// history explains each answer, and keeps each caller's order by stamps, whatever the generations.
+pub fn crashing_lives_are_chains()
+    ensures { CrashingLivesAreChains }
 {}
 
 /// What a node's calls do are the moves of these laws: an event that was taken is a `Take`, the replica that is lent a `HandOut`

@@ -26,8 +26,8 @@ pub use begin::Begin;
 pub use close_fault::CloseFault;
 pub use crash_law::{
     calls_are_moves, crashes_keep_agreement, crashes_keep_receipts, crashes_leave_no_trace,
-    crashing_lives_are_linearizable, crashing_runs_are_linearizable, crashing_runs_are_runs,
-    handed_out_stays, life_calls_are_moves, played_runs_are_moves,
+    crashing_lives_are_chains, crashing_lives_are_linearizable, crashing_runs_are_linearizable,
+    crashing_runs_are_runs, handed_out_stays, life_calls_are_moves, played_runs_are_moves,
 };
 pub use cut::Cut;
 pub use node::Node;

@@ -1,27 +1,25 @@
 -- Journals of one generation that are closed: an entry of each executed a seal, and they are closed alike.
-use Rattle.std.proofs.Common.{◌≡◌, ℕ, zero, suc, ◌<◌, ◌≤◌, ◌⊎◌, Bool, true, false, cond, ◌||◌, inl, inr, List, [], ◌∷◌, ◌++◌, get_or, map, Option, refl, sym, ap, subst, ◌∙◌, arith}
+use Rattle.std.proofs.Common.{◌≡◌, ℕ, zero, suc, ◌<◌, ◌≤◌, ◌⊎◌, Bool, true, false, cond, ◌||◌, inl, inr, List, [], ◌∷◌, refl, sym, ap, subst, ◌∙◌, arith}
 use Rattle.std.proofs.lemmas.Bool.{false≢true}
 use Rattle.ep_base.specs.Commands.{Command}
 use Rattle.ep_base.specs.Interference.{is_seal}
-use Rattle.ep_base.specs.Places.{place, Has}
+use Rattle.ep_base.specs.Places.{Has}
 use Rattle.ep_base.specs.Quorums.{size}
 use Rattle.ep_base.specs.Sameness.{is_noop}
 use Rattle.ep_base.specs.Versions.{generation_of}
-use Rattle.ep_base.specs.declared.decree.Decree.{Decree}
 use Rattle.ep_base.specs.declared.reply.Answer.{Answer}
 use Rattle.ep_base.specs.declared.reply.Answer.TheVariants.{Lost, Told}
 use Rattle.ep_base.specs.declared.reply.Reply.{Reply}
-use Rattle.ep_base.specs.declared.reply.Reply.TheVariants.{Absent, Closed}
 use Rattle.ep_base.proofs.Members.{same_members}
 use Rattle.ep_journal.specs.Entries.{Log, entries_of}
-use Rattle.ep_opening.specs.Closing.{store_of, IsClosing, WasAnswered}
+use Rattle.ep_opening.specs.Closing.{store_of, WasAnswered}
 use Rattle.ep_opening.specs.Closings.{ClosingsAgree, ClosingsGoOn, GoesOn, IsOneOf}
-use Rattle.ep_opening.specs.Files.{File, IsFile}
+use Rattle.ep_opening.specs.Files.{File}
 use Rattle.ep_rules.specs.Chains.{store_left, history_from}
 use Rattle.ep_rules.specs.Closing.{has_seal, up_to_seal, HasClosed}
 use Rattle.ep_rules.specs.Journals.{Entry, left, stamp_after, AreNumbered, Journals, Scheduled, act_of, acts_of}
 use Rattle.ep_rules.specs.Merging.{Merges}
-use Rattle.ep_rules.specs.OneMap.{Contents, Store, opened, is_closed, replies}
+use Rattle.ep_rules.specs.OneMap.{Contents, Store, opened, is_closed}
 use Rattle.ep_rules.specs.Operations.{Operation}
 use Rattle.ep_rules.specs.States.{State, fresh_state, committed_in, command_of}
 use Rattle.ep_rules.specs.Steps.{order_of, leaves}
@@ -214,5 +212,5 @@ closings_agree_lem m f journal schedule given j k next x y one other versions is
     (as_well.contents ∙ ap (λ (s : Store). s.contents) stores ∙ sym is.contents)
     (as_well.seal ∙ ap (λ (s : Store). s.seal) stores ∙ sym is.seal)
     (same_members y.executed x.executed y_is.deps.rising x_is.deps.rising
-      (λ i h. (is.executed i).1 (done_alike m f journal schedule given k j other one is.closed i ((as_well.executed i).0 h)))
-      (λ i h. (as_well.executed i).1 (done_alike m f journal schedule given j k one other as_well.closed i ((is.executed i).0 h))))
+    (λ i h. (is.executed i).1 (done_alike m f journal schedule given k j other one is.closed i ((as_well.executed i).0 h)))
+    (λ i h. (as_well.executed i).1 (done_alike m f journal schedule given j k one other as_well.closed i ((is.executed i).0 h))))

@@ -1,18 +1,12 @@
 -- The parts of a file that closes a journal.
-use Rattle.std.proofs.Common.{◌≡◌, ℕ, ◌≤◌, ◌↔◌, Bool, true, false, not, List, Option, Some, None, Result, Ok, Err, IfErr, refl, sym, ap, subst, arith}
-use Rattle.std.specs.Prelude.{is_none, suc, IsOk}
+use Rattle.std.proofs.Common.{◌≡◌, ℕ, ◌≤◌, ◌↔◌, true, false, not, List, Option, Some, None, refl, sym, ap, subst}
+use Rattle.std.specs.Prelude.{is_none}
 use Rattle.std.proofs.lemmas.Bool.{false≢true}
-use Rattle.ep_base.specs.Generations.{HasItsGeneration}
 use Rattle.ep_base.specs.Places.{Has}
-use Rattle.ep_base.specs.Versions.{generation_of, version_number}
-use Rattle.ep_base.specs.declared.version.Version.{Version}
-use Rattle.ep_base.specs.declared.version_kind.VersionKind.TheVariants.{V1, V2, V3}
 use Rattle.ep_journal.specs.Entries.{Log, entries_of}
 use Rattle.ep_journal.specs.Openings.{Opening}
 use Rattle.ep_opening.specs.Closing.{store_of, IsClosing, IsNext, WasAnswered}
-use Rattle.ep_opening.specs.Files.{File, HasItsPast, HasItsSeal, IsRuledOut}
-use Rattle.ep_opening.specs.declared.parts_fault.PartsFault.{PartsFault}
-use Rattle.ep_opening.specs.declared.parts_fault.PartsFault.TheVariants.{Seal, Executed}
+use Rattle.ep_opening.specs.Files.{File, HasItsSeal}
 use Rattle.ep_rules.specs.Journals.{stamp_after}
 use Rattle.ep_rules.specs.OneMap.{Store, is_closed}
 

@@ -1,11 +1,11 @@
 -- The members of a set, in rising order: those of one leader after the other.
-use Rattle.std.proofs.Common.{◌≡◌, ℕ, suc, ◌+◌, ◌<◌, ◌≤◌, ◌↔◌, inl, inr, List, [], ◌∷◌, ◌++◌, sym, subst, arith}
+use Rattle.std.proofs.Common.{◌≡◌, ℕ, suc, ◌+◌, ◌<◌, ◌↔◌, inl, inr, List, [], ◌∷◌, ◌++◌, sym, subst, arith}
 use Rattle.std.proofs.lemmas.Bool.{cases_order}
 use Rattle.ep_base.specs.Deps.{IsRising}
 use Rattle.ep_base.specs.Instances.{IsInstance, instance_of}
 use Rattle.ep_base.specs.Places.{Has}
 use Rattle.ep_exec.proofs.Counts.{has_single, single_has}
-use Rattle.ep_rules.proofs.Places.{has_left, has_right, has_split, has_tail, place_head}
+use Rattle.ep_rules.proofs.Places.{has_left, has_right, has_split, has_tail}
 use Rattle.ep_opening.specs.Gathering.{AreBelow}
 
 -- a rising list stays so with one at its end that is above all others

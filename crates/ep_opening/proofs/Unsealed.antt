@@ -1,5 +1,5 @@
 -- No seal closes a map of versions 1 and 2.
-use Rattle.std.proofs.Common.{◌≡◌, ℕ, ◌≤◌, Bool, true, false, cond, leb, List, [], ◌∷◌, Option, Some, None, refl, sym, ap, subst, ◌∙◌, arith}
+use Rattle.std.proofs.Common.{◌≡◌, ℕ, ◌≤◌, Bool, true, false, cond, leb, List, [], ◌∷◌, Option, Some, None, refl, sym, ap, subst, ◌∙◌}
 use Rattle.std.proofs.lemmas.Bool.{false≢true, leb-true}
 use Rattle.ep_base.specs.Instances.{number_of}
 use Rattle.ep_base.specs.Versions.{highest_in, knows, version_number, CanSay}
@@ -11,7 +11,7 @@ use Rattle.ep_journal.specs.Entries.{entries_of, AreEntriesIn, AreReadable, IsJo
 use Rattle.ep_journal.specs.Events.{event_of, IsReadable, lacking, numbered_in}
 use Rattle.ep_journal.specs.Holding.{HasEvent, Holds, IsEarly, IsStoreIn}
 use Rattle.ep_journal.specs.Leaving.{state_left}
-use Rattle.ep_journal.specs.Openings.{Opening, no_opening, opens, OpensIn}
+use Rattle.ep_journal.specs.Openings.{Opening, opens, OpensIn}
 use Rattle.ep_journal.specs.declared.entry.Entry.{Entry}
 use Rattle.ep_journal.specs.declared.event.Event.{Event as Happening}
 use Rattle.ep_journal.specs.declared.event.Event.TheVariants.{Propose, Handle, GiveUp, Recover, Execute}

@@ -106,11 +106,7 @@ fn file_of(
 /// Its map and its seal are those that the journal leaves. Its clocks go on from the journal's last stamp, so they differ from replica to replica,
 /// each of which closes by itself. Its executed instances are those that the journal answers with a reply other than `Closed`: each command that the
 /// generation did, up to the seal and with it. It takes one pass over the entries, and a copy of the map.
-pub fn closing_of(
-    alloc: Global,
-    journal: &Journal,
-    next: Size,
-) -> Result<OpeningFile, ClosingFault>
+pub fn closing_of(alloc: Global, journal: &Journal, next: Size) -> Result<OpeningFile, ClosingFault>
     ensures ok { IfOk result (λ file. IsClosing journal.now next file) }
     ensures err { IfErr result (λ fault. IsUnclosed journal.now fault) }
 {
