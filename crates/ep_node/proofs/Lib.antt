@@ -17,4 +17,3 @@ mod Moments
 mod Syncing
 mod Opened
 mod EachTaken
-mod Outstanding

@@ -103,6 +103,13 @@ next_goes_on how at zs len p left r q left' h next =
     same_reading (next_request how (from at zs)) (and_then (unless_over (from at zs) (size_field how.version (from at zs))) (after (sized how))) r q left' (split (from at zs) (size_field how.version (from at zs)) (sized how))
     (goes_on (unless_over (from at zs) (size_field how.version (from at zs))) (after (sized how)) len p left r q left' h next)
 
+-- a length, and a request behind it
+pub next_ends : (how : Dialect) (at : ℕ) (zs : List ℕ) (len p : ℕ) (left : Option (List ℕ)) (r : Request) (q : ℕ) (left' : Option (List ℕ)) → Reads (unless_over (record { at = at; bytes = zs }) (size_field how.version (record { at = at; bytes = zs }))) (Ok (Some len)) p left
+    → ((ys : List ℕ) → left ≡ Some ys → Reads (sized how len (record { at = p; bytes = ys })) (Ok r) q left') → Reads (next_request how (record { at = at; bytes = zs })) (Ok (Some r)) q left'
+next_ends how at zs len p left r q left' h read =
+    next_goes_on how at zs (Some len) p left (Ok (Some r)) q left' h
+    (λ ys is. goes_on (sized how len (from p ys)) (λ a l. Ok (Some a, l)) r q left' (Ok (Some r)) q left' (read ys is) (λ xs e. (xs, e, refl)))
+
 -- a fault of a stage
 pub is_bad : {A : Type 0} (o : Reading A) (e : BundleFault) (at p : ℕ) (left : Option (List ℕ)) → e ≡ BadBundle at → Reads o (Err e) p left → IsErr o
 is_bad {A = A} o e at p left is h = subst (λ (x : Reading A). IsErr x) (sym (subst (λ (x : BundleFault). Reads {A = A} o (Err x) p left) is h)) refl

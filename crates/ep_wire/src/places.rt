@@ -95,17 +95,29 @@ fn late_field(first: u64, second: u64, body: u64, at: u64) -> Field
     }
 }
 
-/// The field at this place of a proposal of the version, with this body.
+/// The field at this place of a proposal of version 1 or 2, with this body.
+fn early_field_in(body: &[u8], at: u64) -> Field
+    ensures { result ≡ field_in (early_fields (byte_at body.now 17) (two_at body.now 18)) at }
+{
+    early_field(u64::from(byte_at(body, 17)), two_at(body, 18), at)
+}
+
+/// The same of version 3.
+fn late_field_in(body: &[u8], at: u64) -> Field
+    ensures { result ≡ field_in (late_fields (byte_at body.now 17) (byte_at body.now 18) (four_at body.now 19)) at }
+{
+    let first = u64::from(byte_at(body, 17));
+    let second = u64::from(byte_at(body, 18));
+    late_field(first, second, four_at(body, 19), at)
+}
+
+/// The same of the version.
 fn proposal_field(version: Version, body: &[u8], at: u64) -> Field
     ensures { result ≡ field_in (proposal_fields version body.now) at }
 {
-    let first = u64::from(byte_at(body, 17));
     match version.kind() {
-        VersionKind::V1 | VersionKind::V2 => early_field(first, two_at(body, 18), at),
-        VersionKind::V3(_) => {
-            let second = u64::from(byte_at(body, 18));
-            late_field(first, second, four_at(body, 19), at)
-        }
+        VersionKind::V1 | VersionKind::V2 => early_field_in(body, at),
+        VersionKind::V3(_) => late_field_in(body, at),
     }
 }
 
