@@ -1,5 +1,5 @@
 -- The logs of a generation, each beside its opening file, read one after the other.
-use Rattle.std.proofs.Common.{◌≡◌, ◌<◌, ◌+◌, ℕ, zero, suc, List, [], ◌∷◌, ◌++◌, Option, Some, take, length, get_or, slice_get, refl, sym, ap, subst, ◌∙◌, arith}
+use Rattle.std.proofs.Common.{◌≡◌, ◌≢◌, ◌<◌, ◌+◌, ℕ, ltb, zero, suc, List, [], ◌∷◌, ◌++◌, Option, Some, take, length, get_or, slice_get, refl, sym, ap, subst, ◌∙◌, arith}
 use Rattle.std.specs.Global.{Vec}
 use Rattle.std.proofs.lemmas.List.Elements.{All-head}
 use Rattle.ep_base.specs.Quorums.{size}
@@ -12,8 +12,10 @@ use Rattle.ep_opening.specs.Bytes.{file_digest, opening_bytes}
 use Rattle.ep_opening.specs.Files.{File}
 use Rattle.ep_collect.specs.Clusters.{IsRefused as IsUncollected}
 use Rattle.ep_log.specs.Origins.{Origin}
+use Rattle.ep_log.specs.Reading.{IsRead}
+use Rattle.ep_log.specs.declared.log_version.LogVersion.{LogVersion}
 use Rattle.ep_assemble.specs.Generations.{AreFiles, AreKept, AreNotKept, HaveOpened, IsFirstAt, IsKept, IsNotKept, IsOfOtherSize, IsRefusedIn, IsUnassembled, AreUnopened, origin_in}
-use Rattle.ep_assemble.specs.Logs.{IsReadTo}
+use Rattle.ep_assemble.specs.Logs.{IsNotRead, IsReadTo}
 use Rattle.ep_assemble.specs.Receipts.{AreUnheld}
 use Rattle.ep_assemble.specs.declared.assemble_fault.AssembleFault.{AssembleFault}
 use Rattle.ep_assemble.specs.declared.assemble_fault.AssembleFault.TheVariants.{Memory, Log, Collect, Receipts, TooManyReceipts}
@@ -107,6 +109,30 @@ one_refused c (Assemble (Receipts p at)) place kept files one d js ends less is 
 one_refused c (Assemble TooManyReceipts) place kept files one d js ends less is are all h =
     let has : HasFile one = file_at place kept files one are (at_place kept place one d less is) in
     absurd (h has.file has.is)
+
+-- as the log was read from what its own file tells
+pub read_beside :
+    (c : Cluster) (opening opening' log log' : List ℕ) (o : Origin) (v : LogVersion) (j : Journal) (whole behind : ℕ) → opening' ≡ opening → log' ≡ log →
+    ((file : File) → opening' ≡ opening_bytes file → o ≡ origin_in c file) → IsRead o log' v j whole behind → (file : File) → opening ≡ opening_bytes file → IsRead (origin_in c file) log v j whole behind
+read_beside c opening opening' log log' o v j whole behind same_opening same_log origin read file is =
+    subst (λ (p : Origin). IsRead p log v j whole behind) (origin file (same_opening ∙ is)) (subst (λ (bs : List ℕ). IsRead o bs v j whole behind) same_log read)
+
+pub other_beside :
+    (c : Cluster) (opening opening' log log' : List ℕ) (o : Origin) (v : LogVersion) (j : Journal) (whole behind : ℕ) → opening' ≡ opening → log' ≡ log →
+    ((file : File) → opening' ≡ opening_bytes file → o ≡ origin_in c file) → IsRead o log' v j whole behind → j.faults ≢ c.size → (file : File) → opening ≡ opening_bytes file → IsOfOtherSize c file log
+other_beside c opening opening' log log' o v j whole behind same_opening same_log origin read other file is =
+    record {
+      journal = j;
+      end = record { whole = whole; is_torn = ltb 0 behind };
+      read = record { version = v; behind = behind; read = read_beside c opening opening' log log' o v j whole behind same_opening same_log origin read file is; torn = refl };
+      other = other;
+    }
+
+pub unread_beside :
+    (c : Cluster) (opening opening' log log' : List ℕ) (o : Origin) (place : ℕ) (e : AssembleFault) → opening' ≡ opening → log' ≡ log → ((file : File) → opening' ≡ opening_bytes file → o ≡ origin_in c file) →
+    IsNotRead o place log' e → (file : File) → opening ≡ opening_bytes file → IsNotRead (origin_in c file) place log e
+unread_beside c opening opening' log log' o place e same_opening same_log origin why file is =
+    subst (λ (p : Origin). IsNotRead p place log e) (origin file (same_opening ∙ is)) (subst (λ (bs : List ℕ). IsNotRead o place bs e) same_log why)
 
 -- What is collected of them is of the cluster.
 

@@ -4,9 +4,10 @@ use Rattle.std.proofs.lemmas.List.{take_more}
 use Rattle.std.proofs.lemmas.Option.{slice_get-get_or}
 use Rattle.ep_opening.specs.Bytes.{opening_bytes}
 use Rattle.ep_opening.specs.Files.{File}
-use Rattle.ep_assemble.specs.Generations.{AreFiles, AreNoFiles, AreOfNone, AreOther, AreUnopened, Differs, HaveOpened, IsClusterOf, IsLike, IsNotOpened, IsOtherAt, common}
+use Rattle.ep_assemble.specs.Generations.{AreFiles, AreNoFiles, AreOfNone, AreUnopened, Differs, HaveOpened, IsClusterOf, IsFirstOther, IsLike, IsNotOpened}
 use Rattle.ep_assemble.specs.declared.assemble_fault.AssembleFault.TheVariants.{Memory, Log, Collect, Receipts, TooManyReceipts}
 use Rattle.ep_assemble.specs.declared.cluster.Cluster.{Cluster}
+use Rattle.ep_assemble.specs.declared.differing.Differing.{Differing}
 use Rattle.ep_assemble.specs.declared.generation_fault.GenerationFault.{GenerationFault}
 use Rattle.ep_assemble.specs.declared.generation_fault.GenerationFault.TheVariants.{NoLog, Opening, Other, LogSize, Assemble}
 use Rattle.ep_assemble.specs.declared.opened_log.OpenedLog.{OpenedLog}
@@ -50,26 +51,9 @@ one_refused (Assemble (Collect fault)) place kept one d files less is all h = ab
 one_refused (Assemble (Receipts p at)) place kept one d files less is all h = absurd h
 one_refused (Assemble TooManyReceipts) place kept one d files less is all h = absurd h
 
-pub first_other : (e : GenerationFault) (g : ℕ) (first : File) (place : ℕ) (files : List File) (file d : File) → place < length files → file ≡ get_or files place d → All (IsLike g first) (take place files) →
-    IsOtherAt g first place file e → AreOther g first files e
-first_other NoLog g first place files file d less is all h = absurd h
-first_other (Opening at fault) g first place files file d less is all h = absurd h
-first_other (Other at how) g first place files file d less is all h =
-    record {
-      before = subst (λ n. All (IsLike g first) (take n files)) (sym h.0) all;
-      file = file;
-      stands = ap (λ n. slice_get files n) h.0 ∙ at_place files place file d less is;
-      differs = h.1;
-    }
-first_other (LogSize at) g first place files file d less is all h = absurd h
-first_other (Assemble fault) g first place files file d less is all h = absurd h
-
-pub of_another : (e : GenerationFault) (g : ℕ) (first : File) (files : List File) → slice_get files 0 ≡ Some first → AreOther g first files e → AreOfNone g files e
-of_another NoLog g first files stands h = absurd h
-of_another (Opening place fault) g first files stands h = absurd h
-of_another (Other place how) g first files stands h = (first, stands, h)
-of_another (LogSize place) g first files stands h = absurd h
-of_another (Assemble fault) g first files stands h = absurd h
+pub first_other : (g : ℕ) (first : File) (place : ℕ) (how : Differing) (files : List File) (file d : File) → place < length files → file ≡ get_or files place d → All (IsLike g first) (take place files) →
+    Differs how g first file → IsFirstOther g first place how files
+first_other g first place how files file d less is all h = record { before = all; file = file; stands = at_place files place file d less is; differs = h }
 
 pub no_files : (g : ℕ) (kept : List OpenedLog) (e : GenerationFault) → AreNoFiles kept e → AreUnopened g kept e
 no_files g kept NoLog h = absurd h

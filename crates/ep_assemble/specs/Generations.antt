@@ -242,22 +242,6 @@ of_opening place (opening_.CutShort at) = Opening place (opening_.CutShort at)
 of_opening place (opening_.Damaged at) = Opening place (opening_.Damaged at)
 of_opening place (opening_.Wrong at field) = Opening place (opening_.Wrong at field)
 
--- the file, at this place, differs so from the first one
-abbrev pub IsOtherAt : ℕ → File → ℕ → File → GenerationFault → Type 0
-IsOtherAt g first place file NoLog = ⊥
-IsOtherAt g first place file (Opening at fault) = ⊥
-IsOtherAt g first place file (Other at how) = (at ≡ place) × Differs how g first file
-IsOtherAt g first place file (LogSize at) = ⊥
-IsOtherAt g first place file (Assemble fault) = ⊥
-
--- the files aren't like the first one
-abbrev pub AreOther : ℕ → File → List File → GenerationFault → Type 0
-AreOther g first files NoLog = ⊥
-AreOther g first files (Opening place fault) = ⊥
-AreOther g first files (Other place how) = IsFirstOther g first place how files
-AreOther g first files (LogSize place) = ⊥
-AreOther g first files (Assemble fault) = ⊥
-
 -- why the files are not those of one cluster in generation g
 abbrev pub AreOfNone : ℕ → List File → GenerationFault → Type 0
 AreOfNone g files NoLog = files ≡ []

@@ -1,6 +1,6 @@
 //! The logs of a generation, read one after the other.
 
-ghost use Rattle.std.specs.Prelude.{◌≡◌, List, IfOk, IfErr};
+ghost use Rattle.std.specs.Prelude.{◌≡◌, ◌↔◌, true, List, IfOk, IfErr};
 ghost use Rattle.ep_base.specs.declared.version_kind.VersionKind.TheVariants.{V3};
 ghost use Rattle.ep_log.specs.Reading.{IsRead};
 ghost use Rattle.ep_opening.specs.Bytes.{opening_bytes};
@@ -52,10 +52,17 @@ fn read_opened(
 {
     let origin = origin_beside(alloc, cluster, &one.opening)?;
     let log = read_one(alloc, place, &one.log, &origin)?;
-    if log.journal.size() != cluster.size {
+    if !is_of_size(cluster, &log) {
         return Err(GenerationFault::LogSize(place));
     }
     Ok(log)
+}
+
+/// Whether the log is one of a cluster of this size.
+fn is_of_size(cluster: &Cluster, log: &ReadLog) -> bool
+    ensures { (result ≡ true) ↔ (log.now.journal.faults ≡ cluster.now.size) }
+{
+    log.journal.size() == cluster.size
 }
 
 /// What the replica begins with whose opening file has these bytes. Each file has a digest, so `Err` is want of memory.

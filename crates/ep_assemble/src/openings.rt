@@ -1,8 +1,8 @@
 //! The opening files of a generation, and the cluster that they are of.
 
-ghost use Rattle.std.specs.Prelude.{◌≡◌, ◌↔◌, All, IfOk, IfErr, IsTrue, OnOk};
+ghost use Rattle.std.specs.Prelude.{◌≡◌, ◌↔◌, All, IfOk, IfErr, IsTrue, MatchOption};
 ghost use Rattle.ep_opening.specs.Bytes.{opening_bytes};
-ghost use Rattle.ep_assemble.specs.Generations.{AreFiles, AreNoFiles, AreOfNone, AreOther, AreUnopened, HaveOpened, IsClusterOf, IsLike, IsNotOpened, IsOtherAt, common, least_since, of_opening};
+ghost use Rattle.ep_assemble.specs.Generations.{AreFiles, AreNoFiles, AreOfNone, AreUnopened, Differs, HaveOpened, IsClusterOf, IsFirstOther, IsLike, IsNotOpened, common, least_since, of_opening};
 
 use crate::assemble_fault::AssembleFault;
 use crate::cluster::Cluster;
@@ -79,7 +79,9 @@ fn cluster_of(
     let Some(first) = files.first() else {
         return Err(GenerationFault::NoLog);
     };
-    check_files(generation, first, files)?;
+    if let Some(other) = first_other(generation, first, files) {
+        return Err(GenerationFault::Other(other.0, other.1));
+    }
     let opening = common_of(alloc, first, files)?;
     Ok(Cluster {
         generation,
@@ -88,41 +90,36 @@ fn cluster_of(
     })
 }
 
-/// Looks whether all files are of the generation, and like the first one.
-fn check_files(
+/// The place of the first file that isn't of the generation or not like the first one, and in what it differs.
+fn first_other(
     generation: Generation,
     first: &OpeningFile,
     files: &[OpeningFile],
-) -> Result<(), GenerationFault>
-    ensures alike { OnOk result (All (IsLike generation first.now) files.now) }
-    ensures other { IfErr result (AreOther generation first.now files.now) }
+) -> Option<(usize, Differing)>
+    ensures { MatchOption result (All (IsLike generation first.now) files.now) (λ other. IsFirstOther generation first.now other.0 other.1 files.now) }
 {
     for (place, file) in files.iter().enumerate() {
-        check_file(generation, first, place, file)?;
+        if let Some(how) = differing(generation, first, file) {
+            return Some((place, how));
+        }
     }
-    Ok(())
+    None
 }
 
-/// Looks whether the file at this place is of the generation, and like the first one.
-fn check_file(
-    generation: Generation,
-    first: &OpeningFile,
-    place: usize,
-    file: &OpeningFile,
-) -> Result<(), GenerationFault>
-    ensures like { OnOk result (IsLike generation first.now file.now) }
-    ensures other { IfErr result (IsOtherAt generation first.now place file.now) }
+/// In what the file differs from one of the generation that is like the first one.
+fn differing(generation: Generation, first: &OpeningFile, file: &OpeningFile) -> Option<Differing>
+    ensures { MatchOption result (IsLike generation first.now file.now) (λ how. Differs how generation first.now file.now) }
 {
     if file.generation() != generation {
-        return Err(GenerationFault::Other(place, Differing::Generation));
+        return Some(Differing::Generation);
     }
     if file.size() != first.size() {
-        return Err(GenerationFault::Other(place, Differing::Size));
+        return Some(Differing::Size);
     }
     if !has_map_of(first, file) {
-        return Err(GenerationFault::Other(place, Differing::Map));
+        return Some(Differing::Map);
     }
-    Ok(())
+    None
 }
 
 /// Whether the file has the map of the first one.
