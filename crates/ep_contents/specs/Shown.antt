@@ -1,7 +1,6 @@
 -- What is shown of the map of a log in a generation.
 use Rattle.std.specs.Prelude.{◌≡◌, ◌≢◌, ℕ, false, List, [], ◌∷◌, ◌++◌, length, codes, decimal}
 use Rattle.std.specs.FinMap.{entries}
-use Rattle.std.specs.List.{flat_map}
 use Rattle.ep_assemble.specs.Logs.{IsOfLog, IsReadTo}
 use Rattle.ep_assemble.specs.Generations.{IsOfOpening}
 use Rattle.ep_assemble.specs.declared.assembled.End.{End}
@@ -27,12 +26,16 @@ use Rattle.ep_contents.specs.declared.show_fault.ShowFault.TheVariants.{Memory, 
 abbrev pub pair_line : List ℕ × List ℕ → List ℕ
 pair_line e = word_of e.0 ++ codes " " ++ word_of e.1 ++ codes "\n"
 
+abbrev pub pair_lines : List (List ℕ × List ℕ) → List ℕ
+pair_lines [] = []
+pair_lines (e ∷ es) = pair_line e ++ pair_lines es
+
 -- the generation, how many entries its log has, how many keys have a value, and the digest of them all
 abbrev pub head_line : ℕ → ℕ → Contents → List ℕ
 head_line g n m = codes "generation " ++ decimal g ++ codes " entries " ++ decimal n ++ codes " contents " ++ contents_text m ++ codes "\n"
 
 abbrev pub map_text : ℕ → ℕ → Contents → List ℕ
-map_text g n m = head_line g n m ++ flat_map pair_line (entries m)
+map_text g n m = head_line g n m ++ pair_lines (entries m)
 
 -- what the replica with this file began with
 abbrev pub origin_of : File → Origin

@@ -2,8 +2,7 @@
 
 ghost use Rattle.std.specs.Prelude.{◌≡◌, ◌<◌, ◌^◌, ◌++◌, codes, length, IfOk, OnOk};
 ghost use Rattle.std.specs.FinMap.{entries};
-ghost use Rattle.std.specs.List.{flat_map};
-ghost use Rattle.ep_contents.specs.Shown.{head_line, map_text, pair_line};
+ghost use Rattle.ep_contents.specs.Shown.{head_line, map_text, pair_line, pair_lines};
 
 use ep_base::{Generation, Key, Value};
 use ep_exec::Contents;
@@ -49,7 +48,7 @@ fn push_head(
 
 /// Appends a line for each key.
 fn push_pairs(text: &mut Vec<u8>, pairs: &[(Key, Value)]) -> Result<(), AllocError>
-    ensures { OnOk result (text.new.items ≡ text.old.items ++ flat_map pair_line pairs.now) }
+    ensures { OnOk result (text.new.items ≡ text.old.items ++ pair_lines pairs.now) }
 {
     for pair in pairs {
         push_pair(text, pair)?;

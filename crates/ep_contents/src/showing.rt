@@ -1,6 +1,6 @@
 //! The map of a log, shown.
 
-ghost use Rattle.std.specs.Prelude.{◌≡◌, ◌≤◌, ◌<◌, ltb, length, IfOk, IfErr};
+ghost use Rattle.std.specs.Prelude.{◌≡◌, ◌↔◌, true, ltb, length, IfOk, IfErr};
 ghost use Rattle.ep_base.specs.declared.version_kind.VersionKind.TheVariants.{V3};
 ghost use Rattle.ep_journal.specs.Leaving.{standing};
 ghost use Rattle.ep_opening.specs.Bytes.{opening_bytes};
@@ -19,6 +19,7 @@ use std::alloc::{AllocError, Global};
 
 /// The map of a replica in a generation, of the bytes of its opening file and of the log beside it, as far as its records are whole; of a log
 /// without a byte, which isn't begun yet, the map of the file.
+#[tactic(auto, using(crate::proofs::MapsOfLogs::not_logged, crate::proofs::MapsOfLogs::not_opened))]
 pub fn show_map(
     alloc: Global,
     generation: Generation,
@@ -62,11 +63,18 @@ fn checked(
     ensures ok { IfOk result (λ f. (opening.now ≡ opening_bytes f) × (f.generation ≡ generation)) }
     ensures err { IfErr result (IsNotOpened generation opening.now) }
 {
-    if file.generation() == generation {
+    if is_of(generation, &file) {
         Ok(file)
     } else {
         Err(ShowFault::OtherGeneration)
     }
+}
+
+/// Whether the file is of the generation.
+fn is_of(generation: Generation, file: &OpeningFile) -> bool
+    ensures { (result ≡ true) ↔ (file.now.generation ≡ generation) }
+{
+    file.generation() == generation
 }
 
 fn opening_fault(fault: OpeningFault) -> ShowFault
@@ -109,6 +117,7 @@ fn log_fault(fault: LogFault) -> ShowFault
 }
 
 /// What the replica with this file began with, which has these bytes. Each file has a digest, so `Err` is want of memory.
+#[tactic(auto, using(crate::proofs::MapsOfLogs::origin_is))]
 fn origin_beside(alloc: Global, file: &OpeningFile, opening: &[u8]) -> Result<Origin, AllocError>
     requires { opening.now ≡ opening_bytes file.now }
     ensures { IfOk result (λ o. o ≡ origin_of file.now) }

@@ -2,14 +2,16 @@
 use Rattle.std.proofs.Common.{◌≡◌, ◌⊎◌, ◌<◌, ◌+◌, inl, inr, ℕ, List, [], ◌∷◌, ◌++◌, Result, Ok, Err, length, map, take, get_or, IfOk, IfErr, sym, ap, ◌∙◌}
 use Rattle.std.proofs.lemmas.List.{length-map, map-append, take_more}
 use Rattle.std.specs.Global.{Vec}
-use Rattle.ep_assemble.specs.GenerationFiles.{IsCollectedOf, IsTurnedDownOf}
+use Rattle.ep_assemble.specs.Files.{IsUnread}
+use Rattle.ep_assemble.specs.GenerationFiles.{IsCollectedOf, IsLacking, IsTurnedDownOf}
 use Rattle.ep_assemble.specs.Logs.{contents}
 use Rattle.ep_assemble.specs.declared.files.Collection.{Collection}
 use Rattle.ep_assemble.specs.declared.files.FilesFault.{FilesFault}
 use Rattle.ep_assemble.specs.declared.files.FilesFault.TheVariants as files
 use Rattle.ep_assemble.specs.declared.opened_log.OpenedLog.{OpenedLog}
 use Rattle.ep_server.specs.CollectedOf.{CollectsGeneration, CollectsOf, PutsCollected}
-use Rattle.ep_server.specs.Outputs.{Output}
+use Rattle.ep_server.specs.Collected.{TurnsAway}
+use Rattle.ep_server.specs.Outputs.{Output, WroteNothing}
 use Rattle.ep_server.specs.declared.status.Status.{Status}
 use Rattle.ep_server.specs.declared.status.Status.TheVariants.{Done, Refused, OutOfMemory, Failed}
 
@@ -56,3 +58,8 @@ are_collected_of f g openings logs receipts kept receipt_bytes outcome status ou
       receipt_count = length-map receipt_bytes (λ (v : Vec ℕ). v.items) ∙ every ∙ sym (length-map receipts f);
       collects = put_in g (map f openings) (map f logs) (map f receipts) kept (contents receipt_bytes) outcome status out fault ok err puts;
     })
+
+pub are_lacking :
+    (g : ℕ) (openings logs receipts : List (List ℕ)) (why : FilesFault) (status : Status) (out fault : Output) → IsLacking openings why ⊎ IsLacking logs why ⊎ IsUnread receipts why → WroteNothing out →
+    TurnsAway why status fault → CollectsGeneration g openings logs receipts status out fault
+are_lacking g openings logs receipts why status out fault of silent told = inr (record { why = why; of = of; silent = silent; told = told })

@@ -1,10 +1,12 @@
 -- What becomes of the two files whose map is shown.
 use Rattle.std.proofs.Common.{◌≡◌, ◌⊎◌, inl, inr, ℕ, List, Result, Ok, Err, IfOk, IfErr}
+use Rattle.ep_assemble.specs.Files.{IsOfFile}
 use Rattle.ep_assemble.specs.declared.files.FilesFault.{FilesFault}
 use Rattle.ep_assemble.specs.declared.files.FilesFault.TheVariants as files
 use Rattle.ep_contents.specs.ShownFiles.{AreRefused, AreShown}
 use Rattle.ep_contents.specs.declared.lines_shown.LinesShown.{LinesShown}
-use Rattle.ep_server.specs.Outputs.{Output}
+use Rattle.ep_server.specs.Collected.{TurnsAway}
+use Rattle.ep_server.specs.Outputs.{Output, WroteNothing}
 use Rattle.ep_server.specs.Shown.{PutsShown, Shows, ShowsFiles}
 use Rattle.ep_server.specs.declared.status.Status.{Status}
 use Rattle.ep_server.specs.declared.status.Status.TheVariants.{Done, Refused, OutOfMemory, Failed}
@@ -32,3 +34,8 @@ pub are_shown :
     IfOk outcome (λ s. AreShown g log_name opening log s.text.items s.lines.items) → IfErr outcome (AreRefused g opening_name log_name opening log) → PutsShown outcome status out fault →
     ShowsFiles g opening_name log_name status out fault
 are_shown g opening_name log_name opening log outcome status out fault ok err puts = inl (opening, log, put_in g opening_name log_name opening log outcome status out fault ok err puts)
+
+pub are_unseen :
+    (g : ℕ) (opening_name log_name : List ℕ) (why : FilesFault) (status : Status) (out fault : Output) → IsOfFile opening_name why ⊎ IsOfFile log_name why → WroteNothing out → TurnsAway why status fault →
+    ShowsFiles g opening_name log_name status out fault
+are_unseen g opening_name log_name why status out fault of silent told = inr (record { why = why; of = of; silent = silent; told = told })

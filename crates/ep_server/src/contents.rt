@@ -73,6 +73,7 @@ fn names_of(alloc: Global, folder: &str, generation: Generation) -> Result<Names
 }
 
 /// Reads the files, and shows the map of the generation of what they hold.
+#[tactic(auto, using(crate::proofs::MapShown::are_shown, crate::proofs::MapShown::are_unseen))]
 pub fn show_named<R: Files + AllocGlobal, W: Sink, F: Sink>(
     rt: &R,
     generation: Generation,

@@ -72,6 +72,7 @@ fn paths_of(
 }
 
 /// Reads the files, and writes the bundle of the generation of what they hold.
+#[tactic(auto, using(crate::proofs::FoldersCollected::are_collected_of, crate::proofs::FoldersCollected::are_lacking))]
 pub fn collect_of<R: Files + AllocGlobal, W: Sink, F: Sink>(
     rt: &R,
     generation: Generation,
