@@ -89,7 +89,7 @@ fn ready_again<'a, R: Files<File = File> + AllocGlobal, F: Sink>(
     ensures err { IfErr result IsUnready }
     ensures told { TellsCut (output (F.held fault_writer.old) (F.held fault_writer.new) (F.has_failed fault_writer.old) (F.has_failed fault_writer.new)) }
 {
-    let stage = next_stage(rt, options.folder.as_str())?;
+    let stage = next_stage(rt, options.folder.as_str(), true)?;
     check_stage(options.size, &stage)?;
     let generation = stage.file.generation();
     let node = open_stage(rt, options, stage, fault_writer)?;
