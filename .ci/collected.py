@@ -173,7 +173,7 @@ def maps():
     for name, it in (("generation 1", FIRST), ("generation 7", ONE), ("5 replicas", TWO), ("7 replicas", THREE), ("the last generation", LAST), ("long values", LONG), ("nothing", Generation(generation=2))):
         yield dict(name=f"contents of {name}", words=["contents", "zero"], files=folders(it), wanted=shown(it, 0, it.held))
         # (another replica has executed nothing)
-        yield dict(name=f"contents of {name}, of another replica", words=["contents", "one"], files=folders(it, 9, 70), wanted=shown(it, 1, it.opening))
+        yield dict(name=f"contents of {name}, of another replica", words=["contents", "one"], files=folders(it), wanted=shown(it, 1, it.opening))
     odd = Generation(generation=2, opening={"%00": "a%20b", "%25": "%-", "%ff": "%25", "!": "%21", "aa": "1", "a": "2"})
     yield dict(name="contents of odd keys", words=["contents", "zero"], files=folders(odd), wanted=shown(odd, 0, odd.opening))
     # the newest one

@@ -87,6 +87,7 @@ fn opening_fault(fault: OpeningFault) -> ShowFault
 }
 
 /// The map of the log beside this file, which has these bytes.
+#[tactic(auto, using(crate::proofs::MapsOfLogs::empty_shown, crate::proofs::MapsOfLogs::memory_alone))]
 fn show_log(
     alloc: Global,
     file: &OpeningFile,
@@ -97,9 +98,10 @@ fn show_log(
     ensures ok { IfOk result (λ s. IsTextOf file.now log.now s.text.items s.end) }
     ensures err { IfErr result (IsNotLogged file.now log.now) }
 {
-    if log.is_empty() {
+    let Some(first) = log.first() else {
         return show_file(alloc, file);
-    }
+    };
+    let _ = first;
     let origin = origin_beside(alloc, file, opening)?;
     match read_log(alloc, log, &origin) {
         Ok(read) => show_read(alloc, file.generation(), &read),

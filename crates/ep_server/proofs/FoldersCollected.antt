@@ -1,6 +1,6 @@
 -- What becomes of the folders of a generation.
-use Rattle.std.proofs.Common.{◌≡◌, ◌⊎◌, ◌<◌, ◌+◌, inl, inr, ℕ, List, [], ◌∷◌, ◌++◌, Result, Ok, Err, length, map, take, get_or, IfOk, IfErr, sym, ap, ◌∙◌}
-use Rattle.std.proofs.lemmas.List.{length-map, map-append, take_more}
+use Rattle.std.proofs.Common.{◌≡◌, ◌⊎◌, ◌<◌, ◌≤◌, ◌+◌, inl, inr, ℕ, List, [], ◌∷◌, ◌++◌, Result, Ok, Err, length, length-append, map, take, get_or, IfOk, IfErr, sym, ap, ◌∙◌, arith}
+use Rattle.std.proofs.lemmas.List.{length-map, map-append, take_all, take_more}
 use Rattle.std.specs.Global.{Vec}
 use Rattle.ep_assemble.specs.Files.{IsUnread}
 use Rattle.ep_assemble.specs.GenerationFiles.{IsCollectedOf, IsLacking, IsTurnedDownOf}
@@ -23,6 +23,16 @@ one_more {S = S} f k i xs x d ys ys' y less is so_far here more =
     let longer : take (i + 1) xs ≡ front ++ x ∷ [] = take_more xs i d less ∙ ap (λ (z : S). front ++ z ∷ []) (sym is) in
     ap (map f) more ∙ map-append f ys (y ∷ []) ∙ ap (λ (l : List (List ℕ)). l ++ f y ∷ []) so_far ∙ ap (λ (b : List ℕ). map k (map f front) ++ b ∷ []) here
     ∙ sym (map-append k (map f front) (f x ∷ [])) ∙ ap (map k) (sym (map-append f front (x ∷ []))) ∙ ap (λ (l : List S). map k (map f l)) (sym longer)
+
+-- and all of them
+pub all_named : {S : Type 0} (f : S → List ℕ) (k : List ℕ → List ℕ) (i : ℕ) (xs ys : List S) → length xs ≤ i → map f ys ≡ map k (map f (take i xs)) → map f ys ≡ map k (map f xs)
+all_named {S = S} f k i xs ys all so_far = so_far ∙ ap (λ (l : List S). map k (map f l)) (take_all i xs all)
+
+pub counted : {S : Type 0} (i : ℕ) (ys ys' : List S) (y : S) → length ys ≡ i → ys' ≡ ys ++ y ∷ [] → length ys' ≡ i + 1
+counted {S = S} i ys ys' y so_far more =
+    let longer : length ys' ≡ length (ys ++ y ∷ []) = ap (λ (l : List S). length l) more in
+    let sum : length (ys ++ y ∷ []) ≡ length ys + 1 = length-append ys (y ∷ []) in
+    omega arith
 
 -- by what was collected of them
 put_in :
