@@ -1,9 +1,9 @@
 -- What a node in a folder has told, and that it has served.
-use Rattle.std.proofs.Common.{◌≡◌, inl, inr, ℕ, Bool, true, List, [], ◌++◌, Option, Some, None, Result, Ok, Err, refl, append-nil, sym, subst, ◌∙◌}
+use Rattle.std.proofs.Common.{◌≡◌, inl, inr, ℕ, Bool, true, List, [], ◌++◌, Option, Some, None, Result, Ok, Err, IfOk, refl, append-nil, sym, subst, ◌∙◌}
 use Rattle.std.proofs.KnownBytes.{Appends-nil}
 use Rattle.ep_base.specs.Devices.{Puts}
 use Rattle.ep_log.specs.Origins.{Origin}
-use Rattle.ep_node.specs.Nodes.{Logged, origin_of}
+use Rattle.ep_node.specs.Nodes.{IsQuiet, Logged, origin_of}
 use Rattle.ep_node.specs.declared.cut.Cut.{Cut}
 use Rattle.ep_opening.specs.Files.{File}
 use Rattle.ep_serve.specs.Lasting.{crashes}
@@ -81,4 +81,11 @@ of_file file faults me who o node size mine from cluster replica origin = record
 
 -- it is for a cluster of this size
 pub of_this_size : {D : Type 0} (size me : ℕ) (node it : Logged D) → IsOfFile node.replica.faults me node → it ≡ node → node.replica.faults ≡ size → IsOfFile size me it
-of_this_size size me node it of same is = subst (λ (n : ℕ). IsOfFile n me it) is (subst (λ (x : Logged D). IsOfFile node.replica.faults me x) (sym same) of)
+of_this_size {D = D} size me node it of same is = subst (λ (n : ℕ). IsOfFile n me it) is (subst (λ (x : Logged D). IsOfFile node.replica.faults me x) (sym same) of)
+
+-- the same node, after a call that hands it on
+pub left_as :
+    {D E : Type 0} (me : ℕ) (r : Result (Logged D) E) (node : Logged D) → IfOk r (λ it. it ≡ node) → IsQuiet node → IsOfFile node.replica.faults me node →
+    IfOk r (λ it. IsQuiet it × IsOfFile it.replica.faults me it)
+left_as {D = D} me (Ok it) node same quiet of = subst (λ (n : Logged D). IsQuiet n × IsOfFile n.replica.faults me n) (sym same) (quiet, of)
+left_as me (Err e) node same quiet of = tt

@@ -51,7 +51,7 @@ pub fn serve_folder<'a, R: Files<File = File> + AllocGlobal, S: Source, W: Sink,
 }
 
 /// The node of the generation that is served: of the cluster's size, and with the origin that a file has.
-#[tactic(auto, using(crate::proofs::InFolders::tells_nothing, crate::proofs::InFolders::one_cut, crate::proofs::InFolders::both_cuts, crate::proofs::InFolders::of_this_size))]
+#[tactic(auto, using(crate::proofs::InFolders::tells_nothing, crate::proofs::InFolders::one_cut, crate::proofs::InFolders::of_this_size))]
 fn ready<'a, R: Files<File = File> + AllocGlobal, F: Sink>(
     rt: &'a R,
     options: &FolderOptions,
@@ -169,7 +169,7 @@ fn device_of<'a, R: Files<File = File> + AllocGlobal>(
 }
 
 /// The node of a generation, whose log is on the disk. The generations before it are left then.
-#[tactic(auto, using(crate::proofs::InFolders::tells_nothing, crate::proofs::InFolders::tells_cut, crate::proofs::InFolders::of_file))]
+#[tactic(auto, using(crate::proofs::InFolders::tells_nothing, crate::proofs::InFolders::tells_cut))]
 fn open_stage<'a, R: Files<File = File> + AllocGlobal, F: Sink>(
     rt: &'a R,
     options: &FolderOptions,
