@@ -10,7 +10,7 @@ loop-folder-preserved c =
     let here : string_bytes c.in_ok-path.path ≡ file_path (string_bytes c.folder-item.result) c.args.generation c.args.name.now =
     subst (λ (n : List ℕ). string_bytes c.in_ok-path.path ≡ file_path n c.args.generation c.args.name.now) named c.in_ok-path.ensures in (
       one_more string_bytes (λ (folder : List ℕ). file_path folder c.args.generation c.args.name.now) c.loop-folder.folder-index c.args.folders.now c.folder-item.result _ c.loop-folder.paths.items _ c.in_ok-path.path less
-      c.folder-item.is c.loop-folder.invariant.0 here c.in_ok-push.ensures.items,
+          c.folder-item.is c.loop-folder.invariant.0 here c.in_ok-push.ensures.items,
       counted c.loop-folder.folder-index c.loop-folder.paths.items _ c.in_ok-path.path c.loop-folder.invariant.1 c.in_ok-push.ensures.items,
     )
 
