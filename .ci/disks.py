@@ -225,9 +225,9 @@ def goes_on(case, seed, told, words=()):
     case.wants(served > generation or entries >= told, f"(chance {seed}) {told} entries were told in generation {generation}, and {entries} came back")
 
 
-def lost_after_each_call(case, words=(), retried=()):
-    """A start that begins the next generation, and the power is lost after each of its calls; and then a start again, twice."""
-    case.start(LIVES, words=words)
+def lost_after_each_call(case, words=(), retried=(), rules=()):
+    """A start that begins the next generation, and the power is lost after each of its calls; and then a start again."""
+    case.start(LIVES, *rules, words=words)
     case.wants(case.status == 0 and case.state()[0] == 2, f"the start: status {case.status}, {case.errors.strip()}")
     lines, before = case.lines, case.saved
     for moment in range(len(lines)):
@@ -322,7 +322,32 @@ def failed_in_folders(make):
                 yield f"{'take' if is_taken else 'close'}, {kind} {place}: {CAUSES[errors[0]]}", failed_in_a_folder(kind, place, errors[0], is_taken)
 
 
-FOLDER_ROWS = (closes, takes, executes_the_seal, begins_a_folder)
+def a_disk_that_lies_to_a_folder(case):
+    """Of the rows themselves: each file's sync that wasn't done is noticed, and that of a folder for the one that was made, and for the log."""
+    tree = case.trees[2]
+    case.put(tree)
+    case.start(LIVES)
+    synced, opened = [], {}
+    for line in case.lines:
+        kind, *words = line.split(" ")
+        if kind == "open" and words[2] == "folder":
+            opened[words[1]] = os.path.relpath(words[3], case.place)
+        elif kind == "folder":
+            synced.append(opened[words[1]])
+    files = case.calls("fsync")
+    wanted = [("fsync", it) for it in range(1, files + 1)]
+    wanted += [("folder", synced.index(".") + 1), ("folder", max(at for at, it in enumerate(synced, 1) if it == "2"))]
+    case.wants(files == 4 and len(synced) == 5, f"{files} files and {len(synced)} folders were synced: {synced}")
+    for kind, place in wanted:
+        case.forget()
+        case.put(tree)
+        noticed, case.faults = case.faults, []
+        lost_after_each_call(case, rules=(f"held={kind}:{place}:{place}",))
+        noticed, case.faults = case.faults, noticed
+        case.wants(noticed, f"the {kind} {place} that wasn't done wasn't noticed")
+
+
+FOLDER_ROWS = (closes, takes, executes_the_seal, begins_a_folder, a_disk_that_lies_to_a_folder)
 
 
 def tried(node=NODE, word=""):

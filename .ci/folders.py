@@ -179,6 +179,7 @@ def first_starts(program, folder):
         os.mkdir(f"{it.place(0)}/{name}")
     yield "other folders", differs(told(it, 0), (0, 1, ""))
     for name, damaged, wanted in (
+        ("empty", b"", "cut short at byte 0"),
         ("cut", EMPTY[3][:58], "cut short at byte 58"),
         ("turned", EMPTY[3][:10] + b"\1" + EMPTY[3][11:], "damaged: no digest of the bytes before it at byte 27"),
         ("wrong", digested(EMPTY[3][:5] + b"\4" + EMPTY[3][6:27]), "wrong field at byte 5"),

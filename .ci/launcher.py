@@ -23,7 +23,7 @@ FOUR = "replicas 4\n"
 CUT = b"EPJB\2\3"
 # a bundle in which replica 1 handled a frame that nobody sent: .ci/rows/audit-unsent-frame
 UNSENT = f"{TOP}/.ci/rows/audit-unsent-frame/stdin.hex"
-COMMANDS = ("replay", "run", "audit", "show", "explain", "draw", "trace-events", "upgrade", "node", "collect")
+COMMANDS = ("replay", "run", "audit", "show", "explain", "draw", "trace-events", "upgrade", "node", "collect", "contents")
 
 
 class Room:
@@ -141,7 +141,8 @@ def fixed(room):
         ("put.script", refused("unrecognized subcommand 'put.script'", "epaxos reads standard input: epaxos replay < put.script")),
         ("no.run", refused("unrecognized subcommand 'no.run'", "epaxos reads standard input: epaxos run < no.run")),
         ("cut.bundle", refused("unrecognized subcommand 'cut.bundle'", "epaxos reads standard input: epaxos audit < cut.bundle")),
-        ("node --replicas 3 --replica 0", (2, "", f"{REFUSED}the following required arguments were not provided:\n  --log <FILE>\n\nUsage: epaxos node --replicas <N> --replica <R> --log <FILE>{MORE}")),
+        ("node --replicas 3", (2, "", f"{REFUSED}the following required arguments were not provided:\n  --replica <R>\n\nUsage: epaxos node --replicas <N> --replica <R>{MORE}")),
+        ("node --replicas 3 --replica 0", (2, "", f"{REFUSED}'--log' or '--dir' is missing{MORE}")),
     ):
         yield words, room.run(words), wanted
     for words in ("--help", "help node"):

@@ -10,11 +10,11 @@ A row is a folder .ci/rows/NAME with files, each of which may lack:
   redirect   the shell's redirections of the last run
   files      a folder: files that lie where the runs are; NAME.hex is NAME, in hexadecimal
   stdout stderr status     what is wanted: nothing, nothing and 0 where there is no such file; stdout.gz: packed
-PROGRAM is ep_main as it was built; what begins with `node` or `collect` is run by ep_server, and what begins with `show`, `explain`,
+PROGRAM is ep_main as it was built; what begins with `node`, `collect` or `contents` is run by ep_server, and what begins with `show`, `explain`,
 `draw` or `trace-events`, and traces, by ep_viewer, which were built as it was. Runs of `epaxos node`, and of `collect` on its logs, are in .ci/nodes.py.
 More rows are made of the scripts and reports in docs/FORMATS.md, examples/ and .ci/scripts/ (NAME.script is played, NAME.run is run
 by both hosts, and where there is a NAME.trace or a NAME.svg, NAME.script is traced
-or drawn), and by .ci/made.py, .ci/words.py, .ci/cases.py, .ci/odd.py, .ci/faults.py, .ci/generations.py and .ci/looks.py. What .ci/drawn.py draws by
+or drawn), and by .ci/made.py, .ci/words.py, .ci/cases.py, .ci/odd.py, .ci/faults.py, .ci/generations.py, .ci/collected.py and .ci/looks.py. What .ci/drawn.py draws by
 chance is looked at too.
 """
 
@@ -37,7 +37,7 @@ TAGS = {"svg", "title", "style", "defs", "marker", "path", "rect", "g", "line", 
 
 def program_of(program, words):
     """The program that is run with these words: ep_server or ep_viewer for its own, as ep_main was built."""
-    own = {"node": "ep_server", "collect": "ep_server", "show": "ep_viewer", "explain": "ep_viewer", "draw": "ep_viewer", "trace-events": "ep_viewer"}
+    own = {"node": "ep_server", "collect": "ep_server", "contents": "ep_server", "show": "ep_viewer", "explain": "ep_viewer", "draw": "ep_viewer", "trace-events": "ep_viewer"}
     if words[:1] == ["replay"] and ("--emit=trace" in words or ["--emit", "trace"] in [words[at : at + 2] for at in range(len(words))]):
         return program.replace("ep_main", "ep_viewer")
     return program.replace("ep_main", own.get(words[0], "ep_main") if words else "ep_main")
@@ -79,6 +79,7 @@ class Row:
             return self.run_in(None, program)
         with tempfile.TemporaryDirectory() as folder:
             for name, held in self.files.items():
+                os.makedirs(os.path.dirname(f"{folder}/{name}"), exist_ok=True)
                 with open(f"{folder}/{name}", "wb") as it:
                     it.write(held)
             return self.run_in(folder, program)
@@ -220,6 +221,7 @@ def every():
     """All rows."""
     sys.path.insert(0, f"{TOP}/.ci")
     import cases
+    import collected
     import faults
     import generations
     import looks
@@ -228,7 +230,7 @@ def every():
     import words
 
     yield from stored()
-    yield from (Row(**it) for it in (*words.every(), *cases.every(), *odd.every(), *faults.every(), *generations.every(), *looks.every()))
+    yield from (Row(**it) for it in (*words.every(), *cases.every(), *odd.every(), *faults.every(), *generations.every(), *collected.every(), *looks.every()))
     yield from written()
     for name, script, report in (*made.every(), *cases.played(), *generations.played()):
         yield from played(name, script, report)

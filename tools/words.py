@@ -69,7 +69,8 @@ class Command:
         found = re.findall(r"^  (?:    |-\w, )--([\w-]+)(?: <([^>]+)>)?(?:\.\.\.)?(?:  .*)?$", text, re.M)
         self.options = {option: Option(option, value) for option, value in found}
         self.usage, self.needed = usage, re.findall(r"(?<!\[)--([\w-]+)", usage)
-        self.words = re.findall(r"([<[]\w+[>\]])\.\.\.$", usage)
+        plain = re.search(r" ([<[](?!OPTIONS)\w+[>\]])(\.\.\.)?$", re.sub(r" --[\w-]+ <\w+>", "", usage))
+        self.words, self.dots = ([plain[1]], plain[2] or "") if plain else ([], "")
         self.may_lack_words = usage.endswith("]...")
         self.repeated = {"receipts"}
 
@@ -77,7 +78,7 @@ class Command:
         """The usage where these options are given: those that can't be left out, and then the others in the order in which they are given."""
         others = dict.fromkeys(name for name in given if name not in self.needed)
         wanted = [self.options[name].shown for name in (*self.needed, *others)]
-        other = [f"<{it[1:-1]}>..." if plain else f"{it}..." for it in self.words]
+        other = [f"<{it[1:-1]}>{self.dots}" if plain else it + self.dots for it in self.words]
         return " ".join([f"epaxos {self.name}", *wanted, *other])
 
     def read(self, words):
@@ -94,11 +95,12 @@ class Command:
                 at = self.read_option(word, words, at, given, plain)
             else:
                 plain.append(word)
-                if not self.words:
+                if not self.words or not self.dots and len(plain) > 1:
                     raise unexpected(word, self.usage, tip_of_file(self.name, word))
-        if not self.words and plain:
-            raise unexpected(plain[0], self.usage)
-        lacking = [self.options[it].shown for it in self.needed if it not in given] + [f"{it}..." for it in self.words if not plain and not self.may_lack_words]
+        most = 0 if not self.words else len(plain) if self.dots else 1
+        if len(plain) > most:
+            raise unexpected(plain[most], self.usage)
+        lacking = [self.options[it].shown for it in self.needed if it not in given] + [it + self.dots for it in self.words if not plain and not self.may_lack_words]
         if lacking:
             raise Refused("the following required arguments were not provided:\n" + "".join(f"  {it}\n" for it in lacking) + f"\nUsage: {self.usage_with(given)}\n")
         return given, plain
@@ -279,6 +281,10 @@ def is_key(word):
     return bool(re.fullmatch(r"(?:[!-$&-~]|%[0-9A-Fa-f]{2}){1,255}", word))
 
 
+def is_generation(word):
+    return word[:1] != "0" and number(1, 2**32 - 1)(word)
+
+
 STAMP = (number(0, 10**15, 15), "invalid value {value} for '{shown} <STAMP>': it takes a number of 1 to 15 digits\n")
 PART = (
     ("instance", is_instance, "invalid value {value} for '{shown} <R.N>': it takes an instance, as 0.1: a replica from 0 to 6, and a number from 1 to 2000\n"),
@@ -300,6 +306,7 @@ VALUES = {
     "show": PART,
     "draw": PART,
     "trace-events": PART,
+    "collect": (("generation", is_generation, "invalid value {value} for '{shown} <G>': it takes a number from 1 to 4294967295\n"),),
     "upgrade": (("to", *listed("VERSION", "2", "3")),),
     "node": (("replicas", *listed("N", "3", "5", "7")), ("sync", *listed("WHEN", "each", "asked"))),
 }

@@ -4,13 +4,14 @@ use Rattle.std.specs.Global.{Vec}
 use Rattle.std.proofs.lemmas.Option.{slice_get-get_or}
 use Rattle.std.proofs.lemmas.List.{take-map, take_more, map-append}
 use Rattle.ep_journal.specs.Entries.{Log as Journal}
+use Rattle.ep_log.specs.Origins.{second}
 use Rattle.ep_assemble.specs.Logs.{AreRead, IsNotRead, IsReadTo, IsLogRefused, IsRefused, contents}
 use Rattle.ep_assemble.specs.declared.assemble_fault.AssembleFault.{AssembleFault}
 use Rattle.ep_assemble.specs.declared.assemble_fault.AssembleFault.TheVariants.{Memory, Log, Collect, Receipts, TooManyReceipts}
 use Rattle.ep_assemble.specs.declared.assembled.End.{End}
 
 pub one_more : (logs : List (List ℕ)) (js : List Journal) (ends : List End) (bytes : List ℕ) (j : Journal) (end : End) → AreRead logs js ends →
-    IsReadTo bytes j end → AreRead (logs ++ bytes ∷ []) (js ++ j ∷ []) (ends ++ end ∷ [])
+    IsReadTo second bytes j end → AreRead (logs ++ bytes ∷ []) (js ++ j ∷ []) (ends ++ end ∷ [])
 one_more [] [] [] bytes j end all is = (is, tt)
 one_more [] [] (e ∷ ends) bytes j end all is = absurd all
 one_more [] (x ∷ js) [] bytes j end all is = absurd all
@@ -34,7 +35,7 @@ there place vs v d less is = record { stands = stands place vs v (slice_get-get_
     stands (suc k) (y ∷ xs) x h = stands k xs x h
 
 pub not_read : (e : AssembleFault) (place : ℕ) (vs : List (Vec ℕ)) (v d : Vec ℕ) (js : List Journal) (ends : List End) → place < length vs → v ≡ get_or vs place d →
-    AreRead (contents (take place vs)) js ends → IsNotRead e place v.items → IsLogRefused e (contents vs)
+    AreRead (contents (take place vs)) js ends → IsNotRead second place v.items e → IsLogRefused e (contents vs)
 not_read Memory place vs v d js ends less is all h = tt
 not_read (Log at fault) place vs v d js ends less is all h =
     let t = there place vs v d less is in
@@ -52,7 +53,7 @@ not_read (Receipts p at) place vs v d js ends less is all h = absurd h
 not_read TooManyReceipts place vs v d js ends less is all h = absurd h
 
 pub one_read : (i : ℕ) (vs : List (Vec ℕ)) (v d : Vec ℕ) (js : List Journal) (ends : List End) (j : Journal) (end : End) → i < length vs → v ≡ get_or vs i d →
-    AreRead (contents (take i vs)) js ends → IsReadTo v.items j end → AreRead (contents (take (i + 1) vs)) (js ++ j ∷ []) (ends ++ end ∷ [])
+    AreRead (contents (take i vs)) js ends → IsReadTo second v.items j end → AreRead (contents (take (i + 1) vs)) (js ++ j ∷ []) (ends ++ end ∷ [])
 one_read i vs v d js ends j end less is all read =
     let more : contents (take (i + 1) vs) ≡ contents (take i vs) ++ v.items ∷ [] =
     ap contents (take_more vs i d less) ∙ map-append (λ (x : Vec ℕ). x.items) (take i vs) (get_or vs i d ∷ []) ∙ ap (λ (x : Vec ℕ). contents (take i vs) ++ x.items ∷ []) (sym is) in

@@ -3,3 +3,5 @@ mod Held
 mod InTurn
 mod Unread
 mod Unassembled
+mod Opened
+mod Beside

@@ -9,7 +9,7 @@ use Rattle.ep_assemble.specs.declared.assembled.End.{End}
 use Rattle.ep_assemble.specs.declared.assemble_fault.AssembleFault.{AssembleFault}
 use Rattle.ep_assemble.specs.declared.assemble_fault.AssembleFault.TheVariants.{Memory, Log, Collect, Receipts, TooManyReceipts}
 
-pub unassembled : (fault : AssembleFault) (logs files : List (List ℕ)) (js : List Journal) (ends : List End) (c : Collected) → AreRead logs js ends → Collects js c → AreUnheld (size c.faults) files fault → IsRefused fault logs files
+pub unassembled : (fault : AssembleFault) (logs files : List (List ℕ)) (js : List Journal) (ends : List End) (c : Collected) → AreRead logs js ends → Collects js c → AreUnheld c.version (size c.faults) files fault → IsRefused fault logs files
 unassembled Memory logs files js ends c read one why = tt
 unassembled (Log place fault) logs files js ends c read one why = absurd why
 unassembled (Collect fault) logs files js ends c read one why = absurd why

@@ -2,12 +2,13 @@
 use Rattle.std.specs.Prelude.{◌≡◌, ℕ, ltb, List, [], ◌∷◌, Some, map, take, slice_get}
 use Rattle.std.specs.Global.{Vec}
 use Rattle.ep_base.specs.Quorums.{size}
+use Rattle.ep_base.specs.declared.version.Version.{Version}
 use Rattle.ep_bundle.specs.Bytes.{bundle_bytes}
 use Rattle.ep_collect.specs.Clusters.{Collects}
 use Rattle.ep_collect.specs.Clusters.{IsRefused as IsUncollected}
 use Rattle.ep_collect.specs.declared.collect_fault.CollectFault.{CollectFault}
 use Rattle.ep_journal.specs.Entries.{Collected, Log as Journal}
-use Rattle.ep_log.specs.Origins.{second}
+use Rattle.ep_log.specs.Origins.{Origin, second}
 use Rattle.ep_log.specs.Reading.{IsRead}
 use Rattle.ep_log.specs.Refusing.{IsRefused as IsNoLog}
 use Rattle.ep_log.specs.declared.log_fault.LogFault.{LogFault}
@@ -23,23 +24,23 @@ use Rattle.ep_assemble.specs.declared.assemble_fault.AssembleFault.TheVariants.{
 abbrev pub contents : List (Vec ℕ) → List (List ℕ)
 contents vs = map (λ v. v.items) vs
 
--- a log, in either version, of this journal of version 2; it ends here, and is torn where bytes stand behind that
-pub record IsReadTo (bytes : List ℕ) (j : Journal) (end : End) : Type 0 where
+-- a log, in either version, of this journal of a replica of this origin; it ends here, and is torn where bytes stand behind that
+pub record IsReadTo (o : Origin) (bytes : List ℕ) (j : Journal) (end : End) : Type 0 where
   pub version : LogVersion
   pub behind : ℕ
-  pub read : IsRead second bytes version j end.whole behind
+  pub read : IsRead o bytes version j end.whole behind
   pub torn : end.is_torn ≡ ltb 0 behind
 
--- each is a log, of this journal, up to its torn end where it has one
+-- each is a log, of this journal of version 2, up to its torn end where it has one
 abbrev pub AreRead : List (List ℕ) → List Journal → List End → Type 0
 AreRead [] [] [] = Unit {0}
-AreRead (bytes ∷ logs) (journal ∷ journals) (end ∷ ends) = IsReadTo bytes journal end × AreRead logs journals ends
+AreRead (bytes ∷ logs) (journal ∷ journals) (end ∷ ends) = IsReadTo second bytes journal end × AreRead logs journals ends
 AreRead _ _ _ = ⊥
 
 -- the text is the bundle of these journals and of the receipts that the files hold
 pub record IsBundled (c : Collected) (files : List (List ℕ)) (text : List ℕ) (ends : List End) : Type 0 where
   pub receipts : List Receipt
-  pub held : AreHeld (size c.faults) files receipts ends
+  pub held : AreHeld c.version (size c.faults) files receipts ends
   pub is : text ≡ bundle_bytes c receipts
 
 -- the text is the bundle of the journals that the logs hold, and of the receipts that the files hold
@@ -79,22 +80,22 @@ pub record IsNoCluster (fault : CollectFault) (logs : List (List ℕ)) : Type 0 
   pub read : AreRead logs journals ends
   pub refused : IsUncollected fault journals
 
--- all are logs, their journals are those of one cluster, and this is said of its size
-pub record AreOfOneSize (logs : List (List ℕ)) (P : ℕ → Type 0) : Type 0 where
+-- all are logs, their journals are those of one cluster, and this is said of its version and its size
+pub record AreOfCluster (logs : List (List ℕ)) (P : Version → ℕ → Type 0) : Type 0 where
   pub journals : List Journal
   pub ends : List End
   pub read : AreRead logs journals ends
   pub collected : Collected
   pub collects : Collects journals collected
-  pub holds : P (size collected.faults)
+  pub holds : P collected.version (size collected.faults)
 
 -- the first fault, of the logs and then of the files of receipts
 abbrev pub IsRefused : AssembleFault → List (List ℕ) → List (List ℕ) → Type 0
 IsRefused Memory logs files = Unit {0}
 IsRefused (Log place fault) logs files = IsFirstRefused place fault logs
 IsRefused (Collect fault) logs files = IsNoCluster fault logs
-IsRefused (Receipts place at) logs files = AreOfOneSize logs (λ n. IsFirstSpoiled n place at files)
-IsRefused TooManyReceipts logs files = AreOfOneSize logs (λ n. AreTooMany n files)
+IsRefused (Receipts place at) logs files = AreOfCluster logs (λ w n. IsFirstSpoiled w n place at files)
+IsRefused TooManyReceipts logs files = AreOfCluster logs (λ w n. AreTooMany w n files)
 
 -- the first fault of a log
 abbrev pub IsLogRefused : AssembleFault → List (List ℕ) → Type 0
@@ -104,13 +105,13 @@ IsLogRefused (Collect fault) logs = ⊥
 IsLogRefused (Receipts place at) logs = ⊥
 IsLogRefused TooManyReceipts logs = ⊥
 
--- why these bytes, at this place, are no log
-abbrev pub IsNotRead : AssembleFault → ℕ → List ℕ → Type 0
-IsNotRead Memory place bytes = Unit {0}
-IsNotRead (Log at fault) place bytes = (at ≡ place) × IsOfLog fault × IsNoLog second fault bytes
-IsNotRead (Collect fault) place bytes = ⊥
-IsNotRead (Receipts p at) place bytes = ⊥
-IsNotRead TooManyReceipts place bytes = ⊥
+-- why these bytes, at this place, are no log of a replica of this origin
+abbrev pub IsNotRead : Origin → ℕ → List ℕ → AssembleFault → Type 0
+IsNotRead o place bytes Memory = Unit {0}
+IsNotRead o place bytes (Log at fault) = (at ≡ place) × IsOfLog fault × IsNoLog o fault bytes
+IsNotRead o place bytes (Collect fault) = ⊥
+IsNotRead o place bytes (Receipts p at) = ⊥
+IsNotRead o place bytes TooManyReceipts = ⊥
 
 abbrev pub of_log : ℕ → LogFault → AssembleFault
 of_log place log.Memory = Memory

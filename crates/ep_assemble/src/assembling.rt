@@ -23,9 +23,9 @@ const MOST_RECEIPTS: usize = 4_294_967_295;
 
 /// A bundle, and the end of each file of receipts.
 #[derive(Drop)]
-struct Bundled {
-    bundle: Vec<u8>,
-    ends: Vec<End>,
+pub(crate) struct Bundled {
+    pub bundle: Vec<u8>,
+    pub ends: Vec<End>,
 }
 
 /// The bundle of the journals that these logs hold, in any order, and of the receipts that these files hold, in their order.
@@ -49,15 +49,15 @@ pub fn assemble(
 }
 
 /// The bundle of these journals, and of the receipts that these files hold.
-fn bundle_of(
+pub(crate) fn bundle_of(
     alloc: Global,
     journals: &Journals,
     receipts: &[Vec<u8>],
 ) -> Result<Bundled, AssembleFault>
     ensures ok { IfOk result (λ b. IsBundled journals.now (contents receipts.now) b.bundle.items b.ends.items) }
-    ensures err { IfErr result (AreUnheld (size journals.now.faults) (contents receipts.now)) }
+    ensures err { IfErr result (AreUnheld journals.now.version (size journals.now.faults) (contents receipts.now)) }
 {
-    let held = read_receipts(alloc, journals.size(), receipts)?;
+    let held = read_receipts(alloc, journals.version(), journals.size(), receipts)?;
     if held.receipts.len() > MOST_RECEIPTS {
         return Err(AssembleFault::TooManyReceipts);
     }

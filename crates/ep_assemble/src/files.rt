@@ -73,7 +73,7 @@ pub fn read_file<R: Files + AllocGlobal>(rt: &R, name: &str) -> Result<Vec<u8>, 
 }
 
 /// The fault of a file that can't be read, with its line.
-fn unread(alloc: Global, name: &str) -> FilesFault
+pub(crate) fn unread(alloc: Global, name: &str) -> FilesFault
     ensures { IsOfFile name.now result }
 {
     let mut line = Vec::new(alloc);

@@ -12,7 +12,7 @@ use itoa::Buffer;
 use std::alloc::AllocError;
 
 /// Appends a name and the number after it.
-fn push_number(name: &[u8], number: u64, out: &mut Vec<u8>) -> Result<(), AllocError>
+pub(crate) fn push_number(name: &[u8], number: u64, out: &mut Vec<u8>) -> Result<(), AllocError>
     ensures { OnOk result (out.new.items ≡ out.old.items ++ (name.now ++ decimal number)) }
 {
     let mut digits = Buffer::new();
@@ -46,7 +46,7 @@ fn push_log_text(fault: LogFault, out: &mut Vec<u8>) -> Result<(), AllocError>
 }
 
 /// Appends the line of a log that is refused.
-fn push_log_line(name: &str, fault: LogFault, out: &mut Vec<u8>) -> Result<(), AllocError>
+pub fn push_log_line(name: &str, fault: LogFault, out: &mut Vec<u8>) -> Result<(), AllocError>
     ensures { OnOk result (out.new.items ≡ out.old.items ++ log_line name.now fault) }
 {
     out.extend_from_slice(b"log refused ")?;
@@ -65,7 +65,7 @@ fn push_replica(replica: ReplicaId, what: &[u8], out: &mut Vec<u8>) -> Result<()
 }
 
 /// The name at this place.
-fn name_of(names: &[String], place: usize) -> &str
+pub(crate) fn name_of(names: &[String], place: usize) -> &str
     ensures { result.now ≡ name_at (map string_bytes names.now) place }
 {
     match names.get(place) {
@@ -117,7 +117,7 @@ fn push_collect(names: &[String], fault: &CollectFault, out: &mut Vec<u8>) -> Re
 }
 
 /// Appends the line of a log of another cluster.
-fn push_other(name: &str, out: &mut Vec<u8>) -> Result<(), AllocError>
+pub(crate) fn push_other(name: &str, out: &mut Vec<u8>) -> Result<(), AllocError>
     ensures { OnOk result (out.new.items ≡ out.old.items ++ (name.now ++ codes " is of another cluster\n")) }
 {
     out.extend_from_slice(name.as_bytes())?;
@@ -144,7 +144,7 @@ fn push_torn_line(name: &str, whole: usize, out: &mut Vec<u8>) -> Result<(), All
 }
 
 /// Appends the line of a log's end, where it is torn.
-fn push_end(name: &str, end: &End, out: &mut Vec<u8>) -> Result<(), AllocError>
+pub fn push_end(name: &str, end: &End, out: &mut Vec<u8>) -> Result<(), AllocError>
     ensures { OnOk result (out.new.items ≡ out.old.items ++ end_line name.now end.now) }
 {
     if end.is_torn {

@@ -26,7 +26,7 @@ pub(crate) fn read_logs(alloc: Global, logs: &[Vec<u8>]) -> Result<Logs, Assembl
     let mut journals = Vec::new(alloc);
     let mut ends = Vec::new(alloc);
     for (place, bytes) in logs.iter().enumerate() {
-        let log = read_one(alloc, place, bytes)?;
+        let log = read_second(alloc, place, bytes)?;
         ends.push(End {
             whole: log.whole,
             is_torn: log.behind > 0,
@@ -37,12 +37,25 @@ pub(crate) fn read_logs(alloc: Global, logs: &[Vec<u8>]) -> Result<Logs, Assembl
 }
 
 /// Reads the log at this place, which is of a replica of version 2.
-fn read_one(alloc: Global, place: usize, bytes: &[u8]) -> Result<ReadLog, AssembleFault>
+fn read_second(alloc: Global, place: usize, bytes: &[u8]) -> Result<ReadLog, AssembleFault>
     ensures ok { IfOk result (λ log. IsRead second bytes.now log.version log.journal log.whole log.behind) }
-    ensures err { IfErr result (λ e. IsNotRead e place bytes.now) }
+    ensures err { IfErr result (λ e. IsNotRead second place bytes.now e) }
 {
     let origin = Origin::second(alloc);
-    match read_log(alloc, bytes, &origin) {
+    read_one(alloc, place, bytes, &origin)
+}
+
+/// Reads the log at this place, which is of a replica of this origin.
+pub(crate) fn read_one(
+    alloc: Global,
+    place: usize,
+    bytes: &[u8],
+    origin: &Origin,
+) -> Result<ReadLog, AssembleFault>
+    ensures ok { IfOk result (λ log. IsRead origin.now bytes.now log.version log.journal log.whole log.behind) }
+    ensures err { IfErr result (λ e. IsNotRead origin.now place bytes.now e) }
+{
+    match read_log(alloc, bytes, origin) {
         Ok(log) => Ok(log),
         Err(fault) => Err(fault_of(place, fault)),
     }

@@ -1,10 +1,9 @@
 -- No plan goes back.
-use Rattle.std.proofs.Common.{◌≡◌, ℕ, ◌-◌, ◌<◌, ◌≤◌, max, Bool, true, false, cond, ◌&&◌, eqb, ltb, List, [], ◌∷◌, Result, Ok, Err, IfOk, refl, arith, sym, subst}
+use Rattle.std.proofs.Common.{◌≡◌, ℕ, ◌-◌, ◌<◌, ◌≤◌, Bool, true, false, cond, ◌&&◌, eqb, ltb, List, [], ◌∷◌, Result, Ok, Err, IfOk, refl, arith, sym, subst}
 use Rattle.std.proofs.lemmas.Bool.{false≢true, ltb-true, ltb-false, eqb-true, and_parts, cond_both}
 use Rattle.std.specs.List.{AllByRecursion}
 use Rattle.ep_folder.specs.Plans.{begin, begins, go_on, has_opening, left_for, newest, opened_number, plan, start, take, take_again, take_later, where_unmarked, NeverGoesBack}
 use Rattle.ep_folder.specs.declared.held.Held.{Held}
-use Rattle.ep_folder.specs.declared.log_start.LogStart.{LogStart}
 use Rattle.ep_folder.specs.declared.log_start.LogStart.TheVariants as log
 use Rattle.ep_folder.specs.declared.plan.Plan.{Plan}
 use Rattle.ep_folder.specs.declared.refusal.Refusal.{Refusal}

@@ -6,10 +6,9 @@ use crate::paths::{log_path, mark_path, opening_path};
 use ep_base::Generation;
 use ep_device::{DeviceFault, fault_of};
 use std::alloc::AllocError;
-use std::fs;
-use std::io;
 use std::io::ErrorKind;
 use std::rt::Files;
+use std::{fs, io};
 
 /// What the folder has of each generation. Names that spell none are passed over.
 pub fn look<R: Files + AllocGlobal>(rt: &R, folder: &str) -> Result<Vec<Held>, DeviceFault> {
@@ -77,10 +76,7 @@ fn is_there<R: Files>(rt: &R, path: &str) -> Result<bool, DeviceFault> {
 
 /// Whether the error says that nothing has the name. (What isn't a folder has nothing in it.)
 fn is_missing(error: &io::Error) -> bool {
-    matches!(
-        error.kind(),
-        ErrorKind::NotFound | ErrorKind::NotADirectory
-    )
+    matches!(error.kind(), ErrorKind::NotFound | ErrorKind::NotADirectory)
 }
 
 /// The later generation that the mark of this name says was begun; 0 where there is none.

@@ -6,12 +6,11 @@ use crate::planning::is_to_be_marked;
 use ep_base::Generation;
 use ep_device::{Cause, Device, DeviceFault, FileDevice, fault_of, lock_of};
 use itoa::Buffer;
-use std::fs;
 use std::fs::File;
-use std::io;
 use std::io::ErrorKind;
 use std::path::Path;
 use std::rt::Files;
+use std::{fs, io};
 
 /// The lock of the folder, as long as this is held: one process at a time acts for its replica, in whatever generation.
 pub fn lock_folder<R: Files<File = File> + AllocGlobal>(

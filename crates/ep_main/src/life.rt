@@ -37,12 +37,12 @@ pub(crate) fn life_of<'a>(
     ensures { result ≡ life_in journals.now verdict.now }
 {
     let since = journals.opening().since();
-    let Some(contents) = contents else {
-        return None;
-    };
     match journals.version().kind() {
         VersionKind::V1 | VersionKind::V2 => None,
-        VersionKind::V3(number) => Some(life_from(number, since, verdict, contents)),
+        VersionKind::V3(number) => match contents {
+            Some(contents) => Some(life_from(number, since, verdict, contents)),
+            None => unreachable!(),
+        },
     }
 }
 

@@ -2,15 +2,17 @@
 use Rattle.std.proofs.Common.{◌≡◌, inl, inr, ℕ, Bool, true, List, [], ◌++◌, Option, Some, None, Result, Ok, Err, refl, append-nil, sym, subst, ◌∙◌}
 use Rattle.std.proofs.KnownBytes.{Appends-nil}
 use Rattle.ep_base.specs.Devices.{Puts}
-use Rattle.ep_node.specs.Nodes.{Logged}
+use Rattle.ep_log.specs.Origins.{Origin}
+use Rattle.ep_node.specs.Nodes.{Logged, origin_of}
 use Rattle.ep_node.specs.declared.cut.Cut.{Cut}
+use Rattle.ep_opening.specs.Files.{File}
 use Rattle.ep_serve.specs.Lasting.{crashes}
 use Rattle.ep_serve.specs.Serving.{dialect_of, Ends}
 use Rattle.ep_serve.specs.declared.mode.Mode.{Mode}
 use Rattle.ep_serve.specs.declared.serve_fault.ServeFault.{ServeFault}
 use Rattle.ep_server.proofs.Serving.{told_by, told_twice}
 use Rattle.ep_server.specs.Outputs.{Output, output, Told, WroteNothing}
-use Rattle.ep_server.specs.Served.{told_first, of_serve, Fails, HappensThere, HasServedThere, IsOfFile, IsOver, IsUnready, Shown, TellsCut, TellsCuts}
+use Rattle.ep_server.specs.Served.{origin_from, told_first, of_serve, Fails, HappensThere, HasServedThere, IsOfFile, IsOver, IsUnready, Shown, TellsCut, TellsCuts}
 use Rattle.ep_server.specs.declared.fault.Fault.{Fault}
 use Rattle.ep_server.specs.declared.fault.Fault.TheVariants.{Open, Serve, Folder, Memory, Write}
 
@@ -64,3 +66,19 @@ has_served_there {D = D} shown mode faults me start zs outcome reader out of ove
         → Fails shown start.device over.0.device ended reader out → HappensThere shown mode faults me zs (of_serve ended) reader out
     go (Ok x) ends fails = record { start = start; of = of; over = (over.0, Ok x, refl, ends, fails) }
     go (Err why) ends fails = record { start = start; of = of; over = (over.0, Err why, refl, ends, fails) }
+
+-- a node that is opened with the origin that a file has
+pub of_file :
+    {D : Type 0} (file : File) (faults me who : ℕ) (o : Origin) (node : Logged D) → faults ≡ file.faults → who ≡ me → o ≡ origin_from file → node.replica.faults ≡ faults → node.replica.me ≡ who →
+    origin_of node ≡ o → IsOfFile node.replica.faults me node
+of_file file faults me who o node size mine from cluster replica origin = record {
+  file = file;
+  size = sym (cluster ∙ size);
+  origin = origin ∙ from;
+  cluster = refl;
+  replica = replica ∙ mine;
+}
+
+-- it is for a cluster of this size
+pub of_this_size : {D : Type 0} (size me : ℕ) (node it : Logged D) → IsOfFile node.replica.faults me node → it ≡ node → node.replica.faults ≡ size → IsOfFile size me it
+of_this_size size me node it of same is = subst (λ (n : ℕ). IsOfFile n me it) is (subst (λ (x : Logged D). IsOfFile node.replica.faults me x) (sym same) of)

@@ -1,4 +1,6 @@
 mod FilesCollected
+mod FoldersCollected
 mod InFolders
+mod MapShown
 mod Puts
 mod Serving

@@ -1,4 +1,6 @@
 pub mod Collected
+pub mod CollectedOf
 pub mod Faults
 pub mod Outputs
 pub mod Served
+pub mod Shown

@@ -1,5 +1,5 @@
 -- What the program does, by the status that it answers: of the bytes of its log and those that it reads, its output and its fault output.
-use Rattle.std.specs.Prelude.{◌≡◌, ◌++◌, ℕ, Bool, List, [], Option, Some, None, Result, Ok, Err, IfErr, string_bytes}
+use Rattle.std.specs.Prelude.{◌≡◌, ◌++◌, ℕ, Bool, true, List, [], Option, Some, None, Result, Ok, Err, IfErr, string_bytes}
 use Rattle.ep_base.specs.Devices.{FailsAsTold}
 use Rattle.ep_device.specs.declared.cause.Cause.{Cause}
 use Rattle.ep_base.specs.declared.version_kind.VersionKind.TheVariants.{V3}

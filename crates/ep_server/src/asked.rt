@@ -1,6 +1,7 @@
 //! What the program is asked for.
 
 use crate::folder_options::FolderOptions;
+use crate::generation_asked::GenerationAsked;
 use crate::names::Names;
 use crate::options::Options;
 
@@ -13,6 +14,10 @@ pub enum Asked {
     Folder(FolderOptions),
     /// To make the bundle of logs and receipts.
     Collect(Names),
+    /// To make the bundle of a generation, of folders and receipts.
+    CollectGeneration(GenerationAsked),
+    /// The map of the newest generation in this folder, in words.
+    Contents(String),
     /// The program's name and its version.
     Version,
     /// Help: this text.

@@ -66,7 +66,7 @@ pub fn write_collected<W: Sink, F: Sink>(
 }
 
 /// Tells why nothing is collected.
-fn turned_away<F: Sink>(fault: FilesFault, fault_writer: &mut F) -> Status
+pub(crate) fn turned_away<F: Sink>(fault: FilesFault, fault_writer: &mut F) -> Status
     ensures { TurnsAway fault result (output (F.held fault_writer.old) (F.held fault_writer.new) (F.has_failed fault_writer.old) (F.has_failed fault_writer.new)) }
 {
     match fault {
@@ -88,7 +88,7 @@ fn gather<R: Files + AllocGlobal>(rt: &R, names: &Names) -> Result<Gathered, Fil
 }
 
 /// Tells these lines; the status stays where that fails.
-fn told<F: Sink>(lines: &[u8], status: Status, fault_writer: &mut F) -> Status
+pub(crate) fn told<F: Sink>(lines: &[u8], status: Status, fault_writer: &mut F) -> Status
     ensures status { result ≡ status }
     ensures told { Told (output (F.held fault_writer.old) (F.held fault_writer.new) (F.has_failed fault_writer.old) (F.has_failed fault_writer.new)) lines.now }
 {
@@ -97,7 +97,7 @@ fn told<F: Sink>(lines: &[u8], status: Status, fault_writer: &mut F) -> Status
 }
 
 /// Tells the fault; its status stays where that fails.
-fn failed<F: Sink>(fault: Fault, fault_writer: &mut F) -> Status
+pub(crate) fn failed<F: Sink>(fault: Fault, fault_writer: &mut F) -> Status
     ensures status { result ≡ status_of fault }
     ensures told { Told (output (F.held fault_writer.old) (F.held fault_writer.new) (F.has_failed fault_writer.old) (F.has_failed fault_writer.new)) (line_of fault) }
 {

@@ -4,11 +4,13 @@ use crate::asked::Asked;
 use crate::asks::Asks;
 use crate::declined::Declined;
 use crate::folder_options::FolderOptions;
+use crate::generation_asked::GenerationAsked;
 use crate::names::Names;
 use crate::options::Options;
 use clap::error::ErrorKind;
 use clap::{Arg, ArgAction, ArgMatches, Command, Error};
-use ep_base::{ReplicaId, Size};
+use ep_base::{Generation, ReplicaId, Size};
+use ep_folder::generation_in;
 use ep_node::Begin;
 use ep_script::number_in;
 use ep_serve::Mode;
@@ -43,13 +45,33 @@ some of what clients were told, one after the other, as a bundle has them (docs/
 bundle of version 2 of the logs' journals and of these receipts. A file whose end is torn is taken up to it, which standard error
 says. Nothing is audited, and nothing is printed before all files are read. Standard input is not read.
 
-Example:
+With --generation each LOG is the folder of a node (--dir), and what is collected are the files opening and log of that generation in
+each of them. Standard output is then the bundle of version 3 of that generation, which opens with the map of these opening files.
+
+Examples:
   epaxos collect --receipts told.receipts zero.log one.log two.log | epaxos audit
+  epaxos collect --generation 2 zero one two > 2.bundle
 
 Exit status:
   0  the bundle is written
-  2  the command line, a log or a file of receipts is refused, or the logs aren't one for each replica of one cluster;
-     standard error says why
+  2  the command line, a log, an opening or a file of receipts is refused, a folder lacks a file of the generation, or the logs
+     aren't one for each replica of one cluster; standard error says why
+  3  memory was refused
+  4  a file could not be opened or read, or writing failed";
+
+/// What the help of `contents` says at its end.
+const AFTER_CONTENTS: &str = "\
+FOLDER is that of a node (--dir). Standard output is what the replica has executed in the newest generation there: a line with the
+generation, how many entries its log has, how many keys have a value and the digest of them all, as a report has it, and then a line
+for each key, in rising order, with its value: two words of bytes (docs/FORMATS.md, sections 3 and 5). A log whose end is torn is
+taken up to it, which standard error says. The folder is not changed. Standard input is not read.
+
+Example:
+  epaxos contents zero
+
+Exit status:
+  0  the map is written
+  2  the command line, the opening or the log is refused, or the folder has no generation; standard error says why
   3  memory was refused
   4  a file could not be opened or read, or writing failed";
 
@@ -160,7 +182,54 @@ fn asks_of(alloc: Global, options: &ArgMatches<'_>) -> Result<Asks, AllocError> 
 
 fn collect_by(alloc: Global, matches: &ArgMatches<'_>) -> Result<Asked, Declined> {
     match matches.subcommand_matches("collect") {
-        Some(options) => Ok(Asked::Collect(names_of(alloc, options)?)),
+        Some(options) => collect_asked(alloc, options),
+        None => contents_by(alloc, matches),
+    }
+}
+
+/// What is to be collected: of a generation, where one is named.
+fn collect_asked(alloc: Global, options: &ArgMatches<'_>) -> Result<Asked, Declined> {
+    match options.get_str("generation") {
+        Some(word) => Ok(Asked::CollectGeneration(generation_of(alloc, word, options)?)),
+        None => Ok(Asked::Collect(names_of(alloc, options)?)),
+    }
+}
+
+/// The generation that is to be collected, and of which folders.
+fn generation_of(
+    alloc: Global,
+    word: &str,
+    options: &ArgMatches<'_>,
+) -> Result<GenerationAsked, Declined> {
+    let generation = generation_named(alloc, word)?;
+    let names = names_of(alloc, options)?;
+    Ok(GenerationAsked {
+        generation,
+        folders: names.logs,
+        receipts: names.receipts,
+    })
+}
+
+fn generation_named(alloc: Global, word: &str) -> Result<Generation, Declined> {
+    match generation_spelled(word) {
+        Some(generation) => Ok(generation),
+        None => Err(Declined::Words(format!(in alloc;
+            "error: invalid value {word:?} for '--generation <G>': it takes a number from 1 to 4294967295\n\nFor more information, try '--help'.\n"
+        )?)),
+    }
+}
+
+fn generation_spelled(word: &str) -> Option<Generation> {
+    let number = generation_in(word.as_bytes())?;
+    Generation::new(number).ok()
+}
+
+fn contents_by(alloc: Global, matches: &ArgMatches<'_>) -> Result<Asked, Declined> {
+    match matches.subcommand_matches("contents") {
+        Some(options) => Ok(Asked::Contents(String::from_str(
+            alloc,
+            options.get_str("FOLDER").unwrap_or(""),
+        )?)),
         None => Err(Declined::Words(String::new(alloc))),
     }
 }
@@ -275,11 +344,15 @@ fn mode_named(alloc: Global, word: &str) -> Result<Mode, Declined> {
 fn program<'a>(alloc: Global) -> Result<Command<'a>, AllocError> {
     let node = node_command(alloc)?;
     let collect = collect_command(alloc)?;
+    let contents = contents_command(alloc)?;
     let command = Command::new(alloc, "epaxos")
         .about("A replicated key-value core without a leader")
         .version("0.1.0")
         .subcommand_required(true);
-    command.subcommand(node)?.subcommand(collect)
+    command
+        .subcommand(node)?
+        .subcommand(collect)?
+        .subcommand(contents)
 }
 
 fn collect_command<'a>(alloc: Global) -> Result<Command<'a>, AllocError> {
@@ -288,14 +361,30 @@ fn collect_command<'a>(alloc: Global) -> Result<Command<'a>, AllocError> {
         .value_name("FILE")
         .help("A file of receipts; this option may be given more than once")
         .action(ArgAction::Append);
+    let generation = Arg::new(alloc, "generation")
+        .long("generation")
+        .value_name("G")
+        .help("Which generation is collected, of the folders of nodes")
+        .action(ArgAction::Set);
     let logs = Arg::new(alloc, "LOG")
         .required(true)
-        .help("The log of a replica")
+        .help("The log of a replica; with --generation the folder of a node")
         .action(ArgAction::Append);
     let command = Command::new(alloc, "collect")
         .about("Makes the bundle of the logs of a cluster's replicas, and of receipts")
         .after_help(AFTER_COLLECT);
-    command.arg(receipts)?.arg(logs)
+    command.arg(receipts)?.arg(generation)?.arg(logs)
+}
+
+fn contents_command<'a>(alloc: Global) -> Result<Command<'a>, AllocError> {
+    let folder = Arg::new(alloc, "FOLDER")
+        .required(true)
+        .help("The folder of a node")
+        .action(ArgAction::Set);
+    let command = Command::new(alloc, "contents")
+        .about("Prints the map of the newest generation in the folder of a node")
+        .after_help(AFTER_CONTENTS);
+    command.arg(folder)
 }
 
 fn node_command<'a>(alloc: Global) -> Result<Command<'a>, AllocError> {

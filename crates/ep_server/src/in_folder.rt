@@ -51,7 +51,7 @@ pub fn serve_folder<'a, R: Files<File = File> + AllocGlobal, S: Source, W: Sink,
 }
 
 /// The node of the generation that is served: of the cluster's size, and with the origin that a file has.
-#[tactic(auto, using(crate::proofs::InFolders::tells_nothing, crate::proofs::InFolders::one_cut, crate::proofs::InFolders::both_cuts))]
+#[tactic(auto, using(crate::proofs::InFolders::tells_nothing, crate::proofs::InFolders::one_cut, crate::proofs::InFolders::both_cuts, crate::proofs::InFolders::of_this_size))]
 fn ready<'a, R: Files<File = File> + AllocGlobal, F: Sink>(
     rt: &'a R,
     options: &FolderOptions,
@@ -79,7 +79,7 @@ fn ready<'a, R: Files<File = File> + AllocGlobal, F: Sink>(
 }
 
 /// The node of the generation that was opened by closing the one before.
-#[tactic(auto, using(crate::proofs::InFolders::tells_nothing))]
+#[tactic(auto, using(crate::proofs::InFolders::tells_nothing, crate::proofs::InFolders::of_this_size))]
 fn ready_again<'a, R: Files<File = File> + AllocGlobal, F: Sink>(
     rt: &'a R,
     options: &FolderOptions,
@@ -89,7 +89,7 @@ fn ready_again<'a, R: Files<File = File> + AllocGlobal, F: Sink>(
     ensures err { IfErr result IsUnready }
     ensures told { TellsCut (output (F.held fault_writer.old) (F.held fault_writer.new) (F.has_failed fault_writer.old) (F.has_failed fault_writer.new)) }
 {
-    let stage = next_stage(rt, options.folder.as_str())?;
+    let stage = next_stage(rt, options.folder.as_str(), true)?;
     check_stage(options.size, &stage)?;
     let generation = stage.file.generation();
     let node = open_stage(rt, options, stage, fault_writer)?;
@@ -110,10 +110,7 @@ fn of_size<D: Device + Drop>(
         Ok(node)
     } else {
         drop(node);
-        Err(Fault::Folder(FolderFault::OtherSize(
-            generation.number(),
-            u32::from(found.count()),
-        )))
+        Err(Fault::Folder(FolderFault::OtherSize(generation.number(), u32::from(found.count()))))
     }
 }
 
@@ -172,7 +169,7 @@ fn device_of<'a, R: Files<File = File> + AllocGlobal>(
 }
 
 /// The node of a generation, whose log is on the disk. The generations before it are left then.
-#[tactic(auto, using(crate::proofs::InFolders::tells_nothing, crate::proofs::InFolders::tells_cut))]
+#[tactic(auto, using(crate::proofs::InFolders::tells_nothing, crate::proofs::InFolders::tells_cut, crate::proofs::InFolders::of_file))]
 fn open_stage<'a, R: Files<File = File> + AllocGlobal, F: Sink>(
     rt: &'a R,
     options: &FolderOptions,

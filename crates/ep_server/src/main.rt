@@ -17,11 +17,15 @@ mod asked;
 mod asks;
 mod collecting;
 mod command_line;
+mod contents;
 mod declined;
 mod fault;
 mod folder_fault;
 mod folder_options;
 mod gathered;
+mod generation_asked;
+mod generation_collecting;
+mod generation_gathered;
 mod handed;
 mod in_folder;
 mod names;
@@ -36,10 +40,12 @@ use crate::ahead::read_ahead;
 use crate::asked::Asked;
 use crate::collecting::collect_named;
 use crate::command_line::read_words;
+use crate::contents::show_contents;
 use crate::declined::Declined;
 use crate::fault::Fault;
 use crate::folder_fault::FolderFault;
 use crate::folder_options::FolderOptions;
+use crate::generation_collecting::collect_folders;
 use crate::in_folder::serve_folder;
 use crate::options::Options;
 use crate::program::{decline, serve_log};
@@ -76,6 +82,8 @@ fn run<R: Env + AllocGlobal + Files<File = File>, I: Read + Drop, W: Sink, F: Si
         Asked::Node(options) => run_node(rt, &options, input, writer, fault_writer),
         Asked::Folder(options) => run_folder(rt, &options, input, writer, fault_writer),
         Asked::Collect(names) => Ok(collect_named(rt, &names, writer, fault_writer)),
+        Asked::CollectGeneration(asked) => collect_folders(rt, asked, writer, fault_writer),
+        Asked::Contents(folder) => show_contents(rt, folder.as_str(), writer, fault_writer),
         Asked::Version => show("epaxos 0.1.0\n", writer),
         Asked::Help(text) => show(text.as_str(), writer),
     }

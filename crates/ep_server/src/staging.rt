@@ -17,9 +17,7 @@ use ep_folder::{
 };
 use ep_journal::Opening;
 use ep_node::Begin;
-use ep_opening::{
-    OpeningFault, OpeningFile, digest_in, read_opening, write_opening,
-};
+use ep_opening::{OpeningFault, OpeningFile, digest_in, read_opening, write_opening};
 use std::alloc::Global;
 use std::fs::File;
 use std::rt::Files;
@@ -136,11 +134,7 @@ fn settled_bytes<R: Files<File = File> + AllocGlobal>(
 }
 
 /// The file that these bytes are, of this generation.
-fn file_of(
-    alloc: Global,
-    generation: Generation,
-    bytes: &[u8],
-) -> Result<OpeningFile, FolderFault>
+fn file_of(alloc: Global, generation: Generation, bytes: &[u8]) -> Result<OpeningFile, FolderFault>
     ensures { IfOk result (λ f. (bytes.now ≡ opening_bytes f) × (f.generation ≡ generation)) }
 {
     match read_opening(alloc, bytes) {
@@ -159,10 +153,7 @@ fn of_generation(generation: Generation, file: OpeningFile) -> Result<OpeningFil
         Ok(file)
     } else {
         drop(file);
-        Err(FolderFault::OtherGeneration(
-            generation.number(),
-            found.number(),
-        ))
+        Err(FolderFault::OtherGeneration(generation.number(), found.number()))
     }
 }
 
@@ -186,14 +177,19 @@ fn stage_of(
 ) -> Result<Stage, FolderFault>
     ensures { IfOk result (λ s. s.digest ≡ file_digest s.file) }
 {
-    let digest = digest_of(bytes)?;
     let file = file_of(alloc, generation, bytes)?;
-    Ok(Stage {
-        file,
-        digest,
-        begin,
-        held,
-    })
+    match digest_of(bytes) {
+        Ok(digest) => Ok(Stage {
+            file,
+            digest,
+            begin,
+            held,
+        }),
+        Err(fault) => {
+            drop(file);
+            Err(fault)
+        }
+    }
 }
 
 /// Whether the log of the plan's generation is begun; there must be one where it may not be.
@@ -214,31 +210,33 @@ fn begin_of<R: Files + AllocGlobal>(
     }
 }
 
-/// The generation of a plan, whose opening is written by now.
+/// The generation of a plan, whose opening is there. Where this process has written that, it is on the disk.
 fn staged<R: Files<File = File> + AllocGlobal>(
     rt: &R,
     folder: &str,
     plan: Plan,
     held: Vec<Held>,
+    is_written: bool,
 ) -> Result<Stage, FolderFault>
     ensures { IfOk result (λ s. s.digest ≡ file_digest s.file) }
 {
     let generation = generation_of(plan.generation)?;
     let begin = begin_of(rt, folder, plan, generation)?;
-    let bytes = settled_bytes(rt, folder, generation, begin == Begin::New && !plan.writes)?;
+    let bytes = settled_bytes(rt, folder, generation, begin == Begin::New && !is_written)?;
     stage_of(rt.alloc(), generation, &bytes, begin, held)
 }
 
-/// The generation that the replica goes on with.
+/// The generation that the replica goes on with. Where this process has written its opening, that is on the disk.
 pub(crate) fn next_stage<R: Files<File = File> + AllocGlobal>(
     rt: &R,
     folder: &str,
+    is_written: bool,
 ) -> Result<Stage, FolderFault>
     ensures { IfOk result (λ s. s.digest ≡ file_digest s.file) }
 {
     let held = look(rt, folder)?;
     let plan = plan_for(&held, Wish::GoOn)?;
-    staged(rt, folder, plan, held)
+    staged(rt, folder, plan, held, is_written)
 }
 
 /// The generation of an opening that is handed over, to a replica that is new or not.
@@ -256,7 +254,7 @@ fn handed_stage<R: Files<File = File> + AllocGlobal>(
     if plan.writes {
         put_opening(rt, folder, handed)?;
     }
-    staged(rt, folder, plan, held)
+    staged(rt, folder, plan, held, plan.writes)
 }
 
 /// What is asked for with an opening that is handed over.
@@ -280,7 +278,7 @@ pub(crate) fn first_stage<R: Files<File = File> + AllocGlobal>(
 {
     let folder = options.folder.as_str();
     match &options.asks {
-        Asks::GoOn => next_stage(rt, folder),
+        Asks::GoOn => next_stage(rt, folder, false),
         Asks::New => {
             let handed = first_opening(rt.alloc(), options.size)?;
             handed_stage(rt, folder, &handed, true)

@@ -112,8 +112,9 @@ fn tell_folder<F: Sink>(why: FolderFault, sink: &mut F) -> Result<(), WriteFaile
             b"\n",
             sink,
         ),
-        FolderFault::Last => sink
-            .put(b"folder refused: the last generation is closed, and there is none after it\n"),
+        FolderFault::Last => sink.put(
+            b"folder refused: the last generation is closed, and there is none after it\n",
+        ),
     }
 }
 
@@ -121,7 +122,9 @@ fn tell_refusal<F: Sink>(why: Refusal, sink: &mut F) -> Result<(), WriteFailed>
     ensures { Puts (F.held sink.old) (F.held sink.new) (F.has_failed sink.old) (F.has_failed sink.new) result (line_of_refusal why) }
 {
     match why {
-        Refusal::Empty => sink.put(b"folder refused: no generation is here; --new begins the first one of a new replica, --take FILE goes on with a peer's opening\n"),
+        Refusal::Empty => sink.put(
+            b"folder refused: no generation is here; --new begins the first one of a new replica, --take FILE goes on with a peer's opening\n",
+        ),
         Refusal::There(generation) => tell_between(
             b"folder refused: generation ",
             generation,
@@ -208,11 +211,7 @@ fn tell_other_generation<F: Sink>(
 }
 
 /// Writes that a generation has another size.
-fn tell_other_size<F: Sink>(
-    generation: u32,
-    count: u32,
-    sink: &mut F,
-) -> Result<(), WriteFailed>
+fn tell_other_size<F: Sink>(generation: u32, count: u32, sink: &mut F) -> Result<(), WriteFailed>
     ensures { Puts (F.held sink.old) (F.held sink.new) (F.has_failed sink.old) (F.has_failed sink.new) result (line_of_folder (OtherSize generation count)) }
 {
     tell_between(

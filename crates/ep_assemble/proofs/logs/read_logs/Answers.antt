@@ -12,7 +12,8 @@ pub returns-in_err-log-clause-err : goal.returns-in_err-log-clause-err
 returns-in_err-log-clause-err c =
     let less : c.loop-place.place < length c.args.logs.now = search rules in
     let p = err_from_is_err_and c.from_residual.result c.from_residual.ensures.1 in
-    let h : IsNotRead c.in_err-log.field-0.0 c.loop-place.place c.index-logs-place.result.items = subst (IsNotRead c.in_err-log.field-0.0 c.loop-place.place) c.deref.ensures.value c.in_err-log.ensures.err in
+    let h : IsNotRead second c.loop-place.place c.index-logs-place.result.items c.in_err-log.field-0.0 =
+    subst (λ (bs : List ℕ). IsNotRead second c.loop-place.place bs c.in_err-log.field-0.0) c.deref.ensures.value c.in_err-log.ensures.err in
     rw (p.1, p.2) (not_read c.in_err-log.field-0.0 c.loop-place.place c.args.logs.now c.index-logs-place.result _ _ _ less c.index-logs-place.is c.loop-place.invariant h)
 
 pub returns-in_err-push-clause-err : goal.returns-in_err-push-clause-err
@@ -25,7 +26,7 @@ loop-place-preserved c =
     let less : c.loop-place.place < length c.args.logs.now = search rules in
     let log = c.in_ok-log.log in
     let read : IsRead second c.index-logs-place.result.items log.version log.journal log.whole log.behind = subst (λ (bs : List ℕ). IsRead second bs log.version log.journal log.whole log.behind) c.deref.ensures.value c.in_ok-log.ensures.ok in
-    let to : IsReadTo c.index-logs-place.result.items log.journal (record { whole = log.whole; is_torn = ltb 0 log.behind }) = record { version = log.version; behind = log.behind; read = read; torn = refl } in
+    let to : IsReadTo second c.index-logs-place.result.items log.journal (record { whole = log.whole; is_torn = ltb 0 log.behind }) = record { version = log.version; behind = log.behind; read = read; torn = refl } in
     let all = one_read c.loop-place.place c.args.logs.now c.index-logs-place.result _ c.loop-place.journals.items c.loop-place.ends.items c.in_ok-log.log.journal
     (record { whole = c.in_ok-log.log.whole; is_torn = ltb 0 c.in_ok-log.log.behind }) less c.index-logs-place.is c.loop-place.invariant to in
     subst (λ (js : List Journal). AreRead (contents (take (c.loop-place.place + 1) c.args.logs.now)) js c.push.new.self.items) (sym c.in_ok-push-2.ensures.items)

@@ -10,18 +10,18 @@ pub returns-in_err-end-clause-err : goal.returns-in_err-end-clause-err
 returns-in_err-end-clause-err c =
     let less : c.loop-place.place < length c.args.files.now = search rules in
     let p = err_from_is_err_and c.from_residual.result c.from_residual.ensures.1 in
-    let h : IsNotHeld (size c.args.cluster) c.loop-place.place c.index-files-place.result.items c.in_err-end.field-0.0 =
-    subst (λ (bs : List ℕ). IsNotHeld (size c.args.cluster) c.loop-place.place bs c.in_err-end.field-0.0) c.deref.ensures.value c.in_err-end.ensures.err in
+    let h : IsNotHeld c.args.version (size c.args.cluster) c.loop-place.place c.index-files-place.result.items c.in_err-end.field-0.0 =
+    subst (λ (bs : List ℕ). IsNotHeld c.args.version (size c.args.cluster) c.loop-place.place bs c.in_err-end.field-0.0) c.deref.ensures.value c.in_err-end.ensures.err in
     rw (p.1, p.2)
-    (file_unheld (size c.args.cluster) c.in_err-end.field-0.0 c.loop-place.place c.args.files.now c.index-files-place.result _ c.loop-place.receipts.items c.loop-place.ends.items less
+    (file_unheld c.args.version (size c.args.cluster) c.in_err-end.field-0.0 c.loop-place.place c.args.files.now c.index-files-place.result _ c.loop-place.receipts.items c.loop-place.ends.items less
     c.index-files-place.is c.loop-place.invariant h)
 
 pub loop-place-preserved : goal.loop-place-preserved
 loop-place-preserved c =
     let less : c.loop-place.place < length c.args.files.now = search rules in
-    let h : (more : List Receipt) × Hold (size c.args.cluster) c.index-files-place.result.items more c.in_ok-end.end × (c.read_one.new.receipts.items ≡ c.loop-place.receipts.items ++ more) =
+    let h : (more : List Receipt) × Hold c.args.version (size c.args.cluster) c.index-files-place.result.items more c.in_ok-end.end × (c.read_one.new.receipts.items ≡ c.loop-place.receipts.items ++ more) =
     subst
-    (λ (bs : List ℕ). (more : List Receipt) × Hold (size c.args.cluster) bs more c.in_ok-end.end × (c.read_one.new.receipts.items ≡ c.loop-place.receipts.items ++ more)) c.deref.ensures.value
+    (λ (bs : List ℕ). (more : List Receipt) × Hold c.args.version (size c.args.cluster) bs more c.in_ok-end.end × (c.read_one.new.receipts.items ≡ c.loop-place.receipts.items ++ more)) c.deref.ensures.value
     c.in_ok-end.ensures.ok in
-    file_held (size c.args.cluster) c.loop-place.place c.args.files.now c.index-files-place.result _ c.loop-place.receipts.items c.read_one.new.receipts.items c.loop-place.ends.items
+    file_held c.args.version (size c.args.cluster) c.loop-place.place c.args.files.now c.index-files-place.result _ c.loop-place.receipts.items c.read_one.new.receipts.items c.loop-place.ends.items
     c.push.new.self.items c.in_ok-end.end less c.index-files-place.is c.loop-place.invariant h c.in_ok-push.ensures.items

@@ -1,0 +1,118 @@
+//! The files of a generation, collected.
+
+ghost use Rattle.std.specs.Prelude.{◌≡◌, ◌⊎◌, length, map, string_bytes, IfOk, IfErr, IsErr};
+ghost use Rattle.ep_assemble.specs.GenerationFiles.{IsCollectedOf, IsGenerationLine, IsLacking, IsOfLacking, IsTurnedDownOf};
+ghost use Rattle.ep_assemble.specs.Logs.{contents};
+
+use crate::assemble_fault::AssembleFault;
+use crate::files::{Collection, FilesFault, unread};
+use crate::generation::assemble_generation;
+use crate::generation_fault::GenerationFault;
+use crate::generation_lines::{push_generation_refusal, push_missing};
+use crate::generation_names::GenerationNames;
+use crate::lines::push_torn;
+use crate::opened_log::OpenedLog;
+use ep_base::Generation;
+use std::alloc::Global;
+use std::fs;
+use std::io::ErrorKind;
+use std::rt::Files;
+
+/// The bytes of the opening files and logs with these names, where none is missing.
+pub fn read_opened_logs<R: Files + AllocGlobal>(
+    rt: &R,
+    openings: &[String],
+    logs: &[String],
+) -> Result<Vec<OpenedLog>, FilesFault>
+    requires { length logs.now ≡ length openings.now }
+    ensures count { IfOk result (λ kept. length kept.items ≡ length openings.now) }
+    ensures err { IfErr result (λ e. IsLacking (map string_bytes openings.now) e ⊎ IsLacking (map string_bytes logs.now) e) }
+{
+    let mut kept = Vec::new(rt.alloc());
+    for (place, opening) in openings.iter().enumerate() {
+        let one = read_opened_log(rt, opening, &logs[place])?;
+        if kept.push(one).is_err() {
+            return Err(FilesFault::Memory);
+        }
+    }
+    Ok(kept)
+}
+
+/// The bytes of an opening file and of the log beside it.
+fn read_opened_log<R: Files + AllocGlobal>(
+    rt: &R,
+    opening: &str,
+    log: &str,
+) -> Result<OpenedLog, FilesFault>
+    ensures { IfErr result (λ e. IsOfLacking opening.now e ⊎ IsOfLacking log.now e) }
+{
+    let opening = read_present(rt, opening)?;
+    let log = read_present(rt, log)?;
+    Ok(OpenedLog { opening, log })
+}
+
+/// The bytes of a file, where it isn't missing.
+fn read_present<R: Files + AllocGlobal>(rt: &R, name: &str) -> Result<Vec<u8>, FilesFault>
+    ensures { IfErr result (IsOfLacking name.now) }
+{
+    match fs::read(rt, name) {
+        Ok(bytes) => Ok(bytes),
+        Err(error) if error.kind() == ErrorKind::OutOfMemory => Err(FilesFault::Memory),
+        Err(error) if error.kind() == ErrorKind::NotFound => Err(missing(rt.alloc(), name)),
+        Err(_) => Err(unread(rt.alloc(), name)),
+    }
+}
+
+/// The fault of a file that is missing, with its line.
+fn missing(alloc: Global, name: &str) -> FilesFault
+    ensures { IsOfLacking name.now result }
+{
+    let mut line = Vec::new(alloc);
+    match push_missing(name, &mut line) {
+        Ok(()) => FilesFault::Refused(line),
+        Err(_) => FilesFault::Memory,
+    }
+}
+
+/// The bundle of a generation, of what these bytes hold, which the files of these names gave: opening files and logs, each of which is a
+/// replica's, and files of receipts.
+pub fn collect_generation(
+    alloc: Global,
+    generation: Generation,
+    names: &GenerationNames,
+    kept: &[OpenedLog],
+    receipts: &[Vec<u8>],
+) -> Result<Collection, FilesFault>
+    requires kept { length kept.now ≡ length names.now.logs.items }
+    requires receipts { length receipts.now ≡ length names.now.receipts.items }
+    ensures ok { IfOk result (λ c. IsCollectedOf generation (map string_bytes names.now.logs.items) (map string_bytes names.now.receipts.items) kept.now (contents receipts.now) c.bundle.items c.lines.items) }
+    ensures err { IfErr result (IsTurnedDownOf generation (map string_bytes names.now.openings.items) (map string_bytes names.now.logs.items) (map string_bytes names.now.receipts.items) kept.now (contents receipts.now)) }
+{
+    match assemble_generation(alloc, generation, kept, receipts) {
+        Ok(assembled) => {
+            let mut lines = Vec::new(alloc);
+            push_torn(&names.logs, &assembled.ends, &mut lines)?;
+            push_torn(&names.receipts, &assembled.receipt_ends, &mut lines)?;
+            Ok(Collection {
+                bundle: assembled.bundle,
+                lines,
+            })
+        }
+        Err(GenerationFault::Assemble(AssembleFault::Memory)) => Err(FilesFault::Memory),
+        Err(fault) => refused(alloc, names, fault),
+    }
+}
+
+/// The fault, with its line.
+fn refused(
+    alloc: Global,
+    names: &GenerationNames,
+    fault: GenerationFault,
+) -> Result<Collection, FilesFault>
+    ensures line { IfErr result (IsGenerationLine (map string_bytes names.now.openings.items) (map string_bytes names.now.logs.items) (map string_bytes names.now.receipts.items) fault) }
+    ensures never { IsErr result }
+{
+    let mut line = Vec::new(alloc);
+    push_generation_refusal(names, fault, &mut line)?;
+    Err(FilesFault::Refused(line))
+}
