@@ -227,13 +227,14 @@ def sweeps(*sweeps):
 
 
 def lives():
-    """A short life of nodes that are killed, through generations."""
+    """Two short lives of nodes that are killed, through generations; in one of them most kills are power losses."""
     node, program = store.BUILT
     if not os.path.isfile(node) or not os.path.isfile(program):
         print("no life is played: `rt ci` has not built both programs", flush=True)
         return 0, 0
     with tempfile.TemporaryDirectory(prefix="epaxos-lives-") as scratch:
-        return counted("tools/lives", "--short", "--epaxos", store.joined(scratch, node, program))
+        words = ["tools/lives", "--short", "--epaxos", store.joined(scratch, node, program)]
+        return [sum(it) for it in zip(counted(*words), counted(*words, "--power"))]
 
 
 @dataclass
