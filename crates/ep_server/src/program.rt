@@ -15,7 +15,6 @@ use crate::status::Status;
 use crate::telling::{tell, tell_cut, tell_words};
 use ep_base::{Sink, Source, WriteFailed};
 use ep_device::Device;
-use ep_log::Origin;
 use ep_node::{Begin, Cut, Node, OpenFault, Whose};
 use ep_serve::{Mode, serve};
 use std::alloc::Global;
@@ -112,12 +111,13 @@ fn opened<D: Device + Drop>(
     ensures err { IfErr result (λ fault. ((bytes : List ℕ) → D.seen device ≡ Some bytes → IsUnopened options.now.begin second options.now.size options.now.me bytes fault)
         × IsFailure (record { has_failed = D.has_failed; why = D.why; seen = D.seen; moment = D.moment; left_since = D.left_since }) fault) }
 {
-    let whose = Whose {
-        cluster: options.size,
-        me: options.me,
-        origin: Origin::second(alloc),
-    };
-    opened_as(alloc, device, whose, options.begin)
+    match Node::open(alloc, device, options.size, options.me, options.begin) {
+        Ok(node) => Ok(node),
+        Err((fault, device)) => {
+            drop(device);
+            Err(fault)
+        }
+    }
 }
 
 /// Tells what was cut off the log, if anything was.
