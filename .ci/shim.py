@@ -215,14 +215,17 @@ class Case:
         os.makedirs(place)
         self.disk = disk.Disk()
         for path, content in sorted(left.items()):
-            path = place + path.removeprefix(self.place)
-            if content is None:
-                os.mkdir(path)
-            else:
-                with open(path, "wb") as it:
-                    it.write(content)
-            self.disk.put(path)
+            self.lay(place + path.removeprefix(self.place), content)
         self.place, self.log = place, place + self.log.removeprefix(self.place)
+
+    def lay(self, path, content):
+        """Makes a file of this content, or a folder where there is none; it is on the disk."""
+        if content is None:
+            os.mkdir(path)
+        else:
+            with open(path, "wb") as it:
+                it.write(content)
+        self.disk.put(path)
 
     def wants(self, is_so, what):
         if not is_so:
@@ -250,13 +253,7 @@ class FolderCase(Case):
     def put(self, tree):
         """Has the folder hold these files and folders, all on the disk, by their names in it."""
         for name, content in sorted(tree.items()):
-            path = f"{self.place}/{name}"
-            if content is None:
-                os.mkdir(path)
-            else:
-                with open(path, "wb") as it:
-                    it.write(content)
-            self.disk.put(path)
+            self.lay(f"{self.place}/{name}", content)
 
     def start(self, requests, *rules, words=(), is_new=False):
         self.answers = []
