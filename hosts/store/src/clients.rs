@@ -5,6 +5,7 @@ use crate::numbers::Numbers;
 use crate::protocol::{self, Command, Fault};
 use crate::resp::{Input, Reply, read_command};
 use crate::say::say;
+use crate::teller::Teller;
 use crate::transactions::Transaction;
 use std::io::{self, BufReader, BufWriter, Write};
 use std::net::{TcpListener, TcpStream};
@@ -162,7 +163,7 @@ impl Connection {
                 }
                 Told::Refused(fault) => return Err(refusal(fault)),
                 Told::Alone => return Err("TRYAGAIN the command wasn't done: no majority is reached".into()),
-                Told::Value(_) | Told::Info(_) => {
+                Told::Value(_) | Told::Info(_) | Told::Ended => {
                     return Err("ERR another answer was expected".into());
                 }
             }
@@ -189,7 +190,8 @@ impl Connection {
 
     /// Asks the driver, and waits as long as patience goes.
     fn ask(&self, what: What, start: Instant) -> Result<Told, String> {
-        let (reply, told) = channel();
+        let (sender, told) = channel();
+        let reply = Teller::new(move |told| _ = sender.send(told));
         let ends = || "TRYAGAIN the store ends; the command may still be done".to_string();
         let mut event = Event::Ask(Ask { what, reply });
         while let Err(error) = self.shared.events.try_send(event) {
@@ -201,12 +203,13 @@ impl Connection {
             thread::sleep(PAUSE);
         }
         let left = self.shared.patience.saturating_sub(start.elapsed());
-        told.recv_timeout(left).map_err(|error| match error {
+        let told = told.recv_timeout(left).map_err(|error| match error {
             RecvTimeoutError::Timeout => {
                 "TRYAGAIN no majority has answered in time; the command may still be done".into()
             }
             RecvTimeoutError::Disconnected => ends(),
-        })
+        })?;
+        if matches!(told, Told::Ended) { Err(ends()) } else { Ok(told) }
     }
 
     /// The local read.
@@ -265,7 +268,7 @@ mod tests {
             {
                 proposed.push((request, seen));
                 match answers.next() {
-                    Some(answer) => reply.send(answer).unwrap(),
+                    Some(answer) => reply.send(answer),
                     None => unanswered.push(reply),
                 }
             }

@@ -5,11 +5,12 @@ use crate::options::Plant;
 use crate::peers::{Peers, Place};
 use crate::protocol::{Answer, Command, Entry, Fault, INSTANCES, Instance, Outgoing, Receipt, Reply, Request};
 use crate::receipts::Receipts;
+use crate::teller::Teller;
 use crate::timers::{Remedy, Timers, remedy};
 use std::collections::HashMap;
 use std::fmt::Write;
 use std::io;
-use std::sync::mpsc::{Receiver, RecvTimeoutError, Sender};
+use std::sync::mpsc::{Receiver, RecvTimeoutError};
 use std::time::{Duration, Instant};
 
 /// At most so many events share one sync.
@@ -34,7 +35,7 @@ pub enum Event {
 /// A client's question, and where its answer goes.
 pub struct Ask {
     pub what: What,
-    pub reply: Sender<Told>,
+    pub reply: Teller,
 }
 
 pub enum What {
@@ -54,6 +55,8 @@ pub enum Told {
     Alone,
     Value(Option<Vec<u8>>),
     Info(String),
+    /// The driver has ended: what was proposed may still be done.
+    Ended,
 }
 
 /// Why the store ends.
@@ -81,13 +84,13 @@ enum Purpose {
         client: u32,
         request: u32,
         is_put: bool,
-        reply: Sender<Told>,
+        reply: Teller,
     },
     /// Of a frame that says that this instance is committed, if it does.
     Frame(Option<Instance>),
     Late(Instance),
     Execution(Instance),
-    Read(Sender<Told>),
+    Read(Teller),
     Host,
 }
 
@@ -97,7 +100,7 @@ struct Batch {
     requests: Vec<Request>,
     purposes: Vec<Purpose>,
     /// Local reads come last, and tell of all that was executed before them.
-    reads: Vec<(Vec<u8>, Sender<Told>)>,
+    reads: Vec<(Vec<u8>, Teller)>,
 }
 
 impl Batch {
@@ -137,7 +140,7 @@ pub struct Driver<C> {
     /// Since when no majority is known to be reached.
     pub alone_since: Option<Instant>,
     /// The clients that wait, by client and request.
-    pub waiting: HashMap<(u32, u32), Sender<Told>>,
+    pub waiting: HashMap<(u32, u32), Teller>,
     /// The greatest number of an own instance that is known to be used.
     pub used: u16,
     pub refused_frames: u64,
@@ -201,7 +204,7 @@ impl<C: Core> Driver<C> {
             Event::NodeEnded(_) => {}
             Event::Ask(Ask { what: What::Read(key), reply }) => batch.reads.push((key, reply)),
             Event::Ask(Ask { what: What::Info, reply }) => {
-                let _ = reply.send(Told::Info(self.info()));
+                reply.send(Told::Info(self.info()));
             }
             Event::Ask(ask) => self.held.push(ask),
         }
@@ -223,7 +226,7 @@ impl<C: Core> Driver<C> {
                     let purpose = Purpose::Proposal { client, request, is_put, reply };
                     batch.push(Request::Propose { client, request, seen, command }, purpose);
                 }
-                _ => _ = reply.send(Told::Alone),
+                _ => reply.send(Told::Alone),
             }
         }
     }
@@ -329,7 +332,7 @@ impl<C: Core> Driver<C> {
         for receipt in outcome.receipts {
             // A receipt for nobody is of a proposal before this start, or its client waits no longer.
             if let Some(reply) = self.waiting.remove(&(receipt.client, receipt.request)) {
-                let _ = reply.send(Told::Done { stamp: receipt.stamp, reply: receipt.reply });
+                reply.send(Told::Done { stamp: receipt.stamp, reply: receipt.reply });
             }
         }
         Ok(())
@@ -343,7 +346,7 @@ impl<C: Core> Driver<C> {
                 };
                 self.used = self.used.max(instance.number);
                 if is_put && self.plant == Some(Plant::Early) {
-                    let _ = reply.send(Told::Done { stamp, reply: Reply::Absent });
+                    reply.send(Told::Done { stamp, reply: Reply::Absent });
                 } else {
                     self.waiting.insert((client, request), reply);
                 }
@@ -360,7 +363,7 @@ impl<C: Core> Driver<C> {
                 if fault == Fault::SPACE_FULL {
                     self.used = INSTANCES;
                 }
-                let _ = reply.send(Told::Refused(fault));
+                reply.send(Told::Refused(fault));
             }
             // Nothing of such a frame is believed: it may name an instance that there isn't.
             (Purpose::Frame(_), Answer::Refused(..)) => self.refused_frames += 1,
@@ -372,7 +375,7 @@ impl<C: Core> Driver<C> {
             (Purpose::Execution(instance), Answer::Refused(_, missing)) => self.commits.put_back(instance, missing),
             (Purpose::Host, Answer::Refused(..) | Answer::Synced(_)) => {}
             (Purpose::Read(reply), Answer::Value(value)) => {
-                let _ = reply.send(Told::Value(value));
+                reply.send(Told::Value(value));
             }
             (_, answer) => return self.bad_answer(&answer),
         }
