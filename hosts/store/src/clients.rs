@@ -30,7 +30,7 @@ const MOST_TRIES: usize = 5;
 /// What all connections share.
 pub struct Shared {
     pub events: SyncSender<Event>,
-    pub numbers: Mutex<Numbers>,
+    pub numbers: Arc<Mutex<Numbers>>,
     pub patience: Duration,
     pub connections: AtomicUsize,
 }
@@ -152,7 +152,8 @@ impl Connection {
     /// Has a command executed; one that is lost is proposed again.
     fn execute(&mut self, command: Command) -> Result<protocol::Reply, String> {
         let start = Instant::now();
-        for _ in 0..MOST_TRIES {
+        let mut tries = 0;
+        while tries < MOST_TRIES {
             let what = self.proposal(command.clone())?;
             match self.ask(what, start)? {
                 Told::Done { stamp, reply } => {
@@ -160,10 +161,22 @@ impl Connection {
                     if reply.is_done() {
                         return Ok(reply);
                     }
+                    // (what stood behind a seal is asked in the next generation)
+                    tries += usize::from(reply == protocol::Reply::Lost);
                 }
                 Told::Refused(fault) => return Err(refusal(fault)),
+                Told::Late => return Err("TRYAGAIN the command wasn't done: it waited for too long".into()),
+                Told::DoneUnseen { stamp } => {
+                    self.seen = self.seen.max(stamp);
+                    return match command {
+                        Command::Put { .. } => Ok(protocol::Reply::Absent),
+                        Command::Get { .. } => continue,
+                        _ => Err("TRYAGAIN the command was done, and its reply is lost".into()),
+                    };
+                }
+                Told::Doubtful => return Err("TRYAGAIN this replica lagged; the command may be done".into()),
                 Told::Alone => return Err("TRYAGAIN the command wasn't done: no majority is reached".into()),
-                Told::Value(_) | Told::Info(_) | Told::Ended => {
+                Told::Value(_) | Told::Info(_) | Told::Managed(_) | Told::Ended => {
                     return Err("ERR another answer was expected".into());
                 }
             }
@@ -258,7 +271,7 @@ mod tests {
         let place = PLACE.fetch_add(1, Ordering::Relaxed);
         let folder = std::env::temp_dir().join(format!("store-clients-{}-{place}", std::process::id()));
         std::fs::create_dir_all(&folder).unwrap();
-        let numbers = Mutex::new(Numbers::new(&folder, 0));
+        let numbers = Arc::new(Mutex::new(Numbers::new(&folder, 0)));
         let patience = if answers.is_empty() { Duration::from_millis(200) } else { Duration::from_secs(60) };
         let shared = Shared { events, numbers, patience, connections: AtomicUsize::new(0) };
         let driver = thread::spawn(move || {
@@ -297,9 +310,9 @@ mod tests {
         let (events, asked) = sync_channel(1);
         let folder = std::env::temp_dir().join(format!("store-clients-{}-full", std::process::id()));
         std::fs::create_dir_all(&folder).unwrap();
-        let numbers = Mutex::new(Numbers::new(&folder, 0));
+        let numbers = Arc::new(Mutex::new(Numbers::new(&folder, 0)));
         let patience = Duration::from_millis(50);
-        events.send(Event::PeerReached).unwrap();
+        events.send(Event::PeerReached(1)).unwrap();
         let shared = Arc::new(Shared { events, numbers, patience, connections: AtomicUsize::new(0) });
         let mut connection = Connection::new(shared);
         connection.requests = u32::MAX;

@@ -1,5 +1,4 @@
 //! One replica of the store.
-use std::collections::HashMap;
 use std::ffi::OsString;
 use std::fmt;
 use std::io::{self, Write};
@@ -10,15 +9,15 @@ use std::sync::atomic::AtomicUsize;
 use std::sync::mpsc::{SyncSender, sync_channel};
 use std::sync::{Arc, Mutex};
 use std::thread;
-use std::time::Instant;
+use std::time::{Duration, Instant};
 use store::clients::{self, Shared};
-use store::commits::Commits;
 use store::directory::{Directory, DirectoryFault};
-use store::driver::{Driver, Event, Stop};
+use store::driver::{Driver, Event, Parts, Stop};
 use store::identities::Identities;
+use store::joining::Joining;
 use store::node::{Begin, Core, Node, NodeFault, Settings};
 use store::numbers::Numbers;
-use store::options::{HELP, Options, Plant, Words, read};
+use store::options::{self, Options, Plant, Words, help, read};
 use store::peers::{self, Peers, Place, Receiving};
 use store::protocol::{Answer, Request, State};
 use store::random::Random;
@@ -33,7 +32,7 @@ fn main() -> ExitCode {
     let options = match words().and_then(read) {
         Ok(Words::Help) => {
             // Where standard output is closed nobody is there to be told.
-            let _ = std::io::stdout().write_all(HELP.as_bytes());
+            let _ = std::io::stdout().write_all(help().as_bytes());
             return ExitCode::SUCCESS;
         }
         Ok(Words::Run(options)) => options,
@@ -43,15 +42,21 @@ fn main() -> ExitCode {
         }
     };
     name(options.replica);
-    // There is no handler of signals: whatever ends this process closes the node's input, and so the node ends too,
-    // with all that it has taken on the disk.
+    // Where it is killed the node's input closes, and so the node ends too, with all that it has taken on the disk.
     let fault = match start(options) {
         Ok(driver) => Fault::Stop(driver.run()),
         Err(fault) => fault,
     };
     say(&fault.to_string());
+    if let Fault::Stop(Stop::Asked) = fault {
+        // What clients were told is on its way to them.
+        thread::sleep(LAST_REPLIES);
+    }
     ExitCode::from(fault.status())
 }
+
+/// How long the last replies may take on their way.
+const LAST_REPLIES: Duration = Duration::from_millis(100);
 
 /// Why the store ends.
 enum Fault {
@@ -73,10 +78,12 @@ const LASTING: u8 = 3;
 impl Fault {
     fn status(&self) -> u8 {
         let is_lasting = match self {
+            Fault::Stop(Stop::Asked) => return 0,
             Fault::Directory(fault) => fault.is_lasting(),
             Fault::Identities(_) => true,
-            Fault::Node(fault) | Fault::Stop(Stop::Node(fault)) => fault.is_lasting(),
-            Fault::Stop(_) | Fault::Listen(..) | Fault::Receipts(..) | Fault::Thread(_) => false,
+            Fault::Node(fault) => fault.is_lasting(),
+            Fault::Stop(stop) => stop.is_lasting(),
+            Fault::Listen(..) | Fault::Receipts(..) | Fault::Thread(_) => false,
         };
         if is_lasting { LASTING } else { PASSING }
     }
@@ -109,50 +116,84 @@ fn start(options: Options) -> Result<Driver<Node>, Fault> {
     let for_clients = bind(&options.listen)?;
     let directory = Directory::open(&options.directory).map_err(Fault::Directory)?;
     let is_forgetful = options.plant == Some(Plant::Forgetful);
-    if !is_forgetful {
+    let joins = options.start == options::Start::Join && directory.begin_joining().map_err(Fault::Directory)?;
+    if !is_forgetful && !joins {
         directory.check_files().map_err(Fault::Directory)?;
-        directory.check_begin(options.is_new).map_err(Fault::Directory)?;
+        directory.check_begin(options.start == options::Start::New).map_err(Fault::Directory)?;
     }
     directory.prepare().map_err(Fault::Directory)?;
-    let begin = if options.is_new { Begin::New } else { Begin::Again };
     let (sender, events) = sync_channel(WAITING_EVENTS);
-    let (node, state) = start_node(&options, place, &directory, &begin, &sender)?;
-    let receipts_path = directory.receipts(state.generation);
-    let receipts = Receipts::open(&receipts_path).map_err(|error| Fault::Receipts(receipts_path, error))?;
-    let numbers = Numbers::new(&options.directory, place.replica);
-    numbers.check(receipts.named.client).map_err(Fault::Identities)?;
-    if !is_forgetful {
-        let checked = directory.check_entries(state.generation, state.entries, receipts.named.entry);
-        checked.map_err(Fault::Directory)?;
+    let numbers = Arc::new(Mutex::new(Numbers::new(&options.directory, place.replica)));
+    let shared = Shared {
+        events: sender.clone(),
+        numbers: numbers.clone(),
+        patience: options.patience,
+        connections: AtomicUsize::new(0),
+    };
+    // Who joins is connected first, and begins then; who is here begins, and is connected then: from now on a folder without a log
+    // has lost it.
+    let open = |sender: &SyncSender<Event>, for_peers: TcpListener| {
+        let identities = Identities::open(&options.directory, place.replicas, place.replica);
+        let identities = Arc::new(identities.map_err(Fault::Identities)?);
+        let peers = Peers::start(place, &options.peers, &identities, sender).map_err(Fault::Thread)?;
+        let receiving = Arc::new(Receiving::new(place, identities.clone(), sender.clone()));
+        spawn("peers", move || peers::listen(for_peers, &receiving)).map_err(Fault::Thread)?;
+        Ok((identities, peers))
+    };
+    let serve = |for_clients: TcpListener, shared: Shared| {
+        let shared = Arc::new(shared);
+        spawn("clients", move || clients::listen(for_clients, shared)).map_err(Fault::Thread)
+    };
+    let (node, state, receipts, identities, peers);
+    if joins {
+        (identities, peers) = open(&sender, for_peers)?;
+        serve(for_clients, shared)?;
+        let joining = Joining { place, identities: &identities, directory: &directory, peers: &peers, events: &events };
+        let begin = joining.wait().map_err(Fault::Stop)?;
+        (node, state) = start_node(&options, place, &directory, &begin, &sender)?;
+        receipts = open_receipts(&directory, state.generation)?;
+        directory.end_joining().map_err(Fault::Directory)?;
+    } else {
+        let begin = if options.start == options::Start::New { Begin::New } else { Begin::Again };
+        (node, state) = start_node(&options, place, &directory, &begin, &sender)?;
+        receipts = open_receipts(&directory, state.generation)?;
+        Numbers::new(&options.directory, place.replica).check(receipts.named.client).map_err(Fault::Identities)?;
+        if !is_forgetful {
+            let checked = directory.check_entries(state.generation, state.entries, receipts.named.entry);
+            checked.map_err(Fault::Directory)?;
+        }
+        directory.end_joining().map_err(Fault::Directory)?;
+        (identities, peers) = open(&sender, for_peers)?;
+        serve(for_clients, shared)?;
     }
-    // The log is on the disk: from now on a folder without one has lost it.
-    let identities = Identities::open(&options.directory, place.replicas, place.replica).map_err(Fault::Identities)?;
-    let identities = Arc::new(identities);
-    let peers = Peers::start(place, &options.peers, &identities, &sender).map_err(Fault::Thread)?;
-    let receiving = Arc::new(Receiving::new(place, identities, sender.clone()));
-    spawn("peers", move || peers::listen(for_peers, &receiving)).map_err(Fault::Thread)?;
-    let connections = AtomicUsize::new(0);
-    let numbers = Mutex::new(numbers);
-    let shared = Arc::new(Shared { events: sender, numbers, patience: options.patience, connections });
-    spawn("clients", move || clients::listen(for_clients, shared)).map_err(Fault::Thread)?;
-    let (replica, replicas) = (place.replica, place.replicas);
+    let given = numbers.lock().map_err(|_| "the numbers are lost".to_string()).and_then(|mut numbers| numbers.give());
+    let sealer = given.map_err(Fault::Identities)?;
+    let (replica, replicas, generation) = (place.replica, place.replicas, state.generation);
     let (listen, process) = (&options.listen, node.process());
-    say(&format!("replica {replica} of {replicas}, clients at {listen}, peers at {own}, node process {process}"));
-    Ok(Driver {
+    say(&format!(
+        "replica {replica} of {replicas} in generation {generation}, clients at {listen}, peers at {own}, node process {process}"
+    ));
+    Ok(Driver::new(Parts {
         place,
         node,
+        state,
         peers,
-        used: state.used,
+        directory,
+        identities,
         receipts,
         timers: Timers::new(place.replica, Instant::now(), Random::new()),
         events,
-        commits: Commits::at_start(place.replica, place.replicas as u8),
         plant: options.plant,
-        held: Vec::new(),
-        alone_since: None,
-        waiting: HashMap::new(),
-        refused_frames: 0,
-    })
+        limits: options.limits,
+        kept: options.kept,
+        patience: options.patience,
+        sealer,
+    }))
+}
+
+fn open_receipts(directory: &Directory, generation: u32) -> Result<Receipts, Fault> {
+    let path = directory.receipts(generation);
+    Receipts::open(&path).map_err(|error| Fault::Receipts(path, error))
 }
 
 fn bind(address: &str) -> Result<TcpListener, Fault> {

@@ -15,8 +15,8 @@ use std::sync::{Arc, Condvar, Mutex, MutexGuard};
 use std::thread;
 use std::time::Duration;
 
-/// How long a frame may be, as in a bundle.
-const SHORTEST_FRAME: usize = 40;
+/// How long a frame may be, as in a bundle, or a message of a host.
+const SHORTEST_FRAME: usize = 3;
 const LONGEST_FRAME: usize = 200_000;
 /// What waits for one peer is at most so many bytes; then the oldest frames are lost.
 const MOST_WAITING: usize = 8 << 20;
@@ -70,6 +70,29 @@ impl Peers {
         Ok(Peers { links })
     }
 
+    /// Sends this before what waits.
+    pub fn send_first(&self, to: u8, bytes: Vec<u8>) {
+        if let Some(Some(link)) = self.links.get(usize::from(to)) {
+            link.push_first(bytes);
+        }
+    }
+
+    /// A replica listens at this address from now on.
+    pub fn set_address(&self, to: u8, address: &str) {
+        if let Some(Some(link)) = self.links.get(usize::from(to))
+            && std::mem::replace(&mut *link.address(), address.to_string()) != address
+        {
+            link.part("its address has changed");
+        }
+    }
+
+    /// Another machine has this replica's number: the connection to the one before is closed.
+    pub fn part(&self, to: u8) {
+        if let Some(Some(link)) = self.links.get(usize::from(to)) {
+            link.part("another machine has its number");
+        }
+    }
+
     /// Sends a frame, or loses it.
     pub fn send(&self, to: u8, frame: Vec<u8>) {
         if let Some(Some(link)) = self.links.get(usize::from(to)) {
@@ -98,7 +121,7 @@ struct Queue {
 
 struct Link {
     to: u8,
-    address: String,
+    address: Mutex<String>,
     place: Place,
     identities: Arc<Identities>,
     queue: Mutex<Queue>,
@@ -111,7 +134,7 @@ impl Link {
     fn new(to: u8, address: String, place: Place, identities: Arc<Identities>) -> Link {
         Link {
             to,
-            address,
+            address: Mutex::new(address),
             place,
             identities,
             queue: Mutex::default(),
@@ -123,6 +146,22 @@ impl Link {
 
     fn queue(&self) -> MutexGuard<'_, Queue> {
         self.queue.lock().unwrap_or_else(|poisoned| poisoned.into_inner())
+    }
+
+    fn address(&self) -> MutexGuard<'_, String> {
+        self.address.lock().unwrap_or_else(|poisoned| poisoned.into_inner())
+    }
+
+    fn part(&self, cause: &'static str) {
+        self.queue().over = Some(cause);
+        self.changed.notify_one();
+    }
+
+    fn push_first(&self, bytes: Vec<u8>) {
+        let mut queue = self.queue();
+        queue.bytes += bytes.len();
+        queue.frames.push_front(bytes);
+        self.changed.notify_one();
     }
 
     fn push(&self, frame: Vec<u8>) {
@@ -149,21 +188,21 @@ impl Link {
                 && !was_refused
             {
                 was_refused = true;
-                say(&format!("peer {} at {} {why}", self.to, self.address));
+                say(&format!("peer {} at {} {why}", self.to, self.address()));
             }
             if let Ok(stream) = connected {
                 was_refused = false;
                 pause = LEAST_PAUSE;
                 let again = if was_lost { "regained" } else { "reached" };
-                say(&format!("peer {} at {} {again}", self.to, self.address));
+                say(&format!("peer {} at {} {again}", self.to, self.address()));
                 self.is_reached.store(true, Ordering::Relaxed);
-                if events.send(Event::PeerReached).is_err() {
+                if events.send(Event::PeerReached(self.to)).is_err() {
                     return;
                 }
                 let cause = self.send_all(stream);
                 self.is_reached.store(false, Ordering::Relaxed);
                 was_lost = true;
-                say(&format!("peer {} at {} lost: {cause}", self.to, self.address));
+                say(&format!("peer {} at {} lost: {cause}", self.to, self.address()));
             }
             thread::sleep(pause);
             pause = (pause * 2).min(GREATEST_PAUSE);
@@ -171,7 +210,8 @@ impl Link {
     }
 
     fn connect(&self) -> Result<TcpStream, Refused> {
-        let mut stream = connect_to(&self.address)?;
+        let address = self.address().clone();
+        let mut stream = connect_to(&address)?;
         stream.set_nodelay(true)?;
         stream.set_write_timeout(Some(WRITE_PATIENCE))?;
         let mut greeting = MAGIC.to_vec();
@@ -384,14 +424,14 @@ impl Receiving {
         self.replace(from, stream.try_clone()?);
         let beating = stream.try_clone()?;
         thread::Builder::new().name("beats".into()).stack_size(64 << 10).spawn(move || beat(beating))?;
-        self.take_frames(stream)
+        self.take_frames(from, stream)
     }
 
-    fn take_frames(&self, stream: &TcpStream) -> io::Result<()> {
+    fn take_frames(&self, from: u8, stream: &TcpStream) -> io::Result<()> {
         let mut reader = BufReader::with_capacity(1 << 16, stream);
         loop {
-            let frame = read_frame(&mut reader)?;
-            if self.events.send(Event::Frame(frame)).is_err() {
+            let bytes = read_frame(&mut reader)?;
+            if self.events.send(Event::Came { from, bytes }).is_err() {
                 return Ok(());
             }
         }
@@ -432,8 +472,8 @@ mod tests {
         assert_eq!(read_frame(&mut reader).unwrap(), [7; 300]);
         assert!(read_frame(&mut reader).is_err());
         assert!(read_frame(&mut [0, 1, 0, 0].as_slice()).is_err());
-        assert!(read_frame(&mut [0, 0, 0, 39].as_slice()).is_err());
-        assert!(read_frame(&mut [&[0, 0, 0, 39][..], &[0; 39]].concat().as_slice()).is_err());
+        assert!(read_frame(&mut [0, 0, 0, 2].as_slice()).is_err());
+        assert!(read_frame(&mut [&[0, 0, 0, 2][..], &[0; 2]].concat().as_slice()).is_err());
     }
 
     #[test]
