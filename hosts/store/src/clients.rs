@@ -156,7 +156,7 @@ impl Connection {
             match self.ask(what, start)? {
                 Told::Done { stamp, reply } => {
                     self.seen = self.seen.max(stamp);
-                    if reply != protocol::Reply::Lost {
+                    if reply.is_done() {
                         return Ok(reply);
                     }
                 }

@@ -1,6 +1,6 @@
 //! The one thread that drives the node: it gathers what is waiting, asks the node all of it, and hands out the answers.
 use crate::commits::{Commits, committed_by};
-use crate::node::{Node, NodeFault};
+use crate::node::{Core, NodeFault};
 use crate::options::Plant;
 use crate::peers::{Peers, Place};
 use crate::protocol::{Answer, Command, Entry, Fault, INSTANCES, Instance, Outgoing, Receipt, Reply, Request};
@@ -25,8 +25,8 @@ pub enum Event {
     Frame(Vec<u8>),
     /// A connection to a peer was opened.
     PeerReached,
-    /// The node answers nothing any more.
-    NodeEnded,
+    /// The node answers nothing any more, in the run of this number.
+    NodeEnded(u64),
     /// A client asks.
     Ask(Ask),
 }
@@ -122,9 +122,9 @@ impl Outcome {
 }
 
 /// The node, and all that it is driven with.
-pub struct Driver {
+pub struct Driver<C> {
     pub place: Place,
-    pub node: Node,
+    pub node: C,
     pub peers: Peers,
     pub receipts: Receipts,
     pub timers: Timers,
@@ -143,7 +143,7 @@ pub struct Driver {
     pub refused_frames: u64,
 }
 
-impl Driver {
+impl<C: Core> Driver<C> {
     /// Drives the node until something ends.
     pub fn run(mut self) -> Stop {
         loop {
@@ -197,7 +197,8 @@ impl Driver {
                 batch.push(Request::Frame(frame), Purpose::Frame(commits));
             }
             Event::PeerReached => self.timers.hurry(Instant::now()),
-            Event::NodeEnded => return Err(Stop::Node(self.node.ended())),
+            Event::NodeEnded(run) if run == self.node.run() => return Err(Stop::Node(self.node.ended())),
+            Event::NodeEnded(_) => {}
             Event::Ask(Ask { what: What::Read(key), reply }) => batch.reads.push((key, reply)),
             Event::Ask(Ask { what: What::Info, reply }) => {
                 let _ = reply.send(Told::Info(self.info()));
@@ -432,26 +433,45 @@ fn change(receipt: &mut Receipt) {
 mod tests {
     use super::*;
     use crate::identities::Identities;
-    use crate::node::Start;
+    use crate::node::Begin;
     use crate::random::Random;
     use std::path::Path;
     use std::sync::Arc;
     use std::sync::mpsc::sync_channel;
 
-    /// A driver of replica 0, without peers, of a node that ends at once.
-    fn driver(folder: &Path) -> Driver {
+    /// A core that was asked nothing.
+    struct Idle;
+
+    impl Core for Idle {
+        fn ask(&mut self, _: &[Request]) -> Result<Vec<Answer>, NodeFault> {
+            Ok(Vec::new())
+        }
+        fn start_again(&mut self, _: &Begin) -> Result<(), NodeFault> {
+            Ok(())
+        }
+        fn run(&self) -> u64 {
+            0
+        }
+        fn process(&self) -> u32 {
+            0
+        }
+        fn ended(&mut self) -> NodeFault {
+            NodeFault::Ended(None, String::new())
+        }
+        fn told(&mut self) -> Vec<String> {
+            Vec::new()
+        }
+    }
+
+    /// A driver of replica 0, without peers.
+    fn driver(folder: &Path) -> Driver<Idle> {
         std::fs::create_dir_all(folder).unwrap();
         let place = Place { replicas: 1, replica: 0 };
         let (sender, events) = sync_channel(8);
         let identities = Arc::new(Identities::open(folder, 3, 0).unwrap());
-        let errors_path = folder.join("node-errors");
-        let errors = std::fs::File::create(&errors_path).unwrap();
-        let (program, log) = (Path::new("true"), folder.join("log"));
-        let on_end = Box::new(|| ());
-        let start = Start { program, replicas: 3, replica: 0, log: &log, is_new: true, errors, errors_path, on_end };
         Driver {
             place,
-            node: Node::start(start).unwrap(),
+            node: Idle,
             peers: Peers::start(place, &["127.0.0.1:1".into()], &identities, &sender).unwrap(),
             receipts: Receipts::open(&folder.join("receipts")).unwrap(),
             timers: Timers::new(0, Instant::now(), Random::from_seed(1)),

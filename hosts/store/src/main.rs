@@ -1,8 +1,10 @@
 //! One replica of the store.
 use std::collections::HashMap;
 use std::ffi::OsString;
-use std::io::Write;
+use std::fmt;
+use std::io::{self, Write};
 use std::net::TcpListener;
+use std::path::PathBuf;
 use std::process::ExitCode;
 use std::sync::atomic::AtomicUsize;
 use std::sync::mpsc::{SyncSender, sync_channel};
@@ -11,14 +13,14 @@ use std::thread;
 use std::time::Instant;
 use store::clients::{self, Shared};
 use store::commits::Commits;
-use store::directory::Directory;
+use store::directory::{Directory, DirectoryFault};
 use store::driver::{Driver, Event, Stop};
 use store::identities::Identities;
-use store::node::{Node, Start};
+use store::node::{Begin, Core, Node, NodeFault, Settings};
 use store::numbers::Numbers;
 use store::options::{HELP, Options, Plant, Words, read};
 use store::peers::{self, Peers, Place, Receiving};
-use store::protocol::{Answer, Request};
+use store::protocol::{Answer, Request, State};
 use store::random::Random;
 use store::receipts::Receipts;
 use store::say::{name, say};
@@ -43,11 +45,55 @@ fn main() -> ExitCode {
     name(options.replica);
     // There is no handler of signals: whatever ends this process closes the node's input, and so the node ends too,
     // with all that it has taken on the disk.
-    match start(options) {
-        Ok(driver) => say(&driver.run().to_string()),
-        Err(what) => say(&what),
+    let fault = match start(options) {
+        Ok(driver) => Fault::Stop(driver.run()),
+        Err(fault) => fault,
+    };
+    say(&fault.to_string());
+    ExitCode::from(fault.status())
+}
+
+/// Why the store ends.
+enum Fault {
+    Directory(DirectoryFault),
+    Identities(String),
+    Node(NodeFault),
+    Stop(Stop),
+    /// It can't listen at this address.
+    Listen(String, io::Error),
+    Receipts(PathBuf, io::Error),
+    Thread(io::Error),
+}
+
+/// It may be started again with the same words.
+const PASSING: u8 = 1;
+/// It must not come back with this folder, or needs a hand.
+const LASTING: u8 = 3;
+
+impl Fault {
+    fn status(&self) -> u8 {
+        let is_lasting = match self {
+            Fault::Directory(fault) => fault.is_lasting(),
+            Fault::Identities(_) => true,
+            Fault::Node(fault) | Fault::Stop(Stop::Node(fault)) => fault.is_lasting(),
+            Fault::Stop(_) | Fault::Listen(..) | Fault::Receipts(..) | Fault::Thread(_) => false,
+        };
+        if is_lasting { LASTING } else { PASSING }
     }
-    ExitCode::from(1)
+}
+
+impl fmt::Display for Fault {
+    fn fmt(&self, f: &mut fmt::Formatter) -> fmt::Result {
+        match self {
+            Fault::Directory(fault) => fault.fmt(f),
+            Fault::Identities(what) => f.write_str(what),
+            Fault::Node(fault) => fault.fmt(f),
+            Fault::Stop(stop) => stop.fmt(f),
+            Fault::Listen(address, error) => write!(f, "can't listen at {address}: {error}"),
+            Fault::Receipts(path, error) => write!(f, "the receipts {} can't be used: {error}", path.display()),
+            Fault::Thread(error) => write!(f, "a thread can't be started: {error}"),
+        }
+    }
 }
 
 /// The words after the program's name.
@@ -56,39 +102,39 @@ fn words() -> Result<Vec<String>, String> {
     std::env::args_os().skip(1).map(|word| word.into_string().map_err(told)).collect()
 }
 
-fn start(options: Options) -> Result<Driver, String> {
+fn start(options: Options) -> Result<Driver<Node>, Fault> {
     let place = Place { replicas: options.peers.len(), replica: options.replica };
     let own = &options.peers[usize::from(place.replica)];
     let for_peers = bind(own)?;
     let for_clients = bind(&options.listen)?;
-    let directory = Directory::open(&options.directory)?;
+    let directory = Directory::open(&options.directory).map_err(Fault::Directory)?;
     let is_forgetful = options.plant == Some(Plant::Forgetful);
     if !is_forgetful {
-        directory.check_files()?;
-        directory.check_begin(options.is_new)?;
+        directory.check_files().map_err(Fault::Directory)?;
+        directory.check_begin(options.is_new).map_err(Fault::Directory)?;
     }
-    // (a planted store begins a log that was emptied)
-    let is_new = if is_forgetful { !directory.has_log()? } else { options.is_new };
-    let receipts_path = directory.receipts();
-    let receipts = Receipts::open(&receipts_path)
-        .map_err(|error| format!("the receipts {} can't be used: {error}", receipts_path.display()))?;
-    let numbers = Numbers::new(&options.directory, place.replica);
-    numbers.check(receipts.named.client)?;
+    directory.prepare().map_err(Fault::Directory)?;
+    let begin = if options.is_new { Begin::New } else { Begin::Again };
     let (sender, events) = sync_channel(WAITING_EVENTS);
-    let (node, entries) = start_node(&options, place, &directory, is_new, &sender)?;
+    let (node, state) = start_node(&options, place, &directory, &begin, &sender)?;
+    let receipts_path = directory.receipts(state.generation);
+    let receipts = Receipts::open(&receipts_path).map_err(|error| Fault::Receipts(receipts_path, error))?;
+    let numbers = Numbers::new(&options.directory, place.replica);
+    numbers.check(receipts.named.client).map_err(Fault::Identities)?;
     if !is_forgetful {
-        directory.check_entries(entries, receipts.named.entry)?;
+        let checked = directory.check_entries(state.generation, state.entries, receipts.named.entry);
+        checked.map_err(Fault::Directory)?;
     }
     // The log is on the disk: from now on a folder without one has lost it.
-    let identities = Arc::new(Identities::open(&options.directory, place.replicas, place.replica)?);
-    let told = |error: std::io::Error| format!("a thread can't be started: {error}");
-    let peers = Peers::start(place, &options.peers, &identities, &sender).map_err(told)?;
+    let identities = Identities::open(&options.directory, place.replicas, place.replica).map_err(Fault::Identities)?;
+    let identities = Arc::new(identities);
+    let peers = Peers::start(place, &options.peers, &identities, &sender).map_err(Fault::Thread)?;
     let receiving = Arc::new(Receiving::new(place, identities, sender.clone()));
-    spawn("peers", move || peers::listen(for_peers, &receiving)).map_err(told)?;
+    spawn("peers", move || peers::listen(for_peers, &receiving)).map_err(Fault::Thread)?;
     let connections = AtomicUsize::new(0);
     let numbers = Mutex::new(numbers);
     let shared = Arc::new(Shared { events: sender, numbers, patience: options.patience, connections });
-    spawn("clients", move || clients::listen(for_clients, shared)).map_err(told)?;
+    spawn("clients", move || clients::listen(for_clients, shared)).map_err(Fault::Thread)?;
     let (replica, replicas) = (place.replica, place.replicas);
     let (listen, process) = (&options.listen, node.process());
     say(&format!("replica {replica} of {replicas}, clients at {listen}, peers at {own}, node process {process}"));
@@ -96,7 +142,7 @@ fn start(options: Options) -> Result<Driver, String> {
         place,
         node,
         peers,
-        used: receipts.named.instance,
+        used: state.used,
         receipts,
         timers: Timers::new(place.replica, Instant::now(), Random::new()),
         events,
@@ -109,38 +155,37 @@ fn start(options: Options) -> Result<Driver, String> {
     })
 }
 
-fn bind(address: &str) -> Result<TcpListener, String> {
-    TcpListener::bind(address).map_err(|error| format!("can't listen at {address}: {error}"))
+fn bind(address: &str) -> Result<TcpListener, Fault> {
+    TcpListener::bind(address).map_err(|error| Fault::Listen(address.into(), error))
 }
 
-fn spawn(name: &str, work: impl FnOnce() + Send + 'static) -> std::io::Result<()> {
+fn spawn(name: &str, work: impl FnOnce() + Send + 'static) -> io::Result<()> {
     thread::Builder::new().name(name.into()).spawn(work).map(|_| ())
 }
 
-/// Starts the node, and waits until it has read its log: how many entries that has.
+/// Starts the node, and waits until it has read its log: what it is then.
 fn start_node(
     options: &Options,
     place: Place,
     directory: &Directory,
-    is_new: bool,
+    begin: &Begin,
     events: &SyncSender<Event>,
-) -> Result<(Node, u32), String> {
+) -> Result<(Node, State), Fault> {
     let events = events.clone();
-    let start = Start {
-        program: &options.node,
+    let settings = Settings {
+        program: options.node.clone(),
         replicas: place.replicas,
         replica: place.replica,
-        log: &directory.log(),
-        is_new,
-        errors: directory.errors().map_err(|error| error.to_string())?,
+        folder: directory.generations(),
+        errors: directory.errors().map_err(Fault::Thread)?,
         errors_path: directory.errors_path(),
-        on_end: Box::new(move || _ = events.send(Event::NodeEnded)),
+        on_end: Arc::new(move |run| _ = events.send(Event::NodeEnded(run))),
     };
-    let mut node = Node::start(start).map_err(|fault| fault.to_string())?;
-    let answers = node.ask(&[Request::Sync]).map_err(|fault| Stop::Node(fault).to_string())?;
+    let mut node = Node::start(settings, begin).map_err(Fault::Node)?;
+    let answers = node.ask(&[Request::Sync, Request::State]).map_err(Fault::Node)?;
     node.told().iter().for_each(|line| say(&format!("the node tells: {line}")));
     match answers[..] {
-        [Answer::Synced(entries)] => Ok((node, entries)),
-        _ => Err("the node's first answer isn't of the protocol".into()),
+        [Answer::Synced(_), Answer::State(state)] => Ok((node, state)),
+        _ => Err(Fault::Node(NodeFault::BadAnswer("its first answers".into()))),
     }
 }

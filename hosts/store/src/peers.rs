@@ -17,10 +17,10 @@ use std::time::Duration;
 
 /// How long a frame may be, as in a bundle.
 const SHORTEST_FRAME: usize = 40;
-const LONGEST_FRAME: usize = 65_535;
+const LONGEST_FRAME: usize = 200_000;
 /// What waits for one peer is at most so many bytes; then the oldest frames are lost.
 const MOST_WAITING: usize = 8 << 20;
-const MAGIC: [u8; 5] = *b"EPST\x01";
+const MAGIC: [u8; 5] = *b"EPST\x03";
 /// The greeting: the magic, how many replicas, from, to, and the identity of who greets.
 const GREETING: usize = 8 + 16;
 const CONNECT_PATIENCE: Duration = Duration::from_secs(2);

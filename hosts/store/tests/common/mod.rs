@@ -9,9 +9,9 @@ use std::thread;
 use std::time::{Duration, Instant};
 use store::client::{Client, Reply};
 
-/// A node that has no entry on the disk, and tells so: the answer to the first request, a sync of 5 bytes.
-pub const SYNCED: &str =
-    "#!/bin/sh\nhead -c 5 >/dev/null; printf 'EPLG\\002\\003\\000' > \"$7\"; printf '\\0\\0\\0\\5\\6\\0\\0\\0\\0'\n";
+/// A node of generation 1 that has no entry on the disk, and tells so: the answers to the first requests, a sync and a state.
+pub const SYNCED: &str = "#!/bin/sh\nhead -c 10 >/dev/null; mkdir -p \"$7/1\"; printf 'EPLG\\003\\003\\000' > \"$7/1/log\"; \
+     printf '\\0\\0\\0\\5\\6\\0\\0\\0\\0\\0\\0\\0\\26\\10\\0\\0\\0\\1'; head -c 17 /dev/zero\n";
 /// How long a test waits, and a store has a client wait: other work may leave them little of the processors.
 const PATIENCE: Duration = Duration::from_secs(120);
 const STORE_PATIENCE: &str = "60";
@@ -56,7 +56,7 @@ impl Places {
         command.args(["--replica", &replica.to_string(), "--peers", &self.peers.join(",")]);
         command.args(["--listen", &self.clients[replica], "--patience", STORE_PATIENCE]);
         let directory = self.folder.join(replica.to_string());
-        if !directory.join("log").exists() {
+        if !directory.join("generations/1").exists() {
             command.arg("--new");
         }
         command.arg("--dir").arg(directory).arg("--node").arg(node);

@@ -85,12 +85,16 @@ impl Cluster {
         self.directory.join(replica.to_string())
     }
 
+    pub fn generations(&self, replica: usize) -> PathBuf {
+        self.folder(replica).join("generations")
+    }
+
     pub fn log(&self, replica: usize) -> PathBuf {
-        self.folder(replica).join("log")
+        self.generations(replica).join("1/log")
     }
 
     pub fn receipts(&self, replica: usize) -> PathBuf {
-        self.folder(replica).join("receipts")
+        self.folder(replica).join("receipts/1")
     }
 
     fn told(&self, replica: usize) -> PathBuf {

@@ -68,11 +68,11 @@ fn judge_receipts(cluster: &Cluster, notes: &[Note]) -> Result<(), String> {
 /// `epaxos collect`, piped into `epaxos audit`.
 fn audit(options: &Options, cluster: &Cluster) -> Result<(), String> {
     let mut command = Command::new(&options.node);
-    command.arg("collect");
+    command.args(["collect", "--generation", "1"]);
     for replica in 0..cluster.replicas {
         command.arg("--receipts").arg(cluster.receipts(replica));
     }
-    command.args((0..cluster.replicas).map(|replica| cluster.log(replica)));
+    command.args((0..cluster.replicas).map(|replica| cluster.generations(replica)));
     let told = |error: std::io::Error| format!("{} can't be run: {error}", options.node.display());
     let mut collecting = command.stdout(Stdio::piped()).spawn().map_err(told)?;
     let bundle = collecting.stdout.take().ok_or("collect has no output")?;
