@@ -434,7 +434,9 @@ mod tests {
     use super::*;
     use crate::identities::Identities;
     use crate::node::Begin;
+    use crate::peers::Membership;
     use crate::random::Random;
+    use crate::sealed::Key;
     use std::path::Path;
     use std::sync::Arc;
     use std::sync::mpsc::sync_channel;
@@ -468,11 +470,12 @@ mod tests {
         std::fs::create_dir_all(folder).unwrap();
         let place = Place { replicas: 1, replica: 0 };
         let (sender, events) = sync_channel(8);
-        let identities = Arc::new(Identities::open(folder, 3, 0).unwrap());
+        let identities = Identities::open(folder, 3, 0).unwrap();
+        let membership = Arc::new(Membership { place, identities, key: Key::none() });
         Driver {
             place,
             node: Idle,
-            peers: Peers::start(place, &["127.0.0.1:1".into()], &identities, &sender).unwrap(),
+            peers: Peers::start(&membership, &["127.0.0.1:1".into()], &sender).unwrap(),
             receipts: Receipts::open(&folder.join("receipts")).unwrap(),
             timers: Timers::new(0, Instant::now(), Random::from_seed(1)),
             events,

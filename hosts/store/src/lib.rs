@@ -16,5 +16,6 @@ pub mod random;
 pub mod receipts;
 pub mod resp;
 pub mod say;
+pub mod sealed;
 pub mod timers;
 pub mod transactions;

@@ -19,11 +19,12 @@ use store::identities::Identities;
 use store::node::{Begin, Core, Node, NodeFault, Settings};
 use store::numbers::Numbers;
 use store::options::{HELP, Options, Plant, Words, read};
-use store::peers::{self, Peers, Place, Receiving};
+use store::peers::{self, Membership, Peers, Place, Receiving};
 use store::protocol::{Answer, Request, State};
 use store::random::Random;
 use store::receipts::Receipts;
 use store::say::{name, say};
+use store::sealed::{Key, KeyFault};
 use store::timers::Timers;
 
 /// How many events may wait for the driver.
@@ -59,6 +60,9 @@ enum Fault {
     Identities(String),
     Node(NodeFault),
     Stop(Stop),
+    Key(KeyFault),
+    /// Others could reach the peers' port at this address, and there is no key.
+    Unguarded(String),
     /// It can't listen at this address.
     Listen(String, io::Error),
     Receipts(PathBuf, io::Error),
@@ -74,7 +78,7 @@ impl Fault {
     fn status(&self) -> u8 {
         let is_lasting = match self {
             Fault::Directory(fault) => fault.is_lasting(),
-            Fault::Identities(_) => true,
+            Fault::Identities(_) | Fault::Key(_) | Fault::Unguarded(_) => true,
             Fault::Node(fault) | Fault::Stop(Stop::Node(fault)) => fault.is_lasting(),
             Fault::Stop(_) | Fault::Listen(..) | Fault::Receipts(..) | Fault::Thread(_) => false,
         };
@@ -89,6 +93,12 @@ impl fmt::Display for Fault {
             Fault::Identities(what) => f.write_str(what),
             Fault::Node(fault) => fault.fmt(f),
             Fault::Stop(stop) => stop.fmt(f),
+            Fault::Key(fault) => fault.fmt(f),
+            Fault::Unguarded(address) => write!(
+                f,
+                "others could send to the peers' port at {address}: give all replicas one key by --peer-key, or say --insecure where the \
+                 network keeps strangers out"
+            ),
             Fault::Listen(address, error) => write!(f, "can't listen at {address}: {error}"),
             Fault::Receipts(path, error) => write!(f, "the receipts {} can't be used: {error}", path.display()),
             Fault::Thread(error) => write!(f, "a thread can't be started: {error}"),
@@ -105,7 +115,11 @@ fn words() -> Result<Vec<String>, String> {
 fn start(options: Options) -> Result<Driver<Node>, Fault> {
     let place = Place { replicas: options.peers.len(), replica: options.replica };
     let own = &options.peers[usize::from(place.replica)];
+    let key = options.peer_key.as_deref().map(Key::read).transpose().map_err(Fault::Key)?;
     let for_peers = bind(own)?;
+    if key.is_none() && !options.is_insecure && !is_local(&for_peers) {
+        return Err(Fault::Unguarded(own.clone()));
+    }
     let for_clients = bind(&options.listen)?;
     let directory = Directory::open(&options.directory).map_err(Fault::Directory)?;
     let is_forgetful = options.plant == Some(Plant::Forgetful);
@@ -127,9 +141,9 @@ fn start(options: Options) -> Result<Driver<Node>, Fault> {
     }
     // The log is on the disk: from now on a folder without one has lost it.
     let identities = Identities::open(&options.directory, place.replicas, place.replica).map_err(Fault::Identities)?;
-    let identities = Arc::new(identities);
-    let peers = Peers::start(place, &options.peers, &identities, &sender).map_err(Fault::Thread)?;
-    let receiving = Arc::new(Receiving::new(place, identities, sender.clone()));
+    let membership = Arc::new(Membership { place, identities, key: key.unwrap_or_else(Key::none) });
+    let peers = Peers::start(&membership, &options.peers, &sender).map_err(Fault::Thread)?;
+    let receiving = Arc::new(Receiving::new(membership, sender.clone()));
     spawn("peers", move || peers::listen(for_peers, &receiving)).map_err(Fault::Thread)?;
     let connections = AtomicUsize::new(0);
     let numbers = Mutex::new(numbers);
@@ -157,6 +171,11 @@ fn start(options: Options) -> Result<Driver<Node>, Fault> {
 
 fn bind(address: &str) -> Result<TcpListener, Fault> {
     TcpListener::bind(address).map_err(|error| Fault::Listen(address.into(), error))
+}
+
+/// Whether only this machine can reach it.
+fn is_local(listener: &TcpListener) -> bool {
+    listener.local_addr().is_ok_and(|address| address.ip().is_loopback())
 }
 
 fn spawn(name: &str, work: impl FnOnce() + Send + 'static) -> io::Result<()> {
