@@ -7,6 +7,7 @@ pub mod commits;
 pub mod directory;
 pub mod driver;
 pub mod identities;
+pub mod metrics;
 pub mod node;
 pub mod numbers;
 pub mod options;
