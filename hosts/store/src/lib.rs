@@ -18,5 +18,6 @@ pub mod receipts;
 pub mod resp;
 pub mod say;
 pub mod sealed;
+pub mod timed;
 pub mod timers;
 pub mod transactions;

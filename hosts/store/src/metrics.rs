@@ -1,4 +1,5 @@
 //! What Prometheus reads: counters, gauges and a histogram of waits, in its text format, over HTTP at a port of its own.
+use crate::timed::Timed;
 use std::fmt::Write as _;
 use std::io::{self, BufRead, BufReader, Read, Write};
 use std::net::{TcpListener, TcpStream};
@@ -136,9 +137,8 @@ pub fn listen(listener: TcpListener, metrics: &Arc<Metrics>) {
 }
 
 fn answer(stream: &TcpStream, metrics: &Metrics) -> io::Result<()> {
-    stream.set_read_timeout(Some(PATIENCE))?;
     stream.set_write_timeout(Some(PATIENCE))?;
-    let mut lines = BufReader::new(stream.take(LONGEST_REQUEST)).lines();
+    let mut lines = BufReader::new(Timed::new(stream, PATIENCE).take(LONGEST_REQUEST)).lines();
     let first = lines.next().transpose()?.unwrap_or_default();
     // (the rest of the request is read, or closing the connection would be taken for a fault)
     for line in lines {

@@ -7,6 +7,7 @@ use crate::driver::Event;
 use crate::identities::Identities;
 use crate::say::say;
 use crate::sealed::{self, Channel, Direction, Hello, Key};
+use crate::timed::Timed;
 use std::collections::VecDeque;
 use std::io::{self, BufReader, BufWriter, Read, Write};
 use std::net::{Shutdown, TcpListener, TcpStream, ToSocketAddrs};
@@ -14,7 +15,7 @@ use std::sync::atomic::{AtomicBool, AtomicU64, Ordering};
 use std::sync::mpsc::SyncSender;
 use std::sync::{Arc, Condvar, Mutex, MutexGuard};
 use std::thread;
-use std::time::{Duration, Instant};
+use std::time::Duration;
 
 /// How long a frame may be, as in a bundle.
 const SHORTEST_FRAME: usize = 40;
@@ -283,39 +284,6 @@ fn beat(mut stream: TcpStream, mut sending: Direction) {
     while sending.write(&mut message, BEAT, &[]).is_ok() && stream.write_all(&message).is_ok() {
         message.clear();
         thread::sleep(BEATS);
-    }
-}
-
-/// A stream that is read until a moment, and no longer, however slowly the bytes come.
-struct Timed<'a> {
-    stream: &'a TcpStream,
-    ends: Instant,
-}
-
-impl Timed<'_> {
-    fn new(stream: &TcpStream, patience: Duration) -> Timed<'_> {
-        Timed { stream, ends: Instant::now() + patience }
-    }
-}
-
-impl Read for Timed<'_> {
-    fn read(&mut self, bytes: &mut [u8]) -> io::Result<usize> {
-        let left = self.ends.saturating_duration_since(Instant::now());
-        if left.is_zero() {
-            return Err(io::ErrorKind::TimedOut.into());
-        }
-        self.stream.set_read_timeout(Some(left))?;
-        self.stream.read(bytes)
-    }
-}
-
-impl Write for Timed<'_> {
-    fn write(&mut self, bytes: &[u8]) -> io::Result<usize> {
-        self.stream.write(bytes)
-    }
-
-    fn flush(&mut self) -> io::Result<()> {
-        self.stream.flush()
     }
 }
 
