@@ -2,14 +2,14 @@
 use crate::directory::Directory;
 use crate::frames::Head;
 use crate::generation::{Generation, Limits};
-use crate::identities::{Identities, Identity};
+use crate::identities::Identity;
 use crate::members::{Member, Members};
 use crate::messages::Message;
 use crate::node::{Core, NodeFault};
 use crate::openings::Fetch;
 use crate::options::Plant;
 use crate::others::Others;
-use crate::peers::{Peers, Place};
+use crate::peers::{Membership, Peers, Place};
 use crate::protocol::{Answer, Command, Entry, Fault, INSTANCES, Instance, Outgoing, Receipt, Reply, Request, State};
 use crate::receipts::Receipts;
 use crate::teller::Teller;
@@ -224,12 +224,11 @@ pub struct Wish {
 
 /// What a driver begins with.
 pub struct Parts<C> {
-    pub place: Place,
     pub node: C,
     pub state: State,
     pub peers: Peers,
     pub directory: Directory,
-    pub identities: Arc<Identities>,
+    pub membership: Arc<Membership>,
     pub receipts: Receipts,
     pub timers: Timers,
     pub events: Receiver<Event>,
@@ -248,7 +247,7 @@ pub struct Driver<C> {
     pub(crate) node: C,
     pub(crate) peers: Peers,
     pub(crate) directory: Directory,
-    pub(crate) identities: Arc<Identities>,
+    pub(crate) membership: Arc<Membership>,
     pub(crate) receipts: Receipts,
     pub(crate) timers: Timers,
     pub(crate) events: Receiver<Event>,
@@ -284,7 +283,8 @@ pub struct Driver<C> {
 
 impl<C: Core> Driver<C> {
     pub fn new(parts: Parts<C>) -> Driver<C> {
-        let Parts { place, node, state, peers, directory, identities, receipts, timers, events, .. } = parts;
+        let Parts { node, state, peers, directory, membership, receipts, timers, events, .. } = parts;
+        let place = membership.place;
         let now = Instant::now();
         let others = Others::open(directory.path(), place.replicas, state.generation);
         Driver {
@@ -292,7 +292,7 @@ impl<C: Core> Driver<C> {
             node,
             peers,
             directory,
-            identities,
+            membership,
             receipts,
             timers,
             events,

@@ -1,8 +1,10 @@
 //! A driver of one replica, over a core in memory.
 use super::*;
+use crate::identities::Identities;
 use crate::node::Begin;
 use crate::random::Random;
 use crate::receipts;
+use crate::sealed::Key;
 use std::collections::BTreeMap;
 use std::fs;
 use std::path::Path;
@@ -183,14 +185,14 @@ fn driver(name: &str) -> (Driver<Memory>, SyncSender<Event>, PathBuf) {
     directory.prepare().unwrap();
     let place = Place { replicas: 1, replica: 0 };
     let (sender, events) = sync_channel(64);
-    let identities = Arc::new(Identities::open(&folder, 3, 0).unwrap());
+    let identities = Identities::open(&folder, 3, 0).unwrap();
+    let membership = Arc::new(Membership { place, identities, key: Key::none() });
     let node = Memory::new(&directory.generations());
     let driver = Driver::new(Parts {
-        place,
         state: node.state,
         node,
-        peers: Peers::start(place, &["127.0.0.1:1".into()], &identities, &sender).unwrap(),
-        identities,
+        peers: Peers::start(&membership, &["127.0.0.1:1".into()], &sender).unwrap(),
+        membership,
         receipts: receipts::Receipts::open(&directory.receipts(1)).unwrap(),
         directory,
         timers: Timers::new(0, Instant::now(), Random::from_seed(1)),

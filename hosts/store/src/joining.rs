@@ -1,13 +1,13 @@
 //! A machine that comes in the place of a lost one: it waits until a generation begins whose seal names it, and takes its opening.
 use crate::directory::Directory;
 use crate::driver::{Ask, Event, Stop, Told, What};
-use crate::identities::{Identities, digits};
+use crate::identities::digits;
 use crate::members::Members;
 use crate::messages::Message;
 use crate::node::Begin;
 use crate::opening::Opening;
 use crate::openings::{Fetch, Step};
-use crate::peers::{Peers, Place};
+use crate::peers::{Membership, Peers};
 use crate::say::say;
 use std::path::Path;
 use std::sync::mpsc::{Receiver, RecvTimeoutError};
@@ -17,8 +17,7 @@ const PAUSE: Duration = Duration::from_millis(200);
 
 /// What waits.
 pub struct Joining<'a> {
-    pub place: Place,
-    pub identities: &'a Identities,
+    pub membership: &'a Membership,
     pub directory: &'a Directory,
     pub peers: &'a Peers,
     pub events: &'a Receiver<Event>,
@@ -27,8 +26,8 @@ pub struct Joining<'a> {
 impl Joining<'_> {
     /// Waits until the opening of a generation that names this machine is here.
     pub fn wait(&self) -> Result<Begin, Stop> {
-        let who = digits(&self.identities.own());
-        let replica = self.place.replica;
+        let who = digits(&self.membership.identities.own());
+        let replica = self.membership.place.replica;
         say(&format!("it waits to be let in, by EPAXOS REPLACE {replica} {who} at another replica"));
         // The last generation that was looked at and doesn't name this machine.
         let mut looked = 0;
@@ -88,8 +87,8 @@ impl Joining<'_> {
     fn is_named(&self, path: &Path) -> bool {
         let seal = Opening::read(path).ok().and_then(|opening| opening.seal);
         let members = seal.as_deref().and_then(Members::read);
-        let own = members.and_then(|members| members.0.get(usize::from(self.place.replica)).cloned());
-        own.is_some_and(|member| member.identity == Some(self.identities.own()))
+        let own = members.and_then(|members| members.0.get(usize::from(self.membership.place.replica)).cloned());
+        own.is_some_and(|member| member.identity == Some(self.membership.identities.own()))
     }
 }
 

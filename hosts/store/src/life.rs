@@ -238,7 +238,7 @@ impl<C: Core> Driver<C> {
         for (replica, member) in members.0.iter().take(self.place.replicas).enumerate() {
             let replica = replica as u8;
             if replica == self.place.replica {
-                if member.identity.is_some_and(|identity| identity != self.identities.own()) {
+                if member.identity.is_some_and(|identity| identity != self.membership.identities.own()) {
                     return Err(Stop::Replaced(opening.generation));
                 }
                 continue;
@@ -248,7 +248,7 @@ impl<C: Core> Driver<C> {
             }
             let Some(identity) = member.identity else { continue };
             let file = || self.directory.path().join(crate::identities::NAME);
-            if self.identities.set(replica, identity).map_err(|error| Stop::File(file(), error))? {
+            if self.membership.identities.set(replica, identity).map_err(|error| Stop::File(file(), error))? {
                 say(&format!("replica {replica} is {} from generation {} on", digits(&identity), opening.generation));
                 self.others.forget(replica);
                 self.peers.part(replica);
@@ -263,7 +263,7 @@ impl<C: Core> Driver<C> {
         let mut members = self.members.clone();
         members.0.resize(self.place.replicas, Member::default());
         for (replica, member) in members.0.iter_mut().enumerate() {
-            member.identity = self.identities.of(replica as u8);
+            member.identity = self.membership.identities.of(replica as u8);
         }
         for (replica, member) in self.wishes.iter().filter_map(|wish| wish.change.clone()) {
             members.0[usize::from(replica)] = member;

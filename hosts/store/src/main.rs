@@ -18,11 +18,12 @@ use store::joining::Joining;
 use store::node::{Begin, Core, Node, NodeFault, Settings};
 use store::numbers::Numbers;
 use store::options::{self, Options, Plant, Words, help, read};
-use store::peers::{self, Peers, Place, Receiving};
+use store::peers::{self, Membership, Peers, Place, Receiving};
 use store::protocol::{Answer, Request, State};
 use store::random::Random;
 use store::receipts::Receipts;
 use store::say::{name, say};
+use store::sealed::{Key, KeyFault};
 use store::timers::Timers;
 
 /// How many events may wait for the driver.
@@ -64,6 +65,9 @@ enum Fault {
     Identities(String),
     Node(NodeFault),
     Stop(Stop),
+    Key(KeyFault),
+    /// Others could reach the peers' port at this address, and there is no key.
+    Unguarded(String),
     /// It can't listen at this address.
     Listen(String, io::Error),
     Receipts(PathBuf, io::Error),
@@ -80,7 +84,7 @@ impl Fault {
         let is_lasting = match self {
             Fault::Stop(Stop::Asked) => return 0,
             Fault::Directory(fault) => fault.is_lasting(),
-            Fault::Identities(_) => true,
+            Fault::Identities(_) | Fault::Key(_) | Fault::Unguarded(_) => true,
             Fault::Node(fault) => fault.is_lasting(),
             Fault::Stop(stop) => stop.is_lasting(),
             Fault::Listen(..) | Fault::Receipts(..) | Fault::Thread(_) => false,
@@ -96,6 +100,12 @@ impl fmt::Display for Fault {
             Fault::Identities(what) => f.write_str(what),
             Fault::Node(fault) => fault.fmt(f),
             Fault::Stop(stop) => stop.fmt(f),
+            Fault::Key(fault) => fault.fmt(f),
+            Fault::Unguarded(address) => write!(
+                f,
+                "others could send to the peers' port at {address}: give all replicas one key by --peer-key, or say --insecure where the \
+                 network keeps strangers out"
+            ),
             Fault::Listen(address, error) => write!(f, "can't listen at {address}: {error}"),
             Fault::Receipts(path, error) => write!(f, "the receipts {} can't be used: {error}", path.display()),
             Fault::Thread(error) => write!(f, "a thread can't be started: {error}"),
@@ -112,7 +122,11 @@ fn words() -> Result<Vec<String>, String> {
 fn start(options: Options) -> Result<Driver<Node>, Fault> {
     let place = Place { replicas: options.peers.len(), replica: options.replica };
     let own = &options.peers[usize::from(place.replica)];
+    let key = options.peer_key.as_deref().map(Key::read).transpose().map_err(Fault::Key)?;
     let for_peers = bind(own)?;
+    if key.is_none() && !options.is_insecure && !is_local(&for_peers) {
+        return Err(Fault::Unguarded(own.clone()));
+    }
     let for_clients = bind(&options.listen)?;
     let directory = Directory::open(&options.directory).map_err(Fault::Directory)?;
     let is_forgetful = options.plant == Some(Plant::Forgetful);
@@ -132,23 +146,25 @@ fn start(options: Options) -> Result<Driver<Node>, Fault> {
     };
     // Who joins is connected first, and begins then; who is here begins, and is connected then: from now on a folder without a log
     // has lost it.
+    let key = key.unwrap_or_else(Key::none);
     let open = |sender: &SyncSender<Event>, for_peers: TcpListener| {
         let identities = Identities::open(&options.directory, place.replicas, place.replica);
-        let identities = Arc::new(identities.map_err(Fault::Identities)?);
-        let peers = Peers::start(place, &options.peers, &identities, sender).map_err(Fault::Thread)?;
-        let receiving = Arc::new(Receiving::new(place, identities.clone(), sender.clone()));
+        let membership = Membership { place, identities: identities.map_err(Fault::Identities)?, key };
+        let membership = Arc::new(membership);
+        let peers = Peers::start(&membership, &options.peers, sender).map_err(Fault::Thread)?;
+        let receiving = Arc::new(Receiving::new(membership.clone(), sender.clone()));
         spawn("peers", move || peers::listen(for_peers, &receiving)).map_err(Fault::Thread)?;
-        Ok((identities, peers))
+        Ok((membership, peers))
     };
     let serve = |for_clients: TcpListener, shared: Shared| {
         let shared = Arc::new(shared);
         spawn("clients", move || clients::listen(for_clients, shared)).map_err(Fault::Thread)
     };
-    let (node, state, receipts, identities, peers);
+    let (node, state, receipts, membership, peers);
     if joins {
-        (identities, peers) = open(&sender, for_peers)?;
+        (membership, peers) = open(&sender, for_peers)?;
         serve(for_clients, shared)?;
-        let joining = Joining { place, identities: &identities, directory: &directory, peers: &peers, events: &events };
+        let joining = Joining { membership: &membership, directory: &directory, peers: &peers, events: &events };
         let begin = joining.wait().map_err(Fault::Stop)?;
         (node, state) = start_node(&options, place, &directory, &begin, &sender)?;
         receipts = open_receipts(&directory, state.generation)?;
@@ -163,7 +179,7 @@ fn start(options: Options) -> Result<Driver<Node>, Fault> {
             checked.map_err(Fault::Directory)?;
         }
         directory.end_joining().map_err(Fault::Directory)?;
-        (identities, peers) = open(&sender, for_peers)?;
+        (membership, peers) = open(&sender, for_peers)?;
         serve(for_clients, shared)?;
     }
     let given = numbers.lock().map_err(|_| "the numbers are lost".to_string()).and_then(|mut numbers| numbers.give());
@@ -174,12 +190,11 @@ fn start(options: Options) -> Result<Driver<Node>, Fault> {
         "replica {replica} of {replicas} in generation {generation}, clients at {listen}, peers at {own}, node process {process}"
     ));
     Ok(Driver::new(Parts {
-        place,
         node,
         state,
         peers,
         directory,
-        identities,
+        membership,
         receipts,
         timers: Timers::new(place.replica, Instant::now(), Random::new()),
         events,
@@ -198,6 +213,11 @@ fn open_receipts(directory: &Directory, generation: u32) -> Result<Receipts, Fau
 
 fn bind(address: &str) -> Result<TcpListener, Fault> {
     TcpListener::bind(address).map_err(|error| Fault::Listen(address.into(), error))
+}
+
+/// Whether only this machine can reach it.
+fn is_local(listener: &TcpListener) -> bool {
+    listener.local_addr().is_ok_and(|address| address.ip().is_loopback())
 }
 
 fn spawn(name: &str, work: impl FnOnce() + Send + 'static) -> io::Result<()> {

@@ -99,7 +99,7 @@ mod tests {
     fn an_opening_is_handed_in_pieces() {
         let folder = std::env::temp_dir().join(format!("store-openings-{}", std::process::id()));
         let directory = Directory::open(&folder).unwrap();
-        let bytes: Vec<u8> = (0..300_000_u32).map(|at| (at * 7 >> 3) as u8).collect();
+        let bytes: Vec<u8> = (0..300_000_u32).map(|at| ((at * 7) >> 3) as u8).collect();
         for (generation, length) in [(3, 300_000), (4, 10)] {
             std::fs::create_dir_all(directory.opening(generation).parent().unwrap()).unwrap();
             std::fs::write(directory.opening(generation), &bytes[..length]).unwrap();

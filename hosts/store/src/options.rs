@@ -8,13 +8,17 @@ use std::time::Duration;
 const TEXT: &str = "\
 store: one replica of a replicated store, for clients of the Redis protocol
 
-    store --replica R --peers HOST:PORT,HOST:PORT,HOST:PORT --dir DIR [--new] [--listen HOST:PORT] [--node PATH] [--patience S]
+    store --replica R --peers HOST:PORT,HOST:PORT,HOST:PORT --dir DIR [--new] [--listen HOST:PORT] [--peer-key FILE] [--node PATH]
+          [--patience S]
 
     --replica R            which replica this is, from 0
     --peers A,B,C          where each replica listens for the others, in order, this one too: 3, 5 or 7 of them
     --dir DIR              the folder of this replica: its log, its receipts; created where it isn't there
     --new                  begins the replica: for the first start of its folder, and for no other
     --listen HOST:PORT     where clients are listened for; default 127.0.0.1:7000; a port alone is one of 127.0.0.1
+    --peer-key FILE        the key that all replicas share: whoever hasn't it is no peer. 16 to 4096 bytes that nobody can guess, in a
+                           file that only its owner reads (head -c 32 /dev/urandom | base64 > FILE; chmod 600 FILE)
+    --insecure             without a key the peers' port is one of this machine alone; with this it may be any, open to whoever comes
     --node PATH            the program `epaxos`; default: the one on the PATH
     --patience S           after so many seconds a client is told TRYAGAIN; default 10. Its command may still be done
     --join                 in the place of --new: for a machine that comes in the place of a lost one; it tells its identity and waits
@@ -73,6 +77,9 @@ pub struct Options {
     pub directory: PathBuf,
     pub start: Start,
     pub listen: String,
+    pub peer_key: Option<PathBuf>,
+    /// Whether the peers' port may be open to others without a key.
+    pub is_insecure: bool,
     pub node: PathBuf,
     pub patience: Duration,
     pub limits: Limits,
@@ -96,6 +103,7 @@ pub fn read(words: impl IntoIterator<Item = String>) -> Result<Words, String> {
     let mut node = PathBuf::from("epaxos");
     let mut patience = Duration::from_secs(10);
     let mut plant = None;
+    let (mut is_insecure, mut peer_key) = (false, None);
     let mut start = Start::Again;
     let (mut limits, mut kept) = (LIMITS, KEPT);
     while let Some(word) = words.next() {
@@ -114,12 +122,17 @@ pub fn read(words: impl IntoIterator<Item = String>) -> Result<Words, String> {
             start = begins;
             continue;
         }
+        if word == "--insecure" {
+            is_insecure = true;
+            continue;
+        }
         let mut value = || words.next().ok_or(format!("{word} wants a value"));
         match word.as_str() {
             "--replica" => replica = Some(value()?),
             "--peers" => peers = Some(value()?),
             "--dir" => directory = Some(PathBuf::from(value()?)),
             "--listen" => listen = with_host(value()?),
+            "--peer-key" => peer_key = Some(PathBuf::from(value()?)),
             "--node" => node = PathBuf::from(value()?),
             "--patience" => patience = seconds(&value()?)?,
             "--seal-numbers" => limits.numbers = number(&word, &value()?, 10, 1_900)?,
@@ -134,7 +147,20 @@ pub fn read(words: impl IntoIterator<Item = String>) -> Result<Words, String> {
     let peers = read_peers(&peers.ok_or_else(|| missing("--peers"))?)?;
     let replica = read_replica(&replica.ok_or_else(|| missing("--replica"))?, peers.len())?;
     let directory = directory.ok_or_else(|| missing("--dir"))?;
-    Ok(Words::Run(Options { replica, peers, directory, start, listen, node, patience, limits, kept, plant }))
+    Ok(Words::Run(Options {
+        replica,
+        peers,
+        directory,
+        start,
+        listen,
+        peer_key,
+        is_insecure,
+        node,
+        patience,
+        limits,
+        kept,
+        plant,
+    }))
 }
 
 fn with_host(address: String) -> String {
@@ -201,11 +227,12 @@ mod tests {
         assert_eq!(options.peers, ["a:1", "b:2", "c:3"]);
         assert_eq!(options.listen, "127.0.0.1:7001");
         assert_eq!(options.patience, Duration::from_millis(500));
-        assert_eq!(options.start, Start::Again);
-        let Ok(Words::Run(options)) = words(&format!("--new {line}")) else { panic!() };
-        assert_eq!(options.start, Start::New);
-        let Ok(Words::Run(options)) = words(&format!("{line} --join --seal-numbers 20 --keep 9")) else { panic!() };
-        assert_eq!((options.start, options.limits.numbers, options.kept), (Start::Join, 20, 9));
+        assert!(options.start == Start::Again && !options.is_insecure && options.peer_key.is_none());
+        let Ok(Words::Run(options)) = words(&format!("--new --peer-key k --insecure {line}")) else { panic!() };
+        assert!(options.start == Start::New && options.is_insecure);
+        let Ok(Words::Run(it)) = words(&format!("{line} --join --seal-numbers 20 --keep 9")) else { panic!() };
+        assert_eq!((it.start, it.limits.numbers, it.kept), (Start::Join, 20, 9));
+        assert_eq!(options.peer_key, Some(PathBuf::from("k")));
         let Ok(Words::Run(options)) = words("--replica 0 --peers a:1,b:2,c:3 --dir d") else { panic!() };
         assert_eq!(options.listen, "127.0.0.1:7000");
         assert_eq!(words("--replica 9 --help"), Ok(Words::Help));
