@@ -138,6 +138,12 @@ impl Connection {
                 Ok(Reply::Integer(present.count() as i64))
             }
             Asked::Info => self.info(),
+            Asked::Manage(manage) => match self.ask(What::Manage(manage), Instant::now())? {
+                Told::Managed(told) => {
+                    told.map(|text| Reply::Bulk(text.into_bytes())).map_err(|what| format!("ERR {what}"))
+                }
+                _ => Err("ERR another answer was expected".into()),
+            },
             Asked::ReadOnly(is_read_only) => {
                 self.is_read_only = is_read_only;
                 Ok(Reply::Simple("OK"))

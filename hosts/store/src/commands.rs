@@ -1,4 +1,6 @@
 //! What a client's words ask for.
+use crate::driver::Manage;
+use crate::identities::identity;
 use crate::protocol::{Command, LONGEST_KEY, LONGEST_VALUE};
 use crate::resp::Reply;
 
@@ -9,6 +11,7 @@ pub enum Asked {
     Set(Vec<u8>, Vec<u8>),
     Del(Vec<Vec<u8>>),
     Info,
+    Manage(Manage),
     Quit,
     ReadOnly(bool),
     Multi,
@@ -31,6 +34,9 @@ pub fn understand(words: Vec<Vec<u8>>) -> Asked {
         (b"PING", 0) => Ok(Asked::Answered(Reply::Simple("PONG"))),
         (b"PING", 1) => Ok(Asked::Answered(rest.into_iter().next().map_or(Reply::Nil, Reply::Bulk))),
         (b"INFO", _) => Ok(Asked::Info),
+        (b"EPAXOS", 1..) => {
+            manage(&rest).ok_or("ERR EPAXOS SEAL, MEMBERS, or REPLACE replica identity [address]".into())
+        }
         (b"COMMAND", _) => Ok(Asked::Answered(Reply::EmptyArray)),
         (b"QUIT", _) => Ok(Asked::Quit),
         (b"POST" | b"HOST:", _) => Ok(Asked::Http),
@@ -48,6 +54,21 @@ pub fn understand(words: Vec<Vec<u8>>) -> Asked {
         _ => Err(format!("ERR unknown command '{}'", printable(&name))),
     };
     asked.unwrap_or_else(|error| Asked::Answered(Reply::Error(error)))
+}
+
+fn manage(words: &[Vec<u8>]) -> Option<Asked> {
+    let words: Vec<&str> = words.iter().map(|word| std::str::from_utf8(word).ok()).collect::<Option<_>>()?;
+    let (name, rest) = words.split_first()?;
+    Some(Asked::Manage(match (name.to_ascii_uppercase().as_str(), rest) {
+        ("SEAL", []) => Manage::Seal,
+        ("MEMBERS", []) => Manage::Members,
+        ("REPLACE", [replica, who, address @ ..]) if address.len() < 2 => Manage::Replace {
+            replica: replica.parse().ok()?,
+            identity: identity(who)?,
+            address: address.first().map(|address| address.to_string()),
+        },
+        _ => return None,
+    }))
 }
 
 /// A GET, a DEL or a SET, whose keys and value are in range.

@@ -128,7 +128,8 @@ impl<C: Core> Driver<C> {
             Step::Done(generation) => {
                 self.fetch = None;
                 if generation > self.generation.number {
-                    self.taken = Some(path);
+                    let whole = self.directory.keep_taken().map_err(|error| Stop::File(path, error))?;
+                    self.taken = Some(whole);
                 }
             }
             Step::Ignored => {}
@@ -203,6 +204,11 @@ impl<C: Core> Driver<C> {
         };
         if state.generation <= before {
             return Err(Stop::Node(NodeFault::BadAnswer(format!("it doesn't go on from generation {before}"))));
+        }
+        if let Begin::Take(path) = begin {
+            say(&format!("generation {} is taken from a peer", state.generation));
+            // (where it stays it is refused at the next start, and removed then)
+            let _ = std::fs::remove_file(path);
         }
         let opening = self.opening(state.generation)?;
         let path = self.directory.receipts(state.generation);
