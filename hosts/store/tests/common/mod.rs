@@ -1,5 +1,7 @@
 //! Stores that a test starts, and their nodes.
 #![allow(dead_code)] // (each test uses a part)
+pub mod memory;
+
 use std::fs;
 use std::net::TcpListener;
 use std::os::unix::fs::PermissionsExt;
