@@ -124,6 +124,11 @@ impl Action {
         }
     }
 
+    /// Whether its reply doesn't depend on what was there before either.
+    pub fn is_told_blindly(&self) -> bool {
+        self.is_blind() && matches!(self, Action::Set(set) if set.tells != Tells::Before)
+    }
+
     /// Whether it changes nothing, unless something is past its deadline.
     pub fn only_reads(&self) -> bool {
         matches!(

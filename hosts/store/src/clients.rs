@@ -175,7 +175,8 @@ impl Session {
                 if is_local { self.read_here(combine, actions)? } else { self.ask(combine, actions)? }
             }
             Asked::List(list) => self.list(list)?,
-            Asked::Info => self.inform()?,
+            Asked::Info => self.ask_driver(What::Info)?,
+            Asked::Manage(manage) => self.ask_driver(What::Manage(manage))?,
             Asked::Hello(hello) => self.greet(hello)?,
             Asked::Client(client) => self.about(client)?,
             Asked::ReadOnly(is_read_only) => {
@@ -263,16 +264,18 @@ impl Session {
         Ok(())
     }
 
-    fn inform(&mut self) -> Result<(), Over> {
+    /// Asks the driver of what isn't of keys.
+    fn ask_driver(&mut self, what: What) -> Result<(), Over> {
         let command = self.begin(Combine::One, vec![Part::Wanted])?;
         let place = self.place(command, 0);
         let reply = Teller::new(move |told| {
             place.tell(match told {
-                Told::Info(text) => Reply::Bulk(text.into_bytes()),
+                Told::Info(text) | Told::Managed(Ok(text)) => Reply::Bulk(text.into_bytes()),
+                Told::Managed(Err(what)) => Reply::Error(CommandFault::Managing(what)),
                 told => Reply::Error(fault_of(told)),
             });
         });
-        let _ = self.shared.events.send(Event::Ask(Ask { what: What::Info, reply }));
+        let _ = self.shared.events.send(Event::Ask(Ask { what, reply }));
         Ok(())
     }
 
@@ -356,6 +359,7 @@ fn fault_of(told: Told) -> CommandFault {
     match told {
         Told::Refused(fault) => CommandFault::Node(fault),
         Told::Alone => CommandFault::NoMajority,
+        Told::Late => CommandFault::Waiting,
         _ => CommandFault::StoreEnds,
     }
 }

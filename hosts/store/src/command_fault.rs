@@ -10,6 +10,10 @@ pub enum CommandFault {
     Unanswered,
     /// The store ends. It may still be done.
     StoreEnds,
+    /// This replica lagged, and nobody knows whether it was done.
+    Doubtful,
+    /// It was done, and nobody knows its reply.
+    Unseen,
     /// It wasn't done: no majority is reached.
     NoMajority,
     /// It wasn't done: no-ops were committed in the places of all its tries.
@@ -24,8 +28,12 @@ pub enum CommandFault {
     Node(Fault),
     /// It wasn't done: no client number is left, or their file can't be written.
     Numbers(String),
-    /// The key listing failed.
+    /// The keys can't be listed.
     Listing(String),
+    /// What somebody who runs the store has asked for isn't done.
+    Managing(String),
+    /// It isn't an identity: 32 hexadecimal digits.
+    Identity,
     /// Of a command of several keys: what befell this one, counted from 1.
     AtKey(Box<CommandFault>, usize),
 
@@ -71,7 +79,7 @@ impl CommandFault {
     /// Whether the command may be done, now or later.
     pub fn may_be_done(&self) -> bool {
         match self {
-            CommandFault::Unanswered | CommandFault::StoreEnds => true,
+            CommandFault::Unanswered | CommandFault::StoreEnds | CommandFault::Doubtful | CommandFault::Unseen => true,
             CommandFault::AtKey(fault, _) => fault.may_be_done(),
             _ => false,
         }
@@ -83,6 +91,8 @@ impl fmt::Display for CommandFault {
         match self {
             CommandFault::Unanswered => f.write_str("TRYAGAIN no majority has answered in time; the command may still be done"),
             CommandFault::StoreEnds => f.write_str("TRYAGAIN the store ends; the command may still be done"),
+            CommandFault::Doubtful => f.write_str("TRYAGAIN this replica lagged; the command may be done"),
+            CommandFault::Unseen => f.write_str("TRYAGAIN the command was done, and its reply is lost"),
             CommandFault::NoMajority => f.write_str("TRYAGAIN the command wasn't done: no majority is reached"),
             CommandFault::Lost => f.write_str("TRYAGAIN the command wasn't done: others have taken its places"),
             CommandFault::Contended => f.write_str("TRYAGAIN the command wasn't done: others changed the key at each try"),
@@ -96,6 +106,8 @@ impl fmt::Display for CommandFault {
             },
             CommandFault::Numbers(what) => write!(f, "ERR {what}"),
             CommandFault::Listing(what) => write!(f, "ERR the keys can't be listed: {what}"),
+            CommandFault::Managing(what) => write!(f, "ERR {what}"),
+            CommandFault::Identity => f.write_str("ERR an identity has 32 hexadecimal digits"),
             CommandFault::AtKey(fault, place) => {
                 write!(f, "{fault} (this is of key {place}; each key is a command of its own, and others may be done)")
             }

@@ -1,6 +1,8 @@
 //! What a client's words ask for.
 use crate::actions::{Action, Keep, Only, OnlyExpire, Set, Tells, Unit, integer};
 use crate::command_fault::CommandFault;
+use crate::driver::Manage;
+use crate::identities::identity;
 use crate::protocol::LONGEST_KEY;
 use crate::replies::Combine;
 use crate::resp::{Reply, Version};
@@ -19,6 +21,8 @@ pub enum Asked {
     /// The keys that there are, as far as this replica knows.
     List(List),
     Info,
+    /// Asked by somebody who runs the store.
+    Manage(Manage),
     Hello(Hello),
     Client(Client),
     ReadOnly(bool),
@@ -285,33 +289,41 @@ fn expire(name: &'static str, words: Words, unit: Unit, is_relative: bool) -> Re
     Ok(Action::Expire { deadline, only })
 }
 
-/// Locks, which are known to this store alone.
+/// What this store alone knows: locks, and what somebody who runs it asks for.
 fn epaxos(mut words: Words) -> Result<Asked, CommandFault> {
     let sub = words.remove(0).to_ascii_lowercase();
-    let count = words.len();
-    let wrong = |name: &str| CommandFault::WrongCount(format!("epaxos|{name}"));
+    let until = |name, time| coming(name, time, Unit::Milliseconds, true);
     let (key, action) = match (sub.as_slice(), words.as_slice()) {
-        (b"lock", [key, owner, time]) => (
-            key,
-            Action::Lock { owner: named(owner)?, deadline: coming("epaxos|lock", time, Unit::Milliseconds, true)? },
-        ),
-        (b"renew", [key, owner, time]) => (
-            key,
-            Action::Renew { owner: named(owner)?, deadline: coming("epaxos|renew", time, Unit::Milliseconds, true)? },
-        ),
+        (b"lock", [key, owner, time]) => {
+            (key, Action::Lock { owner: named(owner)?, deadline: until("epaxos|lock", time)? })
+        }
+        (b"renew", [key, owner, time]) => {
+            (key, Action::Renew { owner: named(owner)?, deadline: until("epaxos|renew", time)? })
+        }
         (b"unlock", [key, owner]) => (key, Action::Unlock { owner: named(owner)? }),
         (b"holder", [key]) => (key, Action::Holder),
-        (b"lock", _) => return Err(wrong("lock")),
-        (b"renew", _) => return Err(wrong("renew")),
-        (b"unlock", _) => return Err(wrong("unlock")),
-        (b"holder", _) => return Err(wrong("holder")),
+        (b"seal", []) => return Ok(Asked::Manage(Manage::Seal)),
+        (b"members", []) => return Ok(Asked::Manage(Manage::Members)),
+        (b"replace", [replica, identity]) => return Ok(Asked::Manage(replace(replica, identity, None)?)),
+        (b"replace", [replica, identity, address]) => {
+            return Ok(Asked::Manage(replace(replica, identity, Some(address))?));
+        }
+        (b"lock" | b"renew" | b"unlock" | b"holder" | b"seal" | b"members" | b"replace", _) => {
+            return Err(CommandFault::WrongCount(format!("epaxos|{}", printable(&sub))));
+        }
         _ => return Err(CommandFault::UnknownSubcommand("EPAXOS", printable(&sub))),
     };
-    debug_assert!(count > 0);
     if key.is_empty() || key.len() > LONGEST_KEY {
         return Err(CommandFault::KeyLength);
     }
     Ok(Asked::Keys(Combine::One, vec![(key.clone(), action)]))
+}
+
+fn replace(replica: &[u8], digits: &[u8], address: Option<&Vec<u8>>) -> Result<Manage, CommandFault> {
+    let replica = u8::try_from(number(replica)?).map_err(|_| CommandFault::NotAnInteger)?;
+    let identity = std::str::from_utf8(digits).ok().and_then(identity).ok_or(CommandFault::Identity)?;
+    let address = address.map(|address| String::from_utf8(address.clone()).map_err(|_| CommandFault::Syntax));
+    Ok(Manage::Replace { replica, identity, address: address.transpose()? })
 }
 
 fn named(owner: &[u8]) -> Result<Vec<u8>, CommandFault> {

@@ -11,6 +11,8 @@ use std::time::{Duration, Instant};
 const PATIENCE: Duration = Duration::from_secs(10);
 /// So many bytes of the file for the node's standard error are there before it writes, so that it can tell that the disk is full.
 const ROOM_FOR_ERRORS: usize = 4_096;
+/// Marks the folder of a machine that has never acted, and waits until a generation names it.
+const JOINING: &str = "joining";
 const NEVER: &str = "This replica must not come back: it may have promised what it doesn't know any more";
 
 /// Why a folder isn't taken.
@@ -132,6 +134,11 @@ impl Directory {
         self.path.join("receipts").join(generation.to_string())
     }
 
+    /// An opening that a peer hands.
+    pub fn taken(&self) -> PathBuf {
+        self.path.join("opening.taken")
+    }
+
     pub fn errors_path(&self) -> PathBuf {
         self.path.join("node-errors")
     }
@@ -166,7 +173,7 @@ impl Directory {
     /// Before any file is opened. A folder gets its identities once its other files are there; so one with identities and
     /// without a log or receipts has lost them. (The node looks whether each generation's files are there.)
     pub fn check_files(&self) -> Result<(), DirectoryFault> {
-        if !self.has_identities() {
+        if !self.has_identities() || self.is_joining() {
             return Ok(());
         }
         if !self.has_log() {
@@ -174,6 +181,37 @@ impl Directory {
         }
         let receipts = self.path.join("receipts");
         if receipts.is_dir() { Ok(()) } else { Err(DirectoryFault::ReceiptsLost(receipts)) }
+    }
+
+    /// Whether a machine waits here until a generation names it, and has never acted.
+    pub fn is_joining(&self) -> bool {
+        self.path.join(JOINING).exists() && !self.has_log()
+    }
+
+    /// A machine comes in the place of a lost one: it waits here until a generation names it. What isn't begun now is marked, before
+    /// the folder gets an identity, as one that has lost its log must not be taken for it.
+    pub fn begin_joining(&self) -> Result<bool, DirectoryFault> {
+        if self.has_log() {
+            return Ok(false);
+        }
+        if !self.is_joining() {
+            if self.has_identities() {
+                return Err(DirectoryFault::Lost(self.generations()));
+            }
+            identities::replace(&self.path, JOINING, "")
+                .map_err(|error| DirectoryFault::Unusable(self.path.join(JOINING), error))?;
+        }
+        Ok(true)
+    }
+
+    /// The log is on the disk, and nothing was told of it yet.
+    pub fn end_joining(&self) -> Result<(), DirectoryFault> {
+        let path = self.path.join(JOINING);
+        if !path.exists() {
+            return Ok(());
+        }
+        let removed = fs::remove_file(&path).and_then(|()| File::open(&self.path)?.sync_all());
+        removed.map_err(|error| DirectoryFault::Unusable(path, error))
     }
 
     /// A replica is begun where its user says so, and never twice: a folder without one may be another folder, or one whose disk
@@ -283,6 +321,25 @@ mod tests {
         let told = directory.check_files().unwrap_err();
         assert!(told.is_lasting() && told.to_string().contains("generations was lost"));
         fs::remove_dir_all(top).unwrap();
+    }
+
+    #[test]
+    fn who_joins_has_never_acted() {
+        let path = at("join");
+        let directory = Directory::open(&path).unwrap();
+        assert!(directory.begin_joining().unwrap());
+        fs::write(path.join(identities::NAME), "").unwrap();
+        // (again, after a crash)
+        assert!(directory.begin_joining().unwrap() && directory.is_joining());
+        directory.check_files().unwrap();
+        fs::create_dir_all(directory.generations().join("4")).unwrap();
+        fs::write(directory.log(4), [0; 43]).unwrap();
+        assert!(!directory.begin_joining().unwrap() && !directory.is_joining());
+        directory.end_joining().unwrap();
+        // Its log is lost, and it has acted.
+        fs::remove_file(directory.log(4)).unwrap();
+        assert!(matches!(directory.begin_joining(), Err(DirectoryFault::Lost(_))));
+        fs::remove_dir_all(path).unwrap();
     }
 
     #[test]

@@ -44,7 +44,7 @@ struct State {
     keys: HashMap<Vec<u8>, Key>,
     /// What some keys had when their last command was done. Others may have changed it.
     known: HashMap<Vec<u8>, Option<Vec<u8>>>,
-    numbers: Numbers,
+    numbers: Arc<Mutex<Numbers>>,
     /// Clients of the protocol with nothing under way.
     free: Vec<Client>,
     /// The greatest stamp that was told here.
@@ -105,7 +105,7 @@ struct Launch {
 }
 
 impl Keys {
-    pub fn start(events: SyncSender<Event>, numbers: Numbers) -> io::Result<Arc<Keys>> {
+    pub fn start(events: SyncSender<Event>, numbers: Arc<Mutex<Numbers>>) -> io::Result<Arc<Keys>> {
         let (overflow, waiting) = channel();
         let later = events.clone();
         let hand_on = move || _ = waiting.into_iter().try_for_each(|event| later.send(event));
@@ -172,7 +172,7 @@ impl Keys {
     fn take(self: &Arc<Keys>, key: Vec<u8>, flight: u64, client: Client, told: Told) {
         let mut state = self.state();
         state.free.push(client);
-        if let Told::Done { stamp, .. } = &told {
+        if let Told::Done { stamp, .. } | Told::DoneUnseen { stamp } = &told {
             state.seen = state.seen.max(*stamp);
         }
         let launch = state.take(key, flight, told);
@@ -234,7 +234,8 @@ impl State {
                 return Ok(Client { requests, ..client });
             }
         }
-        Ok(Client { number: self.numbers.give()?, requests: 1 })
+        let number = self.numbers.lock().unwrap_or_else(PoisonError::into_inner).give()?;
+        Ok(Client { number, requests: 1 })
     }
 
     fn take(&mut self, key: Vec<u8>, number: u64, told: Told) -> Option<Launch> {
@@ -249,8 +250,12 @@ impl State {
                     if flight.lost < MOST_LOST { self.propose_again(key) } else { self.fail(key, CommandFault::Lost) }
                 }
             },
+            Told::DoneUnseen { .. } | Told::Doubtful if flight.step == Step::Read => self.propose_again(key),
+            Told::DoneUnseen { .. } if flight.step == Step::Write => self.done_unseen(key),
+            Told::DoneUnseen { .. } | Told::Doubtful => self.fail(key, CommandFault::Doubtful),
             Told::Refused(fault) => self.fail(key, CommandFault::Node(fault)),
             Told::Alone => self.fail(key, CommandFault::NoMajority),
+            Told::Late => self.fail(key, CommandFault::Waiting),
             _ => self.fail(key, CommandFault::StoreEnds),
         }
     }
@@ -286,6 +291,21 @@ impl State {
             asked.answer(reply);
         }
         self.know(&key, if is_written { after.map(Stored::into_bytes) } else { before });
+        self.next(key)
+    }
+
+    /// What was written whatever was there was done, and nobody knows what was there.
+    fn done_unseen(&mut self, key: Vec<u8>) -> Option<Launch> {
+        let flight = self.keys.get_mut(&key)?.flight.as_mut()?;
+        let first = flight.asked.iter().position(|asked| asked.action.is_blind())?;
+        let (_, replies) = fold(&flight.asked[first..], None, flight.now);
+        let mut asked = std::mem::take(&mut flight.asked);
+        for (place, (asked, reply)) in asked.split_off(first).into_iter().zip(replies).enumerate() {
+            let is_known = place > 0 || asked.action.is_told_blindly();
+            asked.answer(if is_known { reply } else { Reply::Error(CommandFault::Unseen) });
+        }
+        asked.into_iter().for_each(|asked| asked.answer(Reply::Error(CommandFault::Unseen)));
+        self.known.remove(&key);
         self.next(key)
     }
 
@@ -403,7 +423,7 @@ mod tests {
             let folder = std::env::temp_dir().join(format!("store-keys-{}-{place}", std::process::id()));
             std::fs::create_dir_all(&folder).unwrap();
             let (sender, events) = sync_channel(64);
-            let keys = Keys::start(sender, Numbers::new(&folder, 0)).unwrap();
+            let keys = Keys::start(sender, Arc::new(Mutex::new(Numbers::new(&folder, 0)))).unwrap();
             let (messages, told) = channel();
             Store { keys, events: Mutex::new(events), folder, messages, told: Mutex::new(told) }
         }
@@ -578,11 +598,50 @@ mod tests {
     }
 
     #[test]
+    fn replies_that_nobody_knows() {
+        let store = Store::new();
+        for (number, action) in [(0, Action::Get), (1, set("1")), (2, Action::Add(1))] {
+            store.ask(number, "x", action);
+        }
+        // What is read is read again.
+        store.proposed().4.send(Told::DoneUnseen { stamp: 5 });
+        let (_, _, seen, command, teller) = store.proposed();
+        assert_eq!((seen, command), (5, Command::Put { key: b"x".to_vec(), value: b"2".to_vec() }));
+        teller.send(Told::DoneUnseen { stamp: 6 });
+        let unseen = Reply::Error(CommandFault::Unseen);
+        assert_eq!(store.told(), [(1, Reply::Simple("OK")), (2, Reply::Integer(2)), (0, unseen.clone())]);
+        for (number, action) in [(3, Action::Delete), (4, Action::Get)] {
+            store.ask(number, "x", action);
+        }
+        store.proposed().4.send(Told::DoneUnseen { stamp: 7 });
+        assert_eq!(store.told(), [(3, unseen)]);
+        store.proposed().4.send(Told::Doubtful);
+        store.proposed().4.send(done(8, protocol::Reply::Absent));
+        assert_eq!(store.told(), [(4, Reply::Nil)]);
+        // Whether a comparison found what it expected nobody knows.
+        for told in [Told::DoneUnseen { stamp: 9 }, Told::Doubtful] {
+            store.ask(5, "x", Action::Add(1));
+            let (.., command, teller) = store.proposed();
+            if command == get("x") {
+                teller.send(done(9, protocol::Reply::Absent));
+                store.proposed().4.send(told);
+            } else {
+                teller.send(told);
+            }
+            assert_eq!(store.told(), [(5, Reply::Error(CommandFault::Doubtful))]);
+        }
+        store.ask(6, "y", set("1"));
+        store.proposed().4.send(Told::Doubtful);
+        assert_eq!(store.told(), [(6, Reply::Error(CommandFault::Doubtful))]);
+    }
+
+    #[test]
     fn refusals_are_told_to_all() {
         let store = Store::new();
         let refused = [
             (Some(Told::Refused(Fault::MEMORY)), CommandFault::Node(Fault::MEMORY)),
             (Some(Told::Alone), CommandFault::NoMajority),
+            (Some(Told::Late), CommandFault::Waiting),
             (Some(Told::Ended), CommandFault::StoreEnds),
             // (the driver drops it)
             (None, CommandFault::StoreEnds),

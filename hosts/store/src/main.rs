@@ -1,31 +1,31 @@
 //! One replica of the store.
-use std::collections::HashMap;
 use std::ffi::OsString;
 use std::fmt;
 use std::io::{self, Write};
 use std::net::TcpListener;
 use std::path::PathBuf;
 use std::process::ExitCode;
-use std::sync::Arc;
 use std::sync::atomic::{AtomicU64, AtomicUsize};
 use std::sync::mpsc::{SyncSender, sync_channel};
+use std::sync::{Arc, Mutex};
 use std::thread;
-use std::time::Instant;
+use std::time::{Duration, Instant};
 use store::clients::{self, Shared};
-use store::commits::Commits;
 use store::directory::{Directory, DirectoryFault};
-use store::driver::{Driver, Event, Stop};
+use store::driver::{Driver, Event, Parts, Stop};
 use store::identities::Identities;
+use store::joining::Joining;
 use store::keys::Keys;
 use store::listing::Listing;
 use store::node::{Begin, Core, Node, NodeFault, Settings};
 use store::numbers::Numbers;
-use store::options::{HELP, Options, Plant, Words, read};
-use store::peers::{self, Peers, Place, Receiving};
+use store::options::{self, Options, Plant, Words, help, read};
+use store::peers::{self, Membership, Peers, Place, Receiving};
 use store::protocol::{Answer, Request, State};
 use store::random::Random;
 use store::receipts::Receipts;
 use store::say::{name, say};
+use store::sealed::{Key, KeyFault};
 use store::timers::Timers;
 
 /// How many events may wait for the driver.
@@ -35,7 +35,7 @@ fn main() -> ExitCode {
     let options = match words().and_then(read) {
         Ok(Words::Help) => {
             // Where standard output is closed nobody is there to be told.
-            let _ = std::io::stdout().write_all(HELP.as_bytes());
+            let _ = std::io::stdout().write_all(help().as_bytes());
             return ExitCode::SUCCESS;
         }
         Ok(Words::Run(options)) => options,
@@ -45,15 +45,21 @@ fn main() -> ExitCode {
         }
     };
     name(options.replica);
-    // There is no handler of signals: whatever ends this process closes the node's input, and so the node ends too,
-    // with all that it has taken on the disk.
+    // Where it is killed the node's input closes, and so the node ends too, with all that it has taken on the disk.
     let fault = match start(options) {
         Ok(driver) => Fault::Stop(driver.run()),
         Err(fault) => fault,
     };
     say(&fault.to_string());
+    if let Fault::Stop(Stop::Asked) = fault {
+        // What clients were told is on its way to them.
+        thread::sleep(LAST_REPLIES);
+    }
     ExitCode::from(fault.status())
 }
+
+/// How long the last replies may take on their way.
+const LAST_REPLIES: Duration = Duration::from_millis(100);
 
 /// Why the store ends.
 enum Fault {
@@ -61,6 +67,9 @@ enum Fault {
     Identities(String),
     Node(NodeFault),
     Stop(Stop),
+    Key(KeyFault),
+    /// Others could reach the peers' port at this address, and there is no key.
+    Unguarded(String),
     /// It can't listen at this address.
     Listen(String, io::Error),
     Receipts(PathBuf, io::Error),
@@ -75,10 +84,12 @@ const LASTING: u8 = 3;
 impl Fault {
     fn status(&self) -> u8 {
         let is_lasting = match self {
+            Fault::Stop(Stop::Asked) => return 0,
             Fault::Directory(fault) => fault.is_lasting(),
-            Fault::Identities(_) => true,
-            Fault::Node(fault) | Fault::Stop(Stop::Node(fault)) => fault.is_lasting(),
-            Fault::Stop(_) | Fault::Listen(..) | Fault::Receipts(..) | Fault::Thread(_) => false,
+            Fault::Identities(_) | Fault::Key(_) | Fault::Unguarded(_) => true,
+            Fault::Node(fault) => fault.is_lasting(),
+            Fault::Stop(stop) => stop.is_lasting(),
+            Fault::Listen(..) | Fault::Receipts(..) | Fault::Thread(_) => false,
         };
         if is_lasting { LASTING } else { PASSING }
     }
@@ -91,6 +102,12 @@ impl fmt::Display for Fault {
             Fault::Identities(what) => f.write_str(what),
             Fault::Node(fault) => fault.fmt(f),
             Fault::Stop(stop) => stop.fmt(f),
+            Fault::Key(fault) => fault.fmt(f),
+            Fault::Unguarded(address) => write!(
+                f,
+                "others could send to the peers' port at {address}: give all replicas one key by --peer-key, or say --insecure where the \
+                 network keeps strangers out"
+            ),
             Fault::Listen(address, error) => write!(f, "can't listen at {address}: {error}"),
             Fault::Receipts(path, error) => write!(f, "the receipts {} can't be used: {error}", path.display()),
             Fault::Thread(error) => write!(f, "a thread can't be started: {error}"),
@@ -107,60 +124,104 @@ fn words() -> Result<Vec<String>, String> {
 fn start(options: Options) -> Result<Driver<Node>, Fault> {
     let place = Place { replicas: options.peers.len(), replica: options.replica };
     let own = &options.peers[usize::from(place.replica)];
+    let key = options.peer_key.as_deref().map(Key::read).transpose().map_err(Fault::Key)?;
     let for_peers = bind(own)?;
+    if key.is_none() && !options.is_insecure && !is_local(&for_peers) {
+        return Err(Fault::Unguarded(own.clone()));
+    }
     let for_clients = bind(&options.listen)?;
     let directory = Directory::open(&options.directory).map_err(Fault::Directory)?;
     let is_forgetful = options.plant == Some(Plant::Forgetful);
-    if !is_forgetful {
+    let joins = options.start == options::Start::Join && directory.begin_joining().map_err(Fault::Directory)?;
+    if !is_forgetful && !joins {
         directory.check_files().map_err(Fault::Directory)?;
-        directory.check_begin(options.is_new).map_err(Fault::Directory)?;
+        directory.check_begin(options.start == options::Start::New).map_err(Fault::Directory)?;
     }
     directory.prepare().map_err(Fault::Directory)?;
-    let begin = if options.is_new { Begin::New } else { Begin::Again };
     let (sender, events) = sync_channel(WAITING_EVENTS);
-    let (node, state) = start_node(&options, place, &directory, &begin, &sender)?;
-    let receipts_path = directory.receipts(state.generation);
-    let receipts = Receipts::open(&receipts_path).map_err(|error| Fault::Receipts(receipts_path, error))?;
-    let numbers = Numbers::new(&options.directory, place.replica);
-    numbers.check(receipts.named.client).map_err(Fault::Identities)?;
-    if !is_forgetful {
-        let checked = directory.check_entries(state.generation, state.entries, receipts.named.entry);
-        checked.map_err(Fault::Directory)?;
+    let numbers = Arc::new(Mutex::new(Numbers::new(&options.directory, place.replica)));
+    let shared = Shared {
+        events: sender.clone(),
+        keys: Keys::start(sender.clone(), numbers.clone()).map_err(Fault::Thread)?,
+        listing: Listing::new(options.node.clone(), directory.generations()),
+        patience: options.patience,
+        connections: AtomicUsize::new(0),
+        served: AtomicU64::new(0),
+    };
+    // Who joins is connected first, and begins then; who is here begins, and is connected then: from now on a folder without a log
+    // has lost it.
+    let key = key.unwrap_or_else(Key::none);
+    let open = |sender: &SyncSender<Event>, for_peers: TcpListener| {
+        let identities = Identities::open(&options.directory, place.replicas, place.replica);
+        let membership = Membership { place, identities: identities.map_err(Fault::Identities)?, key };
+        let membership = Arc::new(membership);
+        let peers = Peers::start(&membership, &options.peers, sender).map_err(Fault::Thread)?;
+        let receiving = Arc::new(Receiving::new(membership.clone(), sender.clone()));
+        spawn("peers", move || peers::listen(for_peers, &receiving)).map_err(Fault::Thread)?;
+        Ok((membership, peers))
+    };
+    let serve = |for_clients: TcpListener, shared: Shared| {
+        let shared = Arc::new(shared);
+        spawn("clients", move || clients::listen(for_clients, shared)).map_err(Fault::Thread)
+    };
+    let (node, state, receipts, membership, peers);
+    if joins {
+        (membership, peers) = open(&sender, for_peers)?;
+        serve(for_clients, shared)?;
+        let joining = Joining { membership: &membership, directory: &directory, peers: &peers, events: &events };
+        let begin = joining.wait().map_err(Fault::Stop)?;
+        (node, state) = start_node(&options, place, &directory, &begin, &sender)?;
+        receipts = open_receipts(&directory, state.generation)?;
+        directory.end_joining().map_err(Fault::Directory)?;
+    } else {
+        let begin = if options.start == options::Start::New { Begin::New } else { Begin::Again };
+        (node, state) = start_node(&options, place, &directory, &begin, &sender)?;
+        receipts = open_receipts(&directory, state.generation)?;
+        Numbers::new(&options.directory, place.replica).check(receipts.named.client).map_err(Fault::Identities)?;
+        if !is_forgetful {
+            let checked = directory.check_entries(state.generation, state.entries, receipts.named.entry);
+            checked.map_err(Fault::Directory)?;
+        }
+        directory.end_joining().map_err(Fault::Directory)?;
+        (membership, peers) = open(&sender, for_peers)?;
+        serve(for_clients, shared)?;
     }
-    // The log is on the disk: from now on a folder without one has lost it.
-    let identities = Identities::open(&options.directory, place.replicas, place.replica).map_err(Fault::Identities)?;
-    let identities = Arc::new(identities);
-    let peers = Peers::start(place, &options.peers, &identities, &sender).map_err(Fault::Thread)?;
-    let receiving = Arc::new(Receiving::new(place, identities, sender.clone()));
-    spawn("peers", move || peers::listen(for_peers, &receiving)).map_err(Fault::Thread)?;
-    let connections = AtomicUsize::new(0);
-    let keys = Keys::start(sender.clone(), numbers).map_err(Fault::Thread)?;
-    let listing = Listing::new(options.node.clone(), directory.generations());
-    let (patience, served) = (options.patience, AtomicU64::new(0));
-    let shared = Arc::new(Shared { events: sender, keys, listing, patience, connections, served });
-    spawn("clients", move || clients::listen(for_clients, shared)).map_err(Fault::Thread)?;
-    let (replica, replicas) = (place.replica, place.replicas);
+    let given = numbers.lock().map_err(|_| "the numbers are lost".to_string()).and_then(|mut numbers| numbers.give());
+    let sealer = given.map_err(Fault::Identities)?;
+    let (replica, replicas, generation) = (place.replica, place.replicas, state.generation);
     let (listen, process) = (&options.listen, node.process());
-    say(&format!("replica {replica} of {replicas}, clients at {listen}, peers at {own}, node process {process}"));
-    Ok(Driver {
-        place,
+    say(&format!(
+        "replica {replica} of {replicas} in generation {generation}, clients at {listen}, peers at {own}, node process {process}"
+    ));
+    Ok(Driver::new(Parts {
         node,
+        state,
         peers,
-        used: state.used,
+        directory,
+        membership,
         receipts,
         timers: Timers::new(place.replica, Instant::now(), Random::new()),
         events,
-        commits: Commits::at_start(place.replica, place.replicas as u8),
         plant: options.plant,
-        held: Vec::new(),
-        alone_since: None,
-        waiting: HashMap::new(),
-        refused_frames: 0,
-    })
+        limits: options.limits,
+        kept: options.kept,
+        patience: options.patience,
+        sealer,
+    }))
+}
+
+fn open_receipts(directory: &Directory, generation: u32) -> Result<Receipts, Fault> {
+    let path = directory.receipts(generation);
+    Receipts::open(&path).map_err(|error| Fault::Receipts(path, error))
 }
 
 fn bind(address: &str) -> Result<TcpListener, Fault> {
     TcpListener::bind(address).map_err(|error| Fault::Listen(address.into(), error))
+}
+
+/// Whether only this machine can reach it.
+fn is_local(listener: &TcpListener) -> bool {
+    listener.local_addr().is_ok_and(|address| address.ip().is_loopback())
 }
 
 fn spawn(name: &str, work: impl FnOnce() + Send + 'static) -> io::Result<()> {

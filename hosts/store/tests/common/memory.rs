@@ -2,9 +2,9 @@
 use std::collections::HashMap;
 use std::net::TcpListener;
 use std::path::PathBuf;
-use std::sync::Arc;
 use std::sync::atomic::{AtomicU64, AtomicUsize, Ordering};
 use std::sync::mpsc::{Receiver, sync_channel};
+use std::sync::{Arc, Mutex};
 use std::thread;
 use std::time::Duration;
 use store::client::Client;
@@ -31,7 +31,7 @@ impl Memory {
         let listener = TcpListener::bind("127.0.0.1:0").unwrap();
         let port = listener.local_addr().unwrap().port();
         let (events, asked) = sync_channel(4_096);
-        let keys = Keys::start(events.clone(), Numbers::new(&folder, 0)).unwrap();
+        let keys = Keys::start(events.clone(), Arc::new(Mutex::new(Numbers::new(&folder, 0)))).unwrap();
         let listing = Listing::new(folder.join("contents"), folder.clone());
         let (connections, served) = (AtomicUsize::new(0), AtomicU64::new(0));
         let shared = Shared { events, keys, listing, patience: PATIENCE, connections, served };

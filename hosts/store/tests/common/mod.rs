@@ -13,6 +13,7 @@ use store::client::{Client, Reply};
 
 /// A node of generation 1 that has no entry on the disk, and tells so: the answers to the first requests, a sync and a state.
 pub const SYNCED: &str = "#!/bin/sh\nhead -c 10 >/dev/null; mkdir -p \"$7/1\"; printf 'EPLG\\003\\003\\000' > \"$7/1/log\"; \
+     { printf 'EPOP\\3\\3\\0\\0\\0\\1'; head -c 49 /dev/zero; } > \"$7/1/opening\"; \
      printf '\\0\\0\\0\\5\\6\\0\\0\\0\\0\\0\\0\\0\\26\\10\\0\\0\\0\\1'; head -c 17 /dev/zero\n";
 /// How long a test waits, and a store has a client wait: other work may leave them little of the processors.
 const PATIENCE: Duration = Duration::from_secs(120);
