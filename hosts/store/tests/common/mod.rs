@@ -66,13 +66,17 @@ impl Places {
         command
     }
 
+    /// Where a replica takes clients.
+    pub fn port(&self, replica: usize) -> u16 {
+        self.clients[replica].rsplit_once(':').unwrap().1.parse().unwrap()
+    }
+
     /// Starts a replica, and waits until it takes clients.
     pub fn start(&self, replica: usize, node: &Path) -> Store {
         let told = self.folder.join(format!("told-{replica}"));
         let errors = fs::File::create(&told).unwrap();
         let child = self.command(replica, node).stdin(Stdio::null()).stderr(errors).spawn().unwrap();
-        let port = self.clients[replica].rsplit_once(':').unwrap().1.parse().unwrap();
-        let store = Store { child, told, port };
+        let store = Store { child, told, port: self.port(replica) };
         wait("its start", || store.told().contains("node process"));
         store
     }
