@@ -7,7 +7,7 @@ use std::io::{self, Write};
 use std::net::TcpListener;
 use std::path::PathBuf;
 use std::process::ExitCode;
-use std::sync::atomic::AtomicUsize;
+use std::sync::atomic::{AtomicU64, AtomicUsize};
 use std::sync::mpsc::{SyncSender, sync_channel};
 use std::sync::{Arc, Mutex};
 use std::thread;
@@ -17,6 +17,8 @@ use store::directory::{Directory, DirectoryFault};
 use store::driver::{Driver, Event, Parts, Stop};
 use store::identities::Identities;
 use store::joining::Joining;
+use store::keys::Keys;
+use store::listing::Listing;
 use store::node::{Begin, Core, Node, NodeFault, Settings};
 use store::numbers::Numbers;
 use store::options::{self, Options, Plant, Words, help, read};
@@ -142,9 +144,11 @@ fn start(options: Options) -> Result<Driver<Node>, Fault> {
     let numbers = Arc::new(Mutex::new(Numbers::new(&options.directory, place.replica)));
     let shared = Shared {
         events: sender.clone(),
-        numbers: numbers.clone(),
+        keys: Keys::start(sender.clone(), numbers.clone()).map_err(Fault::Thread)?,
+        listing: Listing::new(options.node.clone(), directory.generations()),
         patience: options.patience,
         connections: AtomicUsize::new(0),
+        served: AtomicU64::new(0),
     };
     // Who joins is connected first, and begins then; who is here begins, and is connected then: from now on a folder without a log
     // has lost it.

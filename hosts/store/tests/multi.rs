@@ -21,13 +21,16 @@ fn nothing_of_a_transaction_is_done() {
         ("DISCARD", "OK"),
         ("PING", "PONG"),
         ("EXEC", "ERR EXEC without MULTI"),
-        // What stands behind a WATCH is done at once where there are transactions, too.
         ("WATCH x", "ERR WATCH isn't supported"),
-        ("PING", "PONG"),
-        ("MULTI", "ERR MULTI isn't supported"),
+        ("GET x", "ERR it wasn't done"),
+        ("MULTI", "ERR it wasn't done"),
         ("SET x 1", "ERR it wasn't done"),
         ("EXEC", "EXECABORT nothing was done"),
+        ("PING", "PONG"),
+        ("WATCH x", "ERR WATCH isn't supported"),
+        ("PING", "ERR it wasn't done"),
         ("UNWATCH", "OK"),
+        ("PING", "PONG"),
     ] {
         let told = match ask(&mut client, line) {
             Reply::Simple(text) | Reply::Error(text) => text,
