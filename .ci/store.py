@@ -15,7 +15,7 @@ STORE = f"{TOP}/hosts/store"
 # what `rt ci` built: the program of `node` and `collect`, and that of all else
 BUILT = (f"{TOP}/crates/ep_server/out/ep_server", f"{TOP}/crates/ep_main/out/ep_main")
 # the crates that it takes, as Debian's packages bring them; elsewhere they are crates.io's
-PACKAGES = ("librust-hmac-dev", "librust-sha2-dev", "librust-subtle-dev")
+PACKAGES = ("librust-hmac-dev", "librust-sha2-dev", "librust-signal-hook-dev", "librust-subtle-dev")
 REGISTRY = "/usr/share/cargo/registry"
 # clients that others have written, and Redis to compare with
 CLIENTS = ("redis-server", "redis-tools", "python3-redis")

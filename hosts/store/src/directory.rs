@@ -134,9 +134,22 @@ impl Directory {
         self.path.join("receipts").join(generation.to_string())
     }
 
-    /// An opening that a peer hands.
+    /// Where an opening that a peer hands comes together.
     pub fn taken(&self) -> PathBuf {
-        self.path.join("opening.taken")
+        self.path.join("opening.part")
+    }
+
+    /// An opening that has come whole: a start by it that was broken off is repeated.
+    pub fn whole(&self) -> PathBuf {
+        self.path.join("opening.take")
+    }
+
+    /// What came together is whole.
+    pub fn keep_taken(&self) -> io::Result<PathBuf> {
+        File::open(self.taken())?.sync_all()?;
+        fs::rename(self.taken(), self.whole())?;
+        File::open(&self.path)?.sync_all()?;
+        Ok(self.whole())
     }
 
     pub fn errors_path(&self) -> PathBuf {

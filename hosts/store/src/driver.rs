@@ -18,8 +18,8 @@ use std::collections::{HashMap, VecDeque};
 use std::fmt::Write;
 use std::io;
 use std::path::PathBuf;
-use std::sync::Arc;
 use std::sync::mpsc::{Receiver, RecvTimeoutError};
+use std::sync::{Arc, Mutex};
 use std::time::{Duration, Instant};
 
 /// At most so many events share one sync.
@@ -206,6 +206,8 @@ pub struct Held {
     pub seen: u64,
     pub command: Command,
     pub reply: Teller,
+    /// Whether another replica handed it to this one, which doesn't hand it on.
+    pub is_handed: bool,
 }
 
 /// A command that is under way.
@@ -258,6 +260,10 @@ pub struct Driver<C> {
     pub(crate) held: VecDeque<Held>,
     /// Since when no majority is known to be reached.
     pub(crate) alone_since: Option<Instant>,
+    /// The clients whose commands another replica proposes, with its number and since when, by client and request.
+    pub(crate) handed: HashMap<(u32, u32), (u8, Instant, Teller)>,
+    /// What is to be told to replicas that have handed commands to this one.
+    pub(crate) answers: Arc<Mutex<Vec<(u8, Message)>>>,
     /// The clients that wait, by client and request.
     pub(crate) waiting: HashMap<(u32, u32), Waiting>,
     pub(crate) generation: Generation,
@@ -302,6 +308,8 @@ impl<C: Core> Driver<C> {
             patience: parts.patience,
             held: VecDeque::new(),
             alone_since: None,
+            handed: HashMap::new(),
+            answers: Arc::default(),
             waiting: HashMap::new(),
             generation: Generation::new(state, Duration::ZERO, now),
             others,
@@ -342,6 +350,7 @@ impl<C: Core> Driver<C> {
         }
         self.carry_out(batch)?;
         self.close()?;
+        self.answer_peers();
         self.go_on()
     }
 
@@ -391,7 +400,15 @@ impl<C: Core> Driver<C> {
                 What::Manage(manage) => self.manage(manage, reply),
                 What::Propose { .. } if self.ends_at.is_some() => reply.send(Told::Late),
                 What::Propose { client, request, seen, command } => {
-                    self.held.push_back(Held { since: Instant::now(), client, request, seen, command, reply });
+                    self.held.push_back(Held {
+                        since: Instant::now(),
+                        client,
+                        request,
+                        seen,
+                        command,
+                        reply,
+                        is_handed: false,
+                    });
                 }
             },
         }
@@ -431,6 +448,7 @@ impl<C: Core> Driver<C> {
         if self.generation.is_holding(now) {
             return;
         }
+        self.hand_on(now);
         let mut count = 0;
         while self.generation.has_room(count) && self.waiting.len() + count < MOST_OPEN {
             let Some(Held { client, request, seen, command, reply, .. }) = self.held.pop_front() else {
@@ -497,11 +515,32 @@ impl<C: Core> Driver<C> {
         (0..self.place.replicas as u8).filter(move |replica| *replica != me)
     }
 
-    /// Whether a member of this replica's fast quorum can't be reached: all replicas but the one just below.
+    /// Whether a member of this replica's fast quorum can't be reached.
     fn is_hopeless(&self) -> bool {
-        let (replicas, me) = (self.place.replicas, usize::from(self.place.replica));
-        let below = ((me + replicas - 1) % replicas) as u8;
-        self.peer_numbers().any(|replica| replica != below && !self.is_reached(replica))
+        !self.is_whole(self.place.replica)
+    }
+
+    /// Whether all of a replica's fast quorum is reached, as far as this one knows: all replicas but the one just below.
+    fn is_whole(&self, replica: u8) -> bool {
+        let replicas = self.place.replicas as u8;
+        let below = (replica + replicas - 1) % replicas;
+        self.peer_numbers().all(|peer| peer == below || self.is_reached(peer))
+    }
+
+    /// Where a member of this replica's fast quorum is gone, commands are handed to a replica whose quorum is whole, if there is one: here
+    /// each would wait in vain, and then be given up. What was handed to this one isn't handed on.
+    fn hand_on(&mut self, now: Instant) {
+        let helper = self.peer_numbers().find(|peer| self.is_reached(*peer) && self.is_whole(*peer));
+        let Some(helper) = helper.filter(|_| self.is_hopeless()) else { return };
+        for held in std::mem::take(&mut self.held) {
+            if held.is_handed || self.handed.len() >= MOST_OPEN {
+                self.held.push_back(held);
+                continue;
+            }
+            let Held { client, request, seen, command, reply, .. } = held;
+            self.peers.send(helper, Message::Ask { client, request, seen, command }.write());
+            self.handed.insert((client, request), (helper, now, reply));
+        }
     }
 
     /// Whether so few peers are reached that nothing can be recovered.
@@ -647,7 +686,8 @@ impl<C: Core> Driver<C> {
                 // It waits for the next generation.
                 self.generation.used = INSTANCES;
                 if let Request::Propose { client, request, seen, command } = asked {
-                    self.held.push_front(Held { since: Instant::now(), client, request, seen, command, reply });
+                    let since = Instant::now();
+                    self.held.push_front(Held { since, client, request, seen, command, reply, is_handed: true });
                 }
             }
             (Purpose::Proposal { reply, .. }, Answer::Refused(fault, _)) => reply.send(Told::Refused(fault)),
@@ -698,7 +738,7 @@ impl<C: Core> Driver<C> {
         line("instances_total", &INSTANCES);
         line("dependencies", &self.generation.dependencies);
         line("log_bytes", &self.generation.log);
-        line("commands_waiting", &(self.waiting.len() + self.held.len()));
+        line("commands_waiting", &(self.waiting.len() + self.handed.len() + self.held.len()));
         line("instances_open", &self.timers.count());
         line("frames_refused", &self.refused_frames);
         line("frames_lost", &self.peers.lost());

@@ -1,5 +1,5 @@
 //! How a driver goes from generation to generation: seals, openings, and who takes part.
-use crate::driver::{Driver, Manage, Stop, Told, Waiting, Wish};
+use crate::driver::{Driver, Held, Manage, Stop, Told, Waiting, Wish};
 use crate::generation::{Generation, Stage};
 use crate::identities::digits;
 use crate::members::{Member, Members};
@@ -16,6 +16,7 @@ use crate::teller::Teller;
 use crate::timers::Timers;
 use std::collections::HashMap;
 use std::fmt::Write;
+use std::sync::Mutex;
 use std::time::{Duration, Instant};
 
 /// Between two words to peers, and two looks at the log's length.
@@ -95,6 +96,17 @@ impl<C: Core> Driver<C> {
                 }
             }
             Some(piece @ Message::Piece { .. }) => self.take_piece(from, piece)?,
+            Some(Message::Ask { client, request, seen, command }) => {
+                let answers = self.answers.clone();
+                let reply = Teller::new(move |told| answer(&answers, from, (client, request), told));
+                let since = Instant::now();
+                self.held.push_back(Held { since, client, request, seen, command, reply, is_handed: true });
+            }
+            Some(Message::Answer { client, request, stamp, reply }) => {
+                if let Some((_, _, teller)) = self.handed.remove(&(client, request)) {
+                    teller.send(reply.map_or(Told::Doubtful, |reply| Told::Done { stamp, reply }));
+                }
+            }
             None => self.refused_frames += 1,
         }
         Ok(())
@@ -128,12 +140,33 @@ impl<C: Core> Driver<C> {
             Step::Done(generation) => {
                 self.fetch = None;
                 if generation > self.generation.number {
-                    self.taken = Some(path);
+                    let whole = self.directory.keep_taken().map_err(|error| Stop::File(path, error))?;
+                    self.taken = Some(whole);
                 }
             }
             Step::Ignored => {}
         }
         Ok(())
+    }
+
+    /// Tells the replicas whose commands these were what became of them; and clients whose commands were handed to a replica that was lost
+    /// since that nobody knows.
+    pub(crate) fn answer_peers(&mut self) {
+        let answers = self.answers.lock().map(|mut answers| std::mem::take(&mut *answers)).unwrap_or_default();
+        for (to, answer) in answers {
+            self.peers.send(to, answer.write());
+        }
+        if self.handed.is_empty() {
+            return;
+        }
+        let now = Instant::now();
+        for (place, (to, since, reply)) in std::mem::take(&mut self.handed) {
+            if self.is_reached(to) && now < since + self.patience {
+                self.handed.insert(place, (to, since, reply));
+            } else {
+                reply.send(Told::Doubtful);
+            }
+        }
     }
 
     /// Where a seal is committed: executes what is known, until the seal was executed too.
@@ -150,7 +183,8 @@ impl<C: Core> Driver<C> {
     /// Goes on to a later generation, where that is due, or ends.
     pub(crate) fn go_on(&mut self) -> Result<(), Stop> {
         let now = Instant::now();
-        if self.ends_at.is_some_and(|at| self.waiting.is_empty() || now >= at) {
+        let is_idle = self.waiting.is_empty() && self.handed.is_empty();
+        if self.ends_at.is_some_and(|at| is_idle || now >= at) {
             return Err(Stop::Asked);
         }
         if let Stage::Sealed(since) = self.generation.stage {
@@ -203,6 +237,11 @@ impl<C: Core> Driver<C> {
         };
         if state.generation <= before {
             return Err(Stop::Node(NodeFault::BadAnswer(format!("it doesn't go on from generation {before}"))));
+        }
+        if let Begin::Take(path) = begin {
+            say(&format!("generation {} is taken from a peer", state.generation));
+            // (where it stays it is refused at the next start, and removed then)
+            let _ = std::fs::remove_file(path);
         }
         let opening = self.opening(state.generation)?;
         let path = self.directory.receipts(state.generation);
@@ -328,6 +367,18 @@ impl<C: Core> Driver<C> {
     pub(crate) fn end(&mut self) {
         self.ends_at.get_or_insert(Instant::now() + MOST_WAIT_FOR_END);
         self.held.drain(..).for_each(|held| held.reply.send(Told::Late));
+    }
+}
+
+/// Notes what a replica is to be told of a command that it has handed to this one. What wasn't done may be asked again.
+fn answer(answers: &Mutex<Vec<(u8, Message)>>, to: u8, (client, request): (u32, u32), told: Told) {
+    let (stamp, reply) = match told {
+        Told::Done { stamp, reply } => (stamp, Some(reply)),
+        Told::Alone | Told::Late | Told::Refused(_) => (0, Some(Reply::Lost)),
+        _ => (0, None),
+    };
+    if let Ok(mut answers) = answers.lock() {
+        answers.push((to, Message::Answer { client, request, stamp, reply }));
     }
 }
 

@@ -1,4 +1,6 @@
 //! One replica of the store.
+use signal_hook::consts::{SIGINT, SIGTERM};
+use signal_hook::iterator::Signals;
 use std::ffi::OsString;
 use std::fmt;
 use std::io::{self, Write};
@@ -150,6 +152,7 @@ fn start(options: Options) -> Result<Driver<Node>, Fault> {
     };
     // Who joins is connected first, and begins then; who is here begins, and is connected then: from now on a folder without a log
     // has lost it.
+    end_by_signals(sender.clone()).map_err(Fault::Thread)?;
     let key = key.unwrap_or_else(Key::none);
     let open = |sender: &SyncSender<Event>, for_peers: TcpListener| {
         let identities = Identities::open(&options.directory, place.replicas, place.replica);
@@ -174,8 +177,7 @@ fn start(options: Options) -> Result<Driver<Node>, Fault> {
         receipts = open_receipts(&directory, state.generation)?;
         directory.end_joining().map_err(Fault::Directory)?;
     } else {
-        let begin = if options.start == options::Start::New { Begin::New } else { Begin::Again };
-        (node, state) = start_node(&options, place, &directory, &begin, &sender)?;
+        (node, state) = start_again(&options, place, &directory, &sender)?;
         receipts = open_receipts(&directory, state.generation)?;
         Numbers::new(&options.directory, place.replica).check(receipts.named.client).map_err(Fault::Identities)?;
         if !is_forgetful {
@@ -219,6 +221,18 @@ fn bind(address: &str) -> Result<TcpListener, Fault> {
     TcpListener::bind(address).map_err(|error| Fault::Listen(address.into(), error))
 }
 
+/// SIGTERM and SIGINT have the store end once those who wait were told; a second one ends it at once.
+fn end_by_signals(events: SyncSender<Event>) -> io::Result<()> {
+    let mut signals = Signals::new([SIGTERM, SIGINT])?;
+    spawn("signals", move || {
+        for (count, _) in signals.forever().enumerate() {
+            if count > 0 || events.send(Event::End).is_err() {
+                std::process::exit(PASSING.into());
+            }
+        }
+    })
+}
+
 /// Whether only this machine can reach it.
 fn is_local(listener: &TcpListener) -> bool {
     listener.local_addr().is_ok_and(|address| address.ip().is_loopback())
@@ -226,6 +240,29 @@ fn is_local(listener: &TcpListener) -> bool {
 
 fn spawn(name: &str, work: impl FnOnce() + Send + 'static) -> io::Result<()> {
     thread::Builder::new().name(name.into()).spawn(work).map(|_| ())
+}
+
+/// Starts a node that isn't the first of its folder, or is by `--new`. Where it was ended while it took a peer's opening it takes that again.
+fn start_again(
+    options: &Options,
+    place: Place,
+    directory: &Directory,
+    events: &SyncSender<Event>,
+) -> Result<(Node, State), Fault> {
+    let whole = directory.whole();
+    if options.start != options::Start::New && whole.exists() {
+        let started = start_node(options, place, directory, &Begin::Take(whole.clone()), events);
+        // (one that is refused is of no use; any other fault may pass)
+        if !matches!(&started, Err(Fault::Node(fault)) if fault.is_lasting()) {
+            if started.is_ok() {
+                let _ = std::fs::remove_file(&whole);
+            }
+            return started;
+        }
+        let _ = std::fs::remove_file(&whole);
+    }
+    let begin = if options.start == options::Start::New { Begin::New } else { Begin::Again };
+    start_node(options, place, directory, &begin, events)
 }
 
 /// Starts the node, and waits until it has read its log: what it is then.

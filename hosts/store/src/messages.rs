@@ -1,5 +1,6 @@
 //! What hosts tell one another, on the connections of frames: how far each is, and openings, in pieces.
 use crate::bytes::Fields;
+use crate::protocol::{Command, Reply};
 
 /// A frame begins with other bytes.
 const MAGIC: &[u8] = b"ES";
@@ -18,6 +19,10 @@ pub enum Message {
     },
     /// It wants what is behind this place of the opening of this generation, or of the newest one, by 0.
     Want { generation: u32, offset: u64 },
+    /// A client's command, which the receiver is to propose: the sender's own proposals would wait for a replica that is gone.
+    Ask { client: u32, request: u32, seen: u64, command: Command },
+    /// What became of such a command: its stamp and its reply. Without a reply nobody knows.
+    Answer { client: u32, request: u32, stamp: u64, reply: Option<Reply> },
     /// A piece of an opening, which has so many bytes in all.
     Piece { generation: u32, total: u64, offset: u64, bytes: Vec<u8> },
 }
@@ -41,6 +46,21 @@ impl Message {
                 out.push(2);
                 out.extend(generation.to_be_bytes());
                 out.extend(offset.to_be_bytes());
+            }
+            Message::Ask { client, request, seen, command } => {
+                out.push(4);
+                out.extend(client.to_be_bytes());
+                out.extend(request.to_be_bytes());
+                out.extend(seen.to_be_bytes());
+                command.write(&mut out);
+            }
+            Message::Answer { client, request, stamp, reply } => {
+                out.push(5);
+                out.extend(client.to_be_bytes());
+                out.extend(request.to_be_bytes());
+                out.extend(stamp.to_be_bytes());
+                out.push(u8::from(reply.is_some()));
+                reply.iter().for_each(|reply| reply.write(&mut out));
             }
             Message::Piece { generation, total, offset, bytes } => {
                 out.push(3);
@@ -67,6 +87,18 @@ impl Message {
                 let length = fields.left();
                 Message::Piece { generation, total, offset, bytes: fields.run(length)?.to_vec() }
             }
+            4 => Message::Ask {
+                client: fields.u32()?,
+                request: fields.u32()?,
+                seen: fields.u64()?,
+                command: Command::read(&mut fields)?,
+            },
+            5 => Message::Answer {
+                client: fields.u32()?,
+                request: fields.u32()?,
+                stamp: fields.u64()?,
+                reply: if flag(fields.u8()?)? { Some(Reply::read(&mut fields)?) } else { None },
+            },
             _ => return None,
         };
         (fields.left() == 0).then_some(message)
@@ -103,8 +135,20 @@ mod tests {
                 assert_eq!(Message::read(&bytes[..cut]), None);
             }
         }
+        let command = Command::Del { key: b"k".to_vec() };
+        let ask = Message::Ask { client: 1, request: 2, seen: 3, command };
+        let spelled_ask = [b'E', b'S', 4, 0, 0, 0, 1, 0, 0, 0, 2, 0, 0, 0, 0, 0, 0, 0, 3, 4, 1, 0, 0, 0, 0, 0, b'k'];
+        let answer = |reply| Message::Answer { client: 1, request: 2, stamp: 3, reply };
+        let told = answer(Some(Reply::Present(vec![7])));
+        let spelled_told = [b'E', b'S', 5, 0, 0, 0, 1, 0, 0, 0, 2, 0, 0, 0, 0, 0, 0, 0, 3, 1, 1, 0, 0, 0, 1, 7];
+        assert_eq!((ask.write(), told.write()), (spelled_ask.to_vec(), spelled_told.to_vec()));
+        for message in [ask, told, answer(None)] {
+            let bytes = message.write();
+            assert_eq!(Message::read(&bytes[..bytes.len() - 1]), None);
+            assert_eq!(Message::read(&bytes), Some(message));
+        }
         assert_eq!(Message::read(&[&spelled[..], &[0]].concat()), None);
-        assert_eq!(Message::read(b"ES\x04"), None);
+        assert_eq!(Message::read(b"ES\x06"), None);
         assert!(!Message::is_one(b"EP\x03"));
     }
 }

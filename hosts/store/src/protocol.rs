@@ -78,7 +78,7 @@ pub enum Command {
 }
 
 impl Command {
-    fn write(&self, out: &mut Vec<u8>) {
+    pub fn write(&self, out: &mut Vec<u8>) {
         let none: &[u8] = &[];
         let (op, first, second, body): (u8, &[u8], &[u8], Cow<[u8]>) = match self {
             Command::Get { key } => (2, key, none, none.into()),
@@ -96,6 +96,29 @@ impl Command {
         out.extend(first);
         out.extend(second);
         out.extend(&*body);
+    }
+
+    /// Reads one. None where the bytes spell none.
+    pub fn read(fields: &mut Fields) -> Option<Command> {
+        let (op, first, second, body) = (fields.u8()?, fields.u8()?, fields.u8()?, fields.u32()?);
+        let key = fields.run(first.into())?.to_vec();
+        let second = (second > 0).then(|| fields.run(second.into()).map(<[u8]>::to_vec));
+        let second = second.map_or(Some(None), |second| second.map(Some))?;
+        let body = fields.run(body as usize)?.to_vec();
+        Some(match op {
+            2 => Command::Get { key },
+            3 => Command::Put { key, value: body },
+            4 => Command::Del { key },
+            5 => Command::Swap { first: key, second: second? },
+            6 => {
+                let mut parts = Fields::new(&body);
+                let (expected, new) = (read_part(&mut parts)?, read_part(&mut parts)?);
+                (parts.left() == 0).then_some(Command::Cas { key, expected, new })?
+            }
+            7 | 8 => Command::Opaque { is_reading: op == 7, first: key, second, body },
+            SEAL => Command::Seal { value: body },
+            _ => return None,
+        })
     }
 
     pub fn is_seal(&self) -> bool {
@@ -120,6 +143,13 @@ fn parts(expected: &Option<Vec<u8>>, new: &Option<Vec<u8>>) -> Vec<u8> {
         }
     }
     out
+}
+
+fn read_part(fields: &mut Fields) -> Option<Option<Vec<u8>>> {
+    read_option(fields, |fields| {
+        let length = fields.u32()? as usize;
+        Some(fields.run(length)?.to_vec())
+    })
 }
 
 /// What the node is asked.
@@ -201,6 +231,36 @@ pub enum Reply {
 }
 
 impl Reply {
+    /// Reads one, in the grammar of bundles. None where the bytes spell none.
+    pub fn read(fields: &mut Fields) -> Option<Reply> {
+        match fields.u8()? {
+            0 => Some(Reply::Absent),
+            1 => {
+                let length = fields.u32()? as usize;
+                Some(Reply::Present(fields.run(length)?.to_vec()))
+            }
+            2 => Some(Reply::Lost),
+            3 => Some(Reply::Closed),
+            4 => Some(Reply::Ordered),
+            _ => None,
+        }
+    }
+
+    /// Appends the reply's bytes.
+    pub fn write(&self, out: &mut Vec<u8>) {
+        match self {
+            Reply::Absent => out.push(0),
+            Reply::Present(value) => {
+                out.push(1);
+                out.extend((value.len() as u32).to_be_bytes());
+                out.extend(value);
+            }
+            Reply::Lost => out.push(2),
+            Reply::Closed => out.push(3),
+            Reply::Ordered => out.push(4),
+        }
+    }
+
     /// Whether the command was done.
     pub fn is_done(&self) -> bool {
         !matches!(self, Reply::Lost | Reply::Closed)
@@ -231,7 +291,7 @@ impl Receipt {
             replica: fields.u8()?,
             entry: fields.u32()?,
             stamp: fields.u64()?,
-            reply: read_reply(fields)?,
+            reply: Reply::read(fields)?,
         })
     }
 
@@ -244,31 +304,7 @@ impl Receipt {
         out.push(self.replica);
         out.extend(self.entry.to_be_bytes());
         out.extend(self.stamp.to_be_bytes());
-        match &self.reply {
-            Reply::Absent => out.push(0),
-            Reply::Present(value) => {
-                out.push(1);
-                out.extend((value.len() as u32).to_be_bytes());
-                out.extend(value);
-            }
-            Reply::Lost => out.push(2),
-            Reply::Closed => out.push(3),
-            Reply::Ordered => out.push(4),
-        }
-    }
-}
-
-fn read_reply(fields: &mut Fields) -> Option<Reply> {
-    match fields.u8()? {
-        0 => Some(Reply::Absent),
-        1 => {
-            let length = fields.u32()? as usize;
-            Some(Reply::Present(fields.run(length)?.to_vec()))
-        }
-        2 => Some(Reply::Lost),
-        3 => Some(Reply::Closed),
-        4 => Some(Reply::Ordered),
-        _ => None,
+        self.reply.write(out);
     }
 }
 
@@ -514,6 +550,20 @@ mod tests {
         assert_eq!(act(true, None), [7, 1, 0, 0, 0, 0, 1, b'c', 9]);
         assert_eq!(act(false, Some(b"d")), [8, 1, 1, 0, 0, 0, 1, b'c', b'd', 9]);
         assert_eq!(of(Command::Seal { value: b"me".to_vec() }), [9, 0, 0, 0, 0, 0, 2, b'm', b'e']);
+        for spelled in [
+            &[2, 1, 0, 0, 0, 0, 0, b'c'][..],
+            &[3, 1, 0, 0, 0, 0, 1, b'c', 9],
+            &[4, 1, 0, 0, 0, 0, 0, b'c'],
+            &[5, 1, 1, 0, 0, 0, 0, b'c', b'd'],
+            &[6, 1, 0, 0, 0, 0, 7, b'c', 0, 1, 0, 0, 0, 1, b'v'],
+            &[7, 1, 0, 0, 0, 0, 1, b'c', 9],
+            &[8, 1, 1, 0, 0, 0, 1, b'c', b'd', 9],
+            &[9, 0, 0, 0, 0, 0, 1, 9],
+        ] {
+            assert_eq!(of(Command::read(&mut Fields::new(spelled)).unwrap()), spelled);
+            assert_eq!(Command::read(&mut Fields::new(&spelled[..spelled.len() - 1])), None);
+        }
+        assert_eq!(Command::read(&mut Fields::new(&[6, 1, 0, 0, 0, 0, 3, b'c', 0, 0, 0])), None);
     }
 
     fn receipt(reply: Reply) -> Receipt {
