@@ -226,8 +226,8 @@ fn generations_end_by_themselves_and_each_command_is_done_once() {
     for number in 0..45 {
         ask(&sender, &told, number, put(number));
         driver.turn().unwrap();
-        // (changes may take a tenth of the time)
-        std::thread::sleep(Duration::from_millis(3));
+        // (changes may take a tenth of the time, and here they may take all of it)
+        driver.generation.least = Instant::now();
         while let Ok((request, answer)) = answers.try_recv() {
             match answer {
                 // It wasn't done: the client asks again, as a new request.

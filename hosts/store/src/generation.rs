@@ -47,7 +47,7 @@ pub struct Generation {
     /// Whether its end was asked for.
     pub is_asked: bool,
     /// When it may be sealed first, but where it is urgent.
-    least: Instant,
+    pub(crate) least: Instant,
 }
 
 impl Generation {

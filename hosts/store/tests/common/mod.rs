@@ -59,7 +59,7 @@ impl Places {
         command.args(["--replica", &replica.to_string(), "--peers", &self.peers.join(",")]);
         command.args(["--listen", &self.clients[replica], "--patience", STORE_PATIENCE]);
         let directory = self.folder.join(replica.to_string());
-        if !directory.join("generations/1").exists() {
+        if !directory.join("generations").exists() {
             command.arg("--new");
         }
         command.arg("--dir").arg(directory).arg("--node").arg(node);
@@ -73,12 +73,27 @@ impl Places {
 
     /// Starts a replica, and waits until it takes clients.
     pub fn start(&self, replica: usize, node: &Path) -> Store {
-        let told = self.folder.join(format!("told-{replica}"));
-        let errors = fs::File::create(&told).unwrap();
-        let child = self.command(replica, node).stdin(Stdio::null()).stderr(errors).spawn().unwrap();
-        let store = Store { child, told, port: self.port(replica) };
+        self.start_with(replica, node, &[])
+    }
+
+    /// The same, with more words.
+    pub fn start_with(&self, replica: usize, node: &Path, words: &[&str]) -> Store {
+        let store = self.launch(self.command(replica, node).args(words), replica);
         wait("its start", || store.told().contains("node process"));
         store
+    }
+
+    /// Starts a replica by these words, and doesn't wait.
+    pub fn launch(&self, command: &mut Command, replica: usize) -> Store {
+        let told = self.folder.join(format!("told-{replica}"));
+        let errors = fs::File::create(&told).unwrap();
+        let child = command.stdin(Stdio::null()).stderr(errors).spawn().unwrap();
+        Store { child, told, port: self.port(replica) }
+    }
+
+    /// The folder of a replica.
+    pub fn directory(&self, replica: usize) -> PathBuf {
+        self.folder.join(replica.to_string())
     }
 }
 
@@ -96,6 +111,18 @@ pub struct Store {
 }
 
 impl Store {
+    /// Has it end by a signal, and waits: its status.
+    pub fn end(&mut self, signal: &str) -> Option<i32> {
+        let process = self.child.id().to_string();
+        assert!(Command::new("kill").args(["-s", signal, &process]).status().unwrap().success());
+        self.child.wait().unwrap().code()
+    }
+
+    /// Its status, once it has ended by itself.
+    pub fn status(&mut self) -> Option<i32> {
+        self.child.wait().unwrap().code()
+    }
+
     /// What it has told on standard error.
     pub fn told(&self) -> String {
         fs::read_to_string(&self.told).unwrap()
