@@ -6,23 +6,24 @@ use crate::commands::{self, Asked, Hello, understand};
 use crate::driver::{Ask, Event, Told, What};
 use crate::keys::Keys;
 use crate::listing::Listing;
+use crate::memory::{Memory, Share};
+use crate::metrics::Metrics;
+use crate::password::Password;
+use crate::places::{self, Places};
 use crate::replies::{Combine, Message, Over, Part, Place, Replies, Slot, Window};
 use crate::resp::{Input, Reply, Version, read_command};
 use crate::say::say;
 use crate::stored::{self, Stored};
 use crate::teller::Teller;
 use crate::transactions::Transaction;
-use std::collections::VecDeque;
 use std::io::{self, BufWriter, Read, Write};
 use std::net::{Shutdown, TcpListener, TcpStream};
 use std::sync::Arc;
-use std::sync::atomic::{AtomicU64, AtomicUsize, Ordering};
+use std::sync::atomic::{AtomicU64, Ordering};
 use std::sync::mpsc::{Receiver, Sender, SyncSender, channel};
 use std::thread;
 use std::time::{Duration, Instant};
 
-/// With what peers and files take that is below 1,024, which is how many handles a process mostly may have.
-const MOST_CONNECTIONS: usize = 900;
 /// For a client that doesn't take its replies.
 const WRITE_PATIENCE: Duration = Duration::from_secs(30);
 /// A client that asks nothing for so long is gone, or connects again.
@@ -30,6 +31,14 @@ const SILENCE: Duration = Duration::from_secs(3_600);
 const STACK: usize = 256 << 10;
 /// So much is read at once.
 const CHUNK: usize = 16 << 10;
+/// And so much may come in all before the password.
+const MOST_UNKNOWN: usize = 16 << 10;
+/// How long who said a wrong password waits.
+const WRONG: Duration = Duration::from_millis(200);
+/// After so long INFO is answered without the driver.
+const INFO_PATIENCE: Duration = Duration::from_secs(1);
+/// What a command takes beside its words.
+const OVERHEAD: usize = 256;
 
 /// What all connections share.
 pub struct Shared {
@@ -37,7 +46,10 @@ pub struct Shared {
     pub keys: Arc<Keys>,
     pub listing: Listing,
     pub patience: Duration,
-    pub connections: AtomicUsize,
+    pub password: Option<Password>,
+    pub memory: Arc<Memory>,
+    pub metrics: Arc<Metrics>,
+    pub places: Arc<Places>,
     /// How many connections there have been.
     pub served: AtomicU64,
 }
@@ -49,25 +61,28 @@ pub fn listen(listener: TcpListener, shared: Arc<Shared>) {
             thread::sleep(Duration::from_millis(20));
             continue;
         };
-        if shared.connections.fetch_add(1, Ordering::Relaxed) >= MOST_CONNECTIONS {
-            let _ = (&stream).write_all(b"-ERR max number of clients reached\r\n");
-            shared.connections.fetch_sub(1, Ordering::Relaxed);
+        let stream = Arc::new(stream);
+        let id = shared.served.fetch_add(1, Ordering::Relaxed) + 1;
+        let Some(place) = shared.places.take(id, &stream) else {
+            // (who doesn't take it at once isn't waited for)
+            let _ = stream.set_nonblocking(true);
+            let _ = (&*stream).write_all(b"-ERR max number of clients reached\r\n");
             continue;
-        }
+        };
         let served = shared.clone();
         let started = thread::Builder::new().name("client".into()).stack_size(STACK).spawn(move || {
-            let _ = serve(&served, &Arc::new(stream));
-            served.connections.fetch_sub(1, Ordering::Relaxed);
+            served.metrics.clients.set(served.places.count() as u64);
+            let _ = serve(&served, &stream, id, place);
+            served.metrics.clients.set(served.places.count() as u64);
         });
         if let Err(error) = started {
-            shared.connections.fetch_sub(1, Ordering::Relaxed);
             say(&format!("no thread for a client: {error}"));
         }
     }
 }
 
 /// Serves a connection until its client ends it, and all that it has asked is answered.
-fn serve(shared: &Arc<Shared>, stream: &Arc<TcpStream>) -> io::Result<()> {
+fn serve(shared: &Arc<Shared>, stream: &Arc<TcpStream>, id: u64, place: places::Place) -> io::Result<()> {
     stream.set_nodelay(true)?;
     stream.set_write_timeout(Some(WRITE_PATIENCE))?;
     stream.set_read_timeout(Some(SILENCE))?;
@@ -75,11 +90,11 @@ fn serve(shared: &Arc<Shared>, stream: &Arc<TcpStream>) -> io::Result<()> {
     let (messages, received) = channel();
     let window = Arc::<Window>::default();
     let writing = {
-        let (stream, keys, window) = (stream.clone(), shared.keys.clone(), window.clone());
-        let write = move || write_replies(&stream, received, keys, &window);
+        let (stream, shared, window) = (stream.clone(), shared.clone(), window.clone());
+        let write = move || write_replies(&stream, received, &shared, &window);
         thread::Builder::new().name("replies".into()).stack_size(STACK).spawn(write)?
     };
-    let mut session = Session::new(shared.clone(), address, messages, window);
+    let mut session = Session::new(shared.clone(), (id, address), place, messages, window);
     let read = session.read(stream);
     let _ = session.messages.send(Message::Over);
     let _ = writing.join();
@@ -87,11 +102,9 @@ fn serve(shared: &Arc<Shared>, stream: &Arc<TcpStream>) -> io::Result<()> {
 }
 
 /// Writes a connection's replies, to the last one or until they can't be written.
-fn write_replies(stream: &TcpStream, messages: Receiver<Message>, keys: Arc<Keys>, window: &Arc<Window>) {
-    let writer = BufWriter::new(stream);
-    let mut replies =
-        Replies { writer, messages, keys, window: window.clone(), slots: VecDeque::new(), first: 0, is_over: false };
-    let _ = replies.write_all();
+fn write_replies(stream: &TcpStream, messages: Receiver<Message>, shared: &Shared, window: &Arc<Window>) {
+    let (keys, metrics) = (shared.keys.clone(), shared.metrics.clone());
+    let _ = Replies::new(BufWriter::new(stream), messages, keys, metrics, window.clone()).write_all();
     // The other thread may wait for more commands, or for room.
     window.end();
     let _ = stream.shutdown(Shutdown::Both);
@@ -108,6 +121,9 @@ struct Session {
     commands: u64,
     version: Version,
     name: Option<Vec<u8>>,
+    /// Whether the password was said, where there is one.
+    is_known: bool,
+    place: places::Place,
     is_read_only: bool,
     /// Whether something that isn't a local read may be under way.
     is_writing: bool,
@@ -121,12 +137,19 @@ enum Next {
 }
 
 impl Session {
-    fn new(shared: Arc<Shared>, address: String, messages: Sender<Message>, window: Arc<Window>) -> Session {
-        let id = shared.served.fetch_add(1, Ordering::Relaxed) + 1;
+    fn new(
+        shared: Arc<Shared>,
+        (id, address): (u64, String),
+        place: places::Place,
+        messages: Sender<Message>,
+        window: Arc<Window>,
+    ) -> Session {
         Session {
+            is_known: shared.password.is_none(),
             shared,
             id,
             address,
+            place,
             messages,
             window,
             commands: 0,
@@ -142,11 +165,15 @@ impl Session {
     fn read(&mut self, mut stream: &TcpStream) -> io::Result<()> {
         let (mut bytes, mut start) = (Vec::new(), 0);
         let mut chunk = vec![0; CHUNK];
+        let Some(mut share) = self.shared.memory.share(CHUNK) else {
+            let _ = self.fail(CommandFault::NoMemory);
+            return Ok(());
+        };
         loop {
             match read_command(&bytes[start..]) {
                 Input::Command(words, length) => {
                     start += length;
-                    if !words.is_empty() && !matches!(self.take(words), Ok(Next::GoesOn)) {
+                    if !words.is_empty() && !matches!(self.take(words, length), Ok(Next::GoesOn)) {
                         return Ok(());
                     }
                 }
@@ -154,10 +181,16 @@ impl Session {
                     bytes.drain(..start);
                     start = 0;
                     bytes.shrink_to(CHUNK);
+                    let is_too_much = !self.is_known && bytes.len() >= MOST_UNKNOWN;
+                    if is_too_much || !share.resize(bytes.len() + CHUNK) {
+                        let _ = self.fail(CommandFault::NoMemory);
+                        return Ok(());
+                    }
                     match stream.read(&mut chunk)? {
                         0 => return Ok(()),
                         length => bytes.extend(&chunk[..length]),
                     }
+                    self.place.hear();
                 }
                 Input::Fault(what) => {
                     let _ = self.fail(CommandFault::Malformed(what));
@@ -167,16 +200,29 @@ impl Session {
         }
     }
 
-    fn take(&mut self, words: Vec<Vec<u8>>) -> Result<Next, Over> {
-        let asked = self.transaction.judge(understand(words)).unwrap_or_else(Asked::Answered);
+    /// Takes a command, of so many bytes.
+    fn take(&mut self, words: Vec<Vec<u8>>, bytes: usize) -> Result<Next, Over> {
+        let asked = self.transaction.judge(self.permitted(understand(words))).unwrap_or_else(Asked::Answered);
         match asked {
             Asked::Keys(combine, actions) => {
+                let Some(share) = self.shared.memory.share(bytes + OVERHEAD * actions.len()) else {
+                    self.fail(CommandFault::NoMemory)?;
+                    return Ok(Next::GoesOn);
+                };
                 let is_local = self.is_read_only && actions.iter().all(|(_, action)| action.only_reads());
-                if is_local { self.read_here(combine, actions)? } else { self.ask(combine, actions)? }
+                if is_local { self.read_here(combine, actions, share)? } else { self.ask(combine, actions, share)? }
+            }
+            Asked::Ping(text) => {
+                let takes_part = self.shared.metrics.takes_part.get() == 1;
+                let pong = text.map_or(Reply::Simple("PONG"), Reply::Bulk);
+                self.answer(if takes_part { pong } else { Reply::Error(CommandFault::Apart) })?;
             }
             Asked::List(list) => self.list(list)?,
-            Asked::Info => self.ask_driver(What::Info)?,
-            Asked::Manage(manage) => self.ask_driver(What::Manage(manage))?,
+            Asked::Info => {
+                let brief = Reply::Bulk(self.brief().into_bytes());
+                self.ask_driver(What::Info, INFO_PATIENCE, Some(brief))?;
+            }
+            Asked::Manage(manage) => self.ask_driver(What::Manage(manage), self.shared.patience, None)?,
             Asked::Hello(hello) => self.greet(hello)?,
             Asked::Client(client) => self.about(client)?,
             Asked::ReadOnly(is_read_only) => {
@@ -185,9 +231,13 @@ impl Session {
             }
             Asked::Reset => {
                 (self.version, self.name, self.is_read_only) = (Version::Two, None, false);
+                self.is_known = self.shared.password.is_none();
                 self.answer(Reply::Simple("RESET"))?;
             }
-            Asked::Auth(_) => self.fail(CommandFault::NoPassword)?,
+            Asked::Auth(words) => {
+                let reply = self.know(|password| password.is_in(&words)).map(|()| Reply::Simple("OK"));
+                self.answer(reply.unwrap_or_else(Reply::Error))?;
+            }
             Asked::Quit => {
                 self.answer(Reply::Simple("OK"))?;
                 return Ok(Next::Ends);
@@ -205,13 +255,65 @@ impl Session {
         Ok(Next::GoesOn)
     }
 
+    /// What is asked, where it may be asked of this connection.
+    fn permitted(&self, asked: Asked) -> Asked {
+        let is_of_all = matches!(asked, Asked::Auth(_) | Asked::Hello(_) | Asked::Quit | Asked::Reset | Asked::Http);
+        if !self.is_known && !is_of_all {
+            return Asked::Answered(Reply::Error(CommandFault::NotKnown));
+        }
+        let is_of_kept = is_of_all || matches!(asked, Asked::Ping(_) | Asked::Info | Asked::Client(_));
+        if self.place.is_kept && !is_of_kept {
+            return Asked::Answered(Reply::Error(CommandFault::Full));
+        }
+        asked
+    }
+
+    /// Whether the password was said: from now on the connection is known.
+    fn know(&mut self, is_said: impl FnOnce(&Password) -> bool) -> Result<(), CommandFault> {
+        let password = self.shared.password.as_ref().ok_or(CommandFault::NoPassword)?;
+        if is_said(password) {
+            self.is_known = true;
+            return Ok(());
+        }
+        thread::sleep(WRONG);
+        Err(CommandFault::WrongPassword)
+    }
+
+    /// What INFO tells where the driver doesn't answer in time.
+    fn brief(&self) -> String {
+        let metrics = &self.shared.metrics;
+        let lines = [
+            ("core_is_slow", 1),
+            ("takes_part", metrics.takes_part.get()),
+            ("generation", metrics.generation.get()),
+            ("generation_entries", metrics.entries.get()),
+            ("log_bytes", metrics.log_bytes.get()),
+            ("instances_open", metrics.open_instances.get()),
+            ("peers_reached", metrics.peers_reached.get()),
+            ("clients", self.shared.places.count() as u64),
+            ("clients_memory", self.shared.memory.used() as u64),
+        ];
+        lines.into_iter().map(|(name, value)| format!("{name}:{value}\r\n")).collect()
+    }
+
     /// Begins a command, once there is room: its number.
     fn begin(&mut self, combine: Combine, parts: Vec<Part>) -> Result<u64, Over> {
+        self.begin_for(combine, parts, self.shared.patience, None)
+    }
+
+    /// Likewise, with another patience, and with what its bytes take.
+    fn begin_for(
+        &mut self,
+        combine: Combine,
+        parts: Vec<Part>,
+        patience: Duration,
+        share: Option<Share>,
+    ) -> Result<u64, Over> {
         self.window.enter(parts.len())?;
         let command = self.commands;
         self.commands += 1;
-        let deadline = Instant::now() + self.shared.patience;
-        let slot = Slot { combine, parts, version: self.version, deadline };
+        let begun = Instant::now();
+        let slot = Slot { combine, parts, version: self.version, begun, deadline: begun + patience, share };
         self.messages.send(Message::Begun(slot)).map_err(|_| Over)?;
         Ok(command)
     }
@@ -229,11 +331,11 @@ impl Session {
     }
 
     /// Has actions done, each by a command of the protocol.
-    fn ask(&mut self, combine: Combine, actions: Vec<(Vec<u8>, Action)>) -> Result<(), Over> {
+    fn ask(&mut self, combine: Combine, actions: Vec<(Vec<u8>, Action)>, share: Share) -> Result<(), Over> {
         let keys = self.shared.keys.clone();
         let asked: Vec<_> = actions.into_iter().map(|(key, action)| (keys.id(), key, action)).collect();
         let parts = asked.iter().map(|(id, key, _)| Part::Asked(key.clone(), *id)).collect();
-        let command = self.begin(combine, parts)?;
+        let command = self.begin_for(combine, parts, self.shared.patience, Some(share))?;
         self.is_writing = true;
         for (part, (id, key, action)) in asked.into_iter().enumerate() {
             keys.ask(id, key, action, self.place(command, part));
@@ -251,9 +353,10 @@ impl Session {
     }
 
     /// Reads at this replica alone.
-    fn read_here(&mut self, combine: Combine, actions: Vec<(Vec<u8>, Action)>) -> Result<(), Over> {
+    fn read_here(&mut self, combine: Combine, actions: Vec<(Vec<u8>, Action)>, share: Share) -> Result<(), Over> {
         self.settle()?;
-        let command = self.begin(combine, actions.iter().map(|_| Part::Wanted).collect())?;
+        let parts = actions.iter().map(|_| Part::Wanted(None)).collect();
+        let command = self.begin_for(combine, parts, self.shared.patience, Some(share))?;
         for (part, (key, action)) in actions.into_iter().enumerate() {
             let place = self.place(command, part);
             let (keys, of) = (self.shared.keys.clone(), key.clone());
@@ -264,9 +367,9 @@ impl Session {
         Ok(())
     }
 
-    /// Asks the driver of what isn't of keys.
-    fn ask_driver(&mut self, what: What) -> Result<(), Over> {
-        let command = self.begin(Combine::One, vec![Part::Wanted])?;
+    /// Asks the driver of what isn't of keys. Where it doesn't answer in time the reply is the other one, if there is one.
+    fn ask_driver(&mut self, what: What, patience: Duration, other: Option<Reply>) -> Result<(), Over> {
+        let command = self.begin_for(Combine::One, vec![Part::Wanted(other)], patience, None)?;
         let place = self.place(command, 0);
         let reply = Teller::new(move |told| {
             place.tell(match told {
@@ -305,8 +408,13 @@ impl Session {
     }
 
     fn greet(&mut self, hello: Hello) -> Result<(), Over> {
-        if hello.auth.is_some() {
-            return self.fail(CommandFault::NoPassword);
+        let auth = hello.auth.as_ref();
+        let known = auth.map_or(Ok(()), |(user, secret)| self.know(|password| password.is_said(user, secret)));
+        if let Err(fault) = known {
+            return self.fail(fault);
+        }
+        if !self.is_known {
+            return self.fail(CommandFault::NotKnown);
         }
         self.version = hello.version.unwrap_or(self.version);
         self.name = hello.name.or(self.name.take()).filter(|name| !name.is_empty());

@@ -64,6 +64,15 @@ pub enum CommandFault {
     NotAProtocol,
     ClientName,
     NoPassword,
+    WrongPassword,
+    /// The password has to be said first.
+    NotKnown,
+    /// All places are taken: it is asked on one for who asks how the store is.
+    Full,
+    /// Clients have too much under way together.
+    NoMemory,
+    /// This replica doesn't take part.
+    Apart,
     NoScript,
     Script,
     /// MULTI is refused, and what follows it.
@@ -140,6 +149,17 @@ impl fmt::Display for CommandFault {
                 f.write_str("ERR Client names cannot contain spaces, newlines or special characters.")
             }
             CommandFault::NoPassword => f.write_str("ERR AUTH called without any password configured"),
+            CommandFault::WrongPassword => {
+                f.write_str("WRONGPASS invalid username-password pair or user is disabled.")
+            }
+            CommandFault::NotKnown => f.write_str("NOAUTH Authentication required."),
+            CommandFault::Full => f.write_str("ERR max number of clients reached; PING and INFO are answered"),
+            CommandFault::NoMemory => {
+                f.write_str("OOM the command wasn't done: clients have more under way than --memory allows")
+            }
+            CommandFault::Apart => {
+                f.write_str("TRYAGAIN this replica takes no part: it reaches no majority, or waits to join")
+            }
             CommandFault::NoScript => f.write_str("NOSCRIPT No matching script. Scripts aren't supported, but for those of locks"),
             CommandFault::Script => f.write_str("ERR scripts aren't supported, but for those of locks that README lists"),
             CommandFault::Multi => {

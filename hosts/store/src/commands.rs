@@ -21,6 +21,7 @@ pub enum Asked {
     /// The keys that there are, as far as this replica knows.
     List(List),
     Info,
+    Ping(Option<Vec<u8>>),
     /// Asked by somebody who runs the store.
     Manage(Manage),
     Hello(Hello),
@@ -89,8 +90,7 @@ fn attempt(mut words: Words) -> Result<Asked, CommandFault> {
         "auth" => Ok(Asked::Auth(words)),
         "echo" => Ok(Asked::Answered(Reply::Bulk(words.remove(0)))),
         "ping" => match words.len() {
-            0 => Ok(Asked::Answered(Reply::Simple("PONG"))),
-            1 => Ok(Asked::Answered(Reply::Bulk(words.remove(0)))),
+            0 | 1 => Ok(Asked::Ping(words.pop())),
             _ => Err(CommandFault::WrongCount(entry.name.into())),
         },
         "select" => match integer(&words[0]) {
@@ -418,14 +418,7 @@ fn script(words: &[Vec<u8>]) -> Result<Reply, CommandFault> {
 }
 
 /// What CONFIG GET tells: how this store is, in the names of Redis.
-const CONFIG: [(&str, &str); 6] = [
-    ("appendfsync", "always"),
-    ("appendonly", "yes"),
-    ("databases", "1"),
-    ("maxmemory", "0"),
-    ("maxmemory-policy", "noeviction"),
-    ("save", ""),
-];
+const CONFIG: [(&str, &str); 4] = [("appendfsync", "always"), ("appendonly", "yes"), ("databases", "1"), ("save", "")];
 
 fn config(words: &[Vec<u8>]) -> Result<Reply, CommandFault> {
     let (sub, patterns) = (words[0].to_ascii_lowercase(), &words[1..]);

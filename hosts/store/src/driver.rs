@@ -5,6 +5,7 @@ use crate::generation::{Generation, Limits};
 use crate::identities::Identity;
 use crate::members::{Member, Members};
 use crate::messages::Message;
+use crate::metrics::Metrics;
 use crate::node::{Core, NodeFault};
 use crate::openings::Fetch;
 use crate::options::Plant;
@@ -243,6 +244,7 @@ pub struct Parts<C> {
     pub patience: Duration,
     /// The number under which this replica proposes seals.
     pub sealer: u32,
+    pub metrics: Arc<Metrics>,
 }
 
 /// The core, and all that it is driven with.
@@ -283,6 +285,7 @@ pub struct Driver<C> {
     pub(crate) is_unexecuted: bool,
     pub(crate) next_tick: Instant,
     pub(crate) refused_frames: u64,
+    pub(crate) metrics: Arc<Metrics>,
     /// Changes of generation since the start, and how long the last one took.
     pub(crate) changes: (u64, Duration),
     /// Until when it ends, since it was told to.
@@ -324,6 +327,7 @@ impl<C: Core> Driver<C> {
             is_unexecuted: true,
             next_tick: now,
             refused_frames: 0,
+            metrics: parts.metrics,
             changes: (0, Duration::ZERO),
             ends_at: None,
         }
@@ -353,7 +357,26 @@ impl<C: Core> Driver<C> {
         self.carry_out(batch)?;
         self.close()?;
         self.answer_peers();
-        self.go_on()
+        self.go_on()?;
+        self.tell_metrics();
+        Ok(())
+    }
+
+    fn tell_metrics(&self) {
+        let (metrics, generation) = (&self.metrics, &self.generation);
+        let reached = self.peer_numbers().filter(|replica| self.is_reached(*replica)).count();
+        for (number, value) in [
+            (&metrics.generation, generation.number.into()),
+            (&metrics.entries, generation.entries.into()),
+            (&metrics.log_bytes, generation.log),
+            (&metrics.open_instances, self.timers.count() as u64),
+            (&metrics.peers_reached, reached as u64),
+            (&metrics.frames_lost, self.peers.lost()),
+            (&metrics.frames_refused, self.refused_frames),
+            (&metrics.takes_part, u64::from(!self.is_alone())),
+        ] {
+            number.set(value);
+        }
     }
 
     /// Waits until there is something to do, then takes what is there.
@@ -593,6 +616,7 @@ impl<C: Core> Driver<C> {
         }
         if takes {
             batch.push(Request::Sync, Purpose::Host);
+            self.metrics.syncs.add(1);
         }
         if batch.requests.is_empty() {
             return Ok(());

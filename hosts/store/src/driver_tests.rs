@@ -202,6 +202,7 @@ fn driver(name: &str) -> (Driver<Memory>, SyncSender<Event>, PathBuf) {
         kept: 1,
         patience: Duration::from_secs(60),
         sealer: 900,
+        metrics: Arc::default(),
     });
     (driver, sender, folder)
 }

@@ -7,7 +7,7 @@ use std::io::{self, Write};
 use std::net::TcpListener;
 use std::path::PathBuf;
 use std::process::ExitCode;
-use std::sync::atomic::{AtomicU64, AtomicUsize};
+use std::sync::atomic::AtomicU64;
 use std::sync::mpsc::{SyncSender, sync_channel};
 use std::sync::{Arc, Mutex};
 use std::thread;
@@ -19,9 +19,12 @@ use store::identities::Identities;
 use store::joining::Joining;
 use store::keys::Keys;
 use store::listing::Listing;
+use store::memory::Memory;
+use store::metrics::{self, Metrics};
 use store::node::{Begin, Core, Node, NodeFault, Settings};
 use store::numbers::Numbers;
 use store::options::{self, Options, Plant, Words, help, read};
+use store::password::Password;
 use store::peers::{self, Membership, Peers, Place, Receiving};
 use store::protocol::{Answer, Request, State};
 use store::random::Random;
@@ -40,7 +43,7 @@ fn main() -> ExitCode {
             let _ = std::io::stdout().write_all(help().as_bytes());
             return ExitCode::SUCCESS;
         }
-        Ok(Words::Run(options)) => options,
+        Ok(Words::Run(options)) => *options,
         Err(what) => {
             say(&what);
             return ExitCode::from(2);
@@ -142,14 +145,22 @@ fn start(options: Options) -> Result<Driver<Node>, Fault> {
     directory.prepare().map_err(Fault::Directory)?;
     let (sender, events) = sync_channel(WAITING_EVENTS);
     let numbers = Arc::new(Mutex::new(Numbers::new(&options.directory, place.replica)));
+    let metrics = Arc::<Metrics>::default();
     let shared = Shared {
         events: sender.clone(),
         keys: Keys::start(sender.clone(), numbers.clone()).map_err(Fault::Thread)?,
         listing: Listing::new(options.node.clone(), directory.generations()),
         patience: options.patience,
-        connections: AtomicUsize::new(0),
+        password: options.auth.as_deref().map(Password::read).transpose().map_err(Fault::Key)?,
+        memory: Memory::new(options.memory),
+        metrics: metrics.clone(),
+        places: Arc::default(),
         served: AtomicU64::new(0),
     };
+    if let Some(address) = &options.metrics {
+        let (listener, metrics) = (bind(address)?, metrics.clone());
+        spawn("metrics", move || metrics::listen(listener, &metrics)).map_err(Fault::Thread)?;
+    }
     // Who joins is connected first, and begins then; who is here begins, and is connected then: from now on a folder without a log
     // has lost it.
     end_by_signals(sender.clone()).map_err(Fault::Thread)?;
@@ -209,6 +220,7 @@ fn start(options: Options) -> Result<Driver<Node>, Fault> {
         kept: options.kept,
         patience: options.patience,
         sealer,
+        metrics,
     }))
 }
 

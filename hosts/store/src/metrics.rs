@@ -80,6 +80,8 @@ pub struct Metrics {
     pub peers_reached: Number,
     pub frames_lost: Number,
     pub frames_refused: Number,
+    /// 1 where this replica takes part: it serves a generation, and reaches a majority.
+    pub takes_part: Number,
 }
 
 impl Metrics {
@@ -101,6 +103,7 @@ impl Metrics {
                 &self.frames_lost,
             ),
             ("store_frames_refused_total", "Frames of peers that the node refused.", "counter", &self.frames_refused),
+            ("store_takes_part", "1 where this replica serves and reaches a majority.", "gauge", &self.takes_part),
             ("store_clients", "Clients that are connected.", "gauge", &self.clients),
             ("store_generation", "The generation that the log is of.", "gauge", &self.generation),
             ("store_entries", "Entries of this generation's log.", "gauge", &self.entries),

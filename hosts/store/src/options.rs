@@ -19,6 +19,9 @@ store: one replica of a replicated store, for clients of the Redis protocol
     --peer-key FILE        the key that all replicas share: whoever hasn't it is no peer. 16 to 4096 bytes that nobody can guess, in a
                            file that only its owner reads (head -c 32 /dev/urandom | base64 > FILE; chmod 600 FILE)
     --insecure             without a key the peers' port is one of this machine alone; with this it may be any, open to whoever comes
+    --auth FILE            the password that clients say first (AUTH), 16 to 4096 bytes in a file that only its owner reads
+    --memory BYTES         so much may be under way for all clients together; default {MEMORY}
+    --metrics HOST:PORT    where Prometheus reads /metrics; a port alone is one of 127.0.0.1; default: nowhere
     --node PATH            the program `epaxos`; default: the one on the PATH
     --patience S           after so many seconds a client is told TRYAGAIN; default 10. Its command may still be done
     --join                 in the place of --new: for a machine that comes in the place of a lost one; it tells its identity and waits
@@ -38,11 +41,12 @@ It runs until it is killed; SIGTERM is the way. Status 1: it can't start, or its
 /// When a generation ends, where nothing is told.
 pub const LIMITS: Limits = Limits { numbers: 1_500, dependencies: 600, log: 16 << 20 };
 const KEPT: usize = 2;
+const MEMORY: usize = 512 << 20;
 
 /// The text that `--help` tells.
 pub fn help() -> String {
     let numbers = [("{NUMBERS}", LIMITS.numbers.into()), ("{DEPENDENCIES}", LIMITS.dependencies.into())];
-    let others = [("{LOG}", LIMITS.log), ("{KEPT}", KEPT as u64)];
+    let others = [("{LOG}", LIMITS.log), ("{KEPT}", KEPT as u64), ("{MEMORY}", MEMORY as u64)];
     let all = numbers.into_iter().chain(others);
     all.fold(TEXT.to_string(), |text, (word, number): (&str, u64)| text.replace(word, &number.to_string()))
 }
@@ -80,6 +84,9 @@ pub struct Options {
     pub peer_key: Option<PathBuf>,
     /// Whether the peers' port may be open to others without a key.
     pub is_insecure: bool,
+    pub auth: Option<PathBuf>,
+    pub memory: usize,
+    pub metrics: Option<String>,
     pub node: PathBuf,
     pub patience: Duration,
     pub limits: Limits,
@@ -92,7 +99,7 @@ pub struct Options {
 #[derive(Debug, PartialEq, Eq)]
 pub enum Words {
     Help,
-    Run(Options),
+    Run(Box<Options>),
 }
 
 /// Reads the words after the program's name.
@@ -104,6 +111,7 @@ pub fn read(words: impl IntoIterator<Item = String>) -> Result<Words, String> {
     let mut patience = Duration::from_secs(10);
     let mut plant = None;
     let (mut is_insecure, mut peer_key) = (false, None);
+    let (mut auth, mut memory, mut metrics) = (None, MEMORY, None);
     let mut start = Start::Again;
     let (mut limits, mut kept) = (LIMITS, KEPT);
     while let Some(word) = words.next() {
@@ -133,6 +141,9 @@ pub fn read(words: impl IntoIterator<Item = String>) -> Result<Words, String> {
             "--dir" => directory = Some(PathBuf::from(value()?)),
             "--listen" => listen = with_host(value()?),
             "--peer-key" => peer_key = Some(PathBuf::from(value()?)),
+            "--auth" => auth = Some(PathBuf::from(value()?)),
+            "--memory" => memory = number(&word, &value()?, 1 << 20, usize::MAX)?,
+            "--metrics" => metrics = Some(with_host(value()?)),
             "--node" => node = PathBuf::from(value()?),
             "--patience" => patience = seconds(&value()?)?,
             "--seal-numbers" => limits.numbers = number(&word, &value()?, 10, 1_900)?,
@@ -147,7 +158,7 @@ pub fn read(words: impl IntoIterator<Item = String>) -> Result<Words, String> {
     let peers = read_peers(&peers.ok_or_else(|| missing("--peers"))?)?;
     let replica = read_replica(&replica.ok_or_else(|| missing("--replica"))?, peers.len())?;
     let directory = directory.ok_or_else(|| missing("--dir"))?;
-    Ok(Words::Run(Options {
+    Ok(Words::Run(Box::new(Options {
         replica,
         peers,
         directory,
@@ -155,12 +166,15 @@ pub fn read(words: impl IntoIterator<Item = String>) -> Result<Words, String> {
         listen,
         peer_key,
         is_insecure,
+        auth,
+        memory,
+        metrics,
         node,
         patience,
         limits,
         kept,
         plant,
-    }))
+    })))
 }
 
 fn with_host(address: String) -> String {
@@ -232,6 +246,8 @@ mod tests {
         assert!(options.start == Start::New && options.is_insecure);
         let Ok(Words::Run(it)) = words(&format!("{line} --join --seal-numbers 20 --keep 9")) else { panic!() };
         assert_eq!((it.start, it.limits.numbers, it.kept), (Start::Join, 20, 9));
+        let Ok(Words::Run(it)) = words(&format!("{line} --auth a --memory 2000000 --metrics 9000")) else { panic!() };
+        assert_eq!((it.auth, it.memory, it.metrics), (Some("a".into()), 2_000_000, Some("127.0.0.1:9000".into())));
         assert_eq!(options.peer_key, Some(PathBuf::from("k")));
         let Ok(Words::Run(options)) = words("--replica 0 --peers a:1,b:2,c:3 --dir d") else { panic!() };
         assert_eq!(options.listen, "127.0.0.1:7000");

@@ -1,6 +1,8 @@
 //! Replies of one connection: written in the order of its commands, whatever finishes first.
 use crate::command_fault::CommandFault;
 use crate::keys::Keys;
+use crate::memory::Share;
+use crate::metrics::Metrics;
 use crate::resp::{Reply, Version};
 use std::collections::VecDeque;
 use std::io::{self, Write};
@@ -70,16 +72,19 @@ pub struct Slot {
     pub combine: Combine,
     pub parts: Vec<Part>,
     pub version: Version,
+    pub begun: Instant,
     /// When its client is told that it waits no longer.
     pub deadline: Instant,
+    /// What its words and its reply take.
+    pub share: Option<Share>,
 }
 
 pub enum Part {
     Come(Reply),
     /// Asked of a key, under a number.
     Asked(Vec<u8>, u64),
-    /// Asked of the driver, and of no use once its client waits no longer.
-    Wanted,
+    /// Asked of the driver, and of no use once its client waits no longer, who is told this then.
+    Wanted(Option<Reply>),
 }
 
 impl Slot {
@@ -87,9 +92,10 @@ impl Slot {
         self.parts.iter().all(|part| matches!(part, Part::Come(_)))
     }
 
-    fn reply(self) -> Reply {
+    /// The whole reply, and what it takes.
+    fn reply(self) -> (Reply, Option<Share>) {
         let come = |part| if let Part::Come(reply) = part { Some(reply) } else { None };
-        self.combine.combine(self.parts.into_iter().filter_map(come).collect())
+        (self.combine.combine(self.parts.into_iter().filter_map(come).collect()), self.share)
     }
 }
 
@@ -143,18 +149,29 @@ impl Window {
 
 /// Writes the replies of one connection.
 pub struct Replies<W> {
-    pub writer: W,
-    pub messages: Receiver<Message>,
-    pub keys: Arc<Keys>,
-    pub window: Arc<Window>,
-    pub slots: VecDeque<Slot>,
+    writer: W,
+    messages: Receiver<Message>,
+    keys: Arc<Keys>,
+    metrics: Arc<Metrics>,
+    window: Arc<Window>,
+    slots: VecDeque<Slot>,
     /// The number of the first of these commands.
-    pub first: u64,
+    first: u64,
     /// Whether no more commands come.
-    pub is_over: bool,
+    is_over: bool,
 }
 
 impl<W: Write> Replies<W> {
+    pub fn new(
+        writer: W,
+        messages: Receiver<Message>,
+        keys: Arc<Keys>,
+        metrics: Arc<Metrics>,
+        window: Arc<Window>,
+    ) -> Replies<W> {
+        Replies { writer, messages, keys, metrics, window, slots: VecDeque::new(), first: 0, is_over: false }
+    }
+
     /// Writes until all commands have come and are answered.
     pub fn write_all(&mut self) -> io::Result<()> {
         loop {
@@ -176,8 +193,15 @@ impl<W: Write> Replies<W> {
     fn write_ready(&mut self) -> io::Result<()> {
         while let Some(slot) = self.slots.pop_front_if(|slot| slot.is_ready()) {
             self.first += 1;
-            let (weight, version) = (slot.parts.len(), slot.version);
-            slot.reply().write(&mut self.writer, version)?;
+            let (weight, version, begun) = (slot.parts.len(), slot.version, slot.begun);
+            let (reply, share) = slot.reply();
+            // (commands that touch no key have no share)
+            if share.is_some() {
+                self.metrics.waits.note(begun.elapsed());
+                let is_fault = matches!(reply, Reply::Error(_));
+                if is_fault { &self.metrics.refused } else { &self.metrics.answered }.add(1);
+            }
+            reply.write(&mut self.writer, version)?;
             self.window.leave(weight);
         }
         Ok(())
@@ -203,8 +227,11 @@ impl<W: Write> Replies<W> {
             Message::Part(command, part, reply) => {
                 // (what comes too late is of no use)
                 let place = command.checked_sub(self.first).map(|place| place as usize);
-                let slot = place.and_then(|place| self.slots.get_mut(place));
-                if let Some(part) = slot.and_then(|slot| slot.parts.get_mut(part)) {
+                let Some(slot) = place.and_then(|place| self.slots.get_mut(place)) else { return };
+                if let (Reply::Bulk(bytes), Some(share)) = (&reply, &mut slot.share) {
+                    share.count(bytes.len());
+                }
+                if let Some(part) = slot.parts.get_mut(part) {
                     *part = Part::Come(reply);
                 }
             }
@@ -215,14 +242,14 @@ impl<W: Write> Replies<W> {
     fn withdraw(&mut self) {
         let Some(slot) = self.slots.front_mut() else { return };
         for part in &mut slot.parts {
-            let fault = match part {
+            let reply = match part {
                 Part::Come(_) => None,
                 // Where there is none the reply is under way.
-                Part::Asked(key, id) => self.keys.withdraw(*id, key),
-                Part::Wanted => Some(CommandFault::NotInTime),
+                Part::Asked(key, id) => self.keys.withdraw(*id, key).map(Reply::Error),
+                Part::Wanted(other) => Some(other.take().unwrap_or(Reply::Error(CommandFault::NotInTime))),
             };
-            if let Some(fault) = fault {
-                *part = Part::Come(Reply::Error(fault));
+            if let Some(reply) = reply {
+                *part = Part::Come(reply);
             }
         }
     }

@@ -70,19 +70,7 @@ impl Key {
 
     /// Reads a file: all its bytes are the key, but for blanks and line ends at its end.
     pub fn read(path: &Path) -> Result<Key, KeyFault> {
-        let told = |error| KeyFault::Unreadable(path.to_path_buf(), error);
-        let file = File::open(path).map_err(told)?;
-        let about = file.metadata().map_err(told)?;
-        if about.permissions().mode() & 0o007 != 0 {
-            return Err(KeyFault::Open(path.to_path_buf()));
-        }
-        let mut bytes = Vec::new();
-        file.take(LONGEST_KEY + 1).read_to_end(&mut bytes).map_err(told)?;
-        let key = bytes.trim_ascii_end();
-        match key.len() as u64 {
-            SHORTEST_KEY..=LONGEST_KEY => Ok(Key::of(key)),
-            length => Err(KeyFault::Length(path.to_path_buf(), length)),
-        }
+        read_secret(path).map(|secret| Key::of(&secret))
     }
 
     fn of(bytes: &[u8]) -> Key {
@@ -96,6 +84,23 @@ impl Key {
             mac.update(part);
         }
         mac.finalize().into_bytes().into()
+    }
+}
+
+/// The secret of a file, which only its owner and its group may read, without blanks at its end.
+pub fn read_secret(path: &Path) -> Result<Vec<u8>, KeyFault> {
+    let told = |error| KeyFault::Unreadable(path.to_path_buf(), error);
+    let file = File::open(path).map_err(told)?;
+    let about = file.metadata().map_err(told)?;
+    if about.permissions().mode() & 0o007 != 0 {
+        return Err(KeyFault::Open(path.to_path_buf()));
+    }
+    let mut bytes = Vec::new();
+    file.take(LONGEST_KEY + 1).read_to_end(&mut bytes).map_err(told)?;
+    let secret = bytes.trim_ascii_end();
+    match secret.len() as u64 {
+        SHORTEST_KEY..=LONGEST_KEY => Ok(secret.to_vec()),
+        length => Err(KeyFault::Length(path.to_path_buf(), length)),
     }
 }
 

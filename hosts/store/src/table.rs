@@ -80,7 +80,7 @@ pub const TABLE: [Entry; 58] = [
     reading("type", 2, ONE),
     writing("unlink", -2, ALL),
     reading("unwatch", 1, NONE),
-    reading("watch", -1, NONE),
+    reading("watch", -2, ALL),
 ];
 
 /// The command of this name, in lower case.

@@ -2,27 +2,43 @@
 use crate::command_fault::CommandFault;
 use crate::commands::Asked;
 use crate::resp::Reply;
+use std::time::{Duration, Instant};
+
+/// After so long nobody takes what comes for a part of what began with a refused `WATCH`. (redis-py sends no `UNWATCH` then, and goes on using
+/// the connection.)
+const WATCHED: Duration = Duration::from_secs(1);
 
 /// Of one connection: whether a `MULTI` or a `WATCH` was refused and what ends it hasn't come. Who sent it takes what follows for a part of
 /// it, and wants all of it done together or nothing.
 #[derive(Default)]
 pub struct Transaction {
-    is_refused: bool,
+    refused: Option<Refused>,
+}
+
+#[derive(Clone, Copy)]
+enum Refused {
+    Multi,
+    Watch(Instant),
 }
 
 impl Transaction {
     /// What is to be done of what is asked: it, or nothing but this reply.
     pub fn judge(&mut self, asked: Asked) -> Result<Asked, Reply> {
         let refused = |fault| Err(Reply::Error(fault));
-        let was_refused = self.is_refused;
+        if let Some(Refused::Watch(at)) = self.refused
+            && at.elapsed() >= WATCHED
+        {
+            self.refused = None;
+        }
+        let was_refused = self.refused.is_some();
         match asked {
             Asked::Quit | Asked::Http => Ok(asked),
             Asked::Reset => {
-                self.is_refused = false;
+                self.refused = None;
                 Ok(asked)
             }
             Asked::Exec | Asked::Discard | Asked::Unwatch => {
-                self.is_refused = false;
+                self.refused = None;
                 match (asked, was_refused) {
                     (Asked::Exec, true) => refused(CommandFault::ExecAborted),
                     (Asked::Exec, false) => refused(CommandFault::WithoutMulti("EXEC")),
@@ -30,10 +46,19 @@ impl Transaction {
                     _ => Err(Reply::Simple("OK")),
                 }
             }
-            _ if was_refused => refused(CommandFault::Behind),
-            Asked::Multi | Asked::Watch => {
-                self.is_refused = true;
-                refused(if asked == Asked::Multi { CommandFault::Multi } else { CommandFault::Watch })
+            _ if was_refused => {
+                if asked == Asked::Multi {
+                    self.refused = Some(Refused::Multi);
+                }
+                refused(CommandFault::Behind)
+            }
+            Asked::Multi => {
+                self.refused = Some(Refused::Multi);
+                refused(CommandFault::Multi)
+            }
+            Asked::Watch => {
+                self.refused = Some(Refused::Watch(Instant::now()));
+                refused(CommandFault::Watch)
             }
             _ => Ok(asked),
         }
@@ -72,7 +97,14 @@ mod tests {
         let lines = ["watch x", "get x", "multi", "set x 1", "exec", "set x 2"];
         assert_eq!(told(&lines), [WATCH, BEHIND, BEHIND, BEHIND, ABORTED, None]);
         assert_eq!(told(&["watch x", "get x", "unwatch", "get x"]), [WATCH, BEHIND, OK, None]);
-        assert_eq!(told(&["unwatch", "watch"]), [OK, WATCH]);
+        assert_eq!(told(&["unwatch", "watch x"]), [OK, WATCH]);
+        // A while later it is no more; behind a MULTI it stays so.
+        let words = |line: &str| understand(line.split(' ').map(|word| word.as_bytes().to_vec()).collect());
+        let mut transaction = Transaction { refused: Some(Refused::Watch(Instant::now() - WATCHED)) };
+        assert_eq!(transaction.judge(words("get x")).err(), None);
+        let mut transaction = Transaction { refused: Some(Refused::Watch(Instant::now())) };
+        assert_eq!(transaction.judge(words("multi")).err(), BEHIND);
+        assert!(matches!(transaction.refused, Some(Refused::Multi)));
     }
 
     #[test]

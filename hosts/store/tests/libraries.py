@@ -202,7 +202,10 @@ def by_redis_py(cluster):
                 check("transaction", "done", "refused")
             except redis.ResponseError as error:
                 check("transaction", "isn't supported" in str(error), True)
-        check("nothing of a transaction", one.get("t"), None)
+        check("nothing of a transaction", two.get("t"), None)
+    # (it sends no UNWATCH behind a refused WATCH, and goes on using the connection: a second later that works)
+    time.sleep(1.1)
+    check("after a refused WATCH", one.get("p"), "42")
 
     # A pool that threads share.
     pool = redis.BlockingConnectionPool(port=cluster.ports[2], max_connections=10, timeout=PATIENCE)

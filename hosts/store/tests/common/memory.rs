@@ -2,7 +2,7 @@
 use std::collections::HashMap;
 use std::net::TcpListener;
 use std::path::PathBuf;
-use std::sync::atomic::{AtomicU64, AtomicUsize, Ordering};
+use std::sync::atomic::{AtomicU64, Ordering};
 use std::sync::mpsc::{Receiver, sync_channel};
 use std::sync::{Arc, Mutex};
 use std::thread;
@@ -12,6 +12,8 @@ use store::clients::{Shared, listen};
 use store::driver::{Ask, Event, Told, What};
 use store::keys::Keys;
 use store::listing::Listing;
+use store::memory::Memory as Bytes;
+use store::metrics::Metrics;
 use store::numbers::Numbers;
 use store::protocol::{Command, Reply};
 
@@ -26,6 +28,11 @@ pub struct Memory {
 impl Memory {
     /// Starts one that takes so long for what has come.
     pub fn start(name: &str, takes: Duration) -> Memory {
+        Memory::start_with(name, takes, |_| ())
+    }
+
+    /// Likewise, with other settings.
+    pub fn start_with(name: &str, takes: Duration, change: impl FnOnce(&mut Shared)) -> Memory {
         let folder = std::env::temp_dir().join(format!("store-memory-{name}-{}", std::process::id()));
         std::fs::create_dir_all(&folder).unwrap();
         let listener = TcpListener::bind("127.0.0.1:0").unwrap();
@@ -33,8 +40,20 @@ impl Memory {
         let (events, asked) = sync_channel(4_096);
         let keys = Keys::start(events.clone(), Arc::new(Mutex::new(Numbers::new(&folder, 0)))).unwrap();
         let listing = Listing::new(folder.join("contents"), folder.clone());
-        let (connections, served) = (AtomicUsize::new(0), AtomicU64::new(0));
-        let shared = Shared { events, keys, listing, patience: PATIENCE, connections, served };
+        let metrics = Arc::<Metrics>::default();
+        metrics.takes_part.set(1);
+        let mut shared = Shared {
+            events,
+            keys,
+            listing,
+            patience: PATIENCE,
+            password: None,
+            memory: Bytes::new(64 << 20),
+            metrics,
+            places: Arc::default(),
+            served: AtomicU64::new(0),
+        };
+        change(&mut shared);
         thread::spawn(move || drive(&asked, takes));
         thread::spawn(move || listen(listener, Arc::new(shared)));
         Memory { port, folder }
