@@ -202,8 +202,6 @@ def written():
         page = it.read()
     for place, (script, report) in enumerate(re.findall(rb"\n```script\n(.*?)```\n```report\n(.*?)```\n", page, re.S)):
         yield from played(f"docs/FORMATS.md, script {place + 1}", script, report)
-    for place, (script, report) in enumerate(re.findall(rb"\n```script-run\n(.*?)```\n```report\n(.*?)```\n", page, re.S)):
-        yield from hosted(f"docs/FORMATS.md, script for a run {place + 1}", [], script, [report])
     for folder in ("examples", ".ci/scripts"):
         for name in sorted(os.listdir(f"{TOP}/{folder}")):
             stem, kind = os.path.splitext(name)
