@@ -8,8 +8,8 @@ use Rattle.ep_base.specs.Quorums.{size}
 use Rattle.ep_journal.specs.Entries.{AreJournals, Collected, IsAbove, entries_at, entries_of, entry_of, journals_of}
 use Rattle.ep_journal.specs.Openings.{opens}
 use Rattle.ep_journal.specs.declared.entry.Entry.{Entry as Written}
-use Rattle.ep_report.specs.declared.chain_fault.ChainFault.{ChainFault}
-use Rattle.ep_report.specs.declared.closing.Closing.{Closing}
+use Rattle.ep_audit.specs.declared.chain_fault.ChainFault.{ChainFault}
+use Rattle.ep_audit.specs.declared.closing.Closing.{Closing}
 use Rattle.ep_rules.specs.Chains.{Closing as Closes, IsChain, ClocksGoOn, Explains, histories, history_from, store_left}
 use Rattle.ep_rules.specs.Generations.{joined, place_in, HasIn}
 use Rattle.ep_rules.specs.Journals.{AreNumbered, Entry, Journals, Scheduled}
@@ -19,9 +19,9 @@ use Rattle.ep_rules.specs.Worlds.{In}
 use Rattle.ep_rules.specs.Verdicts.{Agrees, command_at}
 use Rattle.ep_rules.specs.declared.receipt.Receipt.{Receipt}
 use Rattle.ep_rules.proofs.ChainsExplained.{chains_explain_lem, chains_keep_callers_lem}
-use Rattle.ep_verdict.specs.Closings.{operations_in}
-use Rattle.ep_verdict.specs.Verdicts.{places_of}
-use Rattle.ep_verdict.specs.declared.verdict.Verdict.{Verdict}
+use Rattle.ep_audit.specs.Closings.{operations_in}
+use Rattle.ep_audit.specs.Verdicts.{places_of}
+use Rattle.ep_audit.specs.declared.verdict.Verdict.{Verdict}
 use Rattle.ep_audit.specs.Audited.{IsOneClosing}
 use Rattle.ep_audit.specs.Chained.{AreLinked, GoesOn, IsChainFault, IsChainRefused, IsChained, IsGood, IsJudged, IsParted, IsReached, parted, refused, unclosed, faults_at, faults_in, journals_at, journals_in, map_after, map_in, maps_at, number_of, receipts_at, receipts_in}
 use Rattle.ep_audit.specs.Following.{IsOwnFault, IsUnfollowed, IsUnfollowedBy, IsUnjudged, left_open, refused_by, parted_by}

@@ -29,11 +29,11 @@ use Rattle.ep_rules.proofs.Places.{has_cons, has_left, has_right}
 use Rattle.ep_rules.proofs.RunCommits.{committed_below, told_in}
 use Rattle.ep_rules.proofs.RunHistories.{AreOf, command_is}
 use Rattle.ep_rules.proofs.Sealing.{closed_stays, not_seal, sealed_here, stays_open}
-use Rattle.ep_report.specs.declared.closing.Closing.{Closing}
-use Rattle.ep_report.specs.declared.happening.Happening.{Happening}
-use Rattle.ep_verdict.specs.Closings.{operations_in, IsExecuted, IsFirstSeal, IsClosing}
-use Rattle.ep_verdict.specs.Verdicts.{commands_in, instances_in, left_after, IsVerdict}
-use Rattle.ep_verdict.specs.declared.verdict.Verdict.{Verdict}
+use Rattle.ep_audit.specs.declared.closing.Closing.{Closing}
+use Rattle.ep_audit.specs.declared.happening.Happening.{Happening}
+use Rattle.ep_audit.specs.Closings.{operations_in, IsExecuted, IsFirstSeal, IsClosing}
+use Rattle.ep_audit.specs.Verdicts.{commands_in, instances_in, left_after, IsVerdict}
+use Rattle.ep_audit.specs.declared.verdict.Verdict.{Verdict}
 use Rattle.ep_audit.specs.Audited.{IsOneClosing}
 
 -- The first seal.

@@ -8,7 +8,7 @@ use Rattle.ep_rules.proofs.Merged.{in_at, in_of}
 use Rattle.ep_journal.specs.Entries.{Collected, entries_at, entries_of, entry_of, journals_of}
 use Rattle.ep_journal.specs.Openings.{opens}
 use Rattle.ep_journal.specs.declared.entry.Entry.{Entry as Written}
-use Rattle.ep_verdict.specs.Verdicts.{places_of}
+use Rattle.ep_audit.specs.Verdicts.{places_of}
 use Rattle.ep_words.specs.Kept.{is_of_replica, is_of_instance, is_of_some, keeps}
 use Rattle.ep_words.specs.declared.part.Part.{Part}
 use Rattle.ep_view.specs.Lookups.{entry_at}

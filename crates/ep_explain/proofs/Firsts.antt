@@ -4,11 +4,11 @@ use Rattle.ep_base.specs.Quorums.{size}
 use Rattle.ep_journal.specs.Entries.{Collected, entries_at, journals_of, AreJournals}
 use Rattle.ep_journal.specs.declared.entry.Entry.{Entry}
 use Rattle.ep_journal.specs.Openings.{opens}
-use Rattle.ep_matching.specs.Claims.{receipt_fault, first_of}
-use Rattle.ep_matching.specs.Handlings.{entry_fault, or_else, first_in, first_below}
-use Rattle.ep_matching.proofs.Handled.{matched, handled_wrong}
-use Rattle.ep_matching.proofs.Claimed.{accepted_if, wrong_if}
-use Rattle.ep_report.specs.declared.audit_fault.AuditFault.{AuditFault}
+use Rattle.ep_audit.specs.Claims.{receipt_fault, first_of}
+use Rattle.ep_audit.specs.Handlings.{entry_fault, or_else, first_in, first_below}
+use Rattle.ep_audit.proofs.Handled.{matched, handled_wrong}
+use Rattle.ep_audit.proofs.Claimed.{accepted_if, wrong_if}
+use Rattle.ep_audit.specs.declared.audit_fault.AuditFault.{AuditFault}
 use Rattle.ep_rules.specs.declared.receipt.Receipt.{Receipt}
 use Rattle.ep_explain.specs.Faults.{listed, faults_in, faults_below, receipt_faults, all_faults, IsFirst}
 

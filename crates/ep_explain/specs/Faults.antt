@@ -3,10 +3,10 @@ use Rattle.std.specs.Prelude.{ℕ, zero, suc, List, [], ◌∷◌, ◌++◌, Opt
 use Rattle.ep_base.specs.Quorums.{size}
 use Rattle.ep_journal.specs.Entries.{Collected, entries_at}
 use Rattle.ep_journal.specs.declared.entry.Entry.{Entry}
-use Rattle.ep_matching.specs.Claims.{receipt_fault}
-use Rattle.ep_matching.specs.Handlings.{entry_fault}
-use Rattle.ep_report.specs.Refusals.{fault_of}
-use Rattle.ep_report.specs.declared.audit_fault.AuditFault.{AuditFault}
+use Rattle.ep_audit.specs.Claims.{receipt_fault}
+use Rattle.ep_audit.specs.Handlings.{entry_fault}
+use Rattle.ep_audit.specs.Faults.{fault_of}
+use Rattle.ep_audit.specs.declared.audit_fault.AuditFault.{AuditFault}
 use Rattle.ep_rules.specs.Audits.{IsAccepted, IsFault}
 use Rattle.ep_rules.specs.Journals.{Journals}
 use Rattle.ep_rules.specs.declared.receipt.Receipt.{Receipt}

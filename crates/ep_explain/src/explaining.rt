@@ -20,9 +20,9 @@ use crate::stepping::step_reasons;
 use ep_advice::{
     Advice, ExplainFault, Kept, Reasons, Subcommand, explain_script, push_section, subcommand_of,
 };
+use ep_audit::AuditFault;
 use ep_base::Source;
 use ep_bundle::{Bundle, BundleFault, read_bundle};
-use ep_report::AuditFault;
 use ep_words::push_edition;
 use std::alloc::{AllocError, Global};
 

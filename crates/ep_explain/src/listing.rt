@@ -4,17 +4,17 @@ ghost use Rattle.std.specs.Prelude.{◌≡◌, ◌≤◌, ◌++◌, [], IfOk, On
 ghost use Rattle.ep_base.specs.Quorums.{size};
 ghost use Rattle.ep_journal.specs.Entries.{AreJournals, entries_at, journals_of};
 ghost use Rattle.ep_journal.specs.Openings.{opens};
-ghost use Rattle.ep_matching.specs.Claims.{is_known, is_proposed, is_earlier, proposal_of, receipt_fault};
-ghost use Rattle.ep_matching.specs.Handlings.{frame_fault, entry_fault};
-ghost use Rattle.ep_matching.specs.Lookups.{sent_there};
+ghost use Rattle.ep_audit.specs.Claims.{is_known, is_proposed, is_earlier, proposal_of, receipt_fault};
+ghost use Rattle.ep_audit.specs.Handlings.{frame_fault, entry_fault};
+ghost use Rattle.ep_audit.specs.Lookups.{sent_there};
 ghost use Rattle.ep_rules.specs.Audits.{IsAccepted};
 ghost use Rattle.ep_explain.specs.Faults.{listed, faults_in, faults_below, receipt_faults, all_faults, IsFirst};
 
 use crate::lookups::{entries_of, has_done, is_request, proposal_in, sent_there};
+use ep_audit::AuditFault;
 use ep_base::ReplicaId;
 use ep_frame::Frame;
 use ep_journal::{Entry, Event, Journals};
-use ep_report::AuditFault;
 use ep_rules::Receipt;
 use std::alloc::{AllocError, Global};
 

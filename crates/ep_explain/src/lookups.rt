@@ -2,7 +2,7 @@
 
 ghost use Rattle.std.specs.Prelude.{◌≡◌, option_copied};
 ghost use Rattle.ep_journal.specs.Entries.{AreJournals, entries_at};
-ghost use Rattle.ep_matching.specs.Lookups.{entry_at, frame_in, sent_there, proposed, proposal_in, is_request, has_answer, has_done};
+ghost use Rattle.ep_audit.specs.Lookups.{entry_at, frame_in, sent_there, proposed, proposal_in, is_request, has_answer, has_done};
 
 use ep_base::{Answer, InstanceId, ReplicaId};
 use ep_frame::Frame;

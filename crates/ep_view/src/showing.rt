@@ -9,10 +9,10 @@ ghost use Rattle.ep_view.specs.Shown.{line_of, lines_at, none_kept, or_none, IsI
 use crate::handled::Handled;
 use crate::lines::push_entry;
 use crate::lookups::entry_at;
+use ep_audit::Verdict;
 use ep_base::ReplicaId;
 use ep_journal::{Entry, Journals};
 use ep_report::push_number;
-use ep_verdict::Verdict;
 use ep_words::{Part, push_edition};
 use std::alloc::{AllocError, Global};
 

@@ -1,5 +1,5 @@
 use Rattle.std.proofs.Common.{◌≡◌, drop}
-use Rattle.ep_matching.specs.Lookups.{has_answer}
+use Rattle.ep_audit.specs.Lookups.{has_answer}
 use Rattle.ep_explain.proofs.lookups.has_answer.Given as goal
 
 abbrev pub invariant-loop-other : goal.invariant-loop-other

@@ -1,5 +1,5 @@
 use Rattle.std.proofs.Common.{◌≡◌, drop}
-use Rattle.ep_matching.specs.Lookups.{proposal_in}
+use Rattle.ep_audit.specs.Lookups.{proposal_in}
 use Rattle.ep_explain.proofs.lookups.proposal_in.Given as goal
 
 abbrev pub invariant-loop-entry : goal.invariant-loop-entry
