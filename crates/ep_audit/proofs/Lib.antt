@@ -4,6 +4,7 @@ pub mod Sending
 pub mod Handled
 pub mod Claimed
 pub mod Rows
+pub mod Firsts
 mod Answering
 mod Covering
 mod FirstSeals

@@ -3,6 +3,7 @@ pub mod Lookups
 pub mod Handlings
 pub mod Claims
 pub mod Proposing
+pub mod Listed
 pub mod Turns
 pub mod Tables
 pub mod Lines

@@ -54,7 +54,7 @@ fn is_known(journals: &Journals, proposals: &Proposals, receipt: &Receipt) -> bo
 }
 
 /// What is wrong with the receipt of this place.
-fn receipt_fault(
+pub(crate) fn receipt_fault(
     journals: &Journals,
     proposals: &Proposals,
     place: usize,

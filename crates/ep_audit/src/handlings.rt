@@ -35,7 +35,11 @@ fn handled_fault(
 }
 
 /// What is wrong with the frame that the replica's entry handles, if it handles one.
-fn entry_fault(journals: &Journals, replica: ReplicaId, entry: &Entry) -> Option<AuditFault>
+pub(crate) fn entry_fault(
+    journals: &Journals,
+    replica: ReplicaId,
+    entry: &Entry,
+) -> Option<AuditFault>
     requires journals { AreJournals journals.now }
     ensures { result ≡ entry_fault journals.now replica entry.now }
 {

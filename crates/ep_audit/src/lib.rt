@@ -7,7 +7,7 @@
 //!
 //! Start with `auditing.rt` and specs/Audited.antt: `IsAudited`, `IsOneHistory`, `IsOneClosing`, `IsRefused`; then `chain.rt` and specs/Chained.antt.
 //!
-//! The work is in two halves. `matching.rt` finds the first fault: it goes through the handled frames by replica and entry, and then through the
+//! The work is in two halves. `matching.rt` finds the first fault (`listing.rt` all of them): it goes through the handled frames by replica and entry, and then through the
 //! receipts, and answers the first one that isn't as `IsAccepted` of `ep_rules`, specs/Audits.antt, asks. Frames and proposals are found by
 //! their places, so that an audit is one pass. `verdict.rt` tells what the journals say (specs/Verdicts.antt): it merges the entries by stamp and replica,
 //! collects what is committed, and takes each command at its first execution. That the replies told are one map's is a law of `ep_rules` on journals
@@ -32,6 +32,7 @@ mod happening;
 mod history;
 mod in_order;
 mod link;
+mod listing;
 mod lookups;
 mod matching;
 mod proposals;
@@ -50,6 +51,8 @@ pub use chain_refusal::ChainRefusal;
 pub use closing::Closing;
 pub use happening::Happening;
 pub use link::Link;
+pub use listing::faults;
+pub use lookups::{entries_of, entry_at, is_request, proposed, sent_there};
 pub use matching::first_fault;
 pub use refusal::Refusal;
 pub use upgrade_law::upgraded_says_the_same;

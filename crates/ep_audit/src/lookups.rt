@@ -9,7 +9,7 @@ use ep_frame::Frame;
 use ep_journal::{Entry, Event, Journals};
 
 /// The entries of this replica; none where it is no replica of the cluster.
-pub(crate) fn entries_of(journals: &Journals, replica: ReplicaId) -> &[Entry]
+pub fn entries_of(journals: &Journals, replica: ReplicaId) -> &[Entry]
     requires { AreJournals journals.now }
     ensures { result.now ≡ entries_at journals.now replica }
 {
@@ -26,8 +26,8 @@ pub(crate) fn entry_in(entries: &[Entry], place: usize) -> Option<&Entry>
     entries.get(place)
 }
 
-/// The entry of this number, from 1.
-pub(crate) fn entry_at(entries: &[Entry], number: u32) -> Option<&Entry>
+/// The entry of this number, from 1, of a replica's.
+fn numbered(entries: &[Entry], number: u32) -> Option<&Entry>
     ensures { option_copied result ≡ entry_at entries.now number }
 {
     if number == 0 {
@@ -36,18 +36,26 @@ pub(crate) fn entry_at(entries: &[Entry], number: u32) -> Option<&Entry>
     entries.get(number as usize - 1)
 }
 
+/// The replica's entry of this number, from 1.
+pub fn entry_at(journals: &Journals, replica: ReplicaId, number: u32) -> Option<&Entry>
+    requires { AreJournals journals.now }
+    ensures { option_copied result ≡ entry_at (entries_at journals.now replica) number }
+{
+    numbered(entries_of(journals, replica), number)
+}
+
 /// The frame that stands where the sender, the entry and the place of this one say.
-pub(crate) fn sent_there<'a>(journals: &'a Journals, frame: &Frame) -> Option<&'a Frame>
+pub fn sent_there<'a>(journals: &'a Journals, frame: &Frame) -> Option<&'a Frame>
     requires { AreJournals journals.now }
     ensures { option_copied result ≡ sent_there journals.now frame.now }
 {
     let origin = frame.origin();
-    let entry = entry_at(entries_of(journals, frame.from()), origin.entry)?;
+    let entry = entry_at(journals, frame.from(), origin.entry)?;
     entry.frames.as_slice().get(origin.out as usize)
 }
 
 /// The instance as which the entry proposes a command: the one that its first frame is about.
-pub(crate) fn proposed(entry: &Entry) -> Option<InstanceId>
+pub fn proposed(entry: &Entry) -> Option<InstanceId>
     ensures { result ≡ proposed entry.now.event entry.now.frames }
 {
     match &entry.event {
@@ -60,7 +68,7 @@ pub(crate) fn proposed(entry: &Entry) -> Option<InstanceId>
 }
 
 /// Whether the event is this client's request.
-pub(crate) fn is_request(event: &Event, client: u32, request: u32) -> bool
+pub fn is_request(event: &Event, client: u32, request: u32) -> bool
     ensures { result ≡ is_request client request event.now }
 {
     match event {
@@ -95,7 +103,7 @@ pub(crate) fn has_done(
 ) -> bool
     ensures { result ≡ has_done (entry_at entries.now number) stamp instance answer.now }
 {
-    match entry_at(entries, number) {
+    match numbered(entries, number) {
         Some(entry) => entry.stamp.ticks() == stamp
             && has_answer(entry.done.as_slice(), instance, answer),
         None => false,

@@ -10,7 +10,7 @@ use Rattle.ep_audit.proofs.Handled.{matched, handled_wrong}
 use Rattle.ep_audit.proofs.Claimed.{accepted_if, wrong_if}
 use Rattle.ep_audit.specs.declared.audit_fault.AuditFault.{AuditFault}
 use Rattle.ep_rules.specs.declared.receipt.Receipt.{Receipt}
-use Rattle.ep_explain.specs.Faults.{listed, faults_in, faults_below, receipt_faults, all_faults, IsFirst}
+use Rattle.ep_audit.specs.Listed.{listed, faults_in, faults_below, receipt_faults, all_faults, IsFirst}
 
 -- the first one, if there is one
 abbrev head : List AuditFault → Option AuditFault
