@@ -1,12 +1,11 @@
 -- The lines that are made are those of the history.
-use Rattle.std.proofs.Common.{◌≡◌, ◌↔◌, ℕ, zero, suc, ◌+◌, ◌<◌, ◌≤◌, Bool, true, false, cond, eqb, ltb, ◌-◌, ◌⊎◌, inl, inr, Option, Some, None, List, [], ◌∷◌, ◌++◌, length, take, drop, map, slice_get, get_or, refl, sym, ap, subst, ◌∙◌, arith, append-nil, append_assoc}
-use Rattle.std.proofs.lemmas.Bool.{lt-ltb, false≢true}
+use Rattle.std.proofs.Common.{◌≡◌, ◌↔◌, ℕ, zero, suc, ◌+◌, ◌<◌, ◌≤◌, Bool, true, false, cond, ◌-◌, ◌⊎◌, inl, inr, Option, Some, None, List, [], ◌∷◌, ◌++◌, length, take, drop, map, slice_get, get_or, refl, sym, ap, subst, ◌∙◌, arith, append-nil, append_assoc}
+use Rattle.std.proofs.lemmas.Bool.{false≢true}
 use Rattle.std.specs.Borrow.{Bor}
 use Rattle.std.specs.List.{filter}
-use Rattle.std.specs.Option.{IfSome, is_some, option_copied}
+use Rattle.std.specs.Option.{option_copied}
 use Rattle.std.proofs.lemmas.List.Elements.{filter-append}
 use Rattle.ep_base.specs.Places.{place, Has}
-use Rattle.ep_base.specs.Quorums.{size}
 use Rattle.ep_base.specs.Sameness.{is_noop}
 use Rattle.ep_base.specs.Commands.{Command}
 use Rattle.ep_base.specs.declared.decree.Decree.{Decree}
@@ -15,7 +14,7 @@ use Rattle.ep_base.specs.declared.reply.Reply.TheVariants.{Absent}
 use Rattle.ep_base.specs.declared.reply.Answer.{Answer}
 use Rattle.ep_rules.specs.Graph.{Graph}
 use Rattle.ep_rules.specs.History.{is_new, nothing}
-use Rattle.ep_rules.specs.Journals.{Entry, Journals, Scheduled, of, IsSchedule, AreLocalRuns, acts_of}
+use Rattle.ep_rules.specs.Journals.{Entry, Journals, Scheduled, IsSchedule, AreLocalRuns, acts_of}
 use Rattle.ep_rules.specs.Merging.{Merges}
 use Rattle.ep_rules.specs.OneMap.{Store, replies, after}
 use Rattle.ep_rules.specs.States.{command_of, attrs_of}
@@ -28,15 +27,17 @@ use Rattle.ep_rules.proofs.JournalsCommitted.{is_run}
 use Rattle.ep_rules.proofs.JournalsExecutions.{executions}
 use Rattle.ep_rules.proofs.JournalsGrow.{numbers_are_places_lem}
 use Rattle.ep_rules.proofs.JournalsReplies.{merged_same, locals, each_reply_lem}
-use Rattle.ep_rules.proofs.Merged.{in_at, at_in}
-use Rattle.ep_rules.proofs.Places.{has_or, has_left, has_right, has_split, has_filter, filter_has, has_cons, has_tail, same_refl, place_cons, place_head, Once, once_filter}
-use Rattle.ep_journal.specs.Entries.{Collected, entry_of, entries_of, entries_at, journals_of}
+use Rattle.ep_rules.proofs.Merged.{in_at, in_of, at_in}
+use Rattle.ep_rules.proofs.Places.{has_or, has_left, has_right, has_split, has_filter, filter_has, has_cons, has_tail, place_cons, place_head, Once, once_filter}
+use Rattle.ep_journal.specs.Entries.{Collected, entry_of, entries_at, journals_of}
 use Rattle.ep_journal.specs.Openings.{opens}
 use Rattle.ep_journal.specs.declared.entry.Entry.{Entry as Written}
+use Rattle.ep_audit.specs.Lookups.{entry_at}
 use Rattle.ep_audit.specs.Lines.{told_by, line_at, line_of, lines_of, lines_in}
 use Rattle.ep_audit.specs.Verdicts.{places_of, instances_in, commands_in, replies_in, IsHistory}
 use Rattle.ep_audit.proofs.Answering.{each_told}
 use Rattle.ep_audit.proofs.Seen.{new_false, new_true}
+use Rattle.ep_audit.proofs.Shown.{shown_from, entry_from}
 use Rattle.ep_audit.specs.declared.happening.Happening.{Happening}
 
 -- What was seen.
@@ -106,54 +107,13 @@ pub record StandsAt (c : Collected) (a : Scheduled) : Type 0 where
   pub there : slice_get (entries_at c a.replica) place ≡ Some entry
   pub is : entry_of entry ≡ a.entry
 
-written_at : (ws : List Written) (k : ℕ) (e : Entry) → slice_get (entries_of ws) k ≡ Some e → (w : Written) × (slice_get ws k ≡ Some w) × (entry_of w ≡ e)
-written_at [] k e h = absurd (cc)
-written_at (w ∷ ws) zero e h = (w, refl, cc)
-written_at (w ∷ ws) (suc k) e h = written_at ws k e h
-
-in_of : (a : Scheduled) (s : List Scheduled) → In a s → In a.entry (of a.replica s)
-in_of a [] h = absurd h
-in_of a (b ∷ s) (inl is) = subst (λ (z : Scheduled). In z.entry (of z.replica (b ∷ s))) is (subst (λ t. In b.entry (cond t (b.entry ∷ of b.replica s) (of b.replica s))) (sym (same_refl b.replica)) (inl refl))
-in_of a (b ∷ s) (inr h) = go (eqb b.replica a.replica) (in_of a s h)
-  where
-    go : (t : Bool) → In a.entry (of a.replica s) → In a.entry (cond t (b.entry ∷ of a.replica s) (of a.replica s))
-    go true k = inr k
-    go false k = k
-
 pub stands_at : (c : Collected) (s : List Scheduled) (k : ℕ) (a : Scheduled) → AreLocalRuns (opens c.opening) c.faults (journals_of c) → IsSchedule (journals_of c) s → slice_get s k ≡ Some a → StandsAt c a
 stands_at c s k a runs h at =
     let there : In a.entry (journals_of c a.replica) = subst (In a.entry) (h.0 a.replica) (in_of a s (at_in s k a at)) in
     let p = in_at (journals_of c a.replica) a.entry there in
     let n = (numbers_are_places_lem (journals_of c a.replica) (runs.local a.replica).0 p.0 a.entry).0 p.1 in
-    let w = written_at (entries_at c a.replica) p.0 a.entry p.1 in
-    record { place = p.0; entry = w.0; number = n.1; there = w.1; is = w.2 }
-
-get_here : (ws : List Written) (k : ℕ) (w e : Written) → slice_get ws k ≡ Some e → w ≡ get_or ws k w → w ≡ e
-get_here [] k w e h is = absurd (cc)
-get_here (x ∷ ws) zero w e h is = is ∙ (let same : x ≡ e = cc in same)
-get_here (x ∷ ws) (suc k) w e h is = get_here ws k w e h is
-
-get_below : (ws : List Written) (k : ℕ) (e : Written) → slice_get ws k ≡ Some e → k < length ws
-get_below [] k e h = absurd (cc)
-get_below (x ∷ ws) zero e h = omega arith
-get_below (x ∷ ws) (suc k) e h = let t = get_below ws k e h in omega arith
-
--- what is got at the place of a number
-pub entry_got : (ws : List Written) (number place k : ℕ) (o : Option (Bor Written)) (e : Written) → number ≡ k + 1 → place ≡ number - 1 → slice_get ws k ≡ Some e →
-    is_some o ≡ ltb place (length ws) → IfSome o (λ x. x.now ≡ get_or ws place x.now) → option_copied o ≡ Some e
-entry_got ws number place k None e n p h some is =
-    let lt = get_below ws k e h in
-    let yes : ltb place (length ws) ≡ true = lt-ltb place (length ws) (omega arith) in
-    absurd (false≢true (some ∙ yes))
-entry_got ws number place k (Some x) e n p h some is = let same : place ≡ k = omega arith in ap Some (get_here ws k x.now e h (subst (λ z. x.now ≡ get_or ws z x.now) same is))
-
-none_written : (ws : List Written) (k : ℕ) (e : Written) → entries_of ws ≡ [] → slice_get ws k ≡ Some e → ⊥
-none_written [] k e h at = cc
-none_written (w ∷ ws) k e h at = cc
-
--- a replica of no journal has no entry
-pub none_there : (c : Collected) (r k : ℕ) (e : Written) → AreLocalRuns (opens c.opening) c.faults (journals_of c) → size c.faults ≤ r → slice_get (entries_at c r) k ≡ Some e → ⊥
-none_there c r k e runs le at = none_written (entries_at c r) k e (runs.others r le) at
+    let w = shown_from (entries_at c a.replica) p.0 a.entry p.1 in
+    record { place = p.0; entry = w.entry; number = n.1; there = w.at; is = sym w.is }
 
 -- one more is seen
 pub seen_more : (old new : List ℕ) (x : ℕ) → ((¬ Has old x) → new ≡ old ++ (x ∷ [])) → (Has old x → new ≡ old) → (i : ℕ) → Has new i ↔ (Has old i ⊎ (i ≡ x))
@@ -219,7 +179,7 @@ slice_here (x ∷ xs) zero p lt e = ap Some (sym e)
 slice_here (x ∷ xs) (suc k) p lt e = slice_here xs k p (omega arith) e
 
 pub looked : (c : Collected) (s : List Scheduled) (k : ℕ) (p : ℕ × ℕ) (xs : List (ℕ × ℕ)) (o : Option (Bor Written)) → AreLocalRuns (opens c.opening) c.faults (journals_of c) → IsSchedule (journals_of c) s → xs ≡ places_of s → k < length xs → p ≡ get_or xs k p →
-    ((n : ℕ) (e : Written) → p.1 ≡ n + 1 → slice_get (entries_at c p.0) n ≡ Some e → option_copied o ≡ Some e) → Looked c s k o
+    option_copied o ≡ entry_at (entries_at c p.0) p.1 → Looked c s k o
 looked c s k p xs o runs h is lt e lookup =
     let a = place_at s k p (subst (λ z. slice_get z k ≡ Some p) is (slice_here xs k p lt e)) in
     let st = stands_at c s k a.0 runs h a.1 in
@@ -228,7 +188,7 @@ looked c s k p xs o runs h is lt e lookup =
       at = a.1;
       entry = st.entry;
       is = st.is;
-      found = lookup st.place st.entry (sym a.3 ∙ st.number) (subst (λ r. slice_get (entries_at c r) st.place ≡ Some st.entry) a.2 st.there);
+      found = lookup ∙ entry_from (entries_at c p.0) p.1 st.place st.entry (sym a.3 ∙ st.number) (subst (λ r. slice_get (entries_at c r) st.place ≡ Some st.entry) a.2 st.there);
     }
 
 pub never_none : (c : Collected) (s : List Scheduled) (k : ℕ) (o : Option (Bor Written)) → Looked c s k o → o ≡ None → ⊥

@@ -1,17 +1,15 @@
 -- Entries and frames of the code, and those that the rule book sees, at the same places.
-use Rattle.std.proofs.Common.{◌≡◌, ℕ, zero, suc, ◌+◌, inl, inr, Bool, true, false, cond, eqb, Option, Some, None, List, [], ◌∷◌, ◌++◌, slice_get, refl, sym, ap, subst, arith}
-use Rattle.std.proofs.lemmas.Bool.{cases_lt, eqb-true}
+use Rattle.std.proofs.Common.{◌≡◌, ℕ, zero, suc, ◌+◌, inl, inr, Option, Some, None, List, [], ◌∷◌, ◌++◌, slice_get, refl, sym, ap, subst, arith}
+use Rattle.std.proofs.lemmas.Bool.{cases_lt}
 use Rattle.ep_base.specs.Quorums.{size}
 use Rattle.ep_base.specs.declared.version.Version.{Version}
-use Rattle.ep_base.specs.declared.version_kind.VersionKind.TheVariants.{V1, V2, V3}
 use Rattle.ep_frame.specs.Meaning.{version_at}
 use Rattle.ep_frame.specs.Spelling.{IsFrame}
 use Rattle.ep_journal.specs.Entries.{Collected, entry_of, entries_of, entries_at, journals_of, frames_at, AreFrames, AreReadable, AreFramesIn, IsEntryIn, AreEntriesIn, AreJournals}
-use Rattle.ep_journal.specs.Events.{event_of, frame_at, IsReadable, spelled_in, lacking}
+use Rattle.ep_journal.specs.Events.{event_of, frame_at, IsReadable, lacking}
 use Rattle.ep_journal.specs.declared.entry.Entry.{Entry}
 use Rattle.ep_journal.specs.declared.event.Event.TheVariants.{Handle}
-use Rattle.ep_journal.specs.declared.step_fault.StepFault.{StepFault}
-use Rattle.ep_journal.specs.declared.step_fault.StepFault.TheVariants.{OtherGeneration}
+use Rattle.ep_journal.proofs.Whole.{same_version}
 use Rattle.ep_rules.specs.Journals as rules
 use Rattle.ep_rules.specs.Journals.{AreLocalRuns, AreNumbered}
 use Rattle.ep_rules.specs.States.{State, fresh_state}
@@ -89,22 +87,7 @@ frame_of (x ∷ bs) (suc k) b h is = frame_of bs k b h.1 is
 -- What is of the version.
 
 pub handled_in : (v : Version) (b : List ℕ) → lacking v (Handle b) ≡ None → version_at b ≡ v
-handled_in v b none = go (version_at b) v none
-  where
-    said : (t : Bool) (fault : StepFault) → cond {A = Option StepFault} t None (Some fault) ≡ None → t ≡ true
-    said true fault is = refl
-    said false fault is = absurd (cc)
-
-    go : (w u : Version) → spelled_in w u ≡ None → w ≡ u
-    go V1 V1 is = refl
-    go V1 V2 is = absurd (cc)
-    go V1 (V3 h) is = absurd (cc)
-    go V2 V1 is = absurd (cc)
-    go V2 V2 is = refl
-    go V2 (V3 h) is = absurd (cc)
-    go (V3 g) V1 is = absurd (cc)
-    go (V3 g) V2 is = absurd (cc)
-    go (V3 g) (V3 h) is = ap V3 (eqb-true g h (said (eqb g h) OtherGeneration is))
+handled_in v b none = same_version (version_at b) v none
 
 pub frame_in_version : (v : Version) (bs : List (List ℕ)) (k : ℕ) (b : List ℕ) → AreFramesIn v bs → slice_get bs k ≡ Some b → version_at b ≡ v
 frame_in_version v [] k b h is = absurd (cc)

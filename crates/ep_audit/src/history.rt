@@ -1,35 +1,21 @@
 //! The history of journals, with replies.
 
-ghost use Rattle.std.specs.Prelude.{◌≡◌, ◌++◌, ◌+◌, ◌⊎◌, ◌↔◌, ℕ, List, [], Some, OnOk, IfOk, option_copied, slice_get};
+ghost use Rattle.std.specs.Prelude.{◌≡◌, ◌++◌, ◌⊎◌, ◌↔◌, ℕ, List, [], Some, OnOk, IfOk};
 ghost use Rattle.ep_base.specs.Places.{Has};
 ghost use Rattle.ep_rules.specs.Journals.{Scheduled, IsSchedule};
 ghost use Rattle.ep_rules.specs.Steps.{order_of};
-ghost use Rattle.ep_journal.specs.Entries.{entries_at, journals_of};
-ghost use Rattle.ep_journal.specs.declared.entry.Entry.{Entry as Written};
+ghost use Rattle.ep_journal.specs.Entries.{journals_of};
 ghost use Rattle.ep_audit.specs.Lines.{told_by, line_at, line_of, lines_of, lines_in};
 ghost use Rattle.ep_audit.specs.Tables.{agreed_in};
 ghost use Rattle.ep_audit.specs.Verdicts.{places_of};
 
 use crate::happening::Happening;
+use crate::lookups::entry_at;
 use crate::table::agreed;
 use ep_base::{Answer, Decree, InstanceId, ReplicaId, Reply};
 use ep_exec::Executed;
-use ep_journal::{Entry, Journals};
+use ep_journal::Journals;
 use std::alloc::{AllocError, Global};
-
-/// The entry of this number in the replica's journal.
-fn entry_at(journals: &Journals, replica: ReplicaId, number: u32) -> Option<&Entry>
-    ensures { (k : ℕ) (e : Written) → number ≡ k + 1 → slice_get (entries_at journals.now replica) k ≡ Some e → option_copied result ≡ Some e }
-{
-    journals.are_local_runs();
-    if number == 0 {
-        return None;
-    }
-    let Some(journal) = journals.get(replica) else {
-        return None;
-    };
-    journal.entries().get(number as usize - 1)
-}
 
 /// The reply that the answer tells; absent where the proposal was lost.
 fn reply_in(alloc: Global, answer: &Answer) -> Result<Reply, AllocError>
@@ -128,6 +114,7 @@ pub(crate) fn history_of(
     requires { (s : List Scheduled) → IsSchedule (journals_of journals.now) s → schedule.now ≡ places_of s }
     ensures { IfOk result (λ v. (s : List Scheduled) → IsSchedule (journals_of journals.now) s → v.items ≡ lines_in (agreed_in journals.now) [] s) }
 {
+    journals.are_journals();
     journals.are_local_runs();
     let mut seen = Executed::new(alloc);
     let mut lines = Vec::new(alloc);
