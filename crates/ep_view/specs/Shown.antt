@@ -9,7 +9,7 @@ use Rattle.ep_words.specs.Kept.{keeps}
 use Rattle.ep_words.specs.declared.part.Part.{Part}
 use Rattle.ep_view.specs.Handled.{is_handled}
 use Rattle.ep_view.specs.Lines.{entry_text}
-use Rattle.ep_view.specs.Lookups.{entry_at}
+use Rattle.ep_audit.specs.Lookups.{entry_at}
 
 module _ (handled : List ℕ → Bool) (part : Part) where
   -- the line of an entry, if it is asked for

@@ -10,14 +10,12 @@
 
 mod handled;
 mod lines;
-mod lookups;
 mod showing;
 mod side_by_side;
 mod wanted;
 
 pub use handled::Handled;
 pub use lines::{push_between, push_done, push_taken, words_of};
-pub use lookups::{entries_of, entry_at};
 pub use showing::{schedule, show};
 pub use side_by_side::columns;
 pub use wanted::Wanted;
