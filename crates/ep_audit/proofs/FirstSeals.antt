@@ -1,9 +1,8 @@
 -- The first seal of a history's lines.
 use Rattle.std.proofs.Common.{◌≡◌, ℕ, IfOk, Result, Ok, Err, Bool, true, false, cond, ◌||◌, inl, inr, Option, Some, None, List, [], ◌∷◌, ◌++◌, refl, sym, ap, subst, ◌∙◌}
-use Rattle.std.proofs.lemmas.Bool.{false≢true}
 use Rattle.std.specs.Option.{option_map}
 use Rattle.std.specs.declared.alloc.AllocError.{AllocError}
-use Rattle.ep_base.specs.Commands.{Command, Noop, Seal}
+use Rattle.ep_base.specs.Commands.{Command, Noop}
 use Rattle.ep_base.specs.Interference.{is_seal}
 use Rattle.ep_rules.specs.Closing.{has_seal, up_to_seal}
 use Rattle.ep_rules.specs.Journals.{Journals, Scheduled, IsSchedule, AreLocalRuns}

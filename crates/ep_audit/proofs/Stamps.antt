@@ -2,7 +2,7 @@
 use Rattle.std.proofs.Common.{◌≡◌, ◌≤◌, ◌<◌, ℕ, zero, suc, Bool, true, false, cond, eqb, ltb, ◌⊎◌, inl, inr, Option, Some, None, List, [], ◌∷◌, refl, sym, ap, subst, ◌∙◌, arith}
 use Rattle.std.proofs.lemmas.Bool.{false≢true, cases_lt, eqb-false, eqb-true, ltb-false, ltb-true}
 use Rattle.std.specs.Option.{is_some}
-use Rattle.ep_base.specs.Places.{place, Has}
+use Rattle.ep_base.specs.Places.{Has}
 use Rattle.ep_base.specs.Quorums.{size}
 use Rattle.ep_base.specs.declared.reply.Answer.{Answer}
 use Rattle.ep_rules.specs.Journals.{Entry, Journals, AreLocalRuns}

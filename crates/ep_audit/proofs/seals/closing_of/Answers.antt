@@ -1,4 +1,4 @@
-use Rattle.std.proofs.Common.{◌≡◌, ℕ, None, Option, Some, option_copied, sym, ap, ◌∙◌}
+use Rattle.std.proofs.Common.{◌≡◌, ℕ, Some, option_copied, sym, ap, ◌∙◌}
 use Rattle.ep_base.specs.Quorums.{size}
 use Rattle.ep_journal.specs.Entries.{journals_of}
 use Rattle.ep_journal.specs.Openings.{opens}
