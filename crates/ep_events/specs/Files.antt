@@ -4,7 +4,7 @@ use Rattle.ep_base.specs.Quorums.{size}
 use Rattle.ep_journal.specs.Entries.{Collected, entries_at}
 use Rattle.ep_journal.specs.declared.entry.Entry.{Entry}
 use Rattle.ep_view.specs.Handled.{is_handled}
-use Rattle.ep_view.specs.Lookups.{entry_at}
+use Rattle.ep_audit.specs.Lookups.{entry_at}
 use Rattle.ep_view.specs.Shown.{IsInOrder}
 use Rattle.ep_words.specs.Kept.{keeps}
 use Rattle.ep_words.specs.declared.part.Part.{Part}

@@ -4,15 +4,16 @@ ghost use Rattle.std.specs.Prelude.{◌≡◌, ◌++◌, Some, IfOk, OnOk};
 ghost use Rattle.ep_base.specs.Quorums.{size};
 ghost use Rattle.ep_journal.specs.Entries.{AreJournals, entries_at};
 ghost use Rattle.ep_view.specs.Handled.{is_in};
-ghost use Rattle.ep_view.specs.Lookups.{entry_at};
+ghost use Rattle.ep_audit.specs.Lookups.{entry_at};
 ghost use Rattle.ep_events.specs.Events.{edition_event};
 ghost use Rattle.ep_events.specs.Files.{processes, events_of, events_at, opening, file_text, IsTraceFile};
 
 use crate::entries::push_entry_events;
 use crate::events::{push_edition_event, push_first, push_process};
+use ep_audit::entry_at;
 use ep_base::ReplicaId;
 use ep_journal::{Entry, Journals};
-use ep_view::{Handled, entry_at, schedule};
+use ep_view::{Handled, schedule};
 use ep_words::Part;
 use std::alloc::{AllocError, Global};
 

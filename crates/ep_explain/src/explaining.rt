@@ -15,14 +15,13 @@ use crate::explained::Explained;
 use crate::finding::Finding;
 use crate::grammar::field_reasons;
 use crate::handled::handling_reasons;
-use crate::listing::faults;
 use crate::stepping::step_reasons;
 use ep_advice::{
     Advice, ExplainFault, Kept, Reasons, Subcommand, explain_script, push_section, subcommand_of,
 };
+use ep_audit::{AuditFault, faults};
 use ep_base::Source;
 use ep_bundle::{Bundle, BundleFault, read_bundle};
-use ep_report::AuditFault;
 use ep_words::push_edition;
 use std::alloc::{AllocError, Global};
 

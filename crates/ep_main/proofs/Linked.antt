@@ -13,8 +13,8 @@ use Rattle.ep_bundle.specs.Journals.{Contents, Finds}
 use Rattle.ep_bundle.specs.declared.bundle_fault.BundleFault.{BundleFault}
 use Rattle.ep_bundle.specs.declared.bundle_fault.BundleFault.TheVariants as bundle
 use Rattle.ep_report.specs.Lives.{Life, link_line}
-use Rattle.ep_report.specs.declared.chain_fault.ChainFault.{ChainFault}
-use Rattle.ep_verdict.specs.declared.verdict.Verdict.{Verdict}
+use Rattle.ep_audit.specs.declared.chain_fault.ChainFault.{ChainFault}
+use Rattle.ep_audit.specs.declared.verdict.Verdict.{Verdict}
 use Rattle.ep_main.specs.ChainLines.{IsRefusal, IsUnreadLate}
 use Rattle.ep_main.specs.Chains.{AreRead, Chains, EndsOfFiles, IsBadFile, IsOfBytes, IsLinkOf, IsNoFile, IsNoLink, IsStopped, IsToldChain, IsWritten, ReadsLate, SaysOfChain, TurnsAway, chain_text, file_line, life_text, link_text, links_text}
 use Rattle.ep_main.specs.Lives.{life_in}

@@ -5,11 +5,11 @@ use Rattle.ep_bundle.specs.Bytes.{bundle_bytes}
 use Rattle.ep_host.specs.Finishing.{IsFinished}
 use Rattle.ep_journal.specs.Entries.{journals_of}
 use Rattle.ep_journal.specs.Openings.{opens}
-use Rattle.ep_report.specs.Refusals.{fault_of}
-use Rattle.ep_report.specs.declared.audit_fault.AuditFault.{AuditFault}
+use Rattle.ep_audit.specs.Faults.{fault_of}
+use Rattle.ep_audit.specs.declared.audit_fault.AuditFault.{AuditFault}
 use Rattle.ep_rules.specs.Audits.{IsFault}
 use Rattle.ep_run.specs.declared.ran.Ran.{Ran}
-use Rattle.ep_verdict.specs.declared.verdict.Verdict.{Verdict}
+use Rattle.ep_audit.specs.declared.verdict.Verdict.{Verdict}
 use Rattle.ep_main.proofs.Flags.{run_verdict}
 use Rattle.ep_main.specs.Audits.{SaysOfRun}
 use Rattle.ep_main.specs.Hosts.{Promises}

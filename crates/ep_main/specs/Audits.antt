@@ -9,7 +9,7 @@ use Rattle.ep_rules.specs.Audits.{Fault, IsFault}
 use Rattle.ep_rules.specs.declared.receipt.Receipt.{Receipt}
 use Rattle.ep_report.specs.Reports.{text_of, accepted_lines, run_lines, refusal_lines}
 use Rattle.ep_run.specs.declared.ran.Ran.{Ran}
-use Rattle.ep_verdict.specs.declared.verdict.Verdict.{Verdict}
+use Rattle.ep_audit.specs.declared.verdict.Verdict.{Verdict}
 use Rattle.ep_audit.specs.Audited.{IsAudited}
 use Rattle.ep_main.specs.Lives.{life_in}
 use Rattle.ep_main.specs.Outputs.{Output, Wrote}

@@ -13,8 +13,8 @@ use Rattle.ep_bundle.specs.declared.bundle_fault.BundleFault.{BundleFault}
 use Rattle.ep_bundle.specs.declared.bundle_fault.BundleFault.TheVariants as bundle
 use Rattle.ep_report.specs.Lives.{Life, link_line}
 use Rattle.ep_report.specs.Reports.{text_of, chain_refusal_lines}
-use Rattle.ep_report.specs.declared.chain_fault.ChainFault.{ChainFault}
-use Rattle.ep_verdict.specs.declared.verdict.Verdict.{Verdict}
+use Rattle.ep_audit.specs.declared.chain_fault.ChainFault.{ChainFault}
+use Rattle.ep_audit.specs.declared.verdict.Verdict.{Verdict}
 use Rattle.ep_main.specs.Faults.{out_of_memory, writing_failed}
 use Rattle.ep_main.specs.Lives.{life_in}
 use Rattle.ep_main.specs.Outputs.{Output, Told, Wrote, WroteNothing}

@@ -1,5 +1,4 @@
 pub mod Handled
 pub mod Wanted
-pub mod Lookups
 pub mod Lines
 pub mod Shown

@@ -5,19 +5,17 @@
 //! sends and executes, and a frame that no entry handles is told as that. What of it other views of runs need is public too.
 //!
 //! Start with `showing.rt` and specs/Lines.antt, which says a line; the order of entries is `IsSchedule` of `ep_rules`, as
-//! `ep_verdict` makes it. What events and messages are told as is in `ep_words`.
+//! `ep_audit` makes it. What events and messages are told as is in `ep_words`.
 #![tactic(auto)]
 
 mod handled;
 mod lines;
-mod lookups;
 mod showing;
 mod side_by_side;
 mod wanted;
 
 pub use handled::Handled;
 pub use lines::{push_between, push_done, push_taken, words_of};
-pub use lookups::{entries_of, entry_at};
 pub use showing::{schedule, show};
 pub use side_by_side::columns;
 pub use wanted::Wanted;

@@ -2,8 +2,8 @@
 
 use crate::handled::Handled;
 use crate::lines::push_happened;
-use crate::lookups::entry_at;
 use crate::showing::{push_none_kept, schedule};
+use ep_audit::entry_at;
 use ep_base::ReplicaId;
 use ep_journal::{Entry, Journals};
 use ep_report::push_number;
