@@ -16,8 +16,7 @@ use ep_journal::Journals;
 use ep_matching::first_fault;
 use ep_report::{AuditFault, push_number};
 use ep_svg::{push_arrows, push_attribute, push_shapes};
-use ep_view::{Handled, entry_at, schedule};
-use ep_words::Part;
+use ep_view::{Handled, Part, entry_at, schedule};
 use std::alloc::{AllocError, Global};
 
 /// How many events a diagram shows.

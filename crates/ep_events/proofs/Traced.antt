@@ -5,7 +5,7 @@ use Rattle.ep_journal.specs.Entries.{Collected}
 use Rattle.ep_view.specs.Handled.{is_in, is_handled, AreHandled}
 use Rattle.ep_view.specs.Shown.{IsInOrder}
 use Rattle.ep_view.specs.declared.handled.Handled.{Handled}
-use Rattle.ep_words.specs.declared.part.Part.{Part}
+use Rattle.ep_view.specs.declared.part.Part.{Part}
 use Rattle.ep_events.specs.Events.{edition_event}
 use Rattle.ep_events.specs.Files.{events_at, file_text, IsTraceFile}
 

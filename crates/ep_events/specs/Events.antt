@@ -11,8 +11,8 @@ use Rattle.ep_journal.specs.declared.event.Event.TheVariants.{Propose, Handle, G
 use Rattle.ep_journal.specs.Openings.{Opening}
 use Rattle.ep_report.specs.Parts.{instance_text}
 use Rattle.ep_view.specs.Lines.{words_at, taken_text, done_text}
-use Rattle.ep_words.specs.Editions.{edition_text}
-use Rattle.ep_words.specs.Words.{event_text, origin_text}
+use Rattle.ep_view.specs.Editions.{edition_text}
+use Rattle.ep_view.specs.Words.{event_text, origin_text}
 use Rattle.ep_json.specs.Strings.{string_text}
 
 -- the process of a replica, and its one thread

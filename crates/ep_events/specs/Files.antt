@@ -6,8 +6,8 @@ use Rattle.ep_journal.specs.declared.entry.Entry.{Entry}
 use Rattle.ep_view.specs.Handled.{is_handled}
 use Rattle.ep_view.specs.Lookups.{entry_at}
 use Rattle.ep_view.specs.Shown.{IsInOrder}
-use Rattle.ep_words.specs.Kept.{keeps}
-use Rattle.ep_words.specs.declared.part.Part.{Part}
+use Rattle.ep_view.specs.Kept.{keeps}
+use Rattle.ep_view.specs.declared.part.Part.{Part}
 use Rattle.ep_events.specs.Events.{entry_events, process_text, first_event, edition_event}
 
 -- the processes of the replicas below n

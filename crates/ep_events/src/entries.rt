@@ -3,7 +3,7 @@
 ghost use Rattle.std.specs.Prelude.{◌≡◌, ◌++◌, [], cond, codes, take, IfOk, OnOk};
 ghost use Rattle.std.specs.Str.{bytes_eq};
 ghost use Rattle.ep_view.specs.Handled.{is_in};
-ghost use Rattle.ep_words.specs.Words.{event_text};
+ghost use Rattle.ep_view.specs.Words.{event_text};
 ghost use Rattle.ep_events.specs.Events.{happened_text, instant_text, slice_head, slice_words, slice_text, leaves_text, enters_text, arrow_of, is_commit, commit_of, commit_handled, commit_sent, lost_words, lost_text, instants_text, entry_events};
 
 use crate::events::{push_arrow_id, push_begun, push_instant, push_named};
@@ -12,8 +12,7 @@ use ep_frame::Frame;
 use ep_journal::{Entry, Event};
 use ep_json::push_string;
 use ep_report::{push_instance, push_number};
-use ep_view::{Handled, push_done, push_taken, words_of};
-use ep_words::push_event;
+use ep_view::{Handled, push_done, push_event, push_taken, words_of};
 use std::alloc::{AllocError, Global};
 
 fn event_words(alloc: Global, event: &Event) -> Result<Vec<u8>, AllocError>

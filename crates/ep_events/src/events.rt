@@ -2,14 +2,14 @@
 
 ghost use Rattle.std.specs.Prelude.{◌≡◌, ◌++◌, IfOk, OnOk};
 ghost use Rattle.ep_events.specs.Events.{pid_text, time_text, begun, named, instant_text, arrow_id, process_start, process_name, process_text, first_event, generation_event, edition_event};
-ghost use Rattle.ep_words.specs.Editions.{edition_text};
+ghost use Rattle.ep_view.specs.Editions.{edition_text};
 
 use ep_base::{ReplicaId, Version, VersionKind};
 use ep_frame::Frame;
 use ep_journal::{Entry, Opening};
 use ep_json::push_string;
 use ep_report::push_number;
-use ep_words::{push_generation, push_origin};
+use ep_view::{push_generation, push_origin};
 use std::alloc::{AllocError, Global};
 
 #[tactic(auto, unfolding(crate::specs::Events::pid_text))]

@@ -12,8 +12,7 @@ use crate::entries::push_entry_events;
 use crate::events::{push_edition_event, push_first, push_process};
 use ep_base::ReplicaId;
 use ep_journal::{Entry, Journals};
-use ep_view::{Handled, entry_at, schedule};
-use ep_words::Part;
+use ep_view::{Handled, Part, entry_at, schedule};
 use std::alloc::{AllocError, Global};
 
 // Appends the events of an entry, if it is asked for.

@@ -3,7 +3,7 @@ use Rattle.std.specs.Prelude.{◌≡◌, ℕ, List, ◌++◌}
 use Rattle.ep_journal.specs.Entries.{Collected}
 use Rattle.ep_json.specs.Strings.{string_text, IsString}
 use Rattle.ep_view.specs.Shown.{IsShown}
-use Rattle.ep_words.specs.declared.part.Part.{Part}
+use Rattle.ep_view.specs.declared.part.Part.{Part}
 use Rattle.ep_page.specs.declared.parts.TheConstants.{HEAD, TAIL}
 
 -- words as a string between the fixed parts

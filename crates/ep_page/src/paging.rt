@@ -7,8 +7,7 @@ ghost use Rattle.ep_page.specs.Pages.{page_text, IsPage};
 use crate::parts::{HEAD, TAIL};
 use ep_journal::Journals;
 use ep_json::push_string;
-use ep_view::show;
-use ep_words::Part;
+use ep_view::{Part, show};
 use std::alloc::{AllocError, Global};
 
 // Appends the page with these words.

@@ -8,7 +8,7 @@ use Rattle.ep_replay.specs.declared.ended.Ended.{Ended}
 use Rattle.ep_script.specs.Plan.{Plan}
 use Rattle.ep_trace.specs.Left.{AddsLeft, OpenBelow, ungiven_lines}
 use Rattle.ep_trace.specs.Traced.{IsTraced, tried_lines}
-use Rattle.ep_words.specs.Editions.{edition_line}
+use Rattle.ep_view.specs.Editions.{edition_line}
 use Rattle.ep_world.specs.Played.{Played}
 
 -- what is left was appended to what equals this

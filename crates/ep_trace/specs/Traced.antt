@@ -11,7 +11,7 @@ use Rattle.ep_script.specs.Plan.{Plan}
 use Rattle.ep_trace.specs.Left.{IsLeft}
 use Rattle.ep_trace.specs.Lines.{made_line, refused_line}
 use Rattle.ep_trace.specs.declared.numbers.Numbers.{Numbers}
-use Rattle.ep_words.specs.Editions.{edition_line}
+use Rattle.ep_view.specs.Editions.{edition_line}
 use Rattle.ep_world.specs.Played.{Played, entries_in, numbered}
 use Rattle.ep_world.specs.declared.world_event.WorldEvent.{WorldEvent}
 use Rattle.ep_world.specs.declared.world_event.WorldEvent.TheVariants as event

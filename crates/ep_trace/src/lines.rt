@@ -10,8 +10,7 @@ use ep_base::{Command, InstanceId, ReplicaId};
 use ep_frame::Frame;
 use ep_journal::{Entry, Event};
 use ep_report::{Cause, push_command, push_instance, push_number};
-use ep_view::{push_between, push_done, push_taken, words_of};
-use ep_words::push_message;
+use ep_view::{push_between, push_done, push_message, push_taken, words_of};
 use ep_world::WorldEvent;
 use std::alloc::AllocError;
 

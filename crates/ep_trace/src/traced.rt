@@ -3,7 +3,7 @@
 ghost use Rattle.std.specs.Prelude.{◌≡◌, ◌++◌, OnOk, IfOk};
 ghost use Rattle.ep_trace.specs.Left.{AddsLeft};
 ghost use Rattle.ep_trace.specs.Traced.{given_by, entry_line, tried_line, tried_lines, IsTraced};
-ghost use Rattle.ep_words.specs.Editions.{edition_line};
+ghost use Rattle.ep_view.specs.Editions.{edition_line};
 ghost use Rattle.ep_world.specs.Played.{entries_in, numbered};
 
 use crate::left::push_left;
@@ -12,7 +12,7 @@ use crate::numbers::Numbers;
 use ep_base::ReplicaId;
 use ep_replay::{Ended, Outcome, Tried, play};
 use ep_script::Script;
-use ep_words::push_edition;
+use ep_view::push_edition;
 use ep_world::{World, WorldEvent};
 use std::alloc::{AllocError, Global};
 

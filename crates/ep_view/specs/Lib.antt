@@ -3,3 +3,6 @@ pub mod Wanted
 pub mod Lookups
 pub mod Lines
 pub mod Shown
+pub mod Kept
+pub mod Words
+pub mod Editions

@@ -20,7 +20,7 @@ use Rattle.ep_viewer.specs.Views.{Does, IsCrowded, IsMany, IsNever, IsView, View
 use Rattle.ep_view.specs.Shown.{IsShown}
 use Rattle.ep_view.specs.Wanted.{part_of}
 use Rattle.ep_view.specs.declared.wanted.Wanted.{Wanted}
-use Rattle.ep_words.specs.declared.part.Part.{Part}
+use Rattle.ep_view.specs.declared.part.Part.{Part}
 use Rattle.ep_viewer.specs.declared.asked.Asked.{Asked}
 use Rattle.ep_viewer.specs.declared.asked.Asked.TheVariants.{Show, Draw, Page, Events}
 use Rattle.ep_events.specs.Files.{IsTraceFile}

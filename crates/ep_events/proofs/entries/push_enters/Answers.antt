@@ -2,7 +2,7 @@ use Rattle.std.proofs.Common.{◌≡◌, ◌++◌, ◌∙◌, ap, subst, rules}
 use Rattle.std.specs.Prelude.{codes}
 use Rattle.ep_view.specs.Lines.{words_at}
 use Rattle.ep_events.specs.Events.{enters_text, begun, named, arrow_id}
-use Rattle.ep_words.proofs.Joining.{three}
+use Rattle.ep_view.proofs.Joining.{three}
 use Rattle.ep_events.proofs.entries.push_enters.Goals as goal
 
 pub returns : goal.returns

@@ -3,7 +3,7 @@ use Rattle.std.specs.Prelude.{codes}
 use Rattle.ep_frame.specs.Meaning.{origin_at, sender_at}
 use Rattle.ep_view.specs.Lines.{words_at}
 use Rattle.ep_events.specs.Events.{leaves_text, begun, named, arrow_id}
-use Rattle.ep_words.proofs.Joining.{three}
+use Rattle.ep_view.proofs.Joining.{three}
 use Rattle.ep_events.proofs.entries.push_leaves.Goals as goal
 
 pub returns : goal.returns

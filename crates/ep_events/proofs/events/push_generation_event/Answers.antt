@@ -1,8 +1,8 @@
 use Rattle.std.proofs.Common.{◌≡◌, ◌++◌, ◌∙◌, subst, rules}
 use Rattle.std.specs.Prelude.{codes}
 use Rattle.ep_json.specs.Strings.{string_text}
-use Rattle.ep_words.specs.Editions.{edition_text}
-use Rattle.ep_words.proofs.Joining.{three}
+use Rattle.ep_view.specs.Editions.{edition_text}
+use Rattle.ep_view.proofs.Joining.{three}
 use Rattle.ep_events.specs.Events.{generation_event}
 use Rattle.ep_events.proofs.events.push_generation_event.Goals as goal
 

@@ -1,7 +1,7 @@
 use Rattle.std.proofs.Common.{◌≡◌, ◌++◌, subst, rules}
 use Rattle.std.specs.Prelude.{codes}
 use Rattle.ep_events.specs.Events.{instant_text, begun, named}
-use Rattle.ep_words.proofs.Joining.{three}
+use Rattle.ep_view.proofs.Joining.{three}
 use Rattle.ep_events.proofs.events.push_instant.Goals as goal
 
 pub returns : goal.returns

@@ -1,7 +1,7 @@
 use Rattle.std.proofs.Common.{◌≡◌, ◌++◌, subst, rules}
 use Rattle.std.specs.Prelude.{codes, decimal, OnOk}
 use Rattle.ep_events.specs.Events.{pid_text}
-use Rattle.ep_words.proofs.Joining.{two}
+use Rattle.ep_view.proofs.Joining.{two}
 use Rattle.ep_events.proofs.events.push_pid.Goals as goal
 
 pub returns : goal.returns

@@ -1,6 +1,6 @@
 use Rattle.std.proofs.Common.{◌++◌, ◌∙◌}
 use Rattle.ep_trace.specs.Traced.{tried_lines}
-use Rattle.ep_words.specs.Editions.{edition_line}
+use Rattle.ep_view.specs.Editions.{edition_line}
 use Rattle.ep_trace.proofs.Tracing.{left_after}
 use Rattle.ep_trace.proofs.traced.push_ended.Goals as goal
 

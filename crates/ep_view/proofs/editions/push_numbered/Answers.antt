@@ -1,8 +1,8 @@
 use Rattle.std.proofs.Common.{◌≡◌, ◌++◌, subst, rules}
 use Rattle.std.specs.Prelude.{codes, decimal, OnOk}
-use Rattle.ep_words.specs.Editions.{generation_text}
-use Rattle.ep_words.proofs.Joining.{two}
-use Rattle.ep_words.proofs.editions.push_numbered.Goals as goal
+use Rattle.ep_view.specs.Editions.{generation_text}
+use Rattle.ep_view.proofs.Joining.{two}
+use Rattle.ep_view.proofs.editions.push_numbered.Goals as goal
 
 pub returns : goal.returns
 unfolding generation_text

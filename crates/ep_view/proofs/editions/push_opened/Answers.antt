@@ -1,7 +1,7 @@
 use Rattle.std.proofs.Common.{◌≡◌, ◌++◌, subst}
 use Rattle.std.specs.Prelude.{OnOk}
 use Rattle.ep_report.specs.Contents.{contents_text}
-use Rattle.ep_words.proofs.editions.push_opened.Goals as goal
+use Rattle.ep_view.proofs.editions.push_opened.Goals as goal
 
 pub returns : goal.returns
 returns c =

@@ -3,7 +3,7 @@
 ghost use Rattle.std.specs.Prelude.{◌≡◌, ◌++◌, OnOk};
 ghost use Rattle.ep_journal.specs.declared.event.Event.TheVariants as event;
 ghost use Rattle.ep_report.specs.Parts.{instance_text};
-ghost use Rattle.ep_words.specs.Words.{event_text};
+ghost use Rattle.ep_view.specs.Words.{event_text};
 
 use crate::messages::{push_message, push_origin};
 use ep_base::{Command, InstanceId};

@@ -2,7 +2,7 @@
 
 ghost use Rattle.std.specs.Prelude.{◌≡◌, ◌++◌, OnOk, codes, decimal};
 ghost use Rattle.ep_report.specs.Contents.{contents_text};
-ghost use Rattle.ep_words.specs.Editions.{generation_text, opening_text, edition_text, edition_line};
+ghost use Rattle.ep_view.specs.Editions.{generation_text, opening_text, edition_text, edition_line};
 
 use ep_base::{Version, VersionKind};
 use ep_journal::Opening;

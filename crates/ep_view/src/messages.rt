@@ -3,7 +3,7 @@
 ghost use Rattle.std.specs.Prelude.{◌≡◌, ◌++◌, OnOk, Some};
 ghost use Rattle.ep_base.specs.declared.message.Message.TheVariants as message;
 ghost use Rattle.ep_frame.specs.Meaning.{message_at};
-ghost use Rattle.ep_words.specs.Words.{ballot_text, attrs_text, decree_text, status_text, vote_text, about_text, message_text, origin_text};
+ghost use Rattle.ep_view.specs.Words.{ballot_text, attrs_text, decree_text, status_text, vote_text, about_text, message_text, origin_text};
 
 use ep_base::{Attrs, Ballot, Decree, InstanceId, Message, Status, Vote};
 use ep_frame::Frame;

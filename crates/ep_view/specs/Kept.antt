@@ -5,7 +5,7 @@ use Rattle.ep_frame.specs.Meaning.{instance_at}
 use Rattle.ep_journal.specs.declared.entry.Entry.{Entry}
 use Rattle.ep_journal.specs.declared.event.Event.{Event}
 use Rattle.ep_journal.specs.declared.event.Event.TheVariants.{Propose, Handle, GiveUp, Recover, Execute}
-use Rattle.ep_words.specs.declared.part.Part.{Part}
+use Rattle.ep_view.specs.declared.part.Part.{Part}
 
 -- the instance is one of these
 abbrev pub is_one_of : List ℕ → ℕ → Bool

@@ -1,7 +1,7 @@
 //! Which entries of journals are asked for.
 
 ghost use Rattle.std.specs.Prelude.{◌≡◌, ◌<◌, ◌^◌, ℕ, true, None};
-ghost use Rattle.ep_words.specs.Kept.{is_one_of, names, sends_of, executes, is_about, is_of_instance, is_of_some, is_of_replica, keeps};
+ghost use Rattle.ep_view.specs.Kept.{is_one_of, names, sends_of, executes, is_about, is_of_instance, is_of_some, is_of_replica, keeps};
 ghost use Rattle.ep_journal.specs.declared.entry.Entry.{Entry as Taken};
 
 use ep_base::{Answer, Deps, InstanceId, ReplicaId};
