@@ -23,8 +23,8 @@ use Rattle.ep_view.specs.declared.wanted.Wanted.{Wanted}
 use Rattle.ep_view.specs.declared.part.Part.{Part}
 use Rattle.ep_viewer.specs.declared.asked.Asked.{Asked}
 use Rattle.ep_viewer.specs.declared.asked.Asked.TheVariants.{Show, Draw, Page, Events}
-use Rattle.ep_events.specs.Files.{IsTraceFile}
-use Rattle.ep_page.specs.Pages.{IsPage}
+use Rattle.ep_browser.specs.Files.{IsTraceFile}
+use Rattle.ep_browser.specs.Pages.{IsPage}
 use Rattle.ep_draw.specs.Drawn.{IsDrawn, IsTooMany, IsRefused}
 use Rattle.ep_draw.specs.declared.draw_fault.DrawFault.{DrawFault}
 use Rattle.ep_draw.specs.declared.draw_fault.DrawFault.TheVariants as draw

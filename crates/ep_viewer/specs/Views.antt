@@ -4,12 +4,12 @@ use Rattle.ep_bundle.specs.Journals.{ReadsBundle}
 use Rattle.ep_bundle.specs.Reading.{Left}
 use Rattle.ep_bundle.specs.declared.bundle_fault.BundleFault.TheVariants as bundle
 use Rattle.ep_draw.specs.Drawn.{IsDrawn, IsTooMany}
-use Rattle.ep_events.specs.Files.{IsTraceFile}
+use Rattle.ep_browser.specs.Files.{IsTraceFile}
 use Rattle.ep_explain.specs.Explained.{IsExplained}
 use Rattle.ep_explain.specs.declared.finding.Finding.{Finding}
 use Rattle.ep_graph.specs.Graphs.{IsGraphFile}
 use Rattle.ep_journal.specs.Entries.{Collected}
-use Rattle.ep_page.specs.Pages.{IsPage}
+use Rattle.ep_browser.specs.Pages.{IsPage}
 use Rattle.ep_rules.specs.declared.receipt.Receipt.{Receipt}
 use Rattle.ep_script.specs.Plan.{Plan, script_of}
 use Rattle.ep_trace.specs.Traced.{IsTraced}

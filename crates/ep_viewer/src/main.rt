@@ -3,7 +3,7 @@
 //! `main` hands the words to `read_words`, in `command_line.rt`, and what they ask for with the standard streams to `perform`, in
 //! `program.rt`, which is all of the program: over any source and sinks, so that its contract can say what the bytes and the
 //! status mean. It does no more than read a bundle and call `ep_view`,
-//! `ep_explain`, `ep_draw`, `ep_graph`, `ep_page` or `ep_events`, or read a script and call `ep_trace`.
+//! `ep_explain`, `ep_draw`, `ep_graph` or `ep_browser`, or read a script and call `ep_trace`.
 //!
 //! Start with `program.rt` and specs/Views.antt. A fault has one line on the fault output and one status (`fault.rt`,
 //! `telling.rt`, `status.rt`), as docs/FORMATS.md, section 6, lists them.

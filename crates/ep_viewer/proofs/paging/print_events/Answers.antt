@@ -1,5 +1,5 @@
 use Rattle.std.proofs.Common.{refl, rules, subst}
-use Rattle.ep_events.specs.Files.{IsTraceFile}
+use Rattle.ep_browser.specs.Files.{IsTraceFile}
 use Rattle.ep_view.specs.Wanted.{part_of}
 use Rattle.ep_view.specs.declared.part.Part.{Part}
 use Rattle.ep_viewer.specs.Views.{IsNever}
