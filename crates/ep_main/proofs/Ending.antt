@@ -5,7 +5,7 @@ use Rattle.ep_base.specs.Versions.{version_number}
 use Rattle.std.specs.Prelude.{IfOk, IsErrAnd}
 use Rattle.ep_base.specs.Devices.{FailsAsTold}
 use Rattle.ep_main.specs.Faults.{of_bundle, is_read, is_write}
-use Rattle.ep_main.specs.Outputs.{Input, Output, WroteNothing}
+use Rattle.ep_cli.specs.Outputs.{Input, Output, WroteNothing}
 use Rattle.ep_bundle.specs.Journals.{Contents, Finds}
 use Rattle.ep_bundle.specs.Reading.{Left, Reading}
 use Rattle.ep_journal.specs.Entries.{Collected}

@@ -18,7 +18,7 @@ use Rattle.ep_verdict.specs.declared.verdict.Verdict.{Verdict}
 use Rattle.ep_main.specs.ChainLines.{IsRefusal, IsUnreadLate}
 use Rattle.ep_main.specs.Chains.{AreRead, Chains, EndsOfFiles, IsBadFile, IsOfBytes, IsLinkOf, IsNoFile, IsNoLink, IsStopped, IsToldChain, IsWritten, ReadsLate, SaysOfChain, TurnsAway, chain_text, file_line, life_text, link_text, links_text}
 use Rattle.ep_main.specs.Lives.{life_in}
-use Rattle.ep_main.specs.Outputs.{Output, Told, WroteNothing}
+use Rattle.ep_cli.specs.Outputs.{Output, Told, WroteNothing}
 use Rattle.ep_main.specs.Runs.{Concludes}
 use Rattle.ep_main.specs.declared.fault.Fault.{Fault}
 use Rattle.ep_main.specs.declared.fault.Fault.TheVariants.{Memory}

@@ -14,7 +14,7 @@ use Rattle.ep_main.proofs.Flags.{run_verdict}
 use Rattle.ep_main.specs.Audits.{SaysOfRun}
 use Rattle.ep_main.specs.Hosts.{Promises}
 use Rattle.ep_main.specs.Options.{Options}
-use Rattle.ep_main.specs.Outputs.{Output}
+use Rattle.ep_cli.specs.Outputs.{Output}
 use Rattle.ep_main.specs.Runs.{IsRan, IsRefusedRun, Runs}
 use Rattle.ep_main.specs.declared.asked.Emit.{Emit}
 use Rattle.ep_main.specs.declared.asked.Emit.TheVariants.{Report, Bundle}

@@ -12,7 +12,7 @@ use Rattle.ep_run.specs.declared.ran.Ran.{Ran}
 use Rattle.ep_verdict.specs.declared.verdict.Verdict.{Verdict}
 use Rattle.ep_audit.specs.Audited.{IsAudited}
 use Rattle.ep_main.specs.Lives.{life_in}
-use Rattle.ep_main.specs.Outputs.{Output, Wrote}
+use Rattle.ep_cli.specs.Outputs.{Output, Wrote}
 use Rattle.ep_main.specs.declared.asked.Emit.{Emit}
 use Rattle.ep_main.specs.declared.asked.Emit.TheVariants.{Report, Bundle}
 use Rattle.ep_main.specs.declared.status.Status.{Status}

@@ -15,9 +15,9 @@ use Rattle.ep_report.specs.Lives.{Life, link_line}
 use Rattle.ep_report.specs.Reports.{text_of, chain_refusal_lines}
 use Rattle.ep_report.specs.declared.chain_fault.ChainFault.{ChainFault}
 use Rattle.ep_verdict.specs.declared.verdict.Verdict.{Verdict}
-use Rattle.ep_main.specs.Faults.{out_of_memory, writing_failed}
+use Rattle.ep_cli.specs.Lines.{out_of_memory, writing_failed}
 use Rattle.ep_main.specs.Lives.{life_in}
-use Rattle.ep_main.specs.Outputs.{Output, Told, Wrote, WroteNothing}
+use Rattle.ep_cli.specs.Outputs.{Output, Told, Wrote, WroteNothing}
 use Rattle.ep_main.specs.declared.status.Status.{Status}
 use Rattle.ep_main.specs.declared.status.Status.TheVariants.{Accepted, AuditRefused, Refused, OutOfMemory, Failed}
 

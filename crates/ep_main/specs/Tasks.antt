@@ -1,7 +1,7 @@
 -- What the program does of what it has to do, by the status that it answers.
 use Rattle.std.specs.Prelude.{◌≡◌, ◌⊎◌, ℕ, List, map, string_bytes}
 use Rattle.ep_main.specs.Chains.{ChainsFiles, EndsOfFiles}
-use Rattle.ep_main.specs.Outputs.{Input, Output}
+use Rattle.ep_cli.specs.Outputs.{Input, Output}
 use Rattle.ep_main.specs.Runs.{Ends, Performs}
 use Rattle.ep_main.specs.Words.{IsAsked, IsChainAsked}
 use Rattle.ep_main.specs.declared.asked.Asked.{Asked}

@@ -4,7 +4,7 @@ ghost use Rattle.std.specs.Prelude.{◌≡◌, ℕ, List, Some, IfOk, IfErr};
 ghost use Rattle.ep_base.specs.Devices.{FailsAsTold};
 ghost use Rattle.ep_main.specs.Audits.{Says};
 ghost use Rattle.ep_main.specs.Faults.{is_read, is_write};
-ghost use Rattle.ep_main.specs.Outputs.{output};
+ghost use Rattle.ep_cli.specs.Outputs.{output};
 ghost use Rattle.ep_main.specs.Runs.{Finishes, IsVerdict};
 ghost use Rattle.ep_main.specs.declared.fault.Fault.TheVariants.{Memory};
 

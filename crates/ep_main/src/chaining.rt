@@ -3,7 +3,7 @@
 ghost use Rattle.std.specs.Prelude.{◌≡◌, ◌<◌, ◌++◌, codes, length, map, string_bytes, IfOk, IfErr, OnOk};
 ghost use Rattle.ep_audit.specs.Chained.{IsChained, IsChainFault};
 ghost use Rattle.ep_main.specs.Chains.{Chains, ChainsFiles, EndsOfFiles, IsFaultText, IsWritten, SaysOfChain, TurnsAway, chain_text, link_text};
-ghost use Rattle.ep_main.specs.Outputs.{Told, output};
+ghost use Rattle.ep_cli.specs.Outputs.{Told, output};
 ghost use Rattle.ep_main.specs.declared.fault.Fault.TheVariants.{Memory};
 
 use crate::chain_files::read_links;

@@ -7,7 +7,7 @@ ghost use Rattle.ep_host.specs.Finishing.{IsFinished};
 ghost use Rattle.ep_main.specs.Audits.{SaysOfRun};
 ghost use Rattle.ep_main.specs.Faults.{is_read, is_write};
 ghost use Rattle.ep_main.specs.Hosts.{Promises};
-ghost use Rattle.ep_main.specs.Outputs.{output};
+ghost use Rattle.ep_cli.specs.Outputs.{output};
 ghost use Rattle.ep_main.specs.Runs.{IsVerdict, Runs};
 ghost use Rattle.ep_run.specs.Rings.{IsBegun, begun_of};
 ghost use Rattle.ep_main.specs.declared.asked.Emit.TheVariants.{Report, Bundle};

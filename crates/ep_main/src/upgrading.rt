@@ -7,7 +7,7 @@ ghost use Rattle.ep_base.specs.declared.version_kind.VersionKind.TheVariants.{V2
 ghost use Rattle.ep_bundle.specs.Bytes.{bundle_bytes};
 ghost use Rattle.ep_journal.specs.Upgrading.{IsUpgraded};
 ghost use Rattle.ep_main.specs.Faults.{is_read, is_write};
-ghost use Rattle.ep_main.specs.Outputs.{output};
+ghost use Rattle.ep_cli.specs.Outputs.{output};
 ghost use Rattle.ep_main.specs.Runs.{Rewrites, IsVerdict};
 ghost use Rattle.ep_main.specs.Upgrades.{IsThirdFault};
 ghost use Rattle.ep_main.specs.declared.fault.Fault.TheVariants.{Memory};

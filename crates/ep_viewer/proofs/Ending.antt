@@ -15,7 +15,7 @@ use Rattle.ep_script.specs.declared.script_fault.ScriptFault.{ScriptFault}
 use Rattle.ep_script.specs.declared.script_fault.ScriptFault.TheVariants as script
 use Rattle.ep_viewer.specs.Faults.{of_bundle, of_diagram, of_explained, of_graph, of_script, is_read, is_write}
 use Rattle.ep_rules.specs.declared.receipt.Receipt.{Receipt}
-use Rattle.ep_viewer.specs.Outputs.{Output, output, Wrote, WroteNothing}
+use Rattle.ep_cli.specs.Outputs.{Output, output, Wrote, WroteNothing}
 use Rattle.ep_viewer.specs.Views.{Does, IsCrowded, IsMany, IsNever, IsView, Views, Explains}
 use Rattle.ep_view.specs.Shown.{IsShown}
 use Rattle.ep_view.specs.Wanted.{part_of}

@@ -16,8 +16,9 @@ use Rattle.ep_trace.specs.Traced.{IsTraced}
 use Rattle.ep_view.specs.Shown.{IsShown}
 use Rattle.ep_view.specs.Wanted.{part_of}
 use Rattle.ep_base.specs.Devices.{FailsAsTold}
-use Rattle.ep_viewer.specs.Faults.{command_line_refused, out_of_memory, line_of, status_of, status_found, is_read, is_write}
-use Rattle.ep_viewer.specs.Outputs.{Input, Output, Wrote, WroteNothing, Told}
+use Rattle.ep_cli.specs.Lines.{command_line_refused, out_of_memory}
+use Rattle.ep_viewer.specs.Faults.{line_of, status_of, status_found, is_read, is_write}
+use Rattle.ep_cli.specs.Outputs.{Input, Output, Wrote, WroteNothing, Told}
 use Rattle.ep_viewer.specs.declared.asked.Asked.{Asked}
 use Rattle.ep_viewer.specs.declared.asked.Asked.TheVariants.{Show, Columns, Trace, Explain, Draw, Graph, Page, Events, Version, Help}
 use Rattle.ep_viewer.specs.declared.declined.Declined.{Declined}

@@ -6,7 +6,7 @@ ghost use Rattle.ep_draw.specs.Drawn.{IsDrawn, IsTooMany};
 ghost use Rattle.ep_graph.specs.Graphs.{IsGraphFile};
 ghost use Rattle.ep_view.specs.Wanted.{part_of};
 ghost use Rattle.ep_viewer.specs.Faults.{is_read, is_write};
-ghost use Rattle.ep_viewer.specs.Outputs.{output};
+ghost use Rattle.ep_cli.specs.Outputs.{output};
 ghost use Rattle.ep_viewer.specs.Views.{IsMany, Views};
 
 use crate::fault::Fault;

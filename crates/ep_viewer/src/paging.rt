@@ -6,7 +6,7 @@ ghost use Rattle.ep_browser.specs.Files.{IsTraceFile};
 ghost use Rattle.ep_browser.specs.Pages.{IsPage};
 ghost use Rattle.ep_view.specs.Wanted.{part_of};
 ghost use Rattle.ep_viewer.specs.Faults.{is_read, is_write};
-ghost use Rattle.ep_viewer.specs.Outputs.{output};
+ghost use Rattle.ep_cli.specs.Outputs.{output};
 ghost use Rattle.ep_viewer.specs.Views.{IsNever, Views};
 
 use crate::fault::Fault;

@@ -5,7 +5,7 @@ ghost use Rattle.ep_view.specs.Shown.{IsShown};
 ghost use Rattle.ep_view.specs.Wanted.{part_of};
 ghost use Rattle.ep_base.specs.Devices.{FailsAsTold};
 ghost use Rattle.ep_viewer.specs.Faults.{is_read, is_write};
-ghost use Rattle.ep_viewer.specs.Outputs.{output};
+ghost use Rattle.ep_cli.specs.Outputs.{output};
 ghost use Rattle.ep_viewer.specs.Views.{IsAnyText, IsNever, Views};
 
 use crate::fault::Fault;

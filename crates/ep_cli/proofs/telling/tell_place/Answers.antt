@@ -1,6 +1,6 @@
 use Rattle.std.proofs.Common.{rules, ◌≡◌, decimal}
-use Rattle.ep_viewer.proofs.Puts.{puts_in_two}
-use Rattle.ep_viewer.proofs.telling.tell_place.Goals as goal
+use Rattle.ep_cli.proofs.Puts.{puts_in_two}
+use Rattle.ep_cli.proofs.telling.tell_place.Goals as goal
 
 pub returns : goal.returns
 returns g c =

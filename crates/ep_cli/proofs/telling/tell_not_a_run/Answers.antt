@@ -1,6 +1,6 @@
 use Rattle.std.proofs.Common.{rules, ◌≡◌, codes, decimal}
-use Rattle.ep_viewer.proofs.Puts.{puts_two_places}
-use Rattle.ep_viewer.proofs.telling.tell_not_a_run.Goals as goal
+use Rattle.ep_cli.proofs.Puts.{puts_two_places}
+use Rattle.ep_cli.proofs.telling.tell_not_a_run.Goals as goal
 
 pub returns : goal.returns
 returns g c =

@@ -1,6 +1,6 @@
 use Rattle.std.proofs.Common.{rules, ◌≡◌, decimal}
-use Rattle.ep_main.proofs.Puts.{puts_in_three}
-use Rattle.ep_main.proofs.telling.tell_bad_bundle.Goals as goal
+use Rattle.ep_cli.proofs.Puts.{puts_in_three}
+use Rattle.ep_cli.proofs.telling.tell_bad_bundle.Goals as goal
 
 pub returns : goal.returns
 returns g c =
