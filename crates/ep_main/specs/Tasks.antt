@@ -5,7 +5,7 @@ use Rattle.ep_cli.specs.Outputs.{Input, Output}
 use Rattle.ep_main.specs.Runs.{Ends, Performs}
 use Rattle.ep_main.specs.Words.{IsAsked, IsChainAsked}
 use Rattle.ep_main.specs.declared.asked.Asked.{Asked}
-use Rattle.ep_main.specs.declared.status.Status.{Status}
+use Rattle.ep_cli.specs.declared.status.Status.{Status}
 use Rattle.ep_main.specs.declared.task.Task.{Task}
 use Rattle.ep_main.specs.declared.task.Task.TheVariants.{Streams, Chain}
 

@@ -11,10 +11,10 @@ use crate::fault::Fault;
 use crate::judged::Judged;
 use crate::life::{life_of, told_contents};
 use crate::program::concluded;
-use crate::status::Status;
 use ep_assemble::FilesFault;
 use ep_audit::{ChainFault, ChainRefusal, Link, Verdict, audit_chain};
 use ep_base::Sink;
+use ep_cli::Status;
 use ep_report::{chain_refusal, push_link_line};
 use std::alloc::{AllocError, Global};
 use std::mem::forget;
@@ -86,7 +86,7 @@ fn judge_chain(alloc: Global, links: &[Link]) -> Result<Judged, Fault>
             let text = accepted_chain(alloc, links, &verdicts)?;
             forget(verdicts);
             Ok(Judged {
-                status: Status::Accepted,
+                status: Status::Done,
                 text,
             })
         }

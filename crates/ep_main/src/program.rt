@@ -13,16 +13,14 @@ use crate::asked::{Asked, Emit};
 use crate::auditing::print_audit;
 use crate::chaining::print_chain;
 use crate::command_line::read_words;
-use crate::declined::Declined;
 use crate::fault::Fault;
 use crate::replaying::{emit_bundle, print_replay};
 use crate::running::print_run;
-use crate::status::Status;
 use crate::task::Task;
 use crate::telling::tell;
 use crate::upgrading::print_upgraded;
 use ep_base::{Sink, Source};
-use ep_cli::tell_words;
+use ep_cli::{Declined, Status, tell_words};
 use std::alloc::Global;
 use std::convert::AsStr;
 use std::marker::Sync;
@@ -160,11 +158,11 @@ fn attempt<R: Threads + Wait + Sync, S: Source, W: Sink>(
         Asked::Upgrade(target) => print_upgraded(alloc, target, reader, writer),
         Asked::Version => {
             writer.put(b"epaxos 0.1.0\n")?;
-            Ok(Status::Accepted)
+            Ok(Status::Done)
         }
         Asked::Help(text) => {
             writer.put(text.as_bytes())?;
-            Ok(Status::Accepted)
+            Ok(Status::Done)
         }
     }
 }

@@ -31,7 +31,7 @@ use Rattle.ep_draw.specs.declared.draw_fault.DrawFault.TheVariants as draw
 use Rattle.ep_graph.specs.Graphs.{IsMore}
 use Rattle.ep_graph.specs.declared.graph_fault.GraphFault.{GraphFault}
 use Rattle.ep_graph.specs.declared.graph_fault.GraphFault.TheVariants as graph
-use Rattle.ep_viewer.specs.declared.status.Status.{Status}
+use Rattle.ep_cli.specs.declared.status.Status.{Status}
 use Rattle.ep_viewer.specs.declared.fault.Fault.{Fault}
 use Rattle.ep_viewer.specs.declared.fault.Fault.TheVariants.{Script, BadBundle, NotARun, TooMany, TooManyEvents, Memory, Read, Write}
 

@@ -15,16 +15,8 @@ use Rattle.ep_script.specs.declared.script_fault.ScriptFault.{ScriptFault}
 use Rattle.ep_script.specs.declared.script_fault.ScriptFault.TheVariants as script
 use Rattle.ep_viewer.specs.declared.fault.Fault.{Fault}
 use Rattle.ep_viewer.specs.declared.fault.Fault.TheVariants.{Script, BadBundle, NotARun, TooMany, TooManyEvents, Memory, Read, Write}
-use Rattle.ep_viewer.specs.declared.status.Status.{Status}
-use Rattle.ep_viewer.specs.declared.status.Status.TheVariants.{Done, AuditRefused, Refused, OutOfMemory, Failed}
-
--- the exit status
-abbrev pub code_of : Status → ℕ
-code_of Done = 0
-code_of AuditRefused = 1
-code_of Refused = 2
-code_of OutOfMemory = 3
-code_of Failed = 4
+use Rattle.ep_cli.specs.declared.status.Status.{Status}
+use Rattle.ep_cli.specs.declared.status.Status.TheVariants.{Done, AuditRefused, Refused, OutOfMemory, Failed}
 
 -- so many entries are asked for, or so many instances are there, more than a picture shows
 abbrev pub too_many : ℕ → List ℕ

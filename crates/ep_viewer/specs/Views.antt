@@ -21,12 +21,12 @@ use Rattle.ep_viewer.specs.Faults.{line_of, status_of, status_found, is_read, is
 use Rattle.ep_cli.specs.Outputs.{Input, Output, Wrote, WroteNothing, Told}
 use Rattle.ep_viewer.specs.declared.asked.Asked.{Asked}
 use Rattle.ep_viewer.specs.declared.asked.Asked.TheVariants.{Show, Columns, Trace, Explain, Draw, Graph, Page, Events, Version, Help}
-use Rattle.ep_viewer.specs.declared.declined.Declined.{Declined}
-use Rattle.ep_viewer.specs.declared.declined.Declined.TheVariants as declined
+use Rattle.ep_cli.specs.declared.declined.Declined.{Declined}
+use Rattle.ep_cli.specs.declared.declined.Declined.TheVariants as declined
 use Rattle.ep_viewer.specs.declared.fault.Fault.{Fault}
 use Rattle.ep_viewer.specs.declared.fault.Fault.TheVariants.{Script, BadBundle, NotARun, TooMany, TooManyEvents, Memory, Read, Write}
-use Rattle.ep_viewer.specs.declared.status.Status.{Status}
-use Rattle.ep_viewer.specs.declared.status.Status.TheVariants.{Done, Refused, OutOfMemory}
+use Rattle.ep_cli.specs.declared.status.Status.{Status}
+use Rattle.ep_cli.specs.declared.status.Status.TheVariants.{Done, Refused, OutOfMemory}
 
 -- The bytes are one bundle, and this was written of its journals.
 pub record IsView (Tells : Collected → List ℕ → Type 0) (zs : List ℕ) (out : Output) : Type 0 where

@@ -10,9 +10,9 @@ ghost use Rattle.ep_cli.specs.Outputs.{output};
 ghost use Rattle.ep_viewer.specs.Views.{IsMany, Views};
 
 use crate::fault::Fault;
-use crate::status::Status;
 use ep_base::{Sink, Source};
 use ep_bundle::read_bundle;
+use ep_cli::Status;
 use ep_draw::diagram;
 use ep_graph::graph;
 use ep_view::Wanted;

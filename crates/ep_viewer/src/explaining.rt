@@ -8,9 +8,9 @@ ghost use Rattle.ep_cli.specs.Outputs.{output};
 ghost use Rattle.ep_viewer.specs.Views.{Explains};
 
 use crate::fault::Fault;
-use crate::status::Status;
 use ep_advice::Kept;
 use ep_base::{Sink, Source};
+use ep_cli::Status;
 use ep_explain::{Finding, explain};
 use std::alloc::Global;
 

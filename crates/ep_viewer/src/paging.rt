@@ -10,10 +10,10 @@ ghost use Rattle.ep_cli.specs.Outputs.{output};
 ghost use Rattle.ep_viewer.specs.Views.{IsNever, Views};
 
 use crate::fault::Fault;
-use crate::status::Status;
 use ep_base::{Sink, Source};
 use ep_browser::{page, trace_events};
 use ep_bundle::read_bundle;
+use ep_cli::Status;
 use ep_view::Wanted;
 use std::alloc::Global;
 use std::mem::forget;

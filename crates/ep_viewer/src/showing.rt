@@ -9,9 +9,9 @@ ghost use Rattle.ep_cli.specs.Outputs.{output};
 ghost use Rattle.ep_viewer.specs.Views.{IsAnyText, IsNever, Views};
 
 use crate::fault::Fault;
-use crate::status::Status;
 use ep_base::{Sink, Source};
 use ep_bundle::read_bundle;
+use ep_cli::Status;
 use ep_view::{Wanted, columns, show};
 use std::alloc::Global;
 use std::mem::forget;

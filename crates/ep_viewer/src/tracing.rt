@@ -7,8 +7,8 @@ ghost use Rattle.ep_cli.specs.Outputs.{output};
 ghost use Rattle.ep_viewer.specs.Views.{Traces};
 
 use crate::fault::Fault;
-use crate::status::Status;
 use ep_base::{Sink, Source};
+use ep_cli::Status;
 use ep_script::read_script;
 use ep_trace::trace;
 use std::alloc::Global;

@@ -1,13 +1,13 @@
 //! Why the program does nothing.
 
 ghost use Rattle.std.specs.Prelude.{◌≡◌};
-ghost use Rattle.ep_main.specs.declared.declined.Declined.TheVariants.{Memory};
+ghost use Rattle.ep_cli.specs.declared.declined.Declined.TheVariants.{Memory};
 
 use std::alloc::AllocError;
 
 /// Why the program does nothing.
 #[derive(Debug, Drop)]
-pub(crate) enum Declined {
+pub enum Declined {
     /// The words of the command line are none that it knows. This says what is wrong with them, in lines.
     Words(String),
     /// Memory was refused before it knew what it was asked for.

@@ -1,13 +1,13 @@
 //! How the program ends.
 
 ghost use Rattle.std.specs.Prelude.{◌≡◌};
-ghost use Rattle.ep_main.specs.Faults.{code_of};
+ghost use Rattle.ep_cli.specs.Codes.{code_of};
 
 /// How the program ends.
 #[derive(Clone, Copy, Debug, PartialEq, Eq)]
 pub enum Status {
-    /// The audit accepts, or an upgrade, help or the version was asked for, and what was asked for is printed.
-    Accepted,
+    /// What was asked for is printed; of an audit, that it accepts.
+    Done,
     /// The audit refuses.
     AuditRefused,
     /// The command line, the script or the bundle is refused.
@@ -24,7 +24,7 @@ impl Status {
         ensures { result ≡ code_of self }
     {
         match self {
-            Status::Accepted => 0,
+            Status::Done => 0,
             Status::AuditRefused => 1,
             Status::Refused => 2,
             Status::OutOfMemory => 3,
