@@ -16,8 +16,7 @@ use ep_base::ReplicaId;
 use ep_journal::Journals;
 use ep_report::push_number;
 use ep_svg::{push_arrows, push_attribute, push_shapes};
-use ep_view::{Handled, schedule};
-use ep_words::Part;
+use ep_view::{Handled, Part, schedule};
 use std::alloc::{AllocError, Global};
 
 /// How many events a diagram shows.

@@ -11,7 +11,7 @@ use ep_base::{ReplicaId, VersionKind};
 use ep_journal::Entry;
 use ep_report::push_number;
 use ep_svg::{Look, Point, Shape};
-use ep_words::push_generation;
+use ep_view::push_generation;
 use std::alloc::{AllocError, Global};
 
 /// How many bytes of a row's words are shown; the title of its dot has all.

@@ -11,7 +11,7 @@ use ep_base::{Answer, InstanceId, ReplicaId};
 use ep_journal::{Entry, Event, Journals};
 use ep_report::{push_answer, push_instance, push_number};
 use ep_rules::Receipt;
-use ep_words::push_event;
+use ep_view::push_event;
 use std::alloc::{AllocError, Global};
 
 /// Why nobody proposed or executed what the receipt at this place, counted from 1, says.

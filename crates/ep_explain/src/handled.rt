@@ -10,7 +10,7 @@ use ep_base::ReplicaId;
 use ep_frame::Frame;
 use ep_journal::{Entry, Event, Journals};
 use ep_report::push_number;
-use ep_words::push_event;
+use ep_view::push_event;
 use std::alloc::{AllocError, Global};
 
 /// An entry that handles a frame.
