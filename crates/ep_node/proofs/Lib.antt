@@ -17,3 +17,5 @@ mod Moments
 mod Syncing
 mod Opened
 mod EachTaken
+mod Noting
+mod OpenTold
