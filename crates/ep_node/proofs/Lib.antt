@@ -19,3 +19,5 @@ mod Opened
 mod EachTaken
 mod Noting
 mod OpenTold
+mod Decided
+mod Learnt

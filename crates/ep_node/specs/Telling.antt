@@ -1,11 +1,15 @@
 -- What entries tell: what they send and execute, which instances they commit, and what each instance was first told of by.
-use Rattle.std.specs.Prelude.{◌≡◌, ◌≤◌, ◌<◌, ℕ, zero, suc, Bool, true, false, eqb, cond, take, length, List, [], ◌∷◌, ◌++◌, Option, Some, None, slice_index_or as get_or}
-use Rattle.std.specs.Option.{option_map}
+use Rattle.std.specs.Prelude.{◌≡◌, ◌≤◌, ◌<◌, ℕ, zero, suc, Bool, true, false, eqb, cond, is_some, take, length, List, [], ◌∷◌, ◌++◌, Option, Some, None, slice_index_or as get_or}
 use Rattle.ep_base.specs.Instances.{IsInstance}
 use Rattle.ep_base.specs.Messages.{instance_of_message}
 use Rattle.ep_frame.specs.Meaning.{instance_at, kind_at, message_at}
 use Rattle.ep_frame.specs.declared.kind.Kind.{Kind}
 use Rattle.ep_frame.specs.declared.kind.Kind.TheVariants as kind
+use Rattle.ep_base.specs.declared.version.Version.{Version}
+use Rattle.ep_journal.specs.Entries.{IsJournal}
+use Rattle.ep_journal.specs.Leaving.{state_left}
+use Rattle.ep_journal.specs.Openings.{Opening}
+use Rattle.ep_rules.specs.States.{committed_in}
 use Rattle.ep_journal.specs.declared.entry.Entry.{Entry}
 use Rattle.ep_journal.specs.declared.event.Event.{Event as Happening}
 use Rattle.ep_journal.specs.declared.event.Event.TheVariants.{Propose, Handle, GiveUp, Recover, Execute}
@@ -91,11 +95,11 @@ first_said (b ∷ bs) = said_by b
 
 -- the instance that an entry learns to be committed: by the Commit that it handles, or by those that it sends, since its replica has decided
 abbrev pub learnt_in : Happening → List (List ℕ) → Option ℕ
-learnt_in (Propose client request command seen) frames = None
+learnt_in (Propose client request command seen) frames = first_said frames
 learnt_in (Handle b) frames = or_other (said_by b) (first_said frames)
-learnt_in (GiveUp i) frames = None
-learnt_in (Recover i) frames = None
-learnt_in (Execute i) frames = None
+learnt_in (GiveUp i) frames = first_said frames
+learnt_in (Recover i) frames = first_said frames
+learnt_in (Execute i) frames = first_said frames
 
 abbrev pub learnt_by : Entry → Option ℕ
 learnt_by e = learnt_in e.event e.frames
@@ -113,6 +117,12 @@ new_commit all number (Some i) = cond (is_number number (first_number learnt_by 
 abbrev pub commits_by : List Entry → List Entry → List ℕ
 commits_by all [] = []
 commits_by all (e ∷ es) = new_commit all e.number (learnt_by e) ++ commits_by all es
+
+-- The law: of a replica of a cluster in which one may fail, what it has committed is what some entry of its journal learnt to be committed. So what entries
+-- commit, by the definition above, is what its records say after them and not before.
+abbrev pub CommitsAreTold : Type 0
+CommitsAreTold =
+    (v : Version) (o : Opening) (f me : ℕ) (es : List Entry) → 0 < f → IsJournal v o f me es → (i : ℕ) → is_some (committed_in (state_left o f me es).records i) ≡ is_some (first_number learnt_by es i)
 
 -- What is open.
 

@@ -73,6 +73,8 @@ pub(crate) fn learnt_by(entry: &Entry) -> Option<InstanceId>
 {
     match &entry.event {
         Event::Handle(frame) => or_other(said_by(frame), first_said(entry.frames.as_slice())),
-        Event::Propose { .. } | Event::GiveUp(_) | Event::Recover(_) | Event::Execute(_) => None,
+        Event::Propose { .. } | Event::GiveUp(_) | Event::Recover(_) | Event::Execute(_) => {
+            first_said(entry.frames.as_slice())
+        }
     }
 }
