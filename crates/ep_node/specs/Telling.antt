@@ -142,8 +142,8 @@ AreOpen k (suc n) after (x ∷ xs) = IsNextOpen (state_of k).records after (Some
 -- of the first ones, so many, it has noted which was the first about each instance, and which learnt first that it is committed
 pub record Knows (es : List Entry) (seen : ℕ) (about commits : List (Option ℕ)) : Type 0 where
   pub within : seen ≤ length es
-  pub about : AreFirst about_by (take seen es) about
-  pub commits : AreFirst learnt_by (take seen es) commits
+  pub first_about : AreFirst about_by (take seen es) about
+  pub first_learnt : AreFirst learnt_by (take seen es) commits
 
 -- Why nothing is told: want of memory; not all that was taken is on the disk; or the device failed before.
 abbrev pub IsUntold : {D : Type 0} → Logged D → ReadyFault → Type 0
