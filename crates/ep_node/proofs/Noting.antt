@@ -1,12 +1,12 @@
 -- What a node has noted of its first entries, as they grow and as more of them are noted.
-use Rattle.std.proofs.Common.{◌≡◌, ◌≢◌, inl, inr, cond, ◌*◌, ◌/◌, ◌%◌, get_or, ℕ, zero, suc, ◌+◌, ◌-◌, ◌≤◌, ◌<◌, length, take, drop, List, [], ◌∷◌, ◌++◌, refl, sym, ap, subst, ◌∙◌, arith, length-append}
+use Rattle.std.proofs.Common.{◌≡◌, ◌≢◌, inl, inr, cond, ◌*◌, ◌/◌, ◌%◌, get_or, ℕ, zero, suc, ◌+◌, ◌-◌, ◌≤◌, ◌<◌, length, take, drop, List, [], ◌∷◌, ◌++◌, refl, sym, ap, subst, ◌∙◌, arith, append_assoc, length-append}
 use Rattle.std.specs.Prelude.{Option, Some, None, slice_get}
-use Rattle.std.proofs.lemmas.List.{append-nil, take-append-le, take_all}
+use Rattle.std.proofs.lemmas.List.{append-nil, drop_more, take-append-le, take_all}
 use Rattle.std.proofs.lemmas.Bool.{cases_eq, eq-eqb, ne_eqb}
 use Rattle.ep_base.specs.Instances.{IsInstance}
 use Rattle.ep_replica.specs.Blockers.{slot}
 use Rattle.ep_journal.specs.declared.entry.Entry.{Entry}
-use Rattle.ep_node.specs.Telling.{about_by, first_number, learnt_by, noted, number_for, or_other, AreFirst, Knows}
+use Rattle.ep_node.specs.Telling.{about_by, commits_by, first_number, learnt_by, new_commit, noted, number_for, or_other, AreFirst, Knows}
 
 or_none : (o : Option ℕ) → or_other o None ≡ o
 or_none None = refl
@@ -96,3 +96,13 @@ pub of_all : (es : List Entry) (seen : ℕ) (about commits : List (Option ℕ)) 
 of_all es seen about commits k all =
     let whole : take seen es ≡ es = take_all seen es (omega (arith, all)) in
     (subst (λ (l : List Entry). AreFirst about_by l about) whole k.first_about, subst (λ (l : List Entry). AreFirst learnt_by l commits) whole k.first_learnt)
+
+-- whatever the others commit completes the whole, with one entry more
+pub commits_more : (all es : List Entry) (n : ℕ) (e : Entry) (old new whole : List ℕ) → n < length es → e ≡ get_or es n e → new ≡ old ++ new_commit all e.number (learnt_by e) → old ++ commits_by all (drop n es) ≡ whole
+    → new ++ commits_by all (drop (n + 1) es) ≡ whole
+commits_more all es n e old new whole lt is added so_far =
+    let left : drop n es ≡ e ∷ drop (n + 1) es = drop_more es n e lt ∙ ap (λ (y : Entry). y ∷ drop (n + 1) es) (sym is) in
+    ap (λ (l : List ℕ). l ++ commits_by all (drop (n + 1) es)) added
+    ∙ append_assoc old (new_commit all e.number (learnt_by e)) (commits_by all (drop (n + 1) es))
+    ∙ sym (ap (λ (l : List Entry). old ++ commits_by all l) left)
+    ∙ so_far

@@ -136,12 +136,11 @@ fn open_in(
     let mut told = Vec::new(alloc);
     let mut above = None;
     for _ in 0..most {
-        let found = replica.next_open(above);
-        let Some(instance) = found else {
+        let Some(instance) = replica.next_open(above) else {
             return Ok(told);
         };
         told.push(open_as(replica, table, instance))?;
-        above = found;
+        above = Some(instance);
     }
     Ok(told)
 }
