@@ -1,8 +1,8 @@
 -- When an instance turns to committed in a replica's records: exactly when the replica handles a Commit of it, or sends one.
-use Rattle.std.proofs.Common.{◌≡◌, ◌⊎◌, ℕ, zero, suc, ◌+◌, ◌*◌, ◌<◌, Bool, true, false, ◌&&◌, ◌||◌, not, eqb, ltb, leb, cond, List, [], ◌∷◌, ◌++◌, Option, Some, None, is_some, Result, Ok, Err, inl, inr, refl, sym, ap, subst, ◌∙◌, arith}
-use Rattle.std.proofs.lemmas.Bool.{or_left, false≢true}
+use Rattle.std.proofs.Common.{◌≡◌, ℕ, zero, suc, ◌+◌, ◌*◌, ◌<◌, Bool, true, false, ◌&&◌, ◌||◌, not, eqb, ltb, leb, cond, List, [], ◌∷◌, ◌++◌, Option, Some, None, is_some, Ok, Err, refl, sym, ap, subst, ◌∙◌, arith}
+use Rattle.std.proofs.lemmas.Bool.{false≢true, ne_eqb}
 use Rattle.ep_base.specs.Ballots.{ballot_of, highest_counter}
-use Rattle.ep_base.specs.Instances.{instance_of, leader_of}
+use Rattle.ep_base.specs.Instances.{leader_of}
 use Rattle.ep_base.specs.Messages.{instance_of_message}
 use Rattle.ep_base.specs.Quorums.{size, is_fast}
 use Rattle.ep_base.specs.declared.attrs.Attrs.{Attrs}
@@ -10,22 +10,23 @@ use Rattle.ep_base.specs.Commands.{Command, Noop}
 use Rattle.ep_base.specs.declared.decree.Decree.{Decree}
 use Rattle.ep_base.specs.declared.message.Message.{Message}
 use Rattle.ep_base.specs.declared.message.Message.TheVariants.{PreAccept, PreAcceptOk, Accept, AcceptOk, Commit, Prepare, PrepareOk, Nack}
+use Rattle.ep_base.specs.Attributes.{join}
+use Rattle.ep_base.specs.declared.vote.Status.TheVariants.{PreAccepted, Accepted}
 use Rattle.ep_base.specs.declared.vote.Vote.{Vote}
 use Rattle.ep_rules.specs.Answers.{Answers, answer, with_answer}
-use Rattle.ep_rules.specs.Cells.{is_accept, is_commit, is_committed, is_done_at, is_settled_at, Change, nothing, answered, recorded, kept, record_or_fresh, Refusal}
+use Rattle.ep_rules.specs.Cells.{is_accept, is_commit, is_committed, is_done_at, is_settled_at, Change, nothing, answered, recorded, kept, voted}
 use Rattle.ep_rules.specs.Counting.{is_other, to_those}
 use Rattle.ep_rules.specs.InterferenceSet.{interference}
 use Rattle.ep_rules.specs.Maps.{get}
-use Rattle.ep_rules.specs.Phases.{Outcome, limited, first_phase, accept_phase, commit_phase, propose, on_pre_accept, on_accept, on_commit, is_usable, others, fast_answered, all_equal, slow_path, fast_path, count_pre_accept_ok, use_pre_accept_ok, on_pre_accept_ok, give_up, commit_own, use_accept_ok, on_accept_ok}
-use Rattle.ep_rules.specs.Recovery.{Choice, CommitIt, AcceptIt, AcceptFast, ProposeIt, ProposeNoop, choose, recover_with, act_on, next_counter, recover, on_prepare, answered_all, count_prepare_ok, use_prepare_ok, on_prepare_ok}
-use Rattle.ep_rules.specs.States.{State, cell_in, record_in, free_number}
-use Rattle.ep_rules.specs.Steps.{Event, Propose, Handle, GiveUp, Recover, Execute, handled, at, proposed, acts}
+use Rattle.ep_rules.specs.Phases.{Outcome, with_attrs, limited, first_phase, accept_phase, commit_phase, propose, on_pre_accept, on_accept, on_commit, is_usable, others, fast_answered, all_equal, slow_path, fast_path, count_pre_accept_ok, use_pre_accept_ok, on_pre_accept_ok, give_up, commit_own, use_accept_ok, on_accept_ok}
+use Rattle.ep_rules.specs.Recovery.{Choice, CommitIt, AcceptIt, AcceptFast, ProposeIt, ProposeNoop, choose, recover_with, act_on, next_counter, recover, on_prepare, answered_all, count_prepare_ok, use_prepare_ok, on_prepare_ok, on_nack}
+use Rattle.ep_rules.specs.States.{State, cell_in, record_in}
+use Rattle.ep_rules.specs.Steps.{handled}
 use Rattle.ep_rules.specs.declared.led.Led.{Led}
 use Rattle.ep_rules.specs.declared.led.Led.TheVariants.{Proposing, Accepting, Preparing}
 use Rattle.ep_rules.specs.declared.record.Record.{Record}
 use Rattle.ep_rules.proofs.Keeping.{split}
 use Rattle.ep_rules.proofs.Leading.{usable}
-use Rattle.ep_rules.proofs.Local.{free_found}
 
 abbrev pub is_commit_message : Message → Bool
 is_commit_message (PreAccept i b x) = false
@@ -80,8 +81,13 @@ says_first (x ∷ xs) ys first = first
 -- there is another replica below two
 others_say : (me n i : ℕ) (d : Decree) → says_commit (to_those (is_other me) (suc (suc n)) (Commit i d)) ≡ true
 others_say zero zero i d = refl
-others_say (suc me) zero i d = refl
-others_say me (suc n) i d = says_first (to_those (is_other me) (suc (suc n)) (Commit i d)) _ (others_say me n i d)
+others_say (suc me) zero i d = first (is_other (suc me) 0) (is_other (suc me) 1) (ap not (ne_eqb 0 (suc me) (λ (e : 0 ≡ suc me). omega (arith, e))))
+  where
+    first : (b c : Bool) → b ≡ true → says_commit (cond b ((0, Commit i d) ∷ []) [] ++ cond c ((1, Commit i d) ∷ []) []) ≡ true
+    first true c e = refl
+    first false c e = absurd (false≢true e)
+others_say me (suc n) i d =
+    says_first (to_those (is_other me) (suc (suc n)) (Commit i d)) (cond (is_other me (suc (suc n))) ((suc (suc n), Commit i d) ∷ []) []) (others_say me n i d)
 
 commits_say : (f i me : ℕ) (d : Decree) → 0 < f → says_commit (to_those (is_other me) (size f) (Commit i d)) ≡ true
 commits_say zero i me d more = absurd (omega (arith, more))
@@ -151,15 +157,15 @@ module _ (f i me : ℕ) (x : Record) (more : 0 < f) where
 
   told_pre_accept : (from b : ℕ) (d : Decree) (own : Attrs) → ToldOk x (on_pre_accept i from b d own x)
   told_pre_accept from b d own =
-      split (ToldOk x) (ltb b x.promised) _ _ (λ e. told_answered from _ refl) (λ e.
+      split (ToldOk x) (ltb b x.promised) _ _ (λ e. told_answered from (Nack i b x.promised) refl) (λ e.
       split (ToldOk x) (is_done_at b x.vote) _ _ (λ u. told_nothing) (λ u.
-      told_limited own _ (told_voted (undone_at b x.vote u) _ from _ refl refl)))
+      told_limited own _ (told_voted (undone_at b x.vote u) (voted b PreAccepted (with_attrs d (join d.attrs own))) from (PreAcceptOk i b (join d.attrs own)) refl refl)))
 
   told_accept : (from b : ℕ) (d : Decree) → Told x (on_accept i from b d x)
   told_accept from b d =
-      split (Told x) (ltb b x.promised) _ _ (λ e. told_answered from _ refl) (λ e.
+      split (Told x) (ltb b x.promised) _ _ (λ e. told_answered from (Nack i b x.promised) refl) (λ e.
       split (Told x) (is_settled_at b x.vote) _ _ (λ u. told_nothing) (λ u.
-      told_voted (unsettled_at b x.vote u) _ from _ refl refl))
+      told_voted (unsettled_at b x.vote u) (voted b Accepted d) from (AcceptOk i b) refl refl))
 
   told_slow : Live → (b : ℕ) (answers : Answers Attrs) (v : Option Vote) → Told x (slow_path f i me b answers v)
   told_slow live b answers None = told_nothing
@@ -217,8 +223,8 @@ module _ (f i me : ℕ) (x : Record) (more : 0 < f) where
 
   told_prepare : (from b : ℕ) → Told x (on_prepare i from b x)
   told_prepare from b =
-      split (Told x) (ltb b x.promised) _ _ (λ e. told_answered from _ refl) (λ e.
-      split (Told x) (eqb b x.promised) _ _ (λ u. told_nothing) (λ u. told_same _ from _ refl refl))
+      split (Told x) (ltb b x.promised) _ _ (λ e. told_answered from (Nack i b x.promised) refl) (λ e.
+      split (Told x) (eqb b x.promised) _ _ (λ u. told_nothing) (λ u. told_same (record { promised = b; vote = x.vote }) from (PrepareOk i b x.vote) refl refl))
 
   told_recover_with : Live → (b : ℕ) (c : Command) (own : Attrs) → ToldOk x (recover_with f i me b c own)
   told_recover_with live b c own = told_limited own _ (told_first_phase live (is_other me) b (record { command = c; attrs = own }))
@@ -262,11 +268,17 @@ or_true true c = refl
 or_true false c = refl
 
 pub handled_told : (f me from : ℕ) (s : State) (m : Message) → 0 < f → CommitOk (record_in s (instance_of_message m)) (is_commit_message m) (handled f me from s m)
-handled_told f me from s (PreAccept i b x) more = of_told _ _ (told_pre_accept f i me (record_in s i) more from b x (interference s.records i x.command))
-handled_told f me from s (PreAcceptOk i b a) more = of_told _ (Ok _) (told_pre_accept_ok f i me (record_in s i) more from b a (get s.leads i))
-handled_told f me from s (Accept i b x) more = of_told _ (Ok _) (told_accept f i me (record_in s i) more from b x)
-handled_told f me from s (AcceptOk i b) more = of_told _ (Ok _) (told_accept_ok f i me (record_in s i) more from b (get s.leads i))
-handled_told f me from s (Commit i x) more = committed_on i x (record_in s i) ∙ sym (or_true (is_committed (record_in s i).vote) _)
-handled_told f me from s (Prepare i b) more = of_told _ (Ok _) (told_prepare f i me (record_in s i) more from b)
-handled_told f me from s (PrepareOk i b v) more = of_told _ _ (told_prepare_ok f i me (record_in s i) more from b v (interference s.records i) (get s.leads i))
-handled_told f me from s (Nack i b p) more = of_told (record_in s i) (Ok _) (sym (or_false (is_committed (record_in s i).vote)))
+handled_told f me from s (PreAccept i b x) more =
+    let own = interference s.records i x.command in
+    of_told (record_in s i) (on_pre_accept i from b x own (record_in s i)) (told_pre_accept f i me (record_in s i) more from b x own)
+handled_told f me from s (PreAcceptOk i b a) more =
+    of_told (record_in s i) (Ok (on_pre_accept_ok f i me from b a (record_in s i) (get s.leads i))) (told_pre_accept_ok f i me (record_in s i) more from b a (get s.leads i))
+handled_told f me from s (Accept i b x) more = of_told (record_in s i) (Ok (on_accept i from b x (record_in s i))) (told_accept f i me (record_in s i) more from b x)
+handled_told f me from s (AcceptOk i b) more =
+    of_told (record_in s i) (Ok (on_accept_ok f i me from b (record_in s i) (get s.leads i))) (told_accept_ok f i me (record_in s i) more from b (get s.leads i))
+handled_told f me from s (Commit i x) more = committed_on i x (record_in s i) ∙ sym (or_true (is_committed (record_in s i).vote) (says_commit (on_commit i x (record_in s i)).out))
+handled_told f me from s (Prepare i b) more = of_told (record_in s i) (Ok (on_prepare i from b (record_in s i))) (told_prepare f i me (record_in s i) more from b)
+handled_told f me from s (PrepareOk i b v) more =
+    let own = interference s.records i in
+    of_told (record_in s i) (on_prepare_ok f i me from b v own (record_in s i) (get s.leads i)) (told_prepare_ok f i me (record_in s i) more from b v own (get s.leads i))
+handled_told f me from s (Nack i b p) more = of_told (record_in s i) (Ok (on_nack p (cell_in s i).told)) (sym (or_false (is_committed (record_in s i).vote)))

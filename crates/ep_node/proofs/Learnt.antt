@@ -1,5 +1,5 @@
 -- What a replica has committed is what some entry of its journal learnt to be committed.
-use Rattle.std.proofs.Common.{◌≡◌, ◌⊎◌, ℕ, ◌+◌, ◌<◌, Bool, true, false, ◌||◌, eqb, cond, List, [], ◌∷◌, Option, Some, None, is_some, Result, Ok, Err, inl, inr, refl, sym, ap, subst, ◌∙◌, if◌then◌else◌, ◌==◌}
+use Rattle.std.proofs.Common.{◌≡◌, ℕ, ◌+◌, ◌<◌, Bool, true, false, ◌||◌, eqb, cond, List, [], ◌∷◌, Option, Some, None, is_some, Ok, Err, inl, inr, refl, sym, ap, subst, ◌∙◌, if◌then◌else◌, ◌==◌}
 use Rattle.std.proofs.lemmas.Bool.{cases_eq, eq-eqb, ne_eqb}
 use Rattle.ep_base.specs.Commands.{Command}
 use Rattle.ep_base.specs.Instances.{instance_of}
@@ -9,25 +9,24 @@ use Rattle.ep_base.specs.declared.message.Message.TheVariants.{PreAccept, PreAcc
 use Rattle.ep_base.specs.declared.vote.Status.{Status}
 use Rattle.ep_base.specs.declared.vote.Status.TheVariants.{PreAccepted, Accepted, Committed}
 use Rattle.ep_base.specs.declared.vote.Vote.{Vote}
-use Rattle.ep_frame.specs.Meaning.{instance_at, instance_in, kind_at, kind_of, message_at, message_of, ballot_in, other_in, attrs_of, decree_of, vote_of}
+use Rattle.ep_frame.specs.Meaning.{instance_in, kind_of, message_at, message_of, ballot_in, other_in, attrs_of, decree_of, vote_of}
 use Rattle.ep_frame.specs.Spelling.{Parts, parts_at}
 use Rattle.ep_frame.specs.declared.kind.Kind.{Kind}
 use Rattle.ep_frame.specs.declared.kind.Kind.TheVariants as kind
-use Rattle.ep_journal.specs.Entries.{entries_of, entry_of, frames_at, IsJournal}
+use Rattle.ep_journal.specs.Entries.{entries_of, frames_at}
 use Rattle.ep_journal.specs.Events.{event_of}
 use Rattle.ep_journal.specs.declared.entry.Entry.{Entry}
 use Rattle.ep_journal.specs.declared.event.Event.{Event as Happening}
 use Rattle.ep_journal.specs.declared.event.Event.TheVariants.{Propose, Handle, GiveUp, Recover, Execute}
 use Rattle.ep_journal.specs.Openings.{opens}
-use Rattle.ep_rules.specs.Cells.{Change, Refusal, committed_at, committed_decree, is_commit, is_committed, nothing, record_or_fresh}
+use Rattle.ep_rules.specs.Cells.{Change, committed_at, committed_decree, is_commit, is_committed, nothing, record_or_fresh}
 use Rattle.ep_rules.specs.InterferenceSet.{interference}
 use Rattle.ep_rules.specs.Journals.{AreSteps, left, messages_of}
-use Rattle.ep_rules.specs.Maps.{get, none}
-use Rattle.ep_rules.specs.OneMap.{Store}
+use Rattle.ep_rules.specs.Maps.{get}
 use Rattle.ep_rules.specs.Phases.{Outcome, give_up, propose}
 use Rattle.ep_rules.specs.Recovery.{recover}
-use Rattle.ep_rules.specs.States.{State, cell_in, changed, committed_in, free_number, fresh_state, record_in, with_entry}
-use Rattle.ep_rules.specs.Steps.{acts, at, changed_by, handled, leaves, proposed, sends, sent_by, sent_from, IsTaken, Sent}
+use Rattle.ep_rules.specs.States.{State, cell_in, committed_in, free_number, fresh_state, record_in, with_entry}
+use Rattle.ep_rules.specs.Steps.{acts, at, changed_by, leaves, proposed, sends, sent_by, sent_from, IsTaken, Sent}
 use Rattle.ep_rules.specs.declared.record.Record.{Record}
 use Rattle.ep_rules.proofs.Keeping.{AllSent}
 use Rattle.ep_rules.proofs.Local.{free_found, local_acts, LocalAct}
@@ -147,7 +146,7 @@ propose_step f me s c (Some n) bs number j more is local taken sent =
     let i = instance_of me (n + 1) in
     let own = interference s.records i c in
     let live : is_committed (record_in s i).vote ≡ false = ap (λ o. is_committed (record_or_fresh i o).vote) (free_found s.records me n is).1 in
-    at_step me i s (propose f i c own) bs false None number j (of_told _ _ (told_propose f i me (record_in s i) more live c own)) local taken sent refl
+    at_step me i s (propose f i c own) bs false None number j (of_told (record_in s i) (propose f i c own) (told_propose f i me (record_in s i) more live c own)) local taken sent refl
 
 entry_step : (f me : ℕ) (s : State) (event : Happening) (bs : List (List ℕ)) (number j : ℕ) → 0 < f → IsTaken (acts f me s (event_of event)) → messages_of (frames_at bs) ≡ sends f me s (event_of event)
     → is_some (committed_in (changed_by s (acts f me s (event_of event))).records j) ≡ (is_some (committed_in s.records j) || is_some (number_for (learnt_in event bs) number j))
@@ -156,9 +155,9 @@ entry_step f me s (Propose client request c seen) bs number j more taken sent =
 entry_step f me s (Handle b) bs number j more taken sent =
     at_step me (instance_of_message (message_at b)) s _ bs (is_commit_message (message_at b)) (said_by b) number j (handled_told f me _ s (message_at b) more) (local_acts f me s (event_of (Handle b))) taken sent (said_is b)
 entry_step f me s (GiveUp i) bs number j more taken sent =
-    at_step me i s _ bs false None number j (of_told _ _ (told_give_up f i me (record_in s i) more (get s.leads i))) (local_acts f me s (event_of (GiveUp i))) taken sent refl
+    at_step me i s _ bs false None number j (of_told (record_in s i) (give_up f i me (record_in s i) (get s.leads i)) (told_give_up f i me (record_in s i) more (get s.leads i))) (local_acts f me s (event_of (GiveUp i))) taken sent refl
 entry_step f me s (Recover i) bs number j more taken sent =
-    at_step me i s _ bs false None number j (of_told _ _ (told_recover f i me (record_in s i) more (cell_in s i).told)) (local_acts f me s (event_of (Recover i))) taken sent refl
+    at_step me i s _ bs false None number j (of_told (record_in s i) (recover f i me (record_in s i) (cell_in s i).told) (told_recover f i me (record_in s i) more (cell_in s i).told)) (local_acts f me s (event_of (Recover i))) taken sent refl
 entry_step f me s (Execute i) bs number j more taken sent =
     at_step me i s (Ok nothing) bs false None number j (sym (or_false (is_committed (record_in s i).vote))) (local_acts f me s (event_of (Execute i))) taken sent refl
 
