@@ -39,6 +39,9 @@ both_on a b c p q = record {
   is = q.is ∙ ap (λ (x : Log). record x { entries = x.entries ++ q.more }) p.is ∙ ap (λ (es : List Entry). record a { entries = es }) (append_assoc a.entries p.more q.more);
 }
 
+pub settled_on : (j a b c k : Log) → a ≡ j → GoesOn a b → GoesOn b c → k ≡ c → GoesOn j k
+settled_on j a b c k start p q end = subst (GoesOn j) (sym end) (subst (λ (x : Log). GoesOn x c) start (both_on a b c p q))
+
 -- the last of several
 
 last_on : (others : List Log) (last next : Log) → GoesOn last next → GoOn (others ++ last ∷ []) (others ++ next ∷ [])
