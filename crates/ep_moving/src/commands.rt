@@ -28,10 +28,7 @@ fn push_command(
 }
 
 /// The instances of a table of what is committed, without those of no-ops.
-pub(crate) fn commands_of(
-    alloc: Global,
-    table: &[(InstanceId, Decree)],
-) -> Result<Deps, AllocError>
+pub(crate) fn commands_of(alloc: Global, table: &[(InstanceId, Decree)]) -> Result<Deps, AllocError>
     requires { IsRising (instances_of table.now) }
     ensures { IfOk result (λ deps. deps ≡ commands_in table.now) }
 {
