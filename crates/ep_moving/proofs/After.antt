@@ -10,7 +10,7 @@ use Rattle.ep_rules.specs.Graph.{Reaches}
 use Rattle.ep_rules.specs.Journals.{AreLocalRuns, AreNumbered, Entry, left, stamp_after}
 use Rattle.ep_rules.specs.States.{fresh_state, graph_in}
 use Rattle.ep_rules.specs.Worlds.{In}
-use Rattle.ep_verdict.specs.declared.verdict.Verdict.{Verdict}
+use Rattle.ep_audit.specs.declared.verdict.Verdict.{Verdict}
 use Rattle.ep_moving.specs.Ended.{commands_in, state_of, Accepts, IsLate, IsLeftOpen, IsUnended, IsWaiting}
 use Rattle.ep_moving.specs.declared.move_fault.MoveFault.{MoveFault}
 use Rattle.ep_moving.specs.declared.move_fault.MoveFault.TheVariants.{Assemble, NotClocked, Audit, Waits, Unexecuted}

@@ -10,13 +10,13 @@ use Rattle.ep_base.specs.declared.decree.Decree.{Decree}
 use Rattle.ep_journal.specs.Entries.{Collected, journals_of}
 use Rattle.ep_journal.specs.Openings.{opens}
 use Rattle.ep_opening.specs.Files.{File}
-use Rattle.ep_report.specs.declared.audit_fault.AuditFault.{AuditFault}
+use Rattle.ep_audit.specs.declared.audit_fault.AuditFault.{AuditFault}
 use Rattle.ep_rules.specs.Graph.{Reaches}
 use Rattle.ep_rules.specs.Journals.{Entry, left}
 use Rattle.ep_rules.specs.States.{State, fresh_state, graph_in}
 use Rattle.ep_rules.specs.Worlds.{In}
-use Rattle.ep_verdict.specs.Verdicts.{left_after}
-use Rattle.ep_verdict.specs.declared.verdict.Verdict.{Verdict}
+use Rattle.ep_audit.specs.Verdicts.{left_after}
+use Rattle.ep_audit.specs.declared.verdict.Verdict.{Verdict}
 use Rattle.ep_moving.specs.declared.move_fault.MoveFault.{MoveFault}
 use Rattle.ep_moving.specs.declared.move_fault.MoveFault.TheVariants.{Assemble, NotClocked, Audit, Waits, Unexecuted}
 

@@ -6,7 +6,7 @@ use Rattle.ep_assemble.specs.declared.assembled.End.{End}
 use Rattle.ep_assemble.specs.declared.files.FilesFault.{FilesFault}
 use Rattle.ep_assemble.specs.declared.files.FilesFault.TheVariants as files
 use Rattle.ep_report.specs.Parts.{instance_text}
-use Rattle.ep_report.specs.Refusals.{fault_of, fault_text}
+use Rattle.ep_audit.specs.Faults.{fault_of, fault_text}
 use Rattle.ep_moving.specs.Moved.{IsMoved, IsUnmoved}
 use Rattle.ep_moving.specs.declared.move_fault.MoveFault.{MoveFault}
 use Rattle.ep_moving.specs.declared.move_fault.MoveFault.TheVariants.{Assemble, NotClocked, Audit, Waits, Unexecuted}

@@ -3,12 +3,13 @@
 ghost use Rattle.std.specs.Prelude.{◌≡◌, ◌++◌, codes, decimal, map, string_bytes, OnOk};
 ghost use Rattle.ep_moving.specs.MovedFiles.{move_line, refused, waits_text};
 ghost use Rattle.ep_report.specs.Parts.{instance_text};
-ghost use Rattle.ep_report.specs.Refusals.{fault_of, fault_text};
+ghost use Rattle.ep_audit.specs.Faults.{fault_of, fault_text};
 
 use crate::move_fault::MoveFault;
 use ep_assemble::push_refusal;
+use ep_audit::AuditFault;
 use ep_base::{InstanceId, ReplicaId};
-use ep_report::{AuditFault, push_instance, push_number};
+use ep_report::{push_instance, push_number};
 use std::alloc::AllocError;
 
 /// Appends why the logs are refused together, in one line.

@@ -7,7 +7,7 @@ ghost use Rattle.ep_moving.specs.declared.move_fault.MoveFault.TheVariants.{Asse
 use ep_assemble::AssembleFault;
 use ep_base::{InstanceId, ReplicaId};
 use ep_collect::CollectFault;
-use ep_report::AuditFault;
+use ep_audit::AuditFault;
 use std::alloc::{AllocError, AllocFailed};
 use thiserror::Error;
 

@@ -7,7 +7,7 @@ ghost use Rattle.ep_journal.specs.Entries.{journals_of};
 ghost use Rattle.ep_journal.specs.Leaving.{standing};
 ghost use Rattle.ep_journal.specs.Openings.{opens};
 ghost use Rattle.ep_rules.specs.Journals.{stamp_after};
-ghost use Rattle.ep_verdict.specs.Verdicts.{left_after};
+ghost use Rattle.ep_audit.specs.Verdicts.{left_after};
 ghost use Rattle.ep_moving.specs.Ended.{commands_in, state_of, Accepts, IsLate, IsOpeningAfter, IsUnended};
 ghost use Rattle.ep_moving.specs.declared.move_fault.MoveFault.TheVariants.{Waits, Unexecuted};
 
