@@ -14,6 +14,11 @@ TOP = os.path.dirname(os.path.dirname(os.path.abspath(__file__)))
 STORE = f"{TOP}/hosts/store"
 # what `rt ci` built: the program of `node` and `collect`, and that of all else
 BUILT = (f"{TOP}/crates/ep_server/out/ep_server", f"{TOP}/crates/ep_main/out/ep_main")
+# the crates that it takes, as Debian's packages bring them; elsewhere they are crates.io's
+PACKAGES = ("librust-hmac-dev", "librust-sha2-dev", "librust-signal-hook-dev", "librust-subtle-dev")
+REGISTRY = "/usr/share/cargo/registry"
+# clients that others have written, and Redis to compare with
+CLIENTS = ("redis-server", "redis-tools", "python3-redis")
 CHEAP = {"CARGO_INCREMENTAL": "0", "CARGO_PROFILE_DEV_DEBUG": "0"}
 # as ./epaxos goes about it
 EPAXOS = """#!/bin/sh
@@ -26,6 +31,24 @@ def is_well(words, **how):
     """Whether the command ended with status 0."""
     print(" ".join(os.path.relpath(it, TOP) if it.startswith(TOP) else it for it in words), flush=True)
     return not subprocess.run(words, stdin=subprocess.DEVNULL, **how).returncode
+
+
+def source():
+    """The words by which cargo takes the crates of Debian's packages, which are installed where they can be; or none."""
+    if not os.path.isdir(f"{REGISTRY}/hmac-0.12.1") and shutil.which("apt-get") and not os.geteuid():
+        for words in (["update", "-qq"], ["install", "-y", "-qq", "--no-install-recommends", *PACKAGES]):
+            subprocess.run(["apt-get", *words], stdin=subprocess.DEVNULL, stdout=subprocess.DEVNULL)
+    return ["--config", "debian.toml", "--offline"] if os.path.isdir(f"{REGISTRY}/hmac-0.12.1") else []
+
+
+def python():
+    """A Python that has redis-py, or this one."""
+    if not shutil.which("redis-cli") and shutil.which("apt-get") and not os.geteuid():
+        subprocess.run(["apt-get", "install", "-y", "-qq", "--no-install-recommends", *CLIENTS], stdin=subprocess.DEVNULL, stdout=subprocess.DEVNULL)
+    for it in (sys.executable, "/usr/bin/python3"):
+        if os.path.exists(it) and not subprocess.run([it, "-c", "import redis"], stderr=subprocess.DEVNULL).returncode:
+            return it
+    return sys.executable
 
 
 def joined(scratch, node, program):
@@ -51,7 +74,10 @@ def tried(node=BUILT[0], program=BUILT[1]):
         else:
             print("no cluster of hosts/store is tried: `rt ci` has not built both programs", flush=True)
         # (the tests run the programs, so that this builds them too)
-        well = [is_well(["cargo", "test", "--offline", "--quiet"], cwd=STORE, env=environment)]
+        packages, it = source(), python()
+        well = [is_well(["cargo", "test", *packages, "--quiet"], cwd=STORE, env=environment)]
+        if epaxos and all(well):
+            well.append(is_well([it, f"{STORE}/tests/libraries.py", f"{scratch}/target/debug/store", epaxos]))
         if epaxos and all(well):
             trial = f"{scratch}/target/debug/trial"
             well.append(is_well([trial, "--short", "--audit", "--node", epaxos, "--dir", f"{scratch}/trial"]))

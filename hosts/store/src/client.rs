@@ -14,7 +14,10 @@ pub enum Reply {
     Simple(String),
     Error(String),
     Integer(i64),
+    /// None is nil, in either version of the protocol.
     Bulk(Option<Vec<u8>>),
+    Array(Vec<Reply>),
+    Map(Vec<(Reply, Reply)>),
 }
 
 impl Client {
@@ -28,33 +31,49 @@ impl Client {
 
     /// Asks, and waits for the reply. After an error the connection is of no use.
     pub fn ask(&mut self, words: &[&[u8]]) -> io::Result<Reply> {
-        let mut bytes = format!("*{}\r\n", words.len()).into_bytes();
-        for word in words {
-            bytes.extend(format!("${}\r\n", word.len()).bytes());
-            bytes.extend(*word);
-            bytes.extend(b"\r\n");
-        }
-        self.reader.get_mut().write_all(&bytes)?;
+        self.send(&[words])?;
         self.read()
     }
 
-    fn read(&mut self) -> io::Result<Reply> {
+    /// Sends commands, without waiting for replies.
+    pub fn send(&mut self, commands: &[&[&[u8]]]) -> io::Result<()> {
+        let mut bytes = Vec::new();
+        for words in commands {
+            bytes.extend(format!("*{}\r\n", words.len()).bytes());
+            for word in *words {
+                bytes.extend(format!("${}\r\n", word.len()).bytes());
+                bytes.extend(*word);
+                bytes.extend(b"\r\n");
+            }
+        }
+        self.reader.get_mut().write_all(&bytes)
+    }
+
+    /// Waits for the next reply.
+    pub fn read(&mut self) -> io::Result<Reply> {
         let mut line = String::new();
         self.reader.read_line(&mut line)?;
         let Some(line) = line.strip_suffix("\r\n") else { return Err(io::ErrorKind::UnexpectedEof.into()) };
         let bad = || io::Error::from(io::ErrorKind::InvalidData);
         let (kind, rest) = line.split_at_checked(1).ok_or_else(bad)?;
+        let count = || rest.parse::<usize>().map_err(|_| bad());
         match kind {
             "+" => Ok(Reply::Simple(rest.into())),
             "-" => Ok(Reply::Error(rest.into())),
             ":" => Ok(Reply::Integer(rest.parse().map_err(|_| bad())?)),
-            "$" if rest == "-1" => Ok(Reply::Bulk(None)),
+            "_" => Ok(Reply::Bulk(None)),
+            "$" | "*" if rest == "-1" => Ok(Reply::Bulk(None)),
             "$" => {
-                let length: usize = rest.parse().map_err(|_| bad())?;
+                let length = count()?;
                 let mut bytes = vec![0; length + 2];
                 self.reader.read_exact(&mut bytes)?;
                 bytes.truncate(length);
                 Ok(Reply::Bulk(Some(bytes)))
+            }
+            "*" => Ok(Reply::Array((0..count()?).map(|_| self.read()).collect::<io::Result<_>>()?)),
+            "%" => {
+                let pairs = (0..count()?).map(|_| Ok((self.read()?, self.read()?)));
+                Ok(Reply::Map(pairs.collect::<io::Result<_>>()?))
             }
             _ => Err(bad()),
         }

@@ -1,323 +1,473 @@
-//! Connections of clients, each with a thread that takes one command at a time.
-use crate::commands::{Asked, understand};
+//! Connections of clients. Each has a thread that reads its commands, and one that writes their replies in order; many commands of one
+//! connection may be under way at once.
+use crate::actions::Action;
+use crate::command_fault::CommandFault;
+use crate::commands::{self, Asked, Hello, understand};
 use crate::driver::{Ask, Event, Told, What};
-use crate::numbers::Numbers;
-use crate::protocol::{self, Command, Fault};
-use crate::resp::{Input, Reply, read_command};
+use crate::keys::Keys;
+use crate::listing::Listing;
+use crate::memory::{Memory, Share};
+use crate::metrics::Metrics;
+use crate::password::Password;
+use crate::places::{self, Places};
+use crate::replies::{Combine, Message, Over, Part, Place, Replies, Slot, Window};
+use crate::resp::{Input, Reply, Version, read_command};
 use crate::say::say;
+use crate::stored::{self, Stored};
+use crate::teller::Teller;
 use crate::transactions::Transaction;
-use std::io::{self, BufReader, BufWriter, Write};
-use std::net::{TcpListener, TcpStream};
-use std::sync::atomic::{AtomicUsize, Ordering};
-use std::sync::mpsc::{RecvTimeoutError, SyncSender, TrySendError, channel};
-use std::sync::{Arc, Mutex};
+use std::io::{self, BufWriter, Read, Write};
+use std::net::{Shutdown, TcpListener, TcpStream};
+use std::sync::Arc;
+use std::sync::atomic::{AtomicU64, Ordering};
+use std::sync::mpsc::{Receiver, Sender, SyncSender, channel};
 use std::thread;
 use std::time::{Duration, Instant};
 
-/// With what peers and files take that is below 1,024, which is how many handles a process mostly may have.
-const MOST_CONNECTIONS: usize = 900;
 /// For a client that doesn't take its replies.
 const WRITE_PATIENCE: Duration = Duration::from_secs(30);
 /// A client that asks nothing for so long is gone, or connects again.
 const SILENCE: Duration = Duration::from_secs(3_600);
-/// Between two tries to ask a driver that has too much to do.
-const PAUSE: Duration = Duration::from_millis(5);
 const STACK: usize = 256 << 10;
-/// A command that a no-op was put in the place of is proposed at most so often.
-const MOST_TRIES: usize = 5;
+/// So much is read at once.
+const CHUNK: usize = 16 << 10;
+/// And so much may come in all before the password.
+const MOST_UNKNOWN: usize = 16 << 10;
+/// How long who said a wrong password waits.
+const WRONG: Duration = Duration::from_millis(200);
+/// After so long INFO is answered without the driver.
+const INFO_PATIENCE: Duration = Duration::from_secs(1);
+/// What a command takes beside its words.
+const OVERHEAD: usize = 256;
 
 /// What all connections share.
 pub struct Shared {
     pub events: SyncSender<Event>,
-    pub numbers: Mutex<Numbers>,
+    pub keys: Arc<Keys>,
+    pub listing: Listing,
     pub patience: Duration,
-    pub connections: AtomicUsize,
+    pub password: Option<Password>,
+    pub memory: Arc<Memory>,
+    pub metrics: Arc<Metrics>,
+    pub places: Arc<Places>,
+    /// How many connections there have been.
+    pub served: AtomicU64,
 }
 
-/// Takes connections, each in a thread.
+/// Takes connections, each in two threads.
 pub fn listen(listener: TcpListener, shared: Arc<Shared>) {
     for stream in listener.incoming() {
         let Ok(stream) = stream else {
             thread::sleep(Duration::from_millis(20));
             continue;
         };
-        if shared.connections.fetch_add(1, Ordering::Relaxed) >= MOST_CONNECTIONS {
-            let _ = (&stream).write_all(b"-ERR max number of clients reached\r\n");
-            shared.connections.fetch_sub(1, Ordering::Relaxed);
+        let stream = Arc::new(stream);
+        let id = shared.served.fetch_add(1, Ordering::Relaxed) + 1;
+        let Some(place) = shared.places.take(id, &stream) else {
+            // (who doesn't take it at once isn't waited for)
+            let _ = stream.set_nonblocking(true);
+            let _ = (&*stream).write_all(b"-ERR max number of clients reached\r\n");
             continue;
-        }
+        };
         let served = shared.clone();
         let started = thread::Builder::new().name("client".into()).stack_size(STACK).spawn(move || {
-            let _ = Connection::new(served.clone()).serve(&stream);
-            drop(stream);
-            served.connections.fetch_sub(1, Ordering::Relaxed);
+            served.metrics.clients.set(served.places.count() as u64);
+            let _ = serve(&served, &stream, id, place);
+            served.metrics.clients.set(served.places.count() as u64);
         });
         if let Err(error) = started {
-            shared.connections.fetch_sub(1, Ordering::Relaxed);
             say(&format!("no thread for a client: {error}"));
         }
     }
 }
 
-/// A connection: a client of the protocol, once it asks for a command.
-struct Connection {
+/// Serves a connection until its client ends it, and all that it has asked is answered.
+fn serve(shared: &Arc<Shared>, stream: &Arc<TcpStream>, id: u64, place: places::Place) -> io::Result<()> {
+    stream.set_nodelay(true)?;
+    stream.set_write_timeout(Some(WRITE_PATIENCE))?;
+    stream.set_read_timeout(Some(SILENCE))?;
+    let address = stream.peer_addr()?.to_string();
+    let (messages, received) = channel();
+    let window = Arc::<Window>::default();
+    let writing = {
+        let (stream, shared, window) = (stream.clone(), shared.clone(), window.clone());
+        let write = move || write_replies(&stream, received, &shared, &window);
+        thread::Builder::new().name("replies".into()).stack_size(STACK).spawn(write)?
+    };
+    let mut session = Session::new(shared.clone(), (id, address), place, messages, window);
+    let read = session.read(stream);
+    let _ = session.messages.send(Message::Over);
+    let _ = writing.join();
+    read
+}
+
+/// Writes a connection's replies, to the last one or until they can't be written.
+fn write_replies(stream: &TcpStream, messages: Receiver<Message>, shared: &Shared, window: &Arc<Window>) {
+    let (keys, metrics) = (shared.keys.clone(), shared.metrics.clone());
+    let _ = Replies::new(BufWriter::new(stream), messages, keys, metrics, window.clone()).write_all();
+    // The other thread may wait for more commands, or for room.
+    window.end();
+    let _ = stream.shutdown(Shutdown::Both);
+}
+
+/// What a connection's commands leave for those that follow.
+struct Session {
     shared: Arc<Shared>,
-    client: Option<u32>,
-    /// How many requests it has made.
-    requests: u32,
-    /// The greatest stamp of its receipts.
-    seen: u64,
+    id: u64,
+    address: String,
+    messages: Sender<Message>,
+    window: Arc<Window>,
+    /// How many commands have come.
+    commands: u64,
+    version: Version,
+    name: Option<Vec<u8>>,
+    /// Whether the password was said, where there is one.
+    is_known: bool,
+    place: places::Place,
     is_read_only: bool,
+    /// Whether something that isn't a local read may be under way.
+    is_writing: bool,
     transaction: Transaction,
 }
 
-impl Connection {
-    fn new(shared: Arc<Shared>) -> Connection {
-        Connection {
+/// Whether the connection goes on.
+enum Next {
+    GoesOn,
+    Ends,
+}
+
+impl Session {
+    fn new(
+        shared: Arc<Shared>,
+        (id, address): (u64, String),
+        place: places::Place,
+        messages: Sender<Message>,
+        window: Arc<Window>,
+    ) -> Session {
+        Session {
+            is_known: shared.password.is_none(),
             shared,
-            client: None,
-            requests: 0,
-            seen: 0,
+            id,
+            address,
+            place,
+            messages,
+            window,
+            commands: 0,
+            version: Version::Two,
+            name: None,
             is_read_only: false,
+            is_writing: false,
             transaction: Transaction::default(),
         }
     }
 
-    fn serve(&mut self, stream: &TcpStream) -> io::Result<()> {
-        stream.set_nodelay(true)?;
-        stream.set_write_timeout(Some(WRITE_PATIENCE))?;
-        stream.set_read_timeout(Some(SILENCE))?;
-        let mut writer = BufWriter::new(stream);
-        let mut reader = BufReader::new(stream);
+    /// Reads commands and has them done, until no more come.
+    fn read(&mut self, mut stream: &TcpStream) -> io::Result<()> {
+        let (mut bytes, mut start) = (Vec::new(), 0);
+        let mut chunk = vec![0; CHUNK];
+        let Some(mut share) = self.shared.memory.share(CHUNK) else {
+            let _ = self.fail(CommandFault::NoMemory);
+            return Ok(());
+        };
         loop {
-            let words = match read_command(&mut reader)? {
-                Input::Command(words) => words,
-                Input::End => return Ok(()),
-                Input::Fault(what) => {
-                    Reply::Error(format!("ERR Protocol error: {what}")).write(&mut writer)?;
-                    return writer.flush();
-                }
-            };
-            let asked = self.transaction.judge(understand(words)).unwrap_or_else(Asked::Answered);
-            let last = match asked {
-                Asked::Quit => Some(Reply::Simple("OK")),
-                Asked::Http => Some(Reply::Error("ERR this is no web server".into())),
-                _ => None,
-            };
-            if let Some(last) = last {
-                last.write(&mut writer)?;
-                return writer.flush();
-            }
-            let reply = self.answer(asked).unwrap_or_else(Reply::Error);
-            reply.write(&mut writer)?;
-            // What comes next may wait for other replicas, or for more bytes: no reply waits with it.
-            writer.flush()?;
-        }
-    }
-
-    fn answer(&mut self, asked: Asked) -> Result<Reply, String> {
-        if let (Asked::Get(key), true) = (&asked, self.is_read_only) {
-            return self.read(key.clone());
-        }
-        let mut replies = Vec::new();
-        for command in asked.commands() {
-            match self.execute(command) {
-                Ok(reply) => replies.push(reply),
-                Err(error) if replies.is_empty() => return Err(error),
-                Err(error) => {
-                    return Err(format!("{error} (this is of key {}; those before it are deleted)", replies.len() + 1));
-                }
-            }
-        }
-        match asked {
-            Asked::Get(_) => Ok(value_of(replies.pop())),
-            Asked::Set(..) => Ok(Reply::Simple("OK")),
-            Asked::Del(_) => {
-                let present = replies.iter().filter(|reply| matches!(reply, protocol::Reply::Present(_)));
-                Ok(Reply::Integer(present.count() as i64))
-            }
-            Asked::Info => self.info(),
-            Asked::ReadOnly(is_read_only) => {
-                self.is_read_only = is_read_only;
-                Ok(Reply::Simple("OK"))
-            }
-            Asked::Answered(reply) => Ok(reply),
-            // (these are answered before)
-            Asked::Quit | Asked::Http => Ok(Reply::Simple("OK")),
-            Asked::Multi | Asked::Exec | Asked::Discard => Err("ERR transactions aren't supported".into()),
-        }
-    }
-
-    /// Has a command executed; one that is lost is proposed again.
-    fn execute(&mut self, command: Command) -> Result<protocol::Reply, String> {
-        let start = Instant::now();
-        for _ in 0..MOST_TRIES {
-            let what = self.proposal(command.clone())?;
-            match self.ask(what, start)? {
-                Told::Done { stamp, reply } => {
-                    self.seen = self.seen.max(stamp);
-                    if reply != protocol::Reply::Lost {
-                        return Ok(reply);
+            match read_command(&bytes[start..]) {
+                Input::Command(words, length) => {
+                    start += length;
+                    if !words.is_empty() && !matches!(self.take(words, length), Ok(Next::GoesOn)) {
+                        return Ok(());
                     }
                 }
-                Told::Refused(fault) => return Err(refusal(fault)),
-                Told::Alone => return Err("TRYAGAIN the command wasn't done: no majority is reached".into()),
-                Told::Value(_) | Told::Info(_) => {
-                    return Err("ERR another answer was expected".into());
+                Input::Partial => {
+                    bytes.drain(..start);
+                    start = 0;
+                    bytes.shrink_to(CHUNK);
+                    let is_too_much = !self.is_known && bytes.len() >= MOST_UNKNOWN;
+                    if is_too_much || !share.resize(bytes.len() + CHUNK) {
+                        let _ = self.fail(CommandFault::NoMemory);
+                        return Ok(());
+                    }
+                    match stream.read(&mut chunk)? {
+                        0 => return Ok(()),
+                        length => bytes.extend(&chunk[..length]),
+                    }
+                    self.place.hear();
+                }
+                Input::Fault(what) => {
+                    let _ = self.fail(CommandFault::Malformed(what));
+                    return Ok(());
                 }
             }
         }
-        Err("TRYAGAIN the command wasn't done: others have taken its places".into())
     }
 
-    /// A new request of this client. One whose requests are all made becomes another client.
-    fn proposal(&mut self, command: Command) -> Result<What, String> {
-        if self.requests == u32::MAX {
-            (self.client, self.requests) = (None, 0);
+    /// Takes a command, of so many bytes.
+    fn take(&mut self, words: Vec<Vec<u8>>, bytes: usize) -> Result<Next, Over> {
+        let asked = self.transaction.judge(self.permitted(understand(words))).unwrap_or_else(Asked::Answered);
+        match asked {
+            Asked::Keys(combine, actions) => {
+                let Some(share) = self.shared.memory.share(bytes + OVERHEAD * actions.len()) else {
+                    self.fail(CommandFault::NoMemory)?;
+                    return Ok(Next::GoesOn);
+                };
+                let is_local = self.is_read_only && actions.iter().all(|(_, action)| action.only_reads());
+                if is_local { self.read_here(combine, actions, share)? } else { self.ask(combine, actions, share)? }
+            }
+            Asked::Ping(text) => {
+                let takes_part = self.shared.metrics.takes_part.get() == 1;
+                let pong = text.map_or(Reply::Simple("PONG"), Reply::Bulk);
+                self.answer(if takes_part { pong } else { Reply::Error(CommandFault::Apart) })?;
+            }
+            Asked::List(list) => self.list(list)?,
+            Asked::Info => {
+                let brief = Reply::Bulk(self.brief().into_bytes());
+                self.ask_driver(What::Info, INFO_PATIENCE, Some(brief))?;
+            }
+            Asked::Manage(manage) => self.ask_driver(What::Manage(manage), self.shared.patience, None)?,
+            Asked::Hello(hello) => self.greet(hello)?,
+            Asked::Client(client) => self.about(client)?,
+            Asked::ReadOnly(is_read_only) => {
+                self.is_read_only = is_read_only;
+                self.answer(Reply::Simple("OK"))?;
+            }
+            Asked::Reset => {
+                (self.version, self.name, self.is_read_only) = (Version::Two, None, false);
+                self.is_known = self.shared.password.is_none();
+                self.answer(Reply::Simple("RESET"))?;
+            }
+            Asked::Auth(words) => {
+                let reply = self.know(|password| password.is_in(&words)).map(|()| Reply::Simple("OK"));
+                self.answer(reply.unwrap_or_else(Reply::Error))?;
+            }
+            Asked::Quit => {
+                self.answer(Reply::Simple("OK"))?;
+                return Ok(Next::Ends);
+            }
+            Asked::Http => {
+                self.fail(CommandFault::Http)?;
+                return Ok(Next::Ends);
+            }
+            Asked::Answered(reply) => self.answer(reply)?,
+            // (these are answered before)
+            Asked::Multi | Asked::Exec | Asked::Discard | Asked::Watch | Asked::Unwatch => {
+                self.fail(CommandFault::Behind)?;
+            }
         }
-        let client = match self.client {
-            Some(client) => client,
-            None => {
-                let mut numbers = self.shared.numbers.lock().map_err(|_| "ERR the numbers are lost".to_string())?;
-                numbers.give().map_err(|what| format!("ERR {what}"))?
+        Ok(Next::GoesOn)
+    }
+
+    /// What is asked, where it may be asked of this connection.
+    fn permitted(&self, asked: Asked) -> Asked {
+        let is_of_all = matches!(asked, Asked::Auth(_) | Asked::Hello(_) | Asked::Quit | Asked::Reset | Asked::Http);
+        if !self.is_known && !is_of_all {
+            return Asked::Answered(Reply::Error(CommandFault::NotKnown));
+        }
+        let is_of_kept = is_of_all || matches!(asked, Asked::Ping(_) | Asked::Info | Asked::Client(_));
+        if self.place.is_kept && !is_of_kept {
+            return Asked::Answered(Reply::Error(CommandFault::Full));
+        }
+        asked
+    }
+
+    /// Whether the password was said: from now on the connection is known.
+    fn know(&mut self, is_said: impl FnOnce(&Password) -> bool) -> Result<(), CommandFault> {
+        let password = self.shared.password.as_ref().ok_or(CommandFault::NoPassword)?;
+        if is_said(password) {
+            self.is_known = true;
+            return Ok(());
+        }
+        thread::sleep(WRONG);
+        Err(CommandFault::WrongPassword)
+    }
+
+    /// What INFO tells where the driver doesn't answer in time.
+    fn brief(&self) -> String {
+        let metrics = &self.shared.metrics;
+        let lines = [
+            ("core_is_slow", 1),
+            ("takes_part", metrics.takes_part.get()),
+            ("generation", metrics.generation.get()),
+            ("generation_entries", metrics.entries.get()),
+            ("log_bytes", metrics.log_bytes.get()),
+            ("instances_open", metrics.open_instances.get()),
+            ("peers_reached", metrics.peers_reached.get()),
+            ("clients", self.shared.places.count() as u64),
+            ("clients_memory", self.shared.memory.used() as u64),
+        ];
+        lines.into_iter().map(|(name, value)| format!("{name}:{value}\r\n")).collect()
+    }
+
+    /// Begins a command, once there is room: its number.
+    fn begin(&mut self, combine: Combine, parts: Vec<Part>) -> Result<u64, Over> {
+        self.begin_for(combine, parts, self.shared.patience, None)
+    }
+
+    /// Likewise, with another patience, and with what its bytes take.
+    fn begin_for(
+        &mut self,
+        combine: Combine,
+        parts: Vec<Part>,
+        patience: Duration,
+        share: Option<Share>,
+    ) -> Result<u64, Over> {
+        self.window.enter(parts.len())?;
+        let command = self.commands;
+        self.commands += 1;
+        let begun = Instant::now();
+        let slot = Slot { combine, parts, version: self.version, begun, deadline: begun + patience, share };
+        self.messages.send(Message::Begun(slot)).map_err(|_| Over)?;
+        Ok(command)
+    }
+
+    fn place(&self, command: u64, part: usize) -> Place {
+        Place { messages: self.messages.clone(), command, part }
+    }
+
+    fn answer(&mut self, reply: Reply) -> Result<(), Over> {
+        self.begin(Combine::One, vec![Part::Come(reply)]).map(|_| ())
+    }
+
+    fn fail(&mut self, fault: CommandFault) -> Result<(), Over> {
+        self.answer(Reply::Error(fault))
+    }
+
+    /// Has actions done, each by a command of the protocol.
+    fn ask(&mut self, combine: Combine, actions: Vec<(Vec<u8>, Action)>, share: Share) -> Result<(), Over> {
+        let keys = self.shared.keys.clone();
+        let asked: Vec<_> = actions.into_iter().map(|(key, action)| (keys.id(), key, action)).collect();
+        let parts = asked.iter().map(|(id, key, _)| Part::Asked(key.clone(), *id)).collect();
+        let command = self.begin_for(combine, parts, self.shared.patience, Some(share))?;
+        self.is_writing = true;
+        for (part, (id, key, action)) in asked.into_iter().enumerate() {
+            keys.ask(id, key, action, self.place(command, part));
+        }
+        Ok(())
+    }
+
+    /// Waits until what this connection has asked before is done.
+    fn settle(&mut self) -> Result<(), Over> {
+        if self.is_writing {
+            self.window.settle()?;
+            self.is_writing = false;
+        }
+        Ok(())
+    }
+
+    /// Reads at this replica alone.
+    fn read_here(&mut self, combine: Combine, actions: Vec<(Vec<u8>, Action)>, share: Share) -> Result<(), Over> {
+        self.settle()?;
+        let parts = actions.iter().map(|_| Part::Wanted(None)).collect();
+        let command = self.begin_for(combine, parts, self.shared.patience, Some(share))?;
+        for (part, (key, action)) in actions.into_iter().enumerate() {
+            let place = self.place(command, part);
+            let (keys, of) = (self.shared.keys.clone(), key.clone());
+            let reply = Teller::new(move |told| place.tell(local(&keys, of, &action, told)));
+            // (where the driver has ended, the teller tells it)
+            let _ = self.shared.events.send(Event::Ask(Ask { what: What::Read(key), reply }));
+        }
+        Ok(())
+    }
+
+    /// Asks the driver of what isn't of keys. Where it doesn't answer in time the reply is the other one, if there is one.
+    fn ask_driver(&mut self, what: What, patience: Duration, other: Option<Reply>) -> Result<(), Over> {
+        let command = self.begin_for(Combine::One, vec![Part::Wanted(other)], patience, None)?;
+        let place = self.place(command, 0);
+        let reply = Teller::new(move |told| {
+            place.tell(match told {
+                Told::Info(text) | Told::Managed(Ok(text)) => Reply::Bulk(text.into_bytes()),
+                Told::Managed(Err(what)) => Reply::Error(CommandFault::Managing(what)),
+                told => Reply::Error(fault_of(told)),
+            });
+        });
+        let _ = self.shared.events.send(Event::Ask(Ask { what, reply }));
+        Ok(())
+    }
+
+    /// Lists keys, once all that is known to be committed is executed. What this connection has asked before is done by then.
+    fn list(&mut self, list: commands::List) -> Result<(), Over> {
+        self.settle()?;
+        let patience = self.shared.patience;
+        let reply = match self.execute_all(patience) {
+            Ok(()) => self.shared.listing.answer(&list),
+            Err(fault) => Err(fault),
+        };
+        self.answer(reply.unwrap_or_else(Reply::Error))
+    }
+
+    /// Has all executed that this replica knows to be committed.
+    fn execute_all(&self, patience: Duration) -> Result<(), CommandFault> {
+        let (sender, told) = channel();
+        let reply = Teller::new(move |told| _ = sender.send(told));
+        // (any local read does it)
+        let what = What::Read(vec![0]);
+        let _ = self.shared.events.send(Event::Ask(Ask { what, reply }));
+        match told.recv_timeout(patience) {
+            Ok(Told::Value(_)) => Ok(()),
+            Ok(told) => Err(fault_of(told)),
+            Err(_) => Err(CommandFault::NotInTime),
+        }
+    }
+
+    fn greet(&mut self, hello: Hello) -> Result<(), Over> {
+        let auth = hello.auth.as_ref();
+        let known = auth.map_or(Ok(()), |(user, secret)| self.know(|password| password.is_said(user, secret)));
+        if let Err(fault) = known {
+            return self.fail(fault);
+        }
+        if !self.is_known {
+            return self.fail(CommandFault::NotKnown);
+        }
+        self.version = hello.version.unwrap_or(self.version);
+        self.name = hello.name.or(self.name.take()).filter(|name| !name.is_empty());
+        let version = if self.version == Version::Two { 2 } else { 3 };
+        let pairs = [
+            ("server", Reply::text("epaxos")),
+            ("version", Reply::text(env!("CARGO_PKG_VERSION"))),
+            ("proto", Reply::Integer(version)),
+            ("id", Reply::Integer(self.id as i64)),
+            ("mode", Reply::text("standalone")),
+            ("role", Reply::text("master")),
+            ("modules", Reply::Array(Vec::new())),
+        ];
+        self.answer(Reply::Map(pairs.into_iter().map(|(name, value)| (Reply::text(name), value)).collect()))
+    }
+
+    fn about(&mut self, client: commands::Client) -> Result<(), Over> {
+        let reply = match client {
+            commands::Client::Id => Reply::Integer(self.id as i64),
+            commands::Client::Name => self.name.clone().map_or(Reply::Nil, Reply::Bulk),
+            commands::Client::SetName(name) => {
+                self.name = Some(name).filter(|name| !name.is_empty());
+                Reply::Simple("OK")
+            }
+            commands::Client::Info => {
+                let name = self.name.as_deref().map_or("".into(), String::from_utf8_lossy);
+                let version = if self.version == Version::Two { 2 } else { 3 };
+                let (id, address) = (self.id, &self.address);
+                Reply::text(&format!("id={id} addr={address} name={name} db=0 resp={version}\n"))
             }
         };
-        self.client = Some(client);
-        self.requests += 1;
-        Ok(What::Propose { client, request: self.requests, seen: self.seen, command })
-    }
-
-    /// Asks the driver, and waits as long as patience goes.
-    fn ask(&self, what: What, start: Instant) -> Result<Told, String> {
-        let (reply, told) = channel();
-        let ends = || "TRYAGAIN the store ends; the command may still be done".to_string();
-        let mut event = Event::Ask(Ask { what, reply });
-        while let Err(error) = self.shared.events.try_send(event) {
-            event = match error {
-                TrySendError::Full(event) if start.elapsed() < self.shared.patience => event,
-                TrySendError::Full(_) => return Err("TRYAGAIN the command wasn't done: too many others wait".into()),
-                TrySendError::Disconnected(_) => return Err(ends()),
-            };
-            thread::sleep(PAUSE);
-        }
-        let left = self.shared.patience.saturating_sub(start.elapsed());
-        told.recv_timeout(left).map_err(|error| match error {
-            RecvTimeoutError::Timeout => {
-                "TRYAGAIN no majority has answered in time; the command may still be done".into()
-            }
-            RecvTimeoutError::Disconnected => ends(),
-        })
-    }
-
-    /// The local read.
-    fn read(&self, key: Vec<u8>) -> Result<Reply, String> {
-        match self.ask(What::Read(key), Instant::now())? {
-            Told::Value(value) => Ok(value.map_or(Reply::Nil, Reply::Bulk)),
-            Told::Refused(fault) => Err(refusal(fault)),
-            _ => Err("ERR another answer was expected".into()),
-        }
-    }
-
-    fn info(&self) -> Result<Reply, String> {
-        match self.ask(What::Info, Instant::now())? {
-            Told::Info(text) => Ok(Reply::Bulk(text.into_bytes())),
-            _ => Err("ERR another answer was expected".into()),
-        }
+        self.answer(reply)
     }
 }
 
-fn value_of(reply: Option<protocol::Reply>) -> Reply {
-    match reply {
-        Some(protocol::Reply::Present(value)) => Reply::Bulk(value),
-        _ => Reply::Nil,
+/// What a local read replies. What is past its deadline is nil, and is removed.
+fn local(keys: &Arc<Keys>, key: Vec<u8>, action: &Action, told: Told) -> Reply {
+    let Told::Value(value) = told else { return Reply::Error(fault_of(told)) };
+    let (current, now) = (value.map(Stored::read), stored::now());
+    if current.as_ref().is_some_and(|stored| stored.is_over(now)) {
+        // (nobody waits for it)
+        let place = Place { messages: channel().0, command: 0, part: 0 };
+        keys.ask(keys.id(), key, Action::Tidy, place);
     }
+    action.apply(current, now).1
 }
 
-fn refusal(fault: Fault) -> String {
-    match fault {
-        Fault::SPACE_FULL => "FULL this replica has used all of its 2,000 instances; ask another one".into(),
-        Fault::SEQ_EXHAUSTED | Fault::STAMP_FULL => format!("FULL the node refused: {fault}"),
-        Fault::MEMORY => format!("OOM the node refused, ask again: {fault}"),
-        _ => format!("ERR the node refused: {fault}"),
-    }
-}
-
-#[cfg(test)]
-mod tests {
-    use super::*;
-    use std::sync::mpsc::sync_channel;
-
-    /// What a connection makes of these answers to its proposals, one after the other, and what it proposed: the
-    /// requests and the stamps that it had seen. Where there are none it waits in vain, and not for long.
-    fn execute(answers: Vec<Told>) -> (Result<protocol::Reply, String>, Vec<(u32, u64)>) {
-        let (events, asked) = sync_channel(8);
-        static PLACE: AtomicUsize = AtomicUsize::new(0);
-        let place = PLACE.fetch_add(1, Ordering::Relaxed);
-        let folder = std::env::temp_dir().join(format!("store-clients-{}-{place}", std::process::id()));
-        std::fs::create_dir_all(&folder).unwrap();
-        let numbers = Mutex::new(Numbers::new(&folder, 0));
-        let patience = if answers.is_empty() { Duration::from_millis(200) } else { Duration::from_secs(60) };
-        let shared = Shared { events, numbers, patience, connections: AtomicUsize::new(0) };
-        let driver = thread::spawn(move || {
-            let mut answers = answers.into_iter();
-            let (mut proposed, mut unanswered) = (Vec::new(), Vec::new());
-            while let Ok(Event::Ask(Ask { what: What::Propose { client: 1, request, seen, .. }, reply })) = asked.recv()
-            {
-                proposed.push((request, seen));
-                match answers.next() {
-                    Some(answer) => reply.send(answer).unwrap(),
-                    None => unanswered.push(reply),
-                }
-            }
-            proposed
-        });
-        let reply = Connection::new(Arc::new(shared)).execute(Command::Get { key: b"x".to_vec() });
-        std::fs::remove_dir_all(&folder).unwrap();
-        (reply, driver.join().unwrap())
-    }
-
-    fn done(stamp: u64, reply: protocol::Reply) -> Told {
-        Told::Done { stamp, reply }
-    }
-
-    #[test]
-    fn what_is_lost_is_proposed_again() {
-        let answers = vec![done(7, protocol::Reply::Lost), done(9, protocol::Reply::Absent)];
-        assert_eq!(execute(answers), (Ok(protocol::Reply::Absent), vec![(1, 0), (2, 7)]));
-        let (reply, proposed) = execute((1..9).map(|stamp| done(stamp, protocol::Reply::Lost)).collect());
-        assert!(reply.unwrap_err().starts_with("TRYAGAIN the command wasn't done"));
-        assert_eq!(proposed.len(), MOST_TRIES);
-    }
-
-    #[test]
-    fn a_driver_that_has_too_much_to_do_is_not_waited_for_without_end() {
-        let (events, asked) = sync_channel(1);
-        let folder = std::env::temp_dir().join(format!("store-clients-{}-full", std::process::id()));
-        std::fs::create_dir_all(&folder).unwrap();
-        let numbers = Mutex::new(Numbers::new(&folder, 0));
-        let patience = Duration::from_millis(50);
-        events.send(Event::PeerReached).unwrap();
-        let shared = Arc::new(Shared { events, numbers, patience, connections: AtomicUsize::new(0) });
-        let mut connection = Connection::new(shared);
-        connection.requests = u32::MAX;
-        let told = connection.execute(Command::Get { key: b"x".to_vec() }).unwrap_err();
-        assert_eq!(told, "TRYAGAIN the command wasn't done: too many others wait");
-        // Its requests begin again, as another client's.
-        assert_eq!((connection.client, connection.requests), (Some(1), 1));
-        drop(asked);
-        let told = connection.execute(Command::Get { key: b"x".to_vec() }).unwrap_err();
-        assert_eq!(told, "TRYAGAIN the store ends; the command may still be done");
-        std::fs::remove_dir_all(&folder).unwrap();
-    }
-
-    #[test]
-    fn patience_ends_and_refusals_are_told() {
-        let (reply, proposed) = execute(Vec::new());
-        assert!(reply.unwrap_err().contains("may still be done"));
-        assert_eq!(proposed, [(1, 0)]);
-        let (reply, proposed) = execute(vec![Told::Refused(Fault::SPACE_FULL)]);
-        assert!(reply.unwrap_err().starts_with("FULL "));
-        assert_eq!(proposed.len(), 1);
-        assert!(execute(vec![Told::Refused(Fault::MEMORY)]).0.unwrap_err().starts_with("OOM "));
+/// What a client is told where another answer was expected.
+fn fault_of(told: Told) -> CommandFault {
+    match told {
+        Told::Refused(fault) => CommandFault::Node(fault),
+        Told::Alone => CommandFault::NoMajority,
+        Told::Late => CommandFault::Waiting,
+        _ => CommandFault::StoreEnds,
     }
 }

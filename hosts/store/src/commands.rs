@@ -1,133 +1,477 @@
 //! What a client's words ask for.
-use crate::protocol::{Command, LONGEST_KEY, LONGEST_VALUE};
-use crate::resp::Reply;
+use crate::actions::{Action, Keep, Only, OnlyExpire, Set, Tells, Unit, integer};
+use crate::command_fault::CommandFault;
+use crate::driver::Manage;
+use crate::identities::identity;
+use crate::protocol::LONGEST_KEY;
+use crate::replies::Combine;
+use crate::resp::{Reply, Version};
+use crate::scripts;
+use crate::stored::{LONGEST_CONTENT, LONGEST_OWNER, now};
+use crate::table::{Entry, TABLE, entry};
+use std::time::{Duration, SystemTime, UNIX_EPOCH};
+
+type Words = Vec<Vec<u8>>;
 
 /// What is asked.
 #[derive(PartialEq, Eq, Debug)]
 pub enum Asked {
-    Get(Vec<u8>),
-    Set(Vec<u8>, Vec<u8>),
-    Del(Vec<Vec<u8>>),
+    /// Actions on keys, each a command of its own, and how their replies make one.
+    Keys(Combine, Vec<(Vec<u8>, Action)>),
+    /// The keys that there are, as far as this replica knows.
+    List(List),
     Info,
-    Quit,
+    Ping(Option<Vec<u8>>),
+    /// Asked by somebody who runs the store.
+    Manage(Manage),
+    Hello(Hello),
+    Client(Client),
     ReadOnly(bool),
+    Reset,
+    Quit,
     Multi,
     Exec,
     Discard,
+    Watch,
+    Unwatch,
+    Auth(Words),
     /// A web page's request, in whose body commands may stand that nobody here has asked for.
     Http,
     /// Answered without the node.
     Answered(Reply),
 }
 
-/// Understands a command's words; what can't be understood is answered by an error.
-pub fn understand(words: Vec<Vec<u8>>) -> Asked {
-    let mut words = words.into_iter();
-    let name = words.next().unwrap_or_default().to_ascii_uppercase();
-    let rest: Vec<Vec<u8>> = words.collect();
-    let asked = match (name.as_slice(), rest.len()) {
-        (b"GET", 1) | (b"DEL", 1..) | (b"SET", 2) => keyed(&name, rest),
-        (b"SET", 3..) => Err("ERR options of SET aren't supported".to_string()),
-        (b"PING", 0) => Ok(Asked::Answered(Reply::Simple("PONG"))),
-        (b"PING", 1) => Ok(Asked::Answered(rest.into_iter().next().map_or(Reply::Nil, Reply::Bulk))),
-        (b"INFO", _) => Ok(Asked::Info),
-        (b"COMMAND", _) => Ok(Asked::Answered(Reply::EmptyArray)),
-        (b"QUIT", _) => Ok(Asked::Quit),
-        (b"POST" | b"HOST:", _) => Ok(Asked::Http),
-        (b"READONLY", 0) => Ok(Asked::ReadOnly(true)),
-        (b"READWRITE", 0) => Ok(Asked::ReadOnly(false)),
-        // Whatever words follow: who sends one takes the next commands for a part of it.
-        (b"MULTI", _) => Ok(Asked::Multi),
-        (b"EXEC", _) => Ok(Asked::Exec),
-        (b"DISCARD", _) => Ok(Asked::Discard),
-        (b"WATCH", _) => Err("ERR WATCH isn't supported, nor is MULTI".into()),
-        (b"UNWATCH", 0) => Ok(Asked::Answered(Reply::Simple("OK"))),
-        (b"GET" | b"SET" | b"DEL" | b"PING" | b"READONLY" | b"READWRITE", _) => {
-            Err(format!("ERR wrong number of arguments for '{}'", printable(&name.to_ascii_lowercase())))
-        }
-        _ => Err(format!("ERR unknown command '{}'", printable(&name))),
-    };
-    asked.unwrap_or_else(|error| Asked::Answered(Reply::Error(error)))
+#[derive(PartialEq, Eq, Debug)]
+pub enum List {
+    Size,
+    Keys(Vec<u8>),
+    Scan { cursor: u64, pattern: Option<Vec<u8>>, count: usize, kind: Option<Vec<u8>> },
 }
 
-/// A GET, a DEL or a SET, whose keys and value are in range.
-fn keyed(name: &[u8], mut words: Vec<Vec<u8>>) -> Result<Asked, String> {
-    let value = if name == b"SET" { words.pop() } else { None };
-    if words.iter().any(|key| key.is_empty() || key.len() > LONGEST_KEY) {
-        return Err(format!("ERR a key has 1 to {LONGEST_KEY} bytes"));
+/// The version that is wanted from now on, and what is said beside it.
+#[derive(PartialEq, Eq, Default, Debug)]
+pub struct Hello {
+    pub version: Option<Version>,
+    /// User and password.
+    pub auth: Option<(Vec<u8>, Vec<u8>)>,
+    pub name: Option<Vec<u8>>,
+}
+
+#[derive(PartialEq, Eq, Debug)]
+pub enum Client {
+    Id,
+    Name,
+    SetName(Vec<u8>),
+    Info,
+}
+
+/// Understands a command's words, at least one; what can't be understood is answered by an error.
+pub fn understand(words: Words) -> Asked {
+    attempt(words).unwrap_or_else(|fault| Asked::Answered(Reply::Error(fault)))
+}
+
+fn attempt(mut words: Words) -> Result<Asked, CommandFault> {
+    let count = words.len();
+    let name = if words.is_empty() { Vec::new() } else { words.remove(0).to_ascii_lowercase() };
+    let Some(entry) = entry(&name) else { return Err(CommandFault::Unknown(printable(&name))) };
+    if !entry.takes(count) {
+        return Err(CommandFault::WrongCount(entry.name.into()));
     }
-    if value.as_ref().is_some_and(|value| value.len() > LONGEST_VALUE) {
-        return Err(format!("ERR a value has at most {LONGEST_VALUE} bytes"));
+    match entry.name {
+        "client" => client(words),
+        "command" => Ok(Asked::Answered(about_commands(&words)?)),
+        "config" => Ok(Asked::Answered(config(&words)?)),
+        "epaxos" => epaxos(words),
+        "script" => Ok(Asked::Answered(script(&words)?)),
+        "dbsize" => Ok(Asked::List(List::Size)),
+        "keys" => Ok(Asked::List(List::Keys(words.remove(0)))),
+        "scan" => scan(words),
+        "hello" => hello(words),
+        "auth" => Ok(Asked::Auth(words)),
+        "echo" => Ok(Asked::Answered(Reply::Bulk(words.remove(0)))),
+        "ping" => match words.len() {
+            0 | 1 => Ok(Asked::Ping(words.pop())),
+            _ => Err(CommandFault::WrongCount(entry.name.into())),
+        },
+        "select" => match integer(&words[0]) {
+            Some(0) => Ok(Asked::Answered(Reply::Simple("OK"))),
+            Some(_) => Err(CommandFault::DatabaseIndex),
+            None => Err(CommandFault::NotAnInteger),
+        },
+        "time" => Ok(Asked::Answered(time())),
+        "info" => Ok(Asked::Info),
+        "readonly" => Ok(Asked::ReadOnly(true)),
+        "readwrite" => Ok(Asked::ReadOnly(false)),
+        "reset" => Ok(Asked::Reset),
+        "quit" => Ok(Asked::Quit),
+        // Whatever words follow: who sends one takes the next commands for a part of it.
+        "multi" => Ok(Asked::Multi),
+        "exec" => Ok(Asked::Exec),
+        "discard" => Ok(Asked::Discard),
+        "watch" => Ok(Asked::Watch),
+        "unwatch" => Ok(Asked::Unwatch),
+        "post" | "host:" => Ok(Asked::Http),
+        _ => keyed(entry, words),
     }
-    if name == b"DEL" {
-        return Ok(Asked::Del(words));
+}
+
+/// A command of keys, which are in range.
+fn keyed(entry: &Entry, words: Words) -> Result<Asked, CommandFault> {
+    let (combine, actions) = actions(entry.name, words)?;
+    if actions.iter().any(|(key, _)| key.is_empty() || key.len() > LONGEST_KEY) {
+        return Err(CommandFault::KeyLength);
     }
-    let key = words.pop().unwrap_or_default();
-    Ok(match value {
-        Some(value) => Asked::Set(key, value),
-        None => Asked::Get(key),
+    Ok(Asked::Keys(combine, actions))
+}
+
+type Actions = (Combine, Vec<(Vec<u8>, Action)>);
+
+fn actions(name: &'static str, mut words: Words) -> Result<Actions, CommandFault> {
+    let each = |action: Action| words.iter().map(|key| (key.clone(), action.clone())).collect();
+    match name {
+        "del" | "unlink" => return Ok((Combine::Sum, each(Action::Delete))),
+        "exists" | "touch" => return Ok((Combine::Sum, each(Action::Exists))),
+        "mget" => return Ok((Combine::List, each(Action::Peek))),
+        "mset" => return Ok((Combine::All, pairs(words)?)),
+        "eval" => {
+            let script = scripts::by_text(&words.remove(0)).ok_or(CommandFault::Script)?;
+            return Ok((Combine::One, vec![script.action(&words)?]));
+        }
+        "evalsha" => {
+            let script = scripts::by_digest(&words.remove(0)).ok_or(CommandFault::NoScript)?;
+            return Ok((Combine::One, vec![script.action(&words)?]));
+        }
+        _ => {}
+    }
+    let key = words.remove(0);
+    Ok((Combine::One, vec![(key, action(name, words)?)]))
+}
+
+fn pairs(words: Words) -> Result<Vec<(Vec<u8>, Action)>, CommandFault> {
+    let (pairs, []) = words.as_chunks::<2>() else { return Err(CommandFault::WrongCount("mset".into())) };
+    pairs.iter().map(|[key, value]| Ok((key.clone(), plain(value.clone(), Only::Always, Tells::Ok)?))).collect()
+}
+
+/// A SET without a deadline.
+fn plain(value: Vec<u8>, only: Only, tells: Tells) -> Result<Action, CommandFault> {
+    Ok(Action::Set(Set { value: fitting(value)?, keep: Keep::None, only, tells }))
+}
+
+fn fitting(value: Vec<u8>) -> Result<Vec<u8>, CommandFault> {
+    if value.len() > LONGEST_CONTENT { Err(CommandFault::ValueLength) } else { Ok(value) }
+}
+
+/// What a command of one key does to it; the words behind the key are as many as the table says.
+fn action(name: &'static str, mut words: Words) -> Result<Action, CommandFault> {
+    Ok(match name {
+        "get" => Action::Get,
+        "strlen" => Action::Length,
+        "type" => Action::Kind,
+        "ttl" => Action::TimeLeft(Unit::Seconds),
+        "pttl" => Action::TimeLeft(Unit::Milliseconds),
+        "expiretime" => Action::Deadline(Unit::Seconds),
+        "pexpiretime" => Action::Deadline(Unit::Milliseconds),
+        "getdel" => Action::GetDelete,
+        "getset" => plain(words.remove(0), Only::Always, Tells::Before)?,
+        "setnx" => plain(words.remove(0), Only::IfAbsent, Tells::Number)?,
+        "set" => set(words)?,
+        "setex" => set_until(name, words, Unit::Seconds)?,
+        "psetex" => set_until(name, words, Unit::Milliseconds)?,
+        "getex" => get_until(words)?,
+        "incr" => Action::Add(1),
+        "decr" => Action::Add(-1),
+        "incrby" => Action::Add(number(&words[0])?),
+        "decrby" => Action::Add(number(&words[0])?.checked_neg().ok_or(CommandFault::DecrementOverflow)?),
+        "append" => Action::Append(words.remove(0)),
+        "persist" => Action::Persist,
+        "expire" => expire(name, words, Unit::Seconds, true)?,
+        "pexpire" => expire(name, words, Unit::Milliseconds, true)?,
+        "expireat" => expire(name, words, Unit::Seconds, false)?,
+        "pexpireat" => expire(name, words, Unit::Milliseconds, false)?,
+        _ => return Err(CommandFault::Unknown(name.into())),
     })
+}
+
+fn number(word: &[u8]) -> Result<i64, CommandFault> {
+    integer(word).ok_or(CommandFault::NotAnInteger)
+}
+
+/// A deadline in milliseconds since 1970, of a time in this unit, from now or from 1970 on.
+fn deadline(time: i64, unit: Unit, is_relative: bool) -> Option<i64> {
+    let scale = if unit == Unit::Seconds { 1_000 } else { 1 };
+    let start = if is_relative { i64::try_from(now()).ok()? } else { 0 };
+    time.checked_mul(scale)?.checked_add(start)
+}
+
+/// Likewise, of a time from 1 on.
+fn coming(name: &'static str, word: &[u8], unit: Unit, is_relative: bool) -> Result<u64, CommandFault> {
+    let time = number(word)?;
+    let deadline = deadline(time, unit, is_relative).filter(|_| time > 0);
+    deadline.and_then(|deadline| u64::try_from(deadline).ok()).ok_or(CommandFault::InvalidExpire(name))
+}
+
+/// A word that names a time: its unit, and whether the time counts from now on.
+fn timed(word: &[u8]) -> Option<(Unit, bool)> {
+    match word.to_ascii_lowercase().as_slice() {
+        b"ex" => Some((Unit::Seconds, true)),
+        b"px" => Some((Unit::Milliseconds, true)),
+        b"exat" => Some((Unit::Seconds, false)),
+        b"pxat" => Some((Unit::Milliseconds, false)),
+        _ => None,
+    }
+}
+
+fn set(words: Words) -> Result<Action, CommandFault> {
+    let mut words = words.into_iter();
+    let value = words.next().ok_or(CommandFault::Syntax)?;
+    let (mut keep, mut only, mut tells) = (None, None, Tells::Ok);
+    while let Some(word) = words.next() {
+        if let Some((unit, is_relative)) = timed(&word) {
+            let time = words.next().ok_or(CommandFault::Syntax)?;
+            once(&mut keep, Keep::At(coming("set", &time, unit, is_relative)?))?;
+            continue;
+        }
+        match word.to_ascii_lowercase().as_slice() {
+            b"keepttl" => once(&mut keep, Keep::As)?,
+            b"nx" => once(&mut only, Only::IfAbsent)?,
+            b"xx" => once(&mut only, Only::IfPresent)?,
+            b"ifeq" => once(&mut only, Only::IfEqual(words.next().ok_or(CommandFault::Syntax)?))?,
+            b"get" => tells = Tells::Before,
+            _ => return Err(CommandFault::Syntax),
+        }
+    }
+    let (keep, only) = (keep.unwrap_or(Keep::None), only.unwrap_or(Only::Always));
+    Ok(Action::Set(Set { value: fitting(value)?, keep, only, tells }))
+}
+
+/// Gives an option that may be given once.
+fn once<T>(option: &mut Option<T>, value: T) -> Result<(), CommandFault> {
+    if option.replace(value).is_some() { Err(CommandFault::Syntax) } else { Ok(()) }
+}
+
+fn set_until(name: &'static str, words: Words, unit: Unit) -> Result<Action, CommandFault> {
+    let Ok([time, value]) = <[Vec<u8>; 2]>::try_from(words) else { return Err(CommandFault::Syntax) };
+    let keep = Keep::At(coming(name, &time, unit, true)?);
+    Ok(Action::Set(Set { value: fitting(value)?, keep, only: Only::Always, tells: Tells::Ok }))
+}
+
+fn get_until(words: Words) -> Result<Action, CommandFault> {
+    match words.as_slice() {
+        [] => Ok(Action::GetExpire(Keep::As)),
+        [word] if word.eq_ignore_ascii_case(b"persist") => Ok(Action::GetExpire(Keep::None)),
+        [word, time] => {
+            let (unit, is_relative) = timed(word).ok_or(CommandFault::Syntax)?;
+            Ok(Action::GetExpire(Keep::At(coming("getex", time, unit, is_relative)?)))
+        }
+        _ => Err(CommandFault::Syntax),
+    }
+}
+
+fn expire(name: &'static str, words: Words, unit: Unit, is_relative: bool) -> Result<Action, CommandFault> {
+    let time = number(&words[0])?;
+    let deadline = deadline(time, unit, is_relative).ok_or(CommandFault::InvalidExpire(name))?;
+    let mut only = OnlyExpire::default();
+    for word in &words[1..] {
+        match word.to_ascii_lowercase().as_slice() {
+            b"nx" => only.without = true,
+            b"xx" => only.with = true,
+            b"gt" => only.later = true,
+            b"lt" => only.earlier = true,
+            _ => return Err(CommandFault::UnsupportedOption(printable(word))),
+        }
+    }
+    if only.without && (only.with || only.later || only.earlier) {
+        return Err(CommandFault::IncompatibleExpire);
+    }
+    if only.later && only.earlier {
+        return Err(CommandFault::LaterAndEarlier);
+    }
+    Ok(Action::Expire { deadline, only })
+}
+
+/// What this store alone knows: locks, and what somebody who runs it asks for.
+fn epaxos(mut words: Words) -> Result<Asked, CommandFault> {
+    let sub = words.remove(0).to_ascii_lowercase();
+    let until = |name, time| coming(name, time, Unit::Milliseconds, true);
+    let (key, action) = match (sub.as_slice(), words.as_slice()) {
+        (b"lock", [key, owner, time]) => {
+            (key, Action::Lock { owner: named(owner)?, deadline: until("epaxos|lock", time)? })
+        }
+        (b"renew", [key, owner, time]) => {
+            (key, Action::Renew { owner: named(owner)?, deadline: until("epaxos|renew", time)? })
+        }
+        (b"unlock", [key, owner]) => (key, Action::Unlock { owner: named(owner)? }),
+        (b"holder", [key]) => (key, Action::Holder),
+        (b"seal", []) => return Ok(Asked::Manage(Manage::Seal)),
+        (b"members", []) => return Ok(Asked::Manage(Manage::Members)),
+        (b"replace", [replica, identity]) => return Ok(Asked::Manage(replace(replica, identity, None)?)),
+        (b"replace", [replica, identity, address]) => {
+            return Ok(Asked::Manage(replace(replica, identity, Some(address))?));
+        }
+        (b"lock" | b"renew" | b"unlock" | b"holder" | b"seal" | b"members" | b"replace", _) => {
+            return Err(CommandFault::WrongCount(format!("epaxos|{}", printable(&sub))));
+        }
+        _ => return Err(CommandFault::UnknownSubcommand("EPAXOS", printable(&sub))),
+    };
+    if key.is_empty() || key.len() > LONGEST_KEY {
+        return Err(CommandFault::KeyLength);
+    }
+    Ok(Asked::Keys(Combine::One, vec![(key.clone(), action)]))
+}
+
+fn replace(replica: &[u8], digits: &[u8], address: Option<&Vec<u8>>) -> Result<Manage, CommandFault> {
+    let replica = u8::try_from(number(replica)?).map_err(|_| CommandFault::NotAnInteger)?;
+    let identity = std::str::from_utf8(digits).ok().and_then(identity).ok_or(CommandFault::Identity)?;
+    let address = address.map(|address| String::from_utf8(address.clone()).map_err(|_| CommandFault::Syntax));
+    Ok(Manage::Replace { replica, identity, address: address.transpose()? })
+}
+
+fn named(owner: &[u8]) -> Result<Vec<u8>, CommandFault> {
+    if owner.is_empty() || owner.len() > LONGEST_OWNER { Err(CommandFault::OwnerLength) } else { Ok(owner.to_vec()) }
+}
+
+fn scan(words: Words) -> Result<Asked, CommandFault> {
+    let mut words = words.into_iter();
+    let cursor = words.next().unwrap_or_default();
+    let cursor =
+        std::str::from_utf8(&cursor).ok().and_then(|cursor| cursor.parse().ok()).ok_or(CommandFault::Cursor)?;
+    let (mut pattern, mut count, mut kind) = (None, 10, None);
+    while let Some(word) = words.next() {
+        let value = words.next().ok_or(CommandFault::Syntax)?;
+        match word.to_ascii_lowercase().as_slice() {
+            b"match" => pattern = Some(value),
+            b"type" => kind = Some(value.to_ascii_lowercase()),
+            b"count" => {
+                let number = number(&value)?;
+                count = usize::try_from(number).ok().filter(|count| *count > 0).ok_or(CommandFault::Syntax)?;
+            }
+            _ => return Err(CommandFault::Syntax),
+        }
+    }
+    Ok(Asked::List(List::Scan { cursor, pattern, count, kind }))
+}
+
+fn hello(words: Words) -> Result<Asked, CommandFault> {
+    let mut hello = Hello::default();
+    let mut words = words.into_iter();
+    if let Some(version) = words.next() {
+        hello.version = match integer(&version) {
+            Some(2) => Some(Version::Two),
+            Some(3) => Some(Version::Three),
+            Some(_) => return Err(CommandFault::Protocol),
+            None => return Err(CommandFault::NotAProtocol),
+        };
+    }
+    while let Some(word) = words.next() {
+        match word.to_ascii_lowercase().as_slice() {
+            b"auth" => match (words.next(), words.next()) {
+                (Some(user), Some(password)) => hello.auth = Some((user, password)),
+                _ => return Err(CommandFault::Syntax),
+            },
+            b"setname" => hello.name = Some(client_name(words.next().ok_or(CommandFault::Syntax)?)?),
+            _ => return Err(CommandFault::Syntax),
+        }
+    }
+    Ok(Asked::Hello(hello))
+}
+
+fn client_name(name: Vec<u8>) -> Result<Vec<u8>, CommandFault> {
+    if name.iter().all(|byte| (b'!'..=b'~').contains(byte)) { Ok(name) } else { Err(CommandFault::ClientName) }
+}
+
+fn client(mut words: Words) -> Result<Asked, CommandFault> {
+    let sub = words.remove(0).to_ascii_lowercase();
+    Ok(match (sub.as_slice(), words.len()) {
+        (b"id", 0) => Asked::Client(Client::Id),
+        (b"getname", 0) => Asked::Client(Client::Name),
+        (b"info", 0) => Asked::Client(Client::Info),
+        (b"setname", 1) => Asked::Client(Client::SetName(client_name(words.remove(0))?)),
+        (b"setinfo", 2) if is_library(&words[0]) => {
+            client_name(words.remove(1))?;
+            Asked::Answered(Reply::Simple("OK"))
+        }
+        (b"setinfo", 2) => return Err(CommandFault::UnsupportedOption(printable(&words[0]))),
+        // (nobody is evicted here)
+        (b"no-evict" | b"no-touch", 1) => Asked::Answered(Reply::Simple("OK")),
+        (b"id" | b"getname" | b"info" | b"setname" | b"setinfo" | b"no-evict" | b"no-touch", _) => {
+            return Err(CommandFault::WrongCount(format!("client|{}", printable(&sub))));
+        }
+        _ => return Err(CommandFault::UnknownSubcommand("CLIENT", printable(&sub))),
+    })
+}
+
+fn is_library(word: &[u8]) -> bool {
+    word.eq_ignore_ascii_case(b"lib-name") || word.eq_ignore_ascii_case(b"lib-ver")
+}
+
+fn script(words: &[Vec<u8>]) -> Result<Reply, CommandFault> {
+    let (sub, rest) = (words[0].to_ascii_lowercase(), &words[1..]);
+    match (sub.as_slice(), rest) {
+        (b"load", [text]) => scripts::digest(text).map(Reply::text).ok_or(CommandFault::Script),
+        (b"exists", [_, ..]) => {
+            let known = |digest: &Vec<u8>| Reply::Integer(scripts::by_digest(digest).is_some().into());
+            Ok(Reply::Array(rest.iter().map(known).collect()))
+        }
+        (b"load" | b"exists", _) => Err(CommandFault::WrongCount(format!("script|{}", printable(&sub)))),
+        _ => Err(CommandFault::UnknownSubcommand("SCRIPT", printable(&sub))),
+    }
+}
+
+/// What CONFIG GET tells: how this store is, in the names of Redis.
+const CONFIG: [(&str, &str); 4] = [("appendfsync", "always"), ("appendonly", "yes"), ("databases", "1"), ("save", "")];
+
+fn config(words: &[Vec<u8>]) -> Result<Reply, CommandFault> {
+    let (sub, patterns) = (words[0].to_ascii_lowercase(), &words[1..]);
+    match (sub.as_slice(), patterns) {
+        (b"get", [_, ..]) => {
+            let patterns: Vec<_> = patterns.iter().map(|pattern| pattern.to_ascii_lowercase()).collect();
+            let is_asked = |name: &str| patterns.iter().any(|pattern| crate::glob::fits(pattern, name.as_bytes()));
+            let asked = CONFIG.iter().filter(|(name, _)| is_asked(name));
+            Ok(Reply::Map(asked.map(|(name, value)| (Reply::text(name), Reply::text(value))).collect()))
+        }
+        (b"get", []) => Err(CommandFault::WrongCount("config|get".into())),
+        _ => Err(CommandFault::UnknownSubcommand("CONFIG", printable(&sub))),
+    }
+}
+
+fn about_commands(words: &[Vec<u8>]) -> Result<Reply, CommandFault> {
+    let sub = words.first().map(|word| word.to_ascii_lowercase());
+    // (two of the table are no commands)
+    let all = || TABLE.iter().filter(|entry| !matches!(entry.name, "host:" | "post"));
+    match sub.as_deref() {
+        None => Ok(Reply::Array(all().map(described).collect())),
+        Some(b"count") => Ok(Reply::Integer(all().count() as i64)),
+        Some(b"docs") => Ok(Reply::Map(Vec::new())),
+        Some(b"info") if words.len() == 1 => Ok(Reply::Array(all().map(described).collect())),
+        Some(b"info") => {
+            let asked = words[1..].iter().map(|name| entry(&name.to_ascii_lowercase()).map_or(Reply::Nil, described));
+            Ok(Reply::Array(asked.collect()))
+        }
+        Some(b"list") => Ok(Reply::Array(all().map(|entry| Reply::text(entry.name)).collect())),
+        Some(sub) => Err(CommandFault::UnknownSubcommand("COMMAND", printable(sub))),
+    }
+}
+
+fn described(entry: &Entry) -> Reply {
+    let (first, last, step) = entry.keys;
+    let flag = if entry.writes { "write" } else { "readonly" };
+    Reply::Array(vec![
+        Reply::text(entry.name),
+        Reply::Integer(entry.arity),
+        Reply::Array(vec![Reply::Simple(flag)]),
+        Reply::Integer(first),
+        Reply::Integer(last),
+        Reply::Integer(step),
+    ])
+}
+
+/// Seconds since 1970, and microseconds of the next one.
+fn time() -> Reply {
+    let since = SystemTime::now().duration_since(UNIX_EPOCH).unwrap_or(Duration::ZERO);
+    Reply::Array(vec![Reply::text(&since.as_secs().to_string()), Reply::text(&since.subsec_micros().to_string())])
 }
 
 /// At most 64 bytes of a word, fit for a line.
 fn printable(word: &[u8]) -> String {
     word.iter().take(64).flat_map(|byte| byte.escape_ascii()).map(char::from).collect()
-}
-
-impl Asked {
-    /// The commands of the protocol that it takes, in order.
-    pub fn commands(&self) -> Vec<Command> {
-        match self {
-            Asked::Get(key) => vec![Command::Get { key: key.clone() }],
-            Asked::Set(key, value) => vec![Command::Put { key: key.clone(), value: value.clone() }],
-            Asked::Del(keys) => keys.iter().map(|key| Command::Del { key: key.clone() }).collect(),
-            _ => Vec::new(),
-        }
-    }
-}
-
-#[cfg(test)]
-mod tests {
-    use super::*;
-
-    fn ask(words: &[&[u8]]) -> Asked {
-        understand(words.iter().map(|word| word.to_vec()).collect())
-    }
-
-    fn error_of(asked: Asked) -> String {
-        match asked {
-            Asked::Answered(Reply::Error(text)) => text,
-            other => panic!("{other:?}"),
-        }
-    }
-
-    #[test]
-    fn commands_in_either_case() {
-        assert_eq!(ask(&[b"get", b"x"]), Asked::Get(b"x".to_vec()));
-        assert_eq!(ask(&[b"SET", b"\0", b""]), Asked::Set(vec![0], Vec::new()));
-        assert_eq!(ask(&[b"Del", b"a", b"b"]), Asked::Del(vec![b"a".to_vec(), b"b".to_vec()]));
-        assert_eq!(ask(&[b"PING"]), Asked::Answered(Reply::Simple("PONG")));
-        assert_eq!(ask(&[b"PING", b"x"]), Asked::Answered(Reply::Bulk(b"x".to_vec())));
-        assert_eq!(ask(&[b"command", b"docs"]), Asked::Answered(Reply::EmptyArray));
-        assert_eq!(ask(&[b"info", b"server"]), Asked::Info);
-        assert_eq!(ask(&[b"quit"]), Asked::Quit);
-        assert_eq!(ask(&[b"readonly"]), Asked::ReadOnly(true));
-        assert_eq!(ask(&[b"readwrite"]), Asked::ReadOnly(false));
-        assert_eq!(ask(&[b"POST", b"/", b"HTTP/1.1"]), Asked::Http);
-        assert_eq!(ask(&[b"Host:", b"a"]), Asked::Http);
-    }
-
-    #[test]
-    fn what_is_refused() {
-        assert!(error_of(ask(&[b"SET", b"x", b"1", b"NX"])).contains("options"));
-        assert!(error_of(ask(&[b"SET", b"x"])).contains("wrong number"));
-        assert!(error_of(ask(&[b"GET"])).contains("wrong number"));
-        assert!(error_of(ask(&[b"DEL"])).contains("wrong number"));
-        assert!(error_of(ask(&[b"a\r\n"])).contains("unknown command 'A\\r\\n'"));
-        assert!(error_of(ask(&[b"GET", b""])).contains("1 to 255"));
-        assert!(error_of(ask(&[b"GET", &[b'k'; 256]])).contains("1 to 255"));
-        assert!(error_of(ask(&[b"DEL", b"x", b""])).contains("1 to 255"));
-        assert!(error_of(ask(&[b"SET", b"x", &[0; 1_025]])).contains("1,024") || LONGEST_VALUE == 1_024);
-        assert_eq!(ask(&[b"SET", &[b'k'; 255], &[0; 1_024]]), Asked::Set(vec![b'k'; 255], vec![0; 1_024]));
-    }
 }

@@ -1,5 +1,6 @@
 //! The folder of a replica: where its files are, a lock, and whether they are whole.
 use crate::identities;
+use std::fmt;
 use std::fs::{self, File, OpenOptions, TryLockError};
 use std::io::{self, Seek, Write};
 use std::path::{Path, PathBuf};
@@ -10,9 +11,78 @@ use std::time::{Duration, Instant};
 const PATIENCE: Duration = Duration::from_secs(10);
 /// So many bytes of the file for the node's standard error are there before it writes, so that it can tell that the disk is full.
 const ROOM_FOR_ERRORS: usize = 4_096;
-/// A log that is shorter has no header.
-const SHORTEST_LOG: u64 = 7;
+/// Marks the folder of a machine that has never acted, and waits until a generation names it.
+const JOINING: &str = "joining";
 const NEVER: &str = "This replica must not come back: it may have promised what it doesn't know any more";
+
+/// Why a folder isn't taken.
+#[derive(Debug)]
+pub enum DirectoryFault {
+    /// It can't be read or written.
+    Unusable(PathBuf, io::Error),
+    /// Another store or its node has it.
+    InUse(PathBuf),
+    /// It is of a store that had no generations.
+    Old(PathBuf),
+    /// A file was lost, without which the replica doesn't know what it promised.
+    Lost(PathBuf),
+    /// What clients were told was lost.
+    ReceiptsLost(PathBuf),
+    /// A replica is to be begun where there is one.
+    Begun(PathBuf),
+    /// A replica is to go on where there is none.
+    NotBegun(PathBuf),
+    /// Of this generation there are so many entries, and a client was told of a later one.
+    Forgotten { generation: u32, entries: u32, told: u32 },
+    /// There are entries, and no identities.
+    NotWhole(PathBuf),
+}
+
+impl DirectoryFault {
+    /// Whether the replica must not come back with this folder.
+    pub fn is_lasting(&self) -> bool {
+        !matches!(self, DirectoryFault::Unusable(..) | DirectoryFault::InUse(_))
+    }
+}
+
+impl fmt::Display for DirectoryFault {
+    fn fmt(&self, f: &mut fmt::Formatter) -> fmt::Result {
+        match self {
+            DirectoryFault::Unusable(path, error) => write!(f, "{} can't be used: {error}", path.display()),
+            DirectoryFault::InUse(path) => {
+                write!(f, "the folder {} is in use by another store or its node", path.display())
+            }
+            DirectoryFault::Old(path) => write!(
+                f,
+                "the folder {} has a log from before generations, and this store doesn't go on from it: start the store of that time, \
+                 read all keys there, and set them in a new cluster with empty folders",
+                path.display()
+            ),
+            DirectoryFault::Lost(path) => write!(f, "{} was lost. {NEVER}", path.display()),
+            DirectoryFault::ReceiptsLost(path) => write!(
+                f,
+                "{} was lost: what clients were told can't be audited, nor compared with the log",
+                path.display()
+            ),
+            DirectoryFault::Begun(path) => {
+                write!(f, "the folder {} has a replica already: --new is for its first start alone", path.display())
+            }
+            DirectoryFault::NotBegun(path) => {
+                write!(f, "the folder {} has no replica: --new begins one, where there never was one", path.display())
+            }
+            DirectoryFault::Forgotten { generation, entries, told } => write!(
+                f,
+                "the log of generation {generation} has forgotten: it has {entries} entries, and a client was told of entry {told}. {NEVER}"
+            ),
+            DirectoryFault::NotWhole(path) => write!(
+                f,
+                "the folder {} isn't whole: its log has entries, and {} is lost",
+                path.display(),
+                identities::NAME
+            ),
+        }
+    }
+}
 
 /// A replica's folder, which this process alone uses.
 pub struct Directory {
@@ -23,8 +93,8 @@ pub struct Directory {
 
 impl Directory {
     /// Opens or creates the folder.
-    pub fn open(path: &Path) -> Result<Directory, String> {
-        let told = |error: io::Error| format!("the folder {} can't be used: {error}", path.display());
+    pub fn open(path: &Path) -> Result<Directory, DirectoryFault> {
+        let told = |error: io::Error| DirectoryFault::Unusable(path.to_path_buf(), error);
         create(path).map_err(told)?;
         let errors_path = path.join("node-errors");
         let mut errors =
@@ -34,15 +104,52 @@ impl Directory {
         // (where there is no room already, the node's log tells so soon)
         let _ = errors.write_all(&[b' '; ROOM_FOR_ERRORS]);
         errors.rewind().map_err(told)?;
-        Ok(Directory { path: path.to_path_buf(), errors })
+        let directory = Directory { path: path.to_path_buf(), errors };
+        if directory.path.join("log").exists() {
+            return Err(DirectoryFault::Old(directory.path));
+        }
+        Ok(directory)
     }
 
-    pub fn log(&self) -> PathBuf {
-        self.path.join("log")
+    pub fn path(&self) -> &Path {
+        &self.path
     }
 
-    pub fn receipts(&self) -> PathBuf {
-        self.path.join("receipts")
+    /// The folder of the node's generations.
+    pub fn generations(&self) -> PathBuf {
+        self.path.join("generations")
+    }
+
+    /// The file that a generation opens with.
+    pub fn opening(&self, generation: u32) -> PathBuf {
+        self.generations().join(generation.to_string()).join("opening")
+    }
+
+    fn log(&self, generation: u32) -> PathBuf {
+        self.generations().join(generation.to_string()).join("log")
+    }
+
+    /// What clients were told in a generation.
+    pub fn receipts(&self, generation: u32) -> PathBuf {
+        self.path.join("receipts").join(generation.to_string())
+    }
+
+    /// Where an opening that a peer hands comes together.
+    pub fn taken(&self) -> PathBuf {
+        self.path.join("opening.part")
+    }
+
+    /// An opening that has come whole: a start by it that was broken off is repeated.
+    pub fn whole(&self) -> PathBuf {
+        self.path.join("opening.take")
+    }
+
+    /// What came together is whole.
+    pub fn keep_taken(&self) -> io::Result<PathBuf> {
+        File::open(self.taken())?.sync_all()?;
+        fs::rename(self.taken(), self.whole())?;
+        File::open(&self.path)?.sync_all()?;
+        Ok(self.whole())
     }
 
     pub fn errors_path(&self) -> PathBuf {
@@ -58,71 +165,113 @@ impl Directory {
         self.path.join(identities::NAME).exists()
     }
 
+    /// The generations that have a file of this name, in rising order.
+    fn generations_with(&self, name: &str) -> Vec<u32> {
+        let found = fs::read_dir(self.generations()).into_iter().flatten().flatten();
+        let with = found.filter(|entry| entry.path().join(name).exists());
+        let mut all: Vec<u32> = with.filter_map(|entry| entry.file_name().to_str()?.parse().ok()).collect();
+        all.sort_unstable();
+        all
+    }
+
+    /// How many bytes the log of a generation has, 0 where there is none.
+    pub fn log_length(&self, generation: u32) -> u64 {
+        fs::metadata(self.log(generation)).map_or(0, |found| found.len())
+    }
+
+    fn has_log(&self) -> bool {
+        self.generations_with("log").into_iter().any(|generation| self.log_length(generation) > 0)
+    }
+
     /// Before any file is opened. A folder gets its identities once its other files are there; so one with identities and
-    /// without a log or receipts has lost them.
-    pub fn check_files(&self) -> Result<(), String> {
-        if !self.has_identities() {
+    /// without a log or receipts has lost them. (The node looks whether each generation's files are there.)
+    pub fn check_files(&self) -> Result<(), DirectoryFault> {
+        if !self.has_identities() || self.is_joining() {
             return Ok(());
         }
-        if self.log_length()? < SHORTEST_LOG {
-            return Err(format!("{} was lost. {NEVER}", self.log().display()));
+        if !self.has_log() {
+            return Err(DirectoryFault::Lost(self.generations()));
         }
-        let receipts = self.receipts();
-        if !receipts.exists() {
-            let path = receipts.display();
-            return Err(format!("{path} was lost: what clients were told can't be audited, nor compared with the log"));
-        }
-        Ok(())
+        let receipts = self.path.join("receipts");
+        if receipts.is_dir() { Ok(()) } else { Err(DirectoryFault::ReceiptsLost(receipts)) }
     }
 
-    /// How many bytes the log has, 0 where there is none.
-    fn log_length(&self) -> Result<u64, String> {
-        let log = self.log();
-        match fs::metadata(&log) {
-            Ok(found) => Ok(found.len()),
-            Err(error) if error.kind() == io::ErrorKind::NotFound => Ok(0),
-            Err(error) => Err(format!("{}: {error}", log.display())),
-        }
+    /// Whether a machine waits here until a generation names it, and has never acted.
+    pub fn is_joining(&self) -> bool {
+        self.path.join(JOINING).exists() && !self.has_log()
     }
 
-    pub fn has_log(&self) -> Result<bool, String> {
-        Ok(self.log_length()? > 0)
+    /// A machine comes in the place of a lost one: it waits here until a generation names it. What isn't begun now is marked, before
+    /// the folder gets an identity, as one that has lost its log must not be taken for it.
+    pub fn begin_joining(&self) -> Result<bool, DirectoryFault> {
+        if self.has_log() {
+            return Ok(false);
+        }
+        if !self.is_joining() {
+            if self.has_identities() {
+                return Err(DirectoryFault::Lost(self.generations()));
+            }
+            identities::replace(&self.path, JOINING, "")
+                .map_err(|error| DirectoryFault::Unusable(self.path.join(JOINING), error))?;
+        }
+        Ok(true)
+    }
+
+    /// The log is on the disk, and nothing was told of it yet.
+    pub fn end_joining(&self) -> Result<(), DirectoryFault> {
+        let path = self.path.join(JOINING);
+        if !path.exists() {
+            return Ok(());
+        }
+        let removed = fs::remove_file(&path).and_then(|()| File::open(&self.path)?.sync_all());
+        removed.map_err(|error| DirectoryFault::Unusable(path, error))
     }
 
     /// A replica is begun where its user says so, and never twice: a folder without one may be another folder, or one whose disk
     /// isn't there.
-    pub fn check_begin(&self, is_new: bool) -> Result<(), String> {
-        let path = self.path.display();
-        let is_begun = self.has_log()? || self.has_identities();
+    pub fn check_begin(&self, is_new: bool) -> Result<(), DirectoryFault> {
+        let is_begun = self.has_log() || self.has_identities();
         match (is_new, is_begun) {
-            (true, true) => {
-                Err(format!("the folder {path} has a replica already: --new is for its first start alone"))
-            }
-            (false, false) => Err(format!(
-                "the folder {path} has no replica: --new begins one, where there never was one"
-            )),
+            (true, true) => Err(DirectoryFault::Begun(self.path.clone())),
+            (false, false) => Err(DirectoryFault::NotBegun(self.path.clone())),
             _ => Ok(()),
         }
     }
 
-    /// Before the folder gets its identities, where it has none. `entries` are the log's, `told` is the last one that a client
-    /// was told of.
-    pub fn check_entries(&self, entries: u32, told: u32) -> Result<(), String> {
-        let log = self.log();
-        if entries < told {
-            return Err(format!(
-                "{} has forgotten: it has {entries} entries, and a client was told of entry {told}. {NEVER}",
-                log.display()
-            ));
-        }
-        if entries > 0 && !self.has_identities() {
-            let path = self.path.display();
-            return Err(format!(
-                "the folder {path} isn't whole: its log has entries, and {} is lost",
-                identities::NAME
-            ));
+    /// The folders for generations and receipts are there, and on the disk.
+    pub fn prepare(&self) -> Result<(), DirectoryFault> {
+        for folder in [self.generations(), self.path.join("receipts")] {
+            create(&folder).map_err(|error| DirectoryFault::Unusable(folder, error))?;
         }
         Ok(())
+    }
+
+    /// Before the folder gets its identities, where it has none. `entries` are those of the generation's log, `told` is the last
+    /// one that a client was told of.
+    pub fn check_entries(&self, generation: u32, entries: u32, told: u32) -> Result<(), DirectoryFault> {
+        if entries < told {
+            return Err(DirectoryFault::Forgotten { generation, entries, told });
+        }
+        if (entries > 0 || generation > 1) && !self.has_identities() {
+            return Err(DirectoryFault::NotWhole(self.path.clone()));
+        }
+        Ok(())
+    }
+
+    /// Drops what isn't needed of generations that were left: all but the last `kept` ones, whose marks go last.
+    pub fn drop_left(&self, kept: usize) {
+        let left = self.generations_with("left");
+        for generation in &left[..left.len().saturating_sub(kept)] {
+            let folder = self.generations().join(generation.to_string());
+            let files = fs::read_dir(&folder).into_iter().flatten().flatten().map(|entry| entry.path());
+            let mut files: Vec<PathBuf> = files.collect();
+            files.sort_by_key(|path| path.ends_with("left"));
+            // (what can't be dropped now is dropped later)
+            let dropped = files.iter().try_for_each(fs::remove_file).and_then(|()| fs::remove_dir(&folder));
+            if dropped.is_ok() {
+                let _ = fs::remove_file(self.receipts(*generation));
+            }
+        }
     }
 }
 
@@ -137,18 +286,14 @@ fn create(path: &Path) -> io::Result<()> {
     File::open(above)?.sync_all()
 }
 
-fn lock(file: &File, path: &Path) -> Result<(), String> {
+fn lock(file: &File, path: &Path) -> Result<(), DirectoryFault> {
     let start = Instant::now();
     loop {
         match file.try_lock() {
             Ok(()) => return Ok(()),
             Err(TryLockError::WouldBlock) if start.elapsed() < PATIENCE => thread::sleep(Duration::from_millis(20)),
-            Err(TryLockError::WouldBlock) => {
-                return Err(format!("the folder {} is in use by another store or its node", path.display()));
-            }
-            Err(TryLockError::Error(error)) => {
-                return Err(format!("the folder {} can't be locked: {error}", path.display()));
-            }
+            Err(TryLockError::WouldBlock) => return Err(DirectoryFault::InUse(path.to_path_buf())),
+            Err(TryLockError::Error(error)) => return Err(DirectoryFault::Unusable(path.to_path_buf(), error)),
         }
     }
 }
@@ -157,32 +302,87 @@ fn lock(file: &File, path: &Path) -> Result<(), String> {
 mod tests {
     use super::*;
 
+    fn at(name: &str) -> PathBuf {
+        std::env::temp_dir().join(format!("store-directory-{name}-{}", std::process::id()))
+    }
+
     #[test]
     fn what_is_lost_is_noticed() {
-        let path = std::env::temp_dir().join(format!("store-directory-{}", std::process::id()));
-        let path = path.join("in/another");
+        let top = at("lost");
+        let path = top.join("in/another");
         let directory = Directory::open(&path).unwrap();
         // A first start, before and after its log was made.
         directory.check_files().unwrap();
         directory.check_begin(true).unwrap();
-        assert!(directory.check_begin(false).unwrap_err().contains("has no replica"));
-        fs::write(directory.log(), [0; 7]).unwrap();
+        assert!(matches!(directory.check_begin(false), Err(DirectoryFault::NotBegun(_))));
+        fs::create_dir_all(directory.generations().join("1")).unwrap();
+        fs::write(directory.log(1), [0; 43]).unwrap();
         directory.check_files().unwrap();
         directory.check_begin(false).unwrap();
-        assert!(directory.check_begin(true).unwrap_err().contains("has a replica already"));
-        directory.check_entries(0, 0).unwrap();
+        assert!(matches!(directory.check_begin(true), Err(DirectoryFault::Begun(_))));
+        directory.check_entries(1, 0, 0).unwrap();
         // Entries, and no identities.
-        assert!(directory.check_entries(1, 0).unwrap_err().contains("isn't whole"));
+        assert!(matches!(directory.check_entries(1, 1, 0), Err(DirectoryFault::NotWhole(_))));
         fs::write(path.join(identities::NAME), "").unwrap();
-        assert!(directory.check_files().unwrap_err().contains("receipts was lost"));
-        fs::write(directory.receipts(), "").unwrap();
+        assert!(matches!(directory.check_files(), Err(DirectoryFault::ReceiptsLost(_))));
+        directory.prepare().unwrap();
         directory.check_files().unwrap();
-        directory.check_entries(5, 5).unwrap();
-        assert!(directory.check_entries(4, 5).unwrap_err().contains("4 entries, and a client was told of entry 5"));
-        fs::write(directory.log(), [0; 6]).unwrap();
-        assert!(directory.check_files().unwrap_err().contains("log was lost"));
-        fs::remove_file(directory.log()).unwrap();
-        assert!(directory.check_files().unwrap_err().contains("log was lost"));
-        fs::remove_dir_all(path.ancestors().nth(2).unwrap()).unwrap();
+        directory.check_entries(1, 5, 5).unwrap();
+        let told = directory.check_entries(1, 4, 5).unwrap_err();
+        assert!(told.to_string().contains("4 entries, and a client was told of entry 5"));
+        fs::remove_file(directory.log(1)).unwrap();
+        let told = directory.check_files().unwrap_err();
+        assert!(told.is_lasting() && told.to_string().contains("generations was lost"));
+        fs::remove_dir_all(top).unwrap();
+    }
+
+    #[test]
+    fn who_joins_has_never_acted() {
+        let path = at("join");
+        let directory = Directory::open(&path).unwrap();
+        assert!(directory.begin_joining().unwrap());
+        fs::write(path.join(identities::NAME), "").unwrap();
+        // (again, after a crash)
+        assert!(directory.begin_joining().unwrap() && directory.is_joining());
+        directory.check_files().unwrap();
+        fs::create_dir_all(directory.generations().join("4")).unwrap();
+        fs::write(directory.log(4), [0; 43]).unwrap();
+        assert!(!directory.begin_joining().unwrap() && !directory.is_joining());
+        directory.end_joining().unwrap();
+        // Its log is lost, and it has acted.
+        fs::remove_file(directory.log(4)).unwrap();
+        assert!(matches!(directory.begin_joining(), Err(DirectoryFault::Lost(_))));
+        fs::remove_dir_all(path).unwrap();
+    }
+
+    #[test]
+    fn a_folder_from_before_generations_is_refused() {
+        let path = at("old");
+        fs::create_dir_all(&path).unwrap();
+        fs::write(path.join("log"), "EPLG").unwrap();
+        assert!(matches!(Directory::open(&path), Err(DirectoryFault::Old(_))));
+        fs::remove_dir_all(path).unwrap();
+    }
+
+    #[test]
+    fn what_was_left_is_dropped_but_for_the_last_ones() {
+        let path = at("left");
+        let directory = Directory::open(&path).unwrap();
+        directory.prepare().unwrap();
+        for generation in 1..=4 {
+            fs::create_dir_all(directory.generations().join(generation.to_string())).unwrap();
+            fs::write(directory.opening(generation), "").unwrap();
+            fs::write(directory.receipts(generation), "").unwrap();
+            if generation < 4 {
+                fs::write(directory.generations().join(format!("{generation}/left")), "4").unwrap();
+            }
+        }
+        directory.drop_left(2);
+        assert_eq!(directory.generations_with("opening"), [2, 3, 4]);
+        assert!(!directory.receipts(1).exists() && directory.receipts(2).exists());
+        assert!(!directory.generations().join("1").exists());
+        directory.drop_left(0);
+        assert_eq!(directory.generations_with("opening"), [4]);
+        fs::remove_dir_all(path).unwrap();
     }
 }

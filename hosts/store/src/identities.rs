@@ -47,6 +47,21 @@ impl Identities {
         self.own
     }
 
+    /// Who is known under the number.
+    pub fn of(&self, replica: u8) -> Option<Identity> {
+        self.known.lock().ok()?.get(usize::from(replica)).copied().flatten()
+    }
+
+    /// From now on this is who is known under the number, on the disk too. Whether that is new.
+    pub fn set(&self, replica: u8, identity: Identity) -> io::Result<bool> {
+        let mut known = self.known.lock().map_err(|_| io::Error::other("the identities are lost"))?;
+        let Some(place) = known.get_mut(usize::from(replica)) else { return Ok(false) };
+        if place.replace(identity) == Some(identity) {
+            return Ok(false);
+        }
+        write_lines(&self.folder, &known).map(|()| true)
+    }
+
     /// Whether this is who was met under the number before. Whoever is met first is kept, on the disk.
     pub fn meet(&self, replica: u8, identity: Identity) -> io::Result<bool> {
         let mut known = self.known.lock().map_err(|_| io::Error::other("the identities are lost"))?;
@@ -69,14 +84,24 @@ fn by_chance() -> io::Result<Identity> {
     Ok(identity)
 }
 
+/// An identity's 32 digits.
+pub fn digits(identity: &Identity) -> String {
+    format!("{:032x}", u128::from_be_bytes(*identity))
+}
+
+/// The identity of these digits.
+pub fn identity(digits: &str) -> Option<Identity> {
+    let is_whole = digits.len() == 32 && digits.bytes().all(|byte| byte.is_ascii_hexdigit());
+    Some(u128::from_str_radix(digits, 16).ok().filter(|_| is_whole)?.to_be_bytes())
+}
+
 /// Lines of a replica's number and its identity in hexadecimal.
 fn read_lines(text: &str, replicas: usize) -> Option<Vec<Option<Identity>>> {
     let mut known = vec![None; replicas];
     for line in text.lines() {
         let (replica, digits) = line.split_once(' ')?;
-        let number = u128::from_str_radix(digits, 16).ok().filter(|_| digits.len() == 32)?;
         let place = known.get_mut(replica.parse::<usize>().ok()?)?;
-        if place.replace(number.to_be_bytes()).is_some() {
+        if place.replace(identity(digits)?).is_some() {
             return None;
         }
     }
@@ -87,7 +112,7 @@ fn write_lines(folder: &Path, known: &[Option<Identity>]) -> io::Result<()> {
     let mut text = String::new();
     for (replica, identity) in known.iter().enumerate() {
         if let Some(identity) = identity {
-            text += &format!("{replica} {:032x}\n", u128::from_be_bytes(*identity));
+            text += &format!("{replica} {}\n", digits(identity));
         }
     }
     replace(folder, NAME, &text)
@@ -124,6 +149,10 @@ mod tests {
         assert!(again.meet(2, [7; 16]).is_err());
         fs::remove_dir(folder.join(format!("{NAME}.new"))).unwrap();
         assert!(again.meet(2, [8; 16]).unwrap());
+        // A seal names another one.
+        assert!(again.set(2, [6; 16]).unwrap() && !again.set(2, [6; 16]).unwrap());
+        assert!(!again.meet(2, [8; 16]).unwrap() && again.meet(2, [6; 16]).unwrap());
+        assert_eq!(Identities::open(&folder, 3, 1).unwrap().of(2), Some([6; 16]));
         let fresh = folder.join("fresh");
         fs::create_dir_all(&fresh).unwrap();
         assert_ne!(Identities::open(&fresh, 3, 1).unwrap().own(), first.own());

@@ -1,27 +1,36 @@
 //! One replica of the store.
-use std::collections::HashMap;
+use signal_hook::consts::{SIGINT, SIGTERM};
+use signal_hook::iterator::Signals;
 use std::ffi::OsString;
-use std::io::Write;
+use std::fmt;
+use std::io::{self, Write};
 use std::net::TcpListener;
+use std::path::PathBuf;
 use std::process::ExitCode;
-use std::sync::atomic::AtomicUsize;
+use std::sync::atomic::AtomicU64;
 use std::sync::mpsc::{SyncSender, sync_channel};
 use std::sync::{Arc, Mutex};
 use std::thread;
-use std::time::Instant;
+use std::time::{Duration, Instant};
 use store::clients::{self, Shared};
-use store::commits::Commits;
-use store::directory::Directory;
-use store::driver::{Driver, Event, Stop};
+use store::directory::{Directory, DirectoryFault};
+use store::driver::{Driver, Event, Parts, Stop};
 use store::identities::Identities;
-use store::node::{Node, Start};
+use store::joining::Joining;
+use store::keys::Keys;
+use store::listing::Listing;
+use store::memory::Memory;
+use store::metrics::{self, Metrics};
+use store::node::{Begin, Core, Node, NodeFault, Settings};
 use store::numbers::Numbers;
-use store::options::{HELP, Options, Plant, Words, read};
-use store::peers::{self, Peers, Place, Receiving};
-use store::protocol::{Answer, Request};
+use store::options::{self, Options, Plant, Words, help, read};
+use store::password::Password;
+use store::peers::{self, Membership, Peers, Place, Receiving};
+use store::protocol::{Answer, Request, State};
 use store::random::Random;
 use store::receipts::Receipts;
 use store::say::{name, say};
+use store::sealed::{Key, KeyFault};
 use store::timers::Timers;
 
 /// How many events may wait for the driver.
@@ -31,23 +40,84 @@ fn main() -> ExitCode {
     let options = match words().and_then(read) {
         Ok(Words::Help) => {
             // Where standard output is closed nobody is there to be told.
-            let _ = std::io::stdout().write_all(HELP.as_bytes());
+            let _ = std::io::stdout().write_all(help().as_bytes());
             return ExitCode::SUCCESS;
         }
-        Ok(Words::Run(options)) => options,
+        Ok(Words::Run(options)) => *options,
         Err(what) => {
             say(&what);
             return ExitCode::from(2);
         }
     };
     name(options.replica);
-    // There is no handler of signals: whatever ends this process closes the node's input, and so the node ends too,
-    // with all that it has taken on the disk.
-    match start(options) {
-        Ok(driver) => say(&driver.run().to_string()),
-        Err(what) => say(&what),
+    // Where it is killed the node's input closes, and so the node ends too, with all that it has taken on the disk.
+    let fault = match start(options) {
+        Ok(driver) => Fault::Stop(driver.run()),
+        Err(fault) => fault,
+    };
+    say(&fault.to_string());
+    if let Fault::Stop(Stop::Asked) = fault {
+        // What clients were told is on its way to them.
+        thread::sleep(LAST_REPLIES);
     }
-    ExitCode::from(1)
+    ExitCode::from(fault.status())
+}
+
+/// How long the last replies may take on their way.
+const LAST_REPLIES: Duration = Duration::from_millis(100);
+
+/// Why the store ends.
+enum Fault {
+    Directory(DirectoryFault),
+    Identities(String),
+    Node(NodeFault),
+    Stop(Stop),
+    Key(KeyFault),
+    /// Others could reach the peers' port at this address, and there is no key.
+    Unguarded(String),
+    /// It can't listen at this address.
+    Listen(String, io::Error),
+    Receipts(PathBuf, io::Error),
+    Thread(io::Error),
+}
+
+/// It may be started again with the same words.
+const PASSING: u8 = 1;
+/// It must not come back with this folder, or needs a hand.
+const LASTING: u8 = 3;
+
+impl Fault {
+    fn status(&self) -> u8 {
+        let is_lasting = match self {
+            Fault::Stop(Stop::Asked) => return 0,
+            Fault::Directory(fault) => fault.is_lasting(),
+            Fault::Identities(_) | Fault::Key(_) | Fault::Unguarded(_) => true,
+            Fault::Node(fault) => fault.is_lasting(),
+            Fault::Stop(stop) => stop.is_lasting(),
+            Fault::Listen(..) | Fault::Receipts(..) | Fault::Thread(_) => false,
+        };
+        if is_lasting { LASTING } else { PASSING }
+    }
+}
+
+impl fmt::Display for Fault {
+    fn fmt(&self, f: &mut fmt::Formatter) -> fmt::Result {
+        match self {
+            Fault::Directory(fault) => fault.fmt(f),
+            Fault::Identities(what) => f.write_str(what),
+            Fault::Node(fault) => fault.fmt(f),
+            Fault::Stop(stop) => stop.fmt(f),
+            Fault::Key(fault) => fault.fmt(f),
+            Fault::Unguarded(address) => write!(
+                f,
+                "others could send to the peers' port at {address}: give all replicas one key by --peer-key, or say --insecure where the \
+                 network keeps strangers out"
+            ),
+            Fault::Listen(address, error) => write!(f, "can't listen at {address}: {error}"),
+            Fault::Receipts(path, error) => write!(f, "the receipts {} can't be used: {error}", path.display()),
+            Fault::Thread(error) => write!(f, "a thread can't be started: {error}"),
+        }
+    }
 }
 
 /// The words after the program's name.
@@ -56,91 +126,180 @@ fn words() -> Result<Vec<String>, String> {
     std::env::args_os().skip(1).map(|word| word.into_string().map_err(told)).collect()
 }
 
-fn start(options: Options) -> Result<Driver, String> {
+fn start(options: Options) -> Result<Driver<Node>, Fault> {
     let place = Place { replicas: options.peers.len(), replica: options.replica };
     let own = &options.peers[usize::from(place.replica)];
+    let key = options.peer_key.as_deref().map(Key::read).transpose().map_err(Fault::Key)?;
     let for_peers = bind(own)?;
+    if key.is_none() && !options.is_insecure && !is_local(&for_peers) {
+        return Err(Fault::Unguarded(own.clone()));
+    }
     let for_clients = bind(&options.listen)?;
-    let directory = Directory::open(&options.directory)?;
+    let directory = Directory::open(&options.directory).map_err(Fault::Directory)?;
     let is_forgetful = options.plant == Some(Plant::Forgetful);
-    if !is_forgetful {
-        directory.check_files()?;
-        directory.check_begin(options.is_new)?;
+    let joins = options.start == options::Start::Join && directory.begin_joining().map_err(Fault::Directory)?;
+    if !is_forgetful && !joins {
+        directory.check_files().map_err(Fault::Directory)?;
+        directory.check_begin(options.start == options::Start::New).map_err(Fault::Directory)?;
     }
-    // (a planted store begins a log that was emptied)
-    let is_new = if is_forgetful { !directory.has_log()? } else { options.is_new };
-    let receipts_path = directory.receipts();
-    let receipts = Receipts::open(&receipts_path)
-        .map_err(|error| format!("the receipts {} can't be used: {error}", receipts_path.display()))?;
-    let numbers = Numbers::new(&options.directory, place.replica);
-    numbers.check(receipts.named.client)?;
+    directory.prepare().map_err(Fault::Directory)?;
     let (sender, events) = sync_channel(WAITING_EVENTS);
-    let (node, entries) = start_node(&options, place, &directory, is_new, &sender)?;
-    if !is_forgetful {
-        directory.check_entries(entries, receipts.named.entry)?;
+    let numbers = Arc::new(Mutex::new(Numbers::new(&options.directory, place.replica)));
+    let metrics = Arc::<Metrics>::default();
+    let shared = Shared {
+        events: sender.clone(),
+        keys: Keys::start(sender.clone(), numbers.clone()).map_err(Fault::Thread)?,
+        listing: Listing::new(options.node.clone(), directory.generations()),
+        patience: options.patience,
+        password: options.auth.as_deref().map(Password::read).transpose().map_err(Fault::Key)?,
+        memory: Memory::new(options.memory),
+        metrics: metrics.clone(),
+        places: Arc::default(),
+        served: AtomicU64::new(0),
+    };
+    if let Some(address) = &options.metrics {
+        let (listener, metrics) = (bind(address)?, metrics.clone());
+        spawn("metrics", move || metrics::listen(listener, &metrics)).map_err(Fault::Thread)?;
     }
-    // The log is on the disk: from now on a folder without one has lost it.
-    let identities = Arc::new(Identities::open(&options.directory, place.replicas, place.replica)?);
-    let told = |error: std::io::Error| format!("a thread can't be started: {error}");
-    let peers = Peers::start(place, &options.peers, &identities, &sender).map_err(told)?;
-    let receiving = Arc::new(Receiving::new(place, identities, sender.clone()));
-    spawn("peers", move || peers::listen(for_peers, &receiving)).map_err(told)?;
-    let connections = AtomicUsize::new(0);
-    let numbers = Mutex::new(numbers);
-    let shared = Arc::new(Shared { events: sender, numbers, patience: options.patience, connections });
-    spawn("clients", move || clients::listen(for_clients, shared)).map_err(told)?;
-    let (replica, replicas) = (place.replica, place.replicas);
+    // Who joins is connected first, and begins then; who is here begins, and is connected then: from now on a folder without a log
+    // has lost it.
+    end_by_signals(sender.clone()).map_err(Fault::Thread)?;
+    let key = key.unwrap_or_else(Key::none);
+    let open = |sender: &SyncSender<Event>, for_peers: TcpListener| {
+        let identities = Identities::open(&options.directory, place.replicas, place.replica);
+        let membership = Membership { place, identities: identities.map_err(Fault::Identities)?, key };
+        let membership = Arc::new(membership);
+        let peers = Peers::start(&membership, &options.peers, sender).map_err(Fault::Thread)?;
+        let receiving = Arc::new(Receiving::new(membership.clone(), sender.clone()));
+        spawn("peers", move || peers::listen(for_peers, &receiving)).map_err(Fault::Thread)?;
+        Ok((membership, peers))
+    };
+    let serve = |for_clients: TcpListener, shared: Shared| {
+        let shared = Arc::new(shared);
+        spawn("clients", move || clients::listen(for_clients, shared)).map_err(Fault::Thread)
+    };
+    let (node, state, receipts, membership, peers);
+    if joins {
+        (membership, peers) = open(&sender, for_peers)?;
+        serve(for_clients, shared)?;
+        let joining = Joining { membership: &membership, directory: &directory, peers: &peers, events: &events };
+        let begin = joining.wait().map_err(Fault::Stop)?;
+        (node, state) = start_node(&options, place, &directory, &begin, &sender)?;
+        receipts = open_receipts(&directory, state.generation)?;
+        directory.end_joining().map_err(Fault::Directory)?;
+    } else {
+        (node, state) = start_again(&options, place, &directory, &sender)?;
+        receipts = open_receipts(&directory, state.generation)?;
+        Numbers::new(&options.directory, place.replica).check(receipts.named.client).map_err(Fault::Identities)?;
+        if !is_forgetful {
+            let checked = directory.check_entries(state.generation, state.entries, receipts.named.entry);
+            checked.map_err(Fault::Directory)?;
+        }
+        directory.end_joining().map_err(Fault::Directory)?;
+        (membership, peers) = open(&sender, for_peers)?;
+        serve(for_clients, shared)?;
+    }
+    let given = numbers.lock().map_err(|_| "the numbers are lost".to_string()).and_then(|mut numbers| numbers.give());
+    let sealer = given.map_err(Fault::Identities)?;
+    let (replica, replicas, generation) = (place.replica, place.replicas, state.generation);
     let (listen, process) = (&options.listen, node.process());
-    say(&format!("replica {replica} of {replicas}, clients at {listen}, peers at {own}, node process {process}"));
-    Ok(Driver {
-        place,
+    say(&format!(
+        "replica {replica} of {replicas} in generation {generation}, clients at {listen}, peers at {own}, node process {process}"
+    ));
+    Ok(Driver::new(Parts {
         node,
+        state,
         peers,
-        used: receipts.named.instance,
+        directory,
+        membership,
         receipts,
         timers: Timers::new(place.replica, Instant::now(), Random::new()),
         events,
-        commits: Commits::at_start(place.replica, place.replicas as u8),
         plant: options.plant,
-        held: Vec::new(),
-        alone_since: None,
-        waiting: HashMap::new(),
-        refused_frames: 0,
+        limits: options.limits,
+        kept: options.kept,
+        patience: options.patience,
+        sealer,
+        metrics,
+    }))
+}
+
+fn open_receipts(directory: &Directory, generation: u32) -> Result<Receipts, Fault> {
+    let path = directory.receipts(generation);
+    Receipts::open(&path).map_err(|error| Fault::Receipts(path, error))
+}
+
+fn bind(address: &str) -> Result<TcpListener, Fault> {
+    TcpListener::bind(address).map_err(|error| Fault::Listen(address.into(), error))
+}
+
+/// SIGTERM and SIGINT have the store end once those who wait were told; a second one ends it at once.
+fn end_by_signals(events: SyncSender<Event>) -> io::Result<()> {
+    let mut signals = Signals::new([SIGTERM, SIGINT])?;
+    spawn("signals", move || {
+        for (count, _) in signals.forever().enumerate() {
+            if count > 0 || events.send(Event::End).is_err() {
+                std::process::exit(PASSING.into());
+            }
+        }
     })
 }
 
-fn bind(address: &str) -> Result<TcpListener, String> {
-    TcpListener::bind(address).map_err(|error| format!("can't listen at {address}: {error}"))
+/// Whether only this machine can reach it.
+fn is_local(listener: &TcpListener) -> bool {
+    listener.local_addr().is_ok_and(|address| address.ip().is_loopback())
 }
 
-fn spawn(name: &str, work: impl FnOnce() + Send + 'static) -> std::io::Result<()> {
+fn spawn(name: &str, work: impl FnOnce() + Send + 'static) -> io::Result<()> {
     thread::Builder::new().name(name.into()).spawn(work).map(|_| ())
 }
 
-/// Starts the node, and waits until it has read its log: how many entries that has.
+/// Starts a node that isn't the first of its folder, or is by `--new`. Where it was ended while it took a peer's opening it takes that again.
+fn start_again(
+    options: &Options,
+    place: Place,
+    directory: &Directory,
+    events: &SyncSender<Event>,
+) -> Result<(Node, State), Fault> {
+    let whole = directory.whole();
+    if options.start != options::Start::New && whole.exists() {
+        let started = start_node(options, place, directory, &Begin::Take(whole.clone()), events);
+        // (one that is refused is of no use; any other fault may pass)
+        if !matches!(&started, Err(Fault::Node(fault)) if fault.is_lasting()) {
+            if started.is_ok() {
+                let _ = std::fs::remove_file(&whole);
+            }
+            return started;
+        }
+        let _ = std::fs::remove_file(&whole);
+    }
+    let begin = if options.start == options::Start::New { Begin::New } else { Begin::Again };
+    start_node(options, place, directory, &begin, events)
+}
+
+/// Starts the node, and waits until it has read its log: what it is then.
 fn start_node(
     options: &Options,
     place: Place,
     directory: &Directory,
-    is_new: bool,
+    begin: &Begin,
     events: &SyncSender<Event>,
-) -> Result<(Node, u32), String> {
+) -> Result<(Node, State), Fault> {
     let events = events.clone();
-    let start = Start {
-        program: &options.node,
+    let settings = Settings {
+        program: options.node.clone(),
         replicas: place.replicas,
         replica: place.replica,
-        log: &directory.log(),
-        is_new,
-        errors: directory.errors().map_err(|error| error.to_string())?,
+        folder: directory.generations(),
+        errors: directory.errors().map_err(Fault::Thread)?,
         errors_path: directory.errors_path(),
-        on_end: Box::new(move || _ = events.send(Event::NodeEnded)),
+        on_end: Arc::new(move |run| _ = events.send(Event::NodeEnded(run))),
     };
-    let mut node = Node::start(start).map_err(|fault| fault.to_string())?;
-    let answers = node.ask(&[Request::Sync]).map_err(|fault| Stop::Node(fault).to_string())?;
+    let mut node = Node::start(settings, begin).map_err(Fault::Node)?;
+    let answers = node.ask(&[Request::Sync, Request::State]).map_err(Fault::Node)?;
     node.told().iter().for_each(|line| say(&format!("the node tells: {line}")));
     match answers[..] {
-        [Answer::Synced(entries)] => Ok((node, entries)),
-        _ => Err("the node's first answer isn't of the protocol".into()),
+        [Answer::Synced(_), Answer::State(state)] => Ok((node, state)),
+        _ => Err(Fault::Node(NodeFault::BadAnswer("its first answers".into()))),
     }
 }

@@ -1,27 +1,60 @@
-//! The child process `epaxos node`, and asking it.
+//! The core: the child process `epaxos node --dir`, one for each generation, and asking it.
 use crate::protocol::{Answer, Request};
 use std::fmt;
 use std::fs::File;
 use std::io::{self, BufReader, Read, Write};
-use std::path::{Path, PathBuf};
+use std::path::PathBuf;
 use std::process::{Child, ChildStdin, ChildStdout, Command, ExitStatus, Stdio};
+use std::sync::Arc;
 use std::sync::mpsc::{Receiver, Sender, channel};
 use std::thread;
 
+/// A replica's core, in one generation after the other.
+pub trait Core {
+    /// Asks all these, and waits for their answers. The last request has to be one that is answered: a sync, where
+    /// something is taken.
+    fn ask(&mut self, requests: &[Request]) -> Result<Vec<Answer>, NodeFault>;
+
+    /// Ends it, once it has answered all, and starts it again: so it goes on to the next generation, where it has executed a seal.
+    fn start_again(&mut self, begin: &Begin) -> Result<(), NodeFault>;
+
+    /// How often it was started.
+    fn run(&self) -> u64;
+
+    /// The number of its process.
+    fn process(&self) -> u32;
+
+    /// Waits for the end of a core whose answers are over: with what it ended.
+    fn ended(&mut self) -> NodeFault;
+
+    /// The lines that it told people since this was asked last.
+    fn told(&mut self) -> Vec<String>;
+}
+
+/// How a start goes about the folder.
+#[derive(Clone, PartialEq, Eq, Debug)]
+pub enum Begin {
+    /// It goes on with what is there.
+    Again,
+    /// It begins the first generation.
+    New,
+    /// It goes on with the opening of a later generation, which a peer gave.
+    Take(PathBuf),
+}
+
 /// What the child is started with.
-pub struct Start<'a> {
-    pub program: &'a Path,
+pub struct Settings {
+    pub program: PathBuf,
     pub replicas: usize,
     pub replica: u8,
-    pub log: &'a Path,
-    /// Whether the log is to be begun.
-    pub is_new: bool,
+    /// The folder of its generations.
+    pub folder: PathBuf,
     /// Takes the child's standard error. The lock on it is held until both the child and this process have ended.
     pub errors: File,
     /// Where `errors` can be read.
     pub errors_path: PathBuf,
-    /// Called once, from another thread, when no more answers will come.
-    pub on_end: Box<dyn FnOnce() + Send>,
+    /// Called with the number of a run, from another thread, when no more answers of it will come.
+    pub on_end: Arc<dyn Fn(u64) + Send + Sync>,
 }
 
 /// Why there is no answer.
@@ -33,6 +66,16 @@ pub enum NodeFault {
     Ended(Option<ExitStatus>, String),
     /// Its answer isn't of the protocol.
     BadAnswer(String),
+}
+
+/// The status of a node that refuses its words or its folder.
+const REFUSES: i32 = 2;
+
+impl NodeFault {
+    /// Whether another start with the same words would end in the same way.
+    pub fn is_lasting(&self) -> bool {
+        matches!(self, NodeFault::Ended(Some(status), _) if status.code() == Some(REFUSES))
+    }
 }
 
 impl fmt::Display for NodeFault {
@@ -51,66 +94,75 @@ impl fmt::Display for NodeFault {
     }
 }
 
-/// A running node. It ends by itself once its input is closed, also where this process is killed.
+/// The child process. It ends by itself once its input is closed, also where this process is killed.
 pub struct Node {
-    child: Child,
-    input: ChildStdin,
-    answers: Receiver<Result<Answer, String>>,
-    errors_path: PathBuf,
+    settings: Settings,
+    running: Running,
+    run: u64,
     /// How many bytes of its standard error were read.
     heard: usize,
-    /// Kept for its lock.
-    _errors: File,
+}
+
+struct Running {
+    child: Child,
+    /// None once it is to end.
+    input: Option<ChildStdin>,
+    answers: Receiver<Result<Answer, String>>,
 }
 
 impl Node {
-    pub fn start(start: Start) -> Result<Node, NodeFault> {
-        let failed = |error| NodeFault::Start(start.program.to_path_buf(), error);
-        let errors = start.errors.try_clone().map_err(failed)?;
-        let mut child = Command::new(start.program)
-            .arg("node")
-            .args(["--replicas", &start.replicas.to_string()])
-            .args(["--replica", &start.replica.to_string()])
-            .arg("--log")
-            .arg(start.log)
-            .args(start.is_new.then_some("--new"))
-            .stdin(Stdio::piped())
-            .stdout(Stdio::piped())
-            .stderr(start.errors)
-            .spawn()
-            .map_err(failed)?;
+    pub fn start(settings: Settings, begin: &Begin) -> Result<Node, NodeFault> {
+        let running = settings.start(begin, 0)?;
+        Ok(Node { settings, running, run: 0, heard: 0 })
+    }
+}
+
+impl Settings {
+    fn start(&self, begin: &Begin, run: u64) -> Result<Running, NodeFault> {
+        let failed = |error| NodeFault::Start(self.program.clone(), error);
+        let errors = self.errors.try_clone().map_err(failed)?;
+        let mut command = Command::new(&self.program);
+        command.arg("node");
+        command.args(["--replicas", &self.replicas.to_string()]).args(["--replica", &self.replica.to_string()]);
+        command.arg("--dir").arg(&self.folder);
+        match begin {
+            Begin::Again => {}
+            Begin::New => _ = command.arg("--new"),
+            Begin::Take(file) => _ = command.arg("--take").arg(file),
+        }
+        let mut child = command.stdin(Stdio::piped()).stdout(Stdio::piped()).stderr(errors).spawn().map_err(failed)?;
         let (Some(input), Some(output)) = (child.stdin.take(), child.stdout.take()) else {
             return Err(failed(io::Error::other("its streams are missing")));
         };
         let (sender, answers) = channel();
         // A thread of its own reads the answers, so that neither side waits for the other with both pipes full.
-        let on_end = start.on_end;
+        let on_end = self.on_end.clone();
         let read = move || {
             read_answers(output, &sender);
             drop(sender);
-            on_end();
+            on_end(run);
         };
         thread::Builder::new().name("answers".into()).spawn(read).map_err(failed)?;
-        Ok(Node { child, input, answers, errors_path: start.errors_path, heard: 0, _errors: errors })
+        Ok(Running { child, input: Some(input), answers })
     }
+}
 
-    pub fn process(&self) -> u32 {
-        self.child.id()
-    }
-
-    /// Asks all these, and waits for their answers. The last request has to be one that is answered: a sync, where
-    /// something is taken.
-    pub fn ask(&mut self, requests: &[Request]) -> Result<Vec<Answer>, NodeFault> {
+impl Core for Node {
+    fn ask(&mut self, requests: &[Request]) -> Result<Vec<Answer>, NodeFault> {
         let mut bytes = Vec::new();
         for request in requests {
             request.write(&mut bytes);
         }
-        if self.input.write_all(&bytes).and_then(|()| self.input.flush()).is_err() {
+        let written = match &mut self.running.input {
+            Some(input) => input.write_all(&bytes).and_then(|()| input.flush()),
+            None => Err(io::ErrorKind::BrokenPipe.into()),
+        };
+        if written.is_err() {
             return Err(self.ended());
         }
         let mut answers = Vec::with_capacity(requests.len());
         for _ in requests {
-            match self.answers.recv() {
+            match self.running.answers.recv() {
                 Ok(Ok(answer)) => answers.push(answer),
                 Ok(Err(what)) => return Err(NodeFault::BadAnswer(what)),
                 Err(_) => return Err(self.ended()),
@@ -119,15 +171,35 @@ impl Node {
         Ok(answers)
     }
 
-    /// Waits for the end of a node whose answers are over: with what it ended.
-    pub fn ended(&mut self) -> NodeFault {
-        let status = self.child.wait().ok();
+    fn start_again(&mut self, begin: &Begin) -> Result<(), NodeFault> {
+        self.running.input = None;
+        // (nothing is asked, so that nothing is answered; this waits for the end)
+        while self.running.answers.recv().is_ok() {}
+        match self.running.child.wait() {
+            Ok(status) if status.success() => {}
+            _ => return Err(self.ended()),
+        }
+        self.run += 1;
+        self.running = self.settings.start(begin, self.run)?;
+        Ok(())
+    }
+
+    fn run(&self) -> u64 {
+        self.run
+    }
+
+    fn process(&self) -> u32 {
+        self.running.child.id()
+    }
+
+    fn ended(&mut self) -> NodeFault {
+        let status = self.running.child.wait().ok();
         NodeFault::Ended(status, self.told().join("; "))
     }
 
-    /// The lines that the node has written on standard error since this was asked last. The file may end in blanks.
-    pub fn told(&mut self) -> Vec<String> {
-        let errors = std::fs::read(&self.errors_path).unwrap_or_default();
+    /// The file may end in blanks.
+    fn told(&mut self) -> Vec<String> {
+        let errors = std::fs::read(&self.settings.errors_path).unwrap_or_default();
         let errors = errors.trim_ascii_end();
         let new = errors.get(self.heard..).unwrap_or_default();
         self.heard = self.heard.max(errors.len());

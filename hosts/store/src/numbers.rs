@@ -50,6 +50,11 @@ impl Numbers {
     }
 }
 
+/// Whether the client's number is one that this replica gives.
+pub fn is_of(client: u32, replica: u8) -> bool {
+    client > 0 && (client - 1) % SHARES == u32::from(replica)
+}
+
 /// How many blocks were set aside.
 fn set_aside(folder: &Path) -> Result<u32, String> {
     let path = folder.join(NAME);
@@ -87,7 +92,7 @@ mod tests {
                 let mut numbers = Numbers::new(&folder, replica);
                 for _ in 0..count {
                     let number = numbers.give().unwrap();
-                    assert!(number > 0 && all.insert(number));
+                    assert!(is_of(number, replica) && all.insert(number));
                 }
             }
             assert_eq!(fs::read_to_string(folder.join(NAME)).unwrap(), "5\n");

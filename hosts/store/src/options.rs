@@ -1,19 +1,35 @@
 //! The command line.
+use crate::generation::Limits;
+use std::fmt::Display;
 use std::path::PathBuf;
+use std::str::FromStr;
 use std::time::Duration;
 
-pub const HELP: &str = "\
+const TEXT: &str = "\
 store: one replica of a replicated store, for clients of the Redis protocol
 
-    store --replica R --peers HOST:PORT,HOST:PORT,HOST:PORT --dir DIR [--new] [--listen HOST:PORT] [--node PATH] [--patience S]
+    store --replica R --peers HOST:PORT,HOST:PORT,HOST:PORT --dir DIR [--new] [--listen HOST:PORT] [--peer-key FILE] [--node PATH]
+          [--patience S]
 
     --replica R            which replica this is, from 0
     --peers A,B,C          where each replica listens for the others, in order, this one too: 3, 5 or 7 of them
     --dir DIR              the folder of this replica: its log, its receipts; created where it isn't there
     --new                  begins the replica: for the first start of its folder, and for no other
     --listen HOST:PORT     where clients are listened for; default 127.0.0.1:7000; a port alone is one of 127.0.0.1
+    --peer-key FILE        the key that all replicas share: whoever hasn't it is no peer. 16 to 4096 bytes that nobody can guess, in a
+                           file that only its owner reads (head -c 32 /dev/urandom | base64 > FILE; chmod 600 FILE)
+    --insecure             without a key the peers' port is one of this machine alone; with this it may be any, open to whoever comes
+    --auth FILE            the password that clients say first (AUTH), 16 to 4096 bytes in a file that only its owner reads
+    --memory BYTES         so much may be under way for all clients together; default {MEMORY}
+    --metrics HOST:PORT    where Prometheus reads /metrics; a port alone is one of 127.0.0.1; default: nowhere
     --node PATH            the program `epaxos`; default: the one on the PATH
     --patience S           after so many seconds a client is told TRYAGAIN; default 10. Its command may still be done
+    --join                 in the place of --new: for a machine that comes in the place of a lost one; it tells its identity and waits
+                           until a generation begins that names it (EPAXOS REPLACE, at any other replica)
+    --seal-numbers N       a generation ends once a replica has proposed so many commands in it: 10 to 1,900; default {NUMBERS}
+    --seal-dependencies N  or once one of its commands depends on so many others: 10 to 14,000; default {DEPENDENCIES}
+    --seal-log BYTES       or once its log is so long; default {LOG}
+    --keep N               so many generations that were left stay in the folder, for an audit, from 1 on; default {KEPT}
     --help                 this text
 
 Example, one of three on this machine (start the others with 1 and 2 in the places of 0):
@@ -21,6 +37,30 @@ Example, one of three on this machine (start the others with 1 and 2 in the plac
 
 It runs until it is killed; SIGTERM is the way. Status 1: it can't start, or its node has ended. 2: the command line.
 ";
+
+/// When a generation ends, where nothing is told.
+pub const LIMITS: Limits = Limits { numbers: 1_500, dependencies: 600, log: 16 << 20 };
+const KEPT: usize = 2;
+const MEMORY: usize = 512 << 20;
+
+/// The text that `--help` tells.
+pub fn help() -> String {
+    let numbers = [("{NUMBERS}", LIMITS.numbers.into()), ("{DEPENDENCIES}", LIMITS.dependencies.into())];
+    let others = [("{LOG}", LIMITS.log), ("{KEPT}", KEPT as u64), ("{MEMORY}", MEMORY as u64)];
+    let all = numbers.into_iter().chain(others);
+    all.fold(TEXT.to_string(), |text, (word, number): (&str, u64)| text.replace(word, &number.to_string()))
+}
+
+/// How a folder is gone about.
+#[derive(Clone, Copy, PartialEq, Eq, Debug)]
+pub enum Start {
+    /// It has a replica.
+    Again,
+    /// A replica is begun with its cluster.
+    New,
+    /// A machine comes in the place of a lost one.
+    Join,
+}
 
 /// A misbehaviour that the trial has to catch.
 #[derive(Clone, Copy, PartialEq, Eq, Debug)]
@@ -39,11 +79,19 @@ pub struct Options {
     pub replica: u8,
     pub peers: Vec<String>,
     pub directory: PathBuf,
-    /// Whether the replica is to be begun.
-    pub is_new: bool,
+    pub start: Start,
     pub listen: String,
+    pub peer_key: Option<PathBuf>,
+    /// Whether the peers' port may be open to others without a key.
+    pub is_insecure: bool,
+    pub auth: Option<PathBuf>,
+    pub memory: usize,
+    pub metrics: Option<String>,
     pub node: PathBuf,
     pub patience: Duration,
+    pub limits: Limits,
+    /// How many generations that were left stay in the folder.
+    pub kept: usize,
     pub plant: Option<Plant>,
 }
 
@@ -51,7 +99,7 @@ pub struct Options {
 #[derive(Debug, PartialEq, Eq)]
 pub enum Words {
     Help,
-    Run(Options),
+    Run(Box<Options>),
 }
 
 /// Reads the words after the program's name.
@@ -62,13 +110,28 @@ pub fn read(words: impl IntoIterator<Item = String>) -> Result<Words, String> {
     let mut node = PathBuf::from("epaxos");
     let mut patience = Duration::from_secs(10);
     let mut plant = None;
-    let mut is_new = false;
+    let (mut is_insecure, mut peer_key) = (false, None);
+    let (mut auth, mut memory, mut metrics) = (None, MEMORY, None);
+    let mut start = Start::Again;
+    let (mut limits, mut kept) = (LIMITS, KEPT);
     while let Some(word) = words.next() {
         if word == "--help" || word == "-h" {
             return Ok(Words::Help);
         }
-        if word == "--new" {
-            is_new = true;
+        let begins = match word.as_str() {
+            "--new" => Some(Start::New),
+            "--join" => Some(Start::Join),
+            _ => None,
+        };
+        if let Some(begins) = begins {
+            if start != Start::Again {
+                return Err("--new and --join are two ways of one start".into());
+            }
+            start = begins;
+            continue;
+        }
+        if word == "--insecure" {
+            is_insecure = true;
             continue;
         }
         let mut value = || words.next().ok_or(format!("{word} wants a value"));
@@ -77,8 +140,16 @@ pub fn read(words: impl IntoIterator<Item = String>) -> Result<Words, String> {
             "--peers" => peers = Some(value()?),
             "--dir" => directory = Some(PathBuf::from(value()?)),
             "--listen" => listen = with_host(value()?),
+            "--peer-key" => peer_key = Some(PathBuf::from(value()?)),
+            "--auth" => auth = Some(PathBuf::from(value()?)),
+            "--memory" => memory = number(&word, &value()?, 1 << 20, usize::MAX)?,
+            "--metrics" => metrics = Some(with_host(value()?)),
             "--node" => node = PathBuf::from(value()?),
             "--patience" => patience = seconds(&value()?)?,
+            "--seal-numbers" => limits.numbers = number(&word, &value()?, 10, 1_900)?,
+            "--seal-dependencies" => limits.dependencies = number(&word, &value()?, 10, 14_000)?,
+            "--seal-log" => limits.log = number(&word, &value()?, 1 << 10, u64::MAX)?,
+            "--keep" => kept = number(&word, &value()?, 1, usize::MAX)?,
             "--plant" if cfg!(feature = "plants") => plant = Some(read_plant(&value()?)?),
             _ => return Err(format!("unknown word {word}; --help tells the words")),
         }
@@ -87,11 +158,33 @@ pub fn read(words: impl IntoIterator<Item = String>) -> Result<Words, String> {
     let peers = read_peers(&peers.ok_or_else(|| missing("--peers"))?)?;
     let replica = read_replica(&replica.ok_or_else(|| missing("--replica"))?, peers.len())?;
     let directory = directory.ok_or_else(|| missing("--dir"))?;
-    Ok(Words::Run(Options { replica, peers, directory, is_new, listen, node, patience, plant }))
+    Ok(Words::Run(Box::new(Options {
+        replica,
+        peers,
+        directory,
+        start,
+        listen,
+        peer_key,
+        is_insecure,
+        auth,
+        memory,
+        metrics,
+        node,
+        patience,
+        limits,
+        kept,
+        plant,
+    })))
 }
 
 fn with_host(address: String) -> String {
     if address.contains(':') { address } else { format!("127.0.0.1:{address}") }
+}
+
+/// A number from `least` to `most`.
+fn number<T: FromStr + PartialOrd + Display>(flag: &str, word: &str, least: T, most: T) -> Result<T, String> {
+    let number = word.parse().ok().filter(|number| (&least..=&most).contains(&number));
+    number.ok_or_else(|| format!("{flag} {word}: a number from {least} to {most} is wanted"))
 }
 
 fn seconds(word: &str) -> Result<Duration, String> {
@@ -148,9 +241,14 @@ mod tests {
         assert_eq!(options.peers, ["a:1", "b:2", "c:3"]);
         assert_eq!(options.listen, "127.0.0.1:7001");
         assert_eq!(options.patience, Duration::from_millis(500));
-        assert!(!options.is_new);
-        let Ok(Words::Run(options)) = words(&format!("--new {line}")) else { panic!() };
-        assert!(options.is_new);
+        assert!(options.start == Start::Again && !options.is_insecure && options.peer_key.is_none());
+        let Ok(Words::Run(options)) = words(&format!("--new --peer-key k --insecure {line}")) else { panic!() };
+        assert!(options.start == Start::New && options.is_insecure);
+        let Ok(Words::Run(it)) = words(&format!("{line} --join --seal-numbers 20 --keep 9")) else { panic!() };
+        assert_eq!((it.start, it.limits.numbers, it.kept), (Start::Join, 20, 9));
+        let Ok(Words::Run(it)) = words(&format!("{line} --auth a --memory 2000000 --metrics 9000")) else { panic!() };
+        assert_eq!((it.auth, it.memory, it.metrics), (Some("a".into()), 2_000_000, Some("127.0.0.1:9000".into())));
+        assert_eq!(options.peer_key, Some(PathBuf::from("k")));
         let Ok(Words::Run(options)) = words("--replica 0 --peers a:1,b:2,c:3 --dir d") else { panic!() };
         assert_eq!(options.listen, "127.0.0.1:7000");
         assert_eq!(words("--replica 9 --help"), Ok(Words::Help));
@@ -170,6 +268,9 @@ mod tests {
             "--replica 0 --peers a:1,b:2,c:3 --dir d --patience 0",
             "--replica 0 --peers a:1,b:2,c:3 --dir d --other x",
             "--replica 0 --peers a:1,b:2,c:3 --dir",
+            "--replica 0 --peers a:1,b:2,c:3 --dir d --new --join",
+            "--replica 0 --peers a:1,b:2,c:3 --dir d --seal-numbers 1901",
+            "--replica 0 --peers a:1,b:2,c:3 --dir d --keep 0",
         ] {
             assert!(words(line).is_err(), "{line}");
         }

@@ -1,37 +1,42 @@
 //! The connections to the other replicas: one for each direction, so that each end opens again what it needs.
 //!
-//! A connection begins by a greeting and its answer, by which both ends know each other. Then come frames, each as its
-//! length in 4 bytes and its bytes; the other way goes a byte a second, so that a peer whose machine or network is gone is
-//! noticed. A frame that can't be sent is lost: the protocol allows for it.
+//! A connection begins by a proof that both ends have the cluster's key ([`crate::sealed`]), and by a greeting and its answer,
+//! by which both ends know each other. Then come frames; the other way goes a message each second, so that a peer whose
+//! machine or network is gone is noticed. A frame that can't be sent is lost: the protocol allows for it.
 use crate::driver::Event;
 use crate::identities::{Identities, Identity};
 use crate::say::say;
+use crate::sealed::{self, Channel, Direction, Hello, Key};
+use crate::timed::Timed;
 use std::collections::VecDeque;
 use std::io::{self, BufReader, BufWriter, Read, Write};
 use std::net::{Shutdown, TcpListener, TcpStream, ToSocketAddrs};
-use std::sync::atomic::{AtomicBool, AtomicU64, AtomicUsize, Ordering};
+use std::sync::atomic::{AtomicBool, AtomicU64, Ordering};
 use std::sync::mpsc::SyncSender;
 use std::sync::{Arc, Condvar, Mutex, MutexGuard};
 use std::thread;
 use std::time::Duration;
 
-/// How long a frame may be, as in a bundle.
-const SHORTEST_FRAME: usize = 40;
-const LONGEST_FRAME: usize = 65_535;
+/// How long a frame may be, as in a bundle, or a message of a host.
+const SHORTEST_FRAME: usize = 3;
+const LONGEST_FRAME: usize = 200_000;
 /// What waits for one peer is at most so many bytes; then the oldest frames are lost.
 const MOST_WAITING: usize = 8 << 20;
-const MAGIC: [u8; 5] = *b"EPST\x01";
-/// The greeting: the magic, how many replicas, from, to, and the identity of who greets.
-const GREETING: usize = 8 + 16;
+/// What messages are: a greeting or its answer, a frame of the protocol, and that this end is there.
+const GREETING: u8 = 0;
+const FRAME: u8 = 1;
+const BEAT: u8 = 2;
+/// How long a greeting and its answer may be.
+const LONGEST_GREETING: usize = 64;
 const CONNECT_PATIENCE: Duration = Duration::from_secs(2);
 const WRITE_PATIENCE: Duration = Duration::from_secs(5);
-/// For a greeting, which comes as soon as the connection is there.
+/// For all of a greeting, which comes as soon as the connection is there.
 const GREETING_PATIENCE: Duration = Duration::from_secs(5);
-/// Between two bytes by which the receiving end tells that it is there.
-const BEAT: Duration = Duration::from_secs(1);
+/// Between two messages by which the receiving end tells that it is there.
+const BEATS: Duration = Duration::from_secs(1);
 /// A peer that tells nothing for so long is lost.
 const SILENCE: Duration = Duration::from_secs(5);
-/// At most so many connections to the peers' port that nobody has greeted on.
+/// At most so many connections to the peers' port that nobody has greeted on: one more ends the oldest of them.
 const MOST_STRANGERS: usize = 64;
 const LEAST_PAUSE: Duration = Duration::from_millis(20);
 const GREATEST_PAUSE: Duration = Duration::from_millis(500);
@@ -43,6 +48,13 @@ pub struct Place {
     pub replica: u8,
 }
 
+/// What this replica is to the others: its place, whom it knows, and the key that all share.
+pub struct Membership {
+    pub place: Place,
+    pub identities: Identities,
+    pub key: Key,
+}
+
 /// All links out of this replica.
 pub struct Peers {
     links: Vec<Option<Arc<Link>>>,
@@ -50,19 +62,14 @@ pub struct Peers {
 
 impl Peers {
     /// Starts a thread for each other replica.
-    pub fn start(
-        place: Place,
-        addresses: &[String],
-        identities: &Arc<Identities>,
-        events: &SyncSender<Event>,
-    ) -> io::Result<Peers> {
+    pub fn start(membership: &Arc<Membership>, addresses: &[String], events: &SyncSender<Event>) -> io::Result<Peers> {
         let mut links = Vec::new();
         for (to, address) in addresses.iter().enumerate() {
-            if to == usize::from(place.replica) {
+            if to == usize::from(membership.place.replica) {
                 links.push(None);
                 continue;
             }
-            let link = Arc::new(Link::new(to as u8, address.clone(), place, identities.clone()));
+            let link = Arc::new(Link::new(to as u8, address.clone(), membership.clone()));
             let (runner, events) = (link.clone(), events.clone());
             thread::Builder::new().name(format!("to {to}")).spawn(move || runner.run(&events))?;
             links.push(Some(link));
@@ -70,7 +77,39 @@ impl Peers {
         Ok(Peers { links })
     }
 
-    /// Sends a frame, or loses it.
+    /// Sends this before what waits.
+    pub fn send_first(&self, to: u8, bytes: Vec<u8>) {
+        if let Some(Some(link)) = self.links.get(usize::from(to)) {
+            link.push_first(bytes);
+        }
+    }
+
+    /// A replica listens at this address from now on.
+    pub fn set_address(&self, to: u8, address: &str) {
+        if let Some(Some(link)) = self.links.get(usize::from(to))
+            && std::mem::replace(&mut *link.address(), address.to_string()) != address
+        {
+            link.part("its address has changed");
+        }
+    }
+
+    /// Another machine has this replica's number: the connection to the one before is closed.
+    pub fn part(&self, to: u8) {
+        if let Some(Some(link)) = self.links.get(usize::from(to)) {
+            link.part("another machine has its number");
+        }
+    }
+
+    /// A peer has connected: the connection to it is tried at once, where it is lost.
+    pub fn hurry(&self, to: u8) {
+        if let Some(Some(link)) = self.links.get(usize::from(to))
+            && !self.is_reached(to)
+        {
+            link.hurry();
+        }
+    }
+
+    /// Sends a frame or a message of this host, or loses it.
     pub fn send(&self, to: u8, frame: Vec<u8>) {
         if let Some(Some(link)) = self.links.get(usize::from(to)) {
             link.push(frame);
@@ -94,28 +133,30 @@ struct Queue {
     bytes: usize,
     /// Why the connection is over, if the other end has told or is silent.
     over: Option<&'static str>,
+    /// Whether the peer was seen to be there since the last try to connect.
+    has_come: bool,
 }
 
 struct Link {
     to: u8,
-    address: String,
-    place: Place,
-    identities: Arc<Identities>,
+    address: Mutex<String>,
+    membership: Arc<Membership>,
     queue: Mutex<Queue>,
     changed: Condvar,
+    came: Condvar,
     is_reached: AtomicBool,
     lost: AtomicU64,
 }
 
 impl Link {
-    fn new(to: u8, address: String, place: Place, identities: Arc<Identities>) -> Link {
+    fn new(to: u8, address: String, membership: Arc<Membership>) -> Link {
         Link {
             to,
-            address,
-            place,
-            identities,
+            address: Mutex::new(address),
+            membership,
             queue: Mutex::default(),
             changed: Condvar::new(),
+            came: Condvar::new(),
             is_reached: AtomicBool::new(false),
             lost: AtomicU64::new(0),
         }
@@ -123,6 +164,22 @@ impl Link {
 
     fn queue(&self) -> MutexGuard<'_, Queue> {
         self.queue.lock().unwrap_or_else(|poisoned| poisoned.into_inner())
+    }
+
+    fn address(&self) -> MutexGuard<'_, String> {
+        self.address.lock().unwrap_or_else(|poisoned| poisoned.into_inner())
+    }
+
+    fn part(&self, cause: &'static str) {
+        self.queue().over = Some(cause);
+        self.changed.notify_one();
+    }
+
+    fn push_first(&self, bytes: Vec<u8>) {
+        let mut queue = self.queue();
+        queue.bytes += bytes.len();
+        queue.frames.push_front(bytes);
+        self.changed.notify_one();
     }
 
     fn push(&self, frame: Vec<u8>) {
@@ -149,70 +206,89 @@ impl Link {
                 && !was_refused
             {
                 was_refused = true;
-                say(&format!("peer {} at {} {why}", self.to, self.address));
+                say(&format!("peer {} at {} {why}", self.to, self.address()));
             }
-            if let Ok(stream) = connected {
+            if let Ok((stream, channel)) = connected {
                 was_refused = false;
                 pause = LEAST_PAUSE;
                 let again = if was_lost { "regained" } else { "reached" };
-                say(&format!("peer {} at {} {again}", self.to, self.address));
+                say(&format!("peer {} at {} {again}", self.to, self.address()));
                 self.is_reached.store(true, Ordering::Relaxed);
-                if events.send(Event::PeerReached).is_err() {
+                if events.send(Event::PeerReached(self.to)).is_err() {
                     return;
                 }
-                let cause = self.send_all(stream);
+                let cause = self.send_all(stream, channel);
                 self.is_reached.store(false, Ordering::Relaxed);
                 was_lost = true;
-                say(&format!("peer {} at {} lost: {cause}", self.to, self.address));
+                say(&format!("peer {} at {} lost: {cause}", self.to, self.address()));
             }
-            thread::sleep(pause);
+            self.rest(pause);
             pause = (pause * 2).min(GREATEST_PAUSE);
         }
     }
 
-    fn connect(&self) -> Result<TcpStream, Refused> {
-        let mut stream = connect_to(&self.address)?;
+    /// Waits until the next try to connect, or until the peer was seen to be there.
+    fn rest(&self, pause: Duration) {
+        let queue = self.queue();
+        let waited = self.came.wait_timeout_while(queue, pause, |queue| !queue.has_come);
+        let (mut queue, _) = waited.unwrap_or_else(|poisoned| poisoned.into_inner());
+        queue.has_come = false;
+    }
+
+    /// The peer is there: its connection is tried at once.
+    fn hurry(&self) {
+        self.queue().has_come = true;
+        self.came.notify_one();
+    }
+
+    fn connect(&self) -> Result<(TcpStream, Channel), Refused> {
+        let Membership { place, identities, key } = &*self.membership;
+        let address = self.address().clone();
+        let stream = connect_to(&address)?;
         stream.set_nodelay(true)?;
         stream.set_write_timeout(Some(WRITE_PATIENCE))?;
-        let mut greeting = MAGIC.to_vec();
-        greeting.extend([self.place.replicas as u8, self.place.replica, self.to]);
-        greeting.extend(self.identities.own());
-        stream.write_all(&greeting)?;
+        let mut timed = Timed::new(&stream, CONNECT_PATIENCE);
+        let mut channel = sealed::call(&mut timed, key, &Hello::new(place.replicas as u8, place.replica, self.to)?)?;
+        channel.sending.write(&mut timed, GREETING, &identities.own())?;
         // The other end answers the greeting: whoever only takes the connection, and closes it, wasn't reached.
-        stream.set_read_timeout(Some(CONNECT_PATIENCE))?;
-        let mut answer = [0];
-        stream.read_exact(&mut answer)?;
-        let mut identity = [0; 16];
-        stream.read_exact(&mut identity)?;
+        let (kind, answer) = channel.receiving.read(&mut timed, LONGEST_GREETING)?;
         stream.set_read_timeout(Some(SILENCE))?;
-        if answer == [REFUSED] {
+        let (GREETING, [is_accepted, identity @ ..]) = (kind, answer.as_slice()) else {
+            return Err(Refused::Failed);
+        };
+        if *is_accepted == REFUSED {
             return Err(Refused::For("knows another replica under this one's number: this one must not come back"));
         }
-        if !self.identities.meet(self.to, identity)? {
+        let is_known = match identity.try_into() {
+            Ok(identity) => identities.meet(self.to, identity)?,
+            Err(_) => return Err(Refused::Failed),
+        };
+        if !is_known {
             return Err(Refused::For("isn't the replica that is known under its number: it must not come back"));
         }
-        Ok(stream)
+        Ok((stream, channel))
     }
 
     /// Sends what comes; ends with the cause.
-    fn send_all(&self, stream: TcpStream) -> String {
+    fn send_all(&self, stream: TcpStream, channel: Channel) -> String {
+        let Channel { sending, receiving } = channel;
         self.queue().over = None;
         let Ok(reading) = stream.try_clone() else {
             return "no more handles".into();
         };
         thread::scope(|scope| {
             scope.spawn(|| {
-                let over = heard_out(reading);
+                let over = heard_out(reading, receiving);
                 self.queue().over = Some(over);
                 self.changed.notify_one();
             });
-            let cause = self.send_while_open(&stream);
+            let cause = self.send_while_open(&stream, sending);
             let _ = stream.shutdown(Shutdown::Both);
             cause
         })
     }
 
-    fn send_while_open(&self, stream: &TcpStream) -> String {
+    fn send_while_open(&self, stream: &TcpStream, mut sending: Direction) -> String {
         let mut writer = BufWriter::with_capacity(1 << 16, stream);
         loop {
             let mut queue = self.queue();
@@ -225,8 +301,8 @@ impl Link {
             let frames = std::mem::take(&mut queue.frames);
             queue.bytes = 0;
             drop(queue);
-            let sent =
-                frames.iter().try_for_each(|frame| write_frame(&mut writer, frame)).and_then(|()| writer.flush());
+            let sent = frames.iter().try_for_each(|frame| sending.write(&mut writer, FRAME, frame));
+            let sent = sent.and_then(|()| writer.flush());
             if let Err(error) = sent {
                 // What is left in the writer mustn't wait for the connection again.
                 let _ = stream.shutdown(Shutdown::Both);
@@ -245,31 +321,36 @@ enum Refused {
 }
 
 impl From<io::Error> for Refused {
-    fn from(_: io::Error) -> Refused {
-        Refused::Failed
+    fn from(error: io::Error) -> Refused {
+        match error.kind() {
+            io::ErrorKind::PermissionDenied => Refused::For("has another key than this one (--peer-key)"),
+            _ => Refused::Failed,
+        }
     }
 }
 
 /// Hears the other end tell that it is there, until it doesn't: why.
-fn heard_out(mut stream: impl Read) -> &'static str {
-    let mut beats = [0; 64];
+fn heard_out(stream: impl Read, mut receiving: Direction) -> &'static str {
+    let mut reader = BufReader::with_capacity(64, stream);
     loop {
-        match stream.read(&mut beats) {
-            Ok(0) => return "it has closed the connection",
+        match receiving.read(&mut reader, 0) {
             Ok(_) => {}
-            Err(error) if error.kind() == io::ErrorKind::Interrupted => {}
-            Err(error) if matches!(error.kind(), io::ErrorKind::WouldBlock | io::ErrorKind::TimedOut) => {
-                return "it is silent";
-            }
-            Err(_) => return "the connection is broken",
+            Err(error) => match error.kind() {
+                io::ErrorKind::UnexpectedEof => return "it has closed the connection",
+                io::ErrorKind::InvalidData => return "what it tells isn't authentic",
+                io::ErrorKind::WouldBlock | io::ErrorKind::TimedOut => return "it is silent",
+                _ => return "the connection is broken",
+            },
         }
     }
 }
 
 /// Tells the other end that this one is there, until the connection is over.
-fn beat(mut stream: TcpStream) {
-    while stream.write_all(&[0]).is_ok() {
-        thread::sleep(BEAT);
+fn beat(mut stream: TcpStream, mut sending: Direction) {
+    let mut message = Vec::new();
+    while sending.write(&mut message, BEAT, &[]).is_ok() && stream.write_all(&message).is_ok() {
+        message.clear();
+        thread::sleep(BEATS);
     }
 }
 
@@ -284,69 +365,76 @@ fn connect_to(address: &str) -> io::Result<TcpStream> {
     Err(last)
 }
 
-fn write_frame(writer: &mut impl Write, frame: &[u8]) -> io::Result<()> {
-    writer.write_all(&(frame.len() as u32).to_be_bytes())?;
-    writer.write_all(frame)
-}
-
-/// A frame. An error where the input ends, or where no frame is so long.
-fn read_frame(reader: &mut impl Read) -> io::Result<Vec<u8>> {
-    let mut length = [0; 4];
-    reader.read_exact(&mut length)?;
-    let length = u32::from_be_bytes(length) as usize;
-    if !(SHORTEST_FRAME..=LONGEST_FRAME).contains(&length) {
-        return Err(io::ErrorKind::InvalidData.into());
-    }
-    let mut frame = vec![0; length];
-    reader.read_exact(&mut frame)?;
-    Ok(frame)
-}
-
 /// What those who receive from peers have in common.
 pub struct Receiving {
-    place: Place,
-    identities: Arc<Identities>,
+    membership: Arc<Membership>,
     events: SyncSender<Event>,
     /// The connection of each replica.
     current: Vec<Mutex<Option<TcpStream>>>,
-    /// How many connections are there that nobody has greeted on yet.
-    strangers: AtomicUsize,
+    strangers: Mutex<Strangers>,
     /// Whether a stranger was told of.
     has_complained: AtomicBool,
 }
 
+/// The connections that nobody has greeted on yet, in the order in which they came, by numbers.
+#[derive(Default)]
+struct Strangers {
+    next: u64,
+    waiting: VecDeque<(u64, TcpStream)>,
+}
+
 impl Receiving {
-    pub fn new(place: Place, identities: Arc<Identities>, events: SyncSender<Event>) -> Receiving {
-        let current = (0..place.replicas).map(|_| Mutex::default()).collect();
-        let (strangers, has_complained) = (AtomicUsize::new(0), AtomicBool::new(false));
-        Receiving { place, identities, events, current, strangers, has_complained }
+    pub fn new(membership: Arc<Membership>, events: SyncSender<Event>) -> Receiving {
+        let current = (0..membership.place.replicas).map(|_| Mutex::default()).collect();
+        Receiving { membership, events, current, strangers: Mutex::default(), has_complained: AtomicBool::new(false) }
+    }
+
+    fn strangers(&self) -> MutexGuard<'_, Strangers> {
+        self.strangers.lock().unwrap_or_else(|poisoned| poisoned.into_inner())
+    }
+
+    /// Notes a new connection: its number. Where too many wait for a greeting, the oldest is closed: a replica greets at once,
+    /// and so strangers who don't can't keep it out.
+    fn came(&self, stream: &TcpStream) -> io::Result<u64> {
+        let stream = stream.try_clone()?;
+        let mut strangers = self.strangers();
+        let number = strangers.next;
+        strangers.next += 1;
+        strangers.waiting.push_back((number, stream));
+        if strangers.waiting.len() > MOST_STRANGERS
+            && let Some((_, oldest)) = strangers.waiting.pop_front()
+        {
+            let _ = oldest.shutdown(Shutdown::Both);
+        }
+        Ok(number)
+    }
+
+    /// The connection of this number is no stranger's any more.
+    fn greeted(&self, number: u64) {
+        self.strangers().waiting.retain(|(other, _)| *other != number);
     }
 }
 
-/// Takes connections of other replicas, each in a thread. A new one of a replica closes the one before. Where too many have
-/// come without a greeting, which they have to give within seconds, further ones are closed.
+/// Takes connections of other replicas, each in a thread. A new one of a replica closes the one before.
 pub fn listen(listener: TcpListener, receiving: &Arc<Receiving>) {
     for stream in listener.incoming() {
-        let Ok(stream) = stream else {
+        let Some((stream, number)) = stream.ok().and_then(|it| receiving.came(&it).ok().map(|number| (it, number)))
+        else {
             thread::sleep(LEAST_PAUSE);
             continue;
         };
-        if receiving.strangers.fetch_add(1, Ordering::Relaxed) >= MOST_STRANGERS {
-            receiving.strangers.fetch_sub(1, Ordering::Relaxed);
-            continue;
-        }
         let served = receiving.clone();
         let started = thread::Builder::new().name("from a peer".into()).spawn(move || {
             let greeted = served.greet(&stream);
-            served.strangers.fetch_sub(1, Ordering::Relaxed);
-            if let Ok(Some(from)) = greeted {
-                let _ = served.receive(from, &stream);
+            served.greeted(number);
+            if let Ok(Some((from, identity, channel))) = greeted {
+                let _ = served.receive((from, identity), &stream, channel);
             }
             // There may be other handles of the connection, so it doesn't end with this one.
             let _ = stream.shutdown(Shutdown::Both);
         });
         if started.is_err() {
-            receiving.strangers.fetch_sub(1, Ordering::Relaxed);
+            receiving.greeted(number);
         }
     }
 }
@@ -355,43 +443,71 @@ const ACCEPTED: u8 = 1;
 const REFUSED: u8 = 0;
 
 impl Receiving {
-    /// Reads a greeting and answers it: the replica that greets, if it is known under its number.
-    fn greet(&self, mut stream: &TcpStream) -> io::Result<Option<u8>> {
+    /// Reads a greeting and answers it: the replica that greets, if it has the key and is known under its number. Whoever
+    /// hasn't the key is told nothing about this replica.
+    fn greet(&self, stream: &TcpStream) -> io::Result<Option<(u8, Identity, Channel)>> {
         stream.set_nodelay(true)?;
-        stream.set_read_timeout(Some(GREETING_PATIENCE))?;
         stream.set_write_timeout(Some(WRITE_PATIENCE))?;
-        let mut greeting = [0; GREETING];
-        stream.read_exact(&mut greeting)?;
-        let Some((from, identity)) = greeter(self.place, &greeting) else {
-            if !self.has_complained.swap(true, Ordering::Relaxed) {
-                let who = stream.peer_addr()?;
-                say(&format!(
-                    "a connection from {who} to the peers' port is not from a replica that has this one as its peer"
-                ));
-            }
+        let mut timed = Timed::new(stream, GREETING_PATIENCE);
+        let hello = sealed::heard(&mut timed)?;
+        let Some(from) = greeter(self.membership.place, hello.ends()) else {
+            self.complain(stream, "is not from a replica that has this one as its peer")?;
             return Ok(None);
         };
-        let is_known = self.identities.meet(from, identity)?;
+        let mut channel = sealed::answer(&mut timed, &self.membership.key, &hello)?;
+        let greeting = channel.receiving.read(&mut timed, LONGEST_GREETING);
+        if matches!(&greeting, Err(error) if error.kind() == io::ErrorKind::InvalidData) {
+            self.complain(stream, "has another key than this one (--peer-key)")?;
+        }
+        let (GREETING, greeting) = greeting? else { return Ok(None) };
+        let Ok(identity) = greeting.as_slice().try_into() else { return Ok(None) };
+        let is_known = self.membership.identities.meet(from, identity)?;
         let mut answer = vec![if is_known { ACCEPTED } else { REFUSED }];
-        answer.extend(self.identities.own());
-        stream.write_all(&answer)?;
-        Ok(is_known.then_some(from))
+        answer.extend(self.membership.identities.own());
+        channel.sending.write(&mut timed, GREETING, &answer)?;
+        Ok(is_known.then_some((from, identity, channel)))
+    }
+
+    /// Tells of a stranger, once.
+    fn complain(&self, stream: &TcpStream, what: &str) -> io::Result<()> {
+        if !self.has_complained.swap(true, Ordering::Relaxed) {
+            say(&format!(
+                "a connection from {} to the peers' port {what}; others like it aren't told",
+                stream.peer_addr()?
+            ));
+        }
+        Ok(())
     }
 
     /// Takes a replica's frames until its connection is over.
-    fn receive(&self, from: u8, stream: &TcpStream) -> io::Result<()> {
+    fn receive(&self, whose: (u8, Identity), stream: &TcpStream, channel: Channel) -> io::Result<()> {
+        let Channel { sending, receiving } = channel;
         stream.set_read_timeout(None)?;
-        self.replace(from, stream.try_clone()?);
+        self.replace(whose.0, stream.try_clone()?);
+        // It is there, so that the connection to it needn't wait for its next try.
+        if self.events.send(Event::PeerCame(whose.0)).is_err() {
+            return Ok(());
+        }
         let beating = stream.try_clone()?;
-        thread::Builder::new().name("beats".into()).stack_size(64 << 10).spawn(move || beat(beating))?;
-        self.take_frames(stream)
+        thread::Builder::new().name("beats".into()).stack_size(64 << 10).spawn(move || beat(beating, sending))?;
+        self.take_frames(whose, stream, receiving)
     }
 
-    fn take_frames(&self, stream: &TcpStream) -> io::Result<()> {
+    fn take_frames(
+        &self,
+        (from, identity): (u8, Identity),
+        stream: &TcpStream,
+        mut receiving: Direction,
+    ) -> io::Result<()> {
         let mut reader = BufReader::with_capacity(1 << 16, stream);
         loop {
-            let frame = read_frame(&mut reader)?;
-            if self.events.send(Event::Frame(frame)).is_err() {
+            let (kind, bytes) = receiving.read(&mut reader, LONGEST_FRAME)?;
+            // (a seal may have named another machine since)
+            let is_known = self.membership.identities.of(from) == Some(identity);
+            if kind != FRAME || bytes.len() < SHORTEST_FRAME || !is_known {
+                return Err(io::ErrorKind::InvalidData.into());
+            }
+            if self.events.send(Event::Came { from, bytes }).is_err() {
                 return Ok(());
             }
         }
@@ -407,16 +523,14 @@ impl Receiving {
     }
 }
 
-/// Who greets, where the greeting is of another replica of such a cluster and for this one.
-fn greeter(place: Place, greeting: &[u8; GREETING]) -> Option<(u8, Identity)> {
-    let (head, identity) = greeting.split_first_chunk::<8>()?;
-    let [magic @ .., replicas, from, to] = head;
-    let is_ours = *magic == MAGIC
-        && usize::from(*replicas) == place.replicas
-        && usize::from(*from) < place.replicas
-        && *from != place.replica
-        && *to == place.replica;
-    is_ours.then_some((*from, *identity.first_chunk()?))
+/// Who greets, where the hello is of another replica of such a cluster and for this one.
+fn greeter(place: Place, ends: Option<[u8; 3]>) -> Option<u8> {
+    let [replicas, from, to] = ends?;
+    let is_ours = usize::from(replicas) == place.replicas
+        && usize::from(from) < place.replicas
+        && from != place.replica
+        && to == place.replica;
+    is_ours.then_some(from)
 }
 
 #[cfg(test)]
@@ -424,54 +538,99 @@ mod tests {
     use super::*;
 
     #[test]
-    fn frames_are_framed() {
-        let mut bytes = Vec::new();
-        write_frame(&mut bytes, &[7; 300]).unwrap();
-        assert_eq!(bytes[..5], [0, 0, 1, 44, 7]);
-        let mut reader = bytes.as_slice();
-        assert_eq!(read_frame(&mut reader).unwrap(), [7; 300]);
-        assert!(read_frame(&mut reader).is_err());
-        assert!(read_frame(&mut [0, 1, 0, 0].as_slice()).is_err());
-        assert!(read_frame(&mut [0, 0, 0, 39].as_slice()).is_err());
-        assert!(read_frame(&mut [&[0, 0, 0, 39][..], &[0; 39]].concat().as_slice()).is_err());
+    fn greeters() {
+        let place = Place { replicas: 3, replica: 1 };
+        assert_eq!(greeter(place, Some([3, 2, 1])), Some(2));
+        for ends in [[5, 2, 1], [3, 2, 0], [3, 1, 1], [3, 3, 1]] {
+            assert_eq!(greeter(place, Some(ends)), None);
+        }
+        assert_eq!(greeter(place, None), None);
+    }
+
+    fn membership(name: &str, replica: u8, key: Key) -> Arc<Membership> {
+        let folder = std::env::temp_dir().join(format!("store-{name}-{replica}-{}", std::process::id()));
+        std::fs::create_dir_all(&folder).unwrap();
+        let identities = Identities::open(&folder, 3, replica).unwrap();
+        Arc::new(Membership { place: Place { replicas: 3, replica }, identities, key })
+    }
+
+    /// A listening replica 1, what it takes, and a link of replica 0 to it.
+    fn pair(name: &str, near: Key, far: Key) -> (Link, Arc<Receiving>, std::sync::mpsc::Receiver<Event>, String) {
+        let listener = TcpListener::bind("127.0.0.1:0").unwrap();
+        let address = listener.local_addr().unwrap().to_string();
+        let (sender, events) = std::sync::mpsc::sync_channel(16);
+        let receiving = Arc::new(Receiving::new(membership(name, 1, far), sender));
+        let served = receiving.clone();
+        thread::spawn(move || listen(listener, &served));
+        (Link::new(1, address.clone(), membership(name, 0, near)), receiving, events, address)
     }
 
     #[test]
-    fn greetings() {
-        let place = Place { replicas: 3, replica: 1 };
-        let greeting = |end: [u8; 3]| {
-            let mut all = [9; GREETING];
-            all[..5].copy_from_slice(&MAGIC);
-            all[5..8].copy_from_slice(&end);
-            all
-        };
-        assert_eq!(greeter(place, &greeting([3, 2, 1])), Some((2, [9; 16])));
-        for end in [[5, 2, 1], [3, 2, 0], [3, 1, 1], [3, 3, 1]] {
-            assert_eq!(greeter(place, &greeting(end)), None);
-        }
-        assert_eq!(greeter(place, b"GET / HTTP/1.1\r\nHost: a\r"), None);
+    fn frames_go_to_a_peer() {
+        let (link, _receiving, events, _) = pair("frames", Key::none(), Key::none());
+        let (stream, channel) = link.connect().ok().unwrap();
+        link.push(vec![7; SHORTEST_FRAME]);
+        link.push(vec![8; LONGEST_FRAME]);
+        thread::scope(|scope| {
+            scope.spawn(|| link.send_all(stream.try_clone().unwrap(), channel));
+            assert!(matches!(events.recv().unwrap(), Event::PeerCame(0)));
+            let taken = [events.recv().unwrap(), events.recv().unwrap()];
+            assert!(
+                matches!(&taken, [Event::Came { from: 0, bytes: a }, Event::Came { from: 0, bytes: b }] if *a == [7; SHORTEST_FRAME] && b.len() == LONGEST_FRAME)
+            );
+            let _ = stream.shutdown(Shutdown::Both);
+        });
+    }
+
+    #[test]
+    fn another_key_is_refused() {
+        let folder = std::env::temp_dir();
+        let path = folder.join(format!("store-other-key-{}", std::process::id()));
+        std::fs::write(&path, "a key of twenty bytes").unwrap();
+        std::fs::set_permissions(&path, std::os::unix::fs::PermissionsExt::from_mode(0o600)).unwrap();
+        let key = Key::read(&path).unwrap();
+        let (link, _receiving, _events, _) = pair("key", Key::none(), key.clone());
+        assert!(matches!(link.connect(), Err(Refused::For(why)) if why.contains("--peer-key")));
+        let (link, _receiving, _events, _) = pair("same-key", key.clone(), key);
+        assert!(link.connect().is_ok());
+    }
+
+    #[test]
+    fn strangers_keep_no_peer_out() {
+        let (link, receiving, _events, address) = pair("strangers", Key::none(), Key::none());
+        let strangers: Vec<_> = (0..2 * MOST_STRANGERS).map(|_| TcpStream::connect(&address).unwrap()).collect();
+        let first = &strangers[0];
+        first.set_read_timeout(Some(SILENCE)).unwrap();
+        // The oldest were closed, and told nothing.
+        assert_eq!((&mut &*first).read(&mut [0; 64]).unwrap_or(0), 0);
+        assert!(link.connect().is_ok());
+        assert!(receiving.strangers().waiting.len() <= MOST_STRANGERS);
     }
 
     #[test]
     fn a_silent_peer_is_lost() {
-        let listener = TcpListener::bind("127.0.0.1:0").unwrap();
-        let near = TcpStream::connect(listener.local_addr().unwrap()).unwrap();
-        let (mut far, _) = listener.accept().unwrap();
-        near.set_read_timeout(Some(Duration::from_millis(50))).unwrap();
-        far.write_all(&[0, 0]).unwrap();
-        assert_eq!(heard_out(&near), "it is silent");
-        far.write_all(&[0]).unwrap();
-        drop(far);
-        assert_eq!(heard_out(&near), "it has closed the connection");
+        let (near, far) = std::os::unix::net::UnixStream::pair().unwrap();
+        let hello = Hello::new(3, 0, 1).unwrap();
+        let (mut calling, mut answering) = (near, far);
+        let key = Key::none();
+        let channel = thread::scope(|scope| {
+            let answered = scope.spawn(|| {
+                let hello = sealed::heard(&mut answering).unwrap();
+                sealed::answer(&mut answering, &key, &hello).unwrap()
+            });
+            let called = sealed::call(&mut calling, &key, &hello).unwrap();
+            (called, answered.join().unwrap())
+        });
+        let (called, mut answered) = channel;
+        calling.set_read_timeout(Some(Duration::from_millis(50))).unwrap();
+        answered.sending.write(&mut answering, BEAT, &[]).unwrap();
+        answered.sending.write(&mut answering, BEAT, &[]).unwrap();
+        assert_eq!(heard_out(&calling, called.receiving), "it is silent");
     }
 
     #[test]
     fn a_full_queue_loses_the_oldest() {
-        let folder = std::env::temp_dir().join(format!("store-queue-{}", std::process::id()));
-        std::fs::create_dir_all(&folder).unwrap();
-        let identities = Arc::new(Identities::open(&folder, 3, 0).unwrap());
-        std::fs::remove_dir_all(&folder).unwrap();
-        let link = Link::new(1, "127.0.0.1:1".into(), Place { replicas: 3, replica: 0 }, identities);
+        let link = Link::new(1, "127.0.0.1:1".into(), membership("queue", 0, Key::none()));
         for number in 0..200 {
             link.push(vec![number; LONGEST_FRAME]);
         }

@@ -1,15 +1,14 @@
-//! The requests and answers of `epaxos node`, as bytes.
+//! The requests and answers of `epaxos node --dir`, as bytes: those of a generation, which is version 3.
 use crate::bytes::Fields;
+use std::borrow::Cow;
 use std::fmt;
 
-/// How many instances each replica has.
-pub const INSTANCES: u16 = 2_000;
-/// The longest body of a request, with its kind.
-pub const LONGEST_REQUEST: usize = 66_000;
+/// How many commands each replica proposes in a generation at most. Numbers above are for seals.
+pub const INSTANCES: u16 = 1_990;
 /// A key has 1 to so many bytes.
 pub const LONGEST_KEY: usize = 255;
 /// A value has 0 to so many bytes.
-pub const LONGEST_VALUE: usize = 1_024;
+pub const LONGEST_VALUE: usize = 65_535;
 
 /// An instance: the replica that leads it, and its number from 1.
 #[derive(Clone, Copy, PartialEq, Eq, PartialOrd, Ord, Hash, Debug)]
@@ -44,24 +43,113 @@ impl fmt::Display for Instance {
 /// A command of a client.
 #[derive(Clone, PartialEq, Eq, Debug)]
 pub enum Command {
-    Get { key: Vec<u8> },
-    Put { key: Vec<u8>, value: Vec<u8> },
-    Del { key: Vec<u8> },
+    Get {
+        key: Vec<u8>,
+    },
+    Put {
+        key: Vec<u8>,
+        value: Vec<u8>,
+    },
+    Del {
+        key: Vec<u8>,
+    },
+    /// The two keys, which differ, have one another's values afterwards.
+    Swap {
+        first: Vec<u8>,
+        second: Vec<u8>,
+    },
+    /// The key gets the new value, or none, where it has the expected one, or none. The reply is what it had.
+    Cas {
+        key: Vec<u8>,
+        expected: Option<Vec<u8>>,
+        new: Option<Vec<u8>>,
+    },
+    /// For a machine outside: ordered by its keys, one or two that differ, and not executed.
+    Opaque {
+        is_reading: bool,
+        first: Vec<u8>,
+        second: Option<Vec<u8>>,
+        body: Vec<u8>,
+    },
+    /// Ends the generation. The value says who takes part in the next one.
+    Seal {
+        value: Vec<u8>,
+    },
 }
 
 impl Command {
-    fn write(&self, out: &mut Vec<u8>) {
-        let (op, key, value): (u8, &[u8], &[u8]) = match self {
-            Command::Get { key } => (2, key, &[]),
-            Command::Put { key, value } => (3, key, value),
-            Command::Del { key } => (4, key, &[]),
+    pub fn write(&self, out: &mut Vec<u8>) {
+        let none: &[u8] = &[];
+        let (op, first, second, body): (u8, &[u8], &[u8], Cow<[u8]>) = match self {
+            Command::Get { key } => (2, key, none, none.into()),
+            Command::Put { key, value } => (3, key, none, value.into()),
+            Command::Del { key } => (4, key, none, none.into()),
+            Command::Swap { first, second } => (5, first, second, none.into()),
+            Command::Cas { key, expected, new } => (6, key, none, parts(expected, new).into()),
+            Command::Opaque { is_reading, first, second, body } => {
+                (if *is_reading { 7 } else { 8 }, first, second.as_deref().unwrap_or(none), body.into())
+            }
+            Command::Seal { value } => (SEAL, none, none, value.into()),
         };
-        out.push(op);
-        out.push(key.len() as u8);
-        out.extend((value.len() as u16).to_be_bytes());
-        out.extend(key);
-        out.extend(value);
+        out.extend([op, first.len() as u8, second.len() as u8]);
+        out.extend((body.len() as u32).to_be_bytes());
+        out.extend(first);
+        out.extend(second);
+        out.extend(&*body);
     }
+
+    /// Reads one. None where the bytes spell none.
+    pub fn read(fields: &mut Fields) -> Option<Command> {
+        let (op, first, second, body) = (fields.u8()?, fields.u8()?, fields.u8()?, fields.u32()?);
+        let key = fields.run(first.into())?.to_vec();
+        let second = (second > 0).then(|| fields.run(second.into()).map(<[u8]>::to_vec));
+        let second = second.map_or(Some(None), |second| second.map(Some))?;
+        let body = fields.run(body as usize)?.to_vec();
+        Some(match op {
+            2 => Command::Get { key },
+            3 => Command::Put { key, value: body },
+            4 => Command::Del { key },
+            5 => Command::Swap { first: key, second: second? },
+            6 => {
+                let mut parts = Fields::new(&body);
+                let (expected, new) = (read_part(&mut parts)?, read_part(&mut parts)?);
+                (parts.left() == 0).then_some(Command::Cas { key, expected, new })?
+            }
+            7 | 8 => Command::Opaque { is_reading: op == 7, first: key, second, body },
+            SEAL => Command::Seal { value: body },
+            _ => return None,
+        })
+    }
+
+    pub fn is_seal(&self) -> bool {
+        matches!(self, Command::Seal { .. })
+    }
+}
+
+/// The op of a seal.
+pub const SEAL: u8 = 9;
+
+/// A comparison's body: what is expected, and what is new.
+fn parts(expected: &Option<Vec<u8>>, new: &Option<Vec<u8>>) -> Vec<u8> {
+    let mut out = Vec::new();
+    for part in [expected, new] {
+        match part {
+            None => out.push(0),
+            Some(value) => {
+                out.push(1);
+                out.extend((value.len() as u32).to_be_bytes());
+                out.extend(value);
+            }
+        }
+    }
+    out
+}
+
+fn read_part(fields: &mut Fields) -> Option<Option<Vec<u8>>> {
+    read_option(fields, |fields| {
+        let length = fields.u32()? as usize;
+        Some(fields.run(length)?.to_vec())
+    })
 }
 
 /// What the node is asked.
@@ -83,6 +171,9 @@ pub enum Request {
     NextOpen(Option<Instance>),
     Leads(Instance),
     Sync,
+    State,
+    /// All instances that are ready are executed, others' too.
+    ExecuteAll,
 }
 
 impl Request {
@@ -113,6 +204,8 @@ impl Request {
             Request::NextOpen(after) => write_kind(out, 8, &after.map_or([0; 3], Instance::bytes)),
             Request::Leads(instance) => write_kind(out, 9, &instance.bytes()),
             Request::Sync => out.push(10),
+            Request::State => out.push(11),
+            Request::ExecuteAll => out.push(12),
         }
     }
 }
@@ -131,6 +224,47 @@ pub enum Reply {
     Present(Vec<u8>),
     /// A no-op took its instance: it wasn't done, and never will be there.
     Lost,
+    /// It stands behind the generation's seal: it wasn't done, and never will be in this generation.
+    Closed,
+    /// A command for a machine outside has its place.
+    Ordered,
+}
+
+impl Reply {
+    /// Reads one, in the grammar of bundles. None where the bytes spell none.
+    pub fn read(fields: &mut Fields) -> Option<Reply> {
+        match fields.u8()? {
+            0 => Some(Reply::Absent),
+            1 => {
+                let length = fields.u32()? as usize;
+                Some(Reply::Present(fields.run(length)?.to_vec()))
+            }
+            2 => Some(Reply::Lost),
+            3 => Some(Reply::Closed),
+            4 => Some(Reply::Ordered),
+            _ => None,
+        }
+    }
+
+    /// Appends the reply's bytes.
+    pub fn write(&self, out: &mut Vec<u8>) {
+        match self {
+            Reply::Absent => out.push(0),
+            Reply::Present(value) => {
+                out.push(1);
+                out.extend((value.len() as u32).to_be_bytes());
+                out.extend(value);
+            }
+            Reply::Lost => out.push(2),
+            Reply::Closed => out.push(3),
+            Reply::Ordered => out.push(4),
+        }
+    }
+
+    /// Whether the command was done.
+    pub fn is_done(&self) -> bool {
+        !matches!(self, Reply::Lost | Reply::Closed)
+    }
 }
 
 /// What a client may be told of its command, and where that stands.
@@ -157,7 +291,7 @@ impl Receipt {
             replica: fields.u8()?,
             entry: fields.u32()?,
             stamp: fields.u64()?,
-            reply: read_reply(fields)?,
+            reply: Reply::read(fields)?,
         })
     }
 
@@ -170,27 +304,7 @@ impl Receipt {
         out.push(self.replica);
         out.extend(self.entry.to_be_bytes());
         out.extend(self.stamp.to_be_bytes());
-        match &self.reply {
-            Reply::Absent => out.push(0),
-            Reply::Present(value) => {
-                out.push(1);
-                out.extend((value.len() as u16).to_be_bytes());
-                out.extend(value);
-            }
-            Reply::Lost => out.push(2),
-        }
-    }
-}
-
-fn read_reply(fields: &mut Fields) -> Option<Reply> {
-    match fields.u8()? {
-        0 => Some(Reply::Absent),
-        1 => {
-            let length = fields.u16()?.into();
-            Some(Reply::Present(fields.run(length)?.to_vec()))
-        }
-        2 => Some(Reply::Lost),
-        _ => None,
+        self.reply.write(out);
     }
 }
 
@@ -281,6 +395,39 @@ pub struct Leading {
     pub answers: u8,
 }
 
+/// What a node is, in its generation.
+#[derive(Clone, Copy, Default, PartialEq, Eq, Debug)]
+pub struct State {
+    pub generation: u32,
+    /// How many entries are on the disk.
+    pub entries: u32,
+    /// The number that its last proposal took, 0 before any.
+    pub used: u16,
+    /// The most dependencies of an own instance that is committed.
+    pub dependencies: u16,
+    /// Whether it has executed a seal: the generation's map is closed.
+    pub is_sealed: bool,
+    /// That of its last entry.
+    pub stamp: u64,
+}
+
+impl State {
+    fn read(fields: &mut Fields) -> Option<State> {
+        Some(State {
+            generation: fields.u32()?,
+            entries: fields.u32()?,
+            used: fields.u16()?,
+            dependencies: fields.u16()?,
+            is_sealed: match fields.u8()? {
+                0 => false,
+                1 => true,
+                _ => return None,
+            },
+            stamp: fields.u64()?,
+        })
+    }
+}
+
 /// What the node answers.
 #[derive(Clone, PartialEq, Eq, Debug)]
 pub enum Answer {
@@ -290,8 +437,12 @@ pub enum Answer {
     Open(Option<Instance>),
     Leads(Option<Leading>),
     Synced(u32),
+    State(State),
     /// A request of this host is none: its first field that is wrong, and its offset in the request.
-    Malformed { field: u8, at: u64 },
+    Malformed {
+        field: u8,
+        at: u64,
+    },
 }
 
 impl Answer {
@@ -312,6 +463,7 @@ impl Answer {
             5 => Answer::Leads(read_option(&mut fields, read_leading)?),
             6 => Answer::Synced(fields.u32()?),
             7 => Answer::Malformed { field: fields.u8()?, at: fields.u64()? },
+            8 => Answer::State(State::read(&mut fields)?),
             _ => return None,
         };
         (fields.left() == 0).then_some(answer)
@@ -352,7 +504,7 @@ mod tests {
     fn requests_word_for_word() {
         let put = Command::Put { key: b"x".to_vec(), value: b"12".to_vec() };
         let propose = Request::Propose { client: 1, request: 2, seen: 3, command: put };
-        let mut expected = vec![0, 0, 0, 24, 1, 0, 0, 0, 1, 0, 0, 0, 2, 0, 0, 0, 0, 0, 0, 0, 3, 3, 1, 0, 2];
+        let mut expected = vec![0, 0, 0, 27, 1, 0, 0, 0, 1, 0, 0, 0, 2, 0, 0, 0, 0, 0, 0, 0, 3, 3, 1, 0, 0, 0, 0, 2];
         expected.extend(b"x12");
         assert_eq!(bytes_of(propose), expected);
         assert_eq!(bytes_of(Request::Frame(vec![7, 8])), [0, 0, 0, 3, 2, 7, 8]);
@@ -365,14 +517,53 @@ mod tests {
         assert_eq!(bytes_of(Request::NextOpen(Some(ONE))), [0, 0, 0, 4, 8, 1, 1, 2]);
         assert_eq!(bytes_of(Request::Leads(ONE)), [0, 0, 0, 4, 9, 1, 1, 2]);
         assert_eq!(bytes_of(Request::Sync), [0, 0, 0, 1, 10]);
+        assert_eq!(bytes_of(Request::State), [0, 0, 0, 1, 11]);
+        assert_eq!(bytes_of(Request::ExecuteAll), [0, 0, 0, 1, 12]);
+    }
+
+    /// The example of docs/FORMATS.md, section 10.
+    #[test]
+    fn the_proposal_of_the_page() {
+        let put = Command::Put { key: b"x".to_vec(), value: b"1".to_vec() };
+        let mut expected = vec![0, 0, 0, 0x1a, 1, 0, 0, 0, 1, 0, 0, 0, 2, 0, 0, 0, 0, 0, 0, 0, 3, 3, 1, 0, 0, 0, 0, 1];
+        expected.extend([0x78, 0x31]);
+        assert_eq!(bytes_of(Request::Propose { client: 1, request: 2, seen: 3, command: put }), expected);
     }
 
     #[test]
-    fn gets_and_dels_have_no_value() {
-        let mut out = Vec::new();
-        Command::Get { key: b"ab".to_vec() }.write(&mut out);
-        Command::Del { key: b"c".to_vec() }.write(&mut out);
-        assert_eq!(out, [2, 2, 0, 0, b'a', b'b', 4, 1, 0, 0, b'c']);
+    fn commands_word_for_word() {
+        let of = |command: Command| {
+            let mut out = Vec::new();
+            command.write(&mut out);
+            out
+        };
+        assert_eq!(of(Command::Get { key: b"ab".to_vec() }), [2, 2, 0, 0, 0, 0, 0, b'a', b'b']);
+        assert_eq!(of(Command::Del { key: b"c".to_vec() }), [4, 1, 0, 0, 0, 0, 0, b'c']);
+        let swap = Command::Swap { first: b"c".to_vec(), second: b"de".to_vec() };
+        assert_eq!(of(swap), [5, 1, 2, 0, 0, 0, 0, b'c', b'd', b'e']);
+        let cas = Command::Cas { key: b"c".to_vec(), expected: None, new: Some(b"v".to_vec()) };
+        assert_eq!(of(cas), [6, 1, 0, 0, 0, 0, 7, b'c', 0, 1, 0, 0, 0, 1, b'v']);
+        let act = |is_reading, second: Option<&[u8]>| {
+            let second = second.map(<[u8]>::to_vec);
+            of(Command::Opaque { is_reading, first: b"c".to_vec(), second, body: vec![9] })
+        };
+        assert_eq!(act(true, None), [7, 1, 0, 0, 0, 0, 1, b'c', 9]);
+        assert_eq!(act(false, Some(b"d")), [8, 1, 1, 0, 0, 0, 1, b'c', b'd', 9]);
+        assert_eq!(of(Command::Seal { value: b"me".to_vec() }), [9, 0, 0, 0, 0, 0, 2, b'm', b'e']);
+        for spelled in [
+            &[2, 1, 0, 0, 0, 0, 0, b'c'][..],
+            &[3, 1, 0, 0, 0, 0, 1, b'c', 9],
+            &[4, 1, 0, 0, 0, 0, 0, b'c'],
+            &[5, 1, 1, 0, 0, 0, 0, b'c', b'd'],
+            &[6, 1, 0, 0, 0, 0, 7, b'c', 0, 1, 0, 0, 0, 1, b'v'],
+            &[7, 1, 0, 0, 0, 0, 1, b'c', 9],
+            &[8, 1, 1, 0, 0, 0, 1, b'c', b'd', 9],
+            &[9, 0, 0, 0, 0, 0, 1, 9],
+        ] {
+            assert_eq!(of(Command::read(&mut Fields::new(spelled)).unwrap()), spelled);
+            assert_eq!(Command::read(&mut Fields::new(&spelled[..spelled.len() - 1])), None);
+        }
+        assert_eq!(Command::read(&mut Fields::new(&[6, 1, 0, 0, 0, 0, 3, b'c', 0, 0, 0])), None);
     }
 
     fn receipt(reply: Reply) -> Receipt {
@@ -409,6 +600,10 @@ mod tests {
         let leading = Leading { phase: Phase::Accepting, answers: 3 };
         assert_eq!(Answer::read(&[5, 1, 2, 3]), Some(Answer::Leads(Some(leading))));
         assert_eq!(Answer::read(&[6, 0, 0, 1, 0]), Some(Answer::Synced(256)));
+        // (the example of docs/FORMATS.md, section 10)
+        let state = [8, 0, 0, 0, 2, 0, 0, 0, 1, 0, 1, 0, 0, 0, 0, 0, 0, 0, 0, 0, 0, 6];
+        let told = State { generation: 2, entries: 1, used: 1, dependencies: 0, is_sealed: false, stamp: 6 };
+        assert_eq!(Answer::read(&state), Some(Answer::State(told)));
         let malformed = Answer::Malformed { field: 5, at: 21 };
         assert_eq!(Answer::read(&[7, 5, 0, 0, 0, 0, 0, 0, 0, 21]), Some(malformed));
         for bytes in [&[][..], &[0], &[7], &[3, 2], &[5, 1, 4, 0], &[6, 0, 0, 1]] {
@@ -418,7 +613,8 @@ mod tests {
 
     #[test]
     fn receipts_are_read_back() {
-        for reply in [Reply::Absent, Reply::Present(Vec::new()), Reply::Present(vec![0; 1_024]), Reply::Lost] {
+        let present = [Vec::new(), vec![0; LONGEST_VALUE]].map(Reply::Present);
+        for reply in [Reply::Absent, Reply::Lost, Reply::Closed, Reply::Ordered].into_iter().chain(present) {
             let mut bytes = Vec::new();
             receipt(reply.clone()).write(&mut bytes);
             let mut fields = Fields::new(&bytes);

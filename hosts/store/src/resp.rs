@@ -1,115 +1,143 @@
-//! The Redis protocol, version 2: commands of clients, and replies.
-use std::io::{self, BufRead, Read, Write};
+//! The Redis protocol: commands of clients, and replies in its versions 2 and 3.
+use crate::command_fault::CommandFault;
+use std::io::{self, Write};
 
-const LONGEST_LINE: u64 = 64 << 10;
+const LONGEST_LINE: usize = 64 << 10;
 const MOST_WORDS: usize = 1 << 16;
-const LONGEST_WORD: usize = 1 << 20;
-const LONGEST_COMMAND: usize = 4 << 20;
+const LONGEST_WORD: usize = 256 << 10;
+/// All words of one command together.
+const LONGEST_COMMAND: usize = 1 << 20;
 
-/// What a client sent.
+/// What the bytes that came begin with.
 #[derive(PartialEq, Eq, Debug)]
 pub enum Input {
-    /// A command's words, at least one.
-    Command(Vec<Vec<u8>>),
-    /// The client has closed.
-    End,
+    /// A command's words, and how many bytes it takes. An empty line or array has no words, and asks nothing.
+    Command(Vec<Vec<u8>>, usize),
+    /// The beginning of a command.
+    Partial,
     /// These bytes are no command; what follows can't be read either.
     Fault(&'static str),
+}
+
+/// In which version of the protocol a client reads replies.
+#[derive(Clone, Copy, PartialEq, Eq, Debug)]
+pub enum Version {
+    Two,
+    Three,
 }
 
 /// What a client is told.
 #[derive(Clone, PartialEq, Eq, Debug)]
 pub enum Reply {
     Simple(&'static str),
-    Error(String),
+    Error(CommandFault),
     Integer(i64),
     Bulk(Vec<u8>),
     Nil,
-    EmptyArray,
+    Array(Vec<Reply>),
+    /// Names with what they have. In version 2 an array of both, in turn.
+    Map(Vec<(Reply, Reply)>),
 }
 
 impl Reply {
-    pub fn write(&self, out: &mut impl Write) -> io::Result<()> {
+    pub fn text(text: &str) -> Reply {
+        Reply::Bulk(text.as_bytes().to_vec())
+    }
+
+    pub fn write(&self, out: &mut impl Write, version: Version) -> io::Result<()> {
         match self {
             Reply::Simple(text) => write!(out, "+{text}\r\n"),
-            Reply::Error(text) => write!(out, "-{text}\r\n"),
+            Reply::Error(fault) => write!(out, "-{fault}\r\n"),
             Reply::Integer(number) => write!(out, ":{number}\r\n"),
             Reply::Bulk(bytes) => {
                 write!(out, "${}\r\n", bytes.len())?;
                 out.write_all(bytes)?;
                 out.write_all(b"\r\n")
             }
-            Reply::Nil => out.write_all(b"$-1\r\n"),
-            Reply::EmptyArray => out.write_all(b"*0\r\n"),
+            Reply::Nil => out.write_all(if version == Version::Two { b"$-1\r\n" } else { b"_\r\n" }),
+            Reply::Array(items) => {
+                write!(out, "*{}\r\n", items.len())?;
+                items.iter().try_for_each(|item| item.write(out, version))
+            }
+            Reply::Map(pairs) => {
+                match version {
+                    Version::Two => write!(out, "*{}\r\n", 2 * pairs.len())?,
+                    Version::Three => write!(out, "%{}\r\n", pairs.len())?,
+                }
+                pairs.iter().try_for_each(|(name, item)| {
+                    name.write(out, version)?;
+                    item.write(out, version)
+                })
+            }
         }
     }
 }
 
-/// Reads the next command: an array of bulk strings, or an inline one.
-pub fn read_command(reader: &mut impl BufRead) -> io::Result<Input> {
-    loop {
-        let Some(line) = read_line(reader)? else {
-            return Ok(Input::End);
-        };
-        let Some(line) = line else {
-            return Ok(Input::Fault("too big a line"));
-        };
-        let words = match line.strip_prefix(b"*") {
-            Some(count) => read_array(reader, count)?,
-            None => split_inline(&line).map_or(Input::Fault("unbalanced quotes in request"), Input::Command),
-        };
-        // An empty line or array asks nothing.
-        if words != Input::Command(Vec::new()) {
-            return Ok(words);
-        }
+/// Reads the command that the bytes begin with: an array of bulk strings, or an inline one.
+pub fn read_command(bytes: &[u8]) -> Input {
+    let mut rest = bytes;
+    let words = match read_line(&mut rest, "too big inline request") {
+        Err(Stop::Partial) => return Input::Partial,
+        Err(Stop::Fault(what)) => return Input::Fault(what),
+        Ok(line) => match line.strip_prefix(b"*") {
+            Some(count) => read_array(&mut rest, count),
+            None => split_inline(line).ok_or(Stop::Fault("unbalanced quotes in request")),
+        },
+    };
+    match words {
+        Ok(words) => Input::Command(words, bytes.len() - rest.len()),
+        Err(Stop::Partial) => Input::Partial,
+        Err(Stop::Fault(what)) => Input::Fault(what),
     }
 }
 
-/// A line without its end; inside, None where it is too long. None at the end of the input.
-fn read_line(reader: &mut impl BufRead) -> io::Result<Option<Option<Vec<u8>>>> {
-    let mut line = Vec::new();
-    reader.by_ref().take(LONGEST_LINE).read_until(b'\n', &mut line)?;
-    if line.pop_if(|byte| *byte == b'\n').is_none() {
-        let is_over = (line.len() as u64) < LONGEST_LINE;
-        return Ok(if is_over { None } else { Some(None) });
-    }
-    line.pop_if(|byte| *byte == b'\r');
-    Ok(Some(Some(line)))
+/// Why there is no command.
+enum Stop {
+    Partial,
+    Fault(&'static str),
+}
+
+/// A line without its end.
+fn read_line<'a>(rest: &mut &'a [u8], too_long: &'static str) -> Result<&'a [u8], Stop> {
+    let within = &rest[..rest.len().min(LONGEST_LINE)];
+    let Some(end) = within.iter().position(|byte| *byte == b'\n') else {
+        return Err(if within.len() < LONGEST_LINE { Stop::Partial } else { Stop::Fault(too_long) });
+    };
+    let line = &within[..end];
+    *rest = &rest[end + 1..];
+    Ok(line.strip_suffix(b"\r").unwrap_or(line))
 }
 
 fn number(digits: &[u8]) -> Option<i64> {
     std::str::from_utf8(digits).ok()?.parse().ok()
 }
 
-fn read_array(reader: &mut impl BufRead, count: &[u8]) -> io::Result<Input> {
+fn read_array(rest: &mut &[u8], count: &[u8]) -> Result<Vec<Vec<u8>>, Stop> {
     let Some(count) = number(count).filter(|count| *count <= MOST_WORDS as i64) else {
-        return Ok(Input::Fault("invalid multibulk length"));
+        return Err(Stop::Fault("invalid multibulk length"));
     };
     let mut words = Vec::new();
     let mut left = LONGEST_COMMAND;
     for _ in 0..count {
-        let line = match read_line(reader)? {
-            None => return Ok(Input::End),
-            Some(line) => line.unwrap_or_default(),
-        };
+        let line = read_line(rest, "too big bulk count string")?;
         let Some(length) = line.strip_prefix(b"$") else {
-            return Ok(Input::Fault("expected '$'"));
+            return Err(Stop::Fault("expected '$'"));
         };
         let length = number(length).and_then(|length| usize::try_from(length).ok());
         let Some(length) = length.filter(|length| *length <= LONGEST_WORD.min(left)) else {
-            return Ok(Input::Fault("invalid bulk length"));
+            return Err(Stop::Fault("invalid bulk length"));
         };
         left -= length;
-        let mut word = vec![0; length + 2];
-        if let Err(error) = reader.read_exact(&mut word) {
-            return if error.kind() == io::ErrorKind::UnexpectedEof { Ok(Input::End) } else { Err(error) };
+        let Some((word, after)) = rest.split_at_checked(length + 2) else {
+            return Err(Stop::Partial);
+        };
+        if &word[length..] != b"\r\n" {
+            return Err(Stop::Fault("a bulk string isn't followed by a line end"));
         }
-        if word.split_off(length) != b"\r\n" {
-            return Ok(Input::Fault("a bulk string isn't followed by a line end"));
-        }
-        words.push(word);
+        words.push(word[..length].to_vec());
+        *rest = after;
     }
-    Ok(Input::Command(words))
+    Ok(words)
 }
 
 /// The words of an inline command. None where a quote isn't closed, or isn't followed by a space.
@@ -184,16 +212,16 @@ fn plainly_quoted(mut rest: &[u8]) -> Option<(Vec<u8>, &[u8])> {
 mod tests {
     use super::*;
 
-    fn words(words: &[&[u8]]) -> Input {
-        Input::Command(words.iter().map(|word| word.to_vec()).collect())
-    }
-
-    fn read(mut bytes: &[u8]) -> Vec<Input> {
-        let mut all = Vec::new();
+    /// The commands that bytes spell, one after the other, and what they end with.
+    fn read(mut bytes: &[u8]) -> (Vec<Vec<Vec<u8>>>, Input) {
+        let mut commands = Vec::new();
         loop {
-            all.push(read_command(&mut bytes).unwrap());
-            if !matches!(all.last(), Some(Input::Command(_))) {
-                return all;
+            match read_command(bytes) {
+                Input::Command(words, length) => {
+                    commands.extend(Some(words).filter(|words| !words.is_empty()));
+                    bytes = &bytes[length..];
+                }
+                end => return (commands, end),
             }
         }
     }
@@ -201,59 +229,80 @@ mod tests {
     #[test]
     fn arrays() {
         let bytes = b"*3\r\n$3\r\nSET\r\n$2\r\n\r\n\r\n$0\r\n\r\n*1\r\n$4\r\nPING\r\n";
-        assert_eq!(read(bytes), [words(&[b"SET", b"\r\n", b""]), words(&[b"PING"]), Input::End]);
+        let expected: [&[&[u8]]; 2] = [&[b"SET", b"\r\n", b""], &[b"PING"]];
+        assert_eq!(
+            read(bytes),
+            (expected.map(|words| words.iter().map(|word| word.to_vec()).collect()).to_vec(), Input::Partial)
+        );
     }
 
     #[test]
     fn inline_commands() {
-        let bytes = b"\r\n*0\r\n  set  a b\r\nPING\nget \"a \\x41\\n\\\"\" 'b\\'\\n'\r\n";
-        let expected = [words(&[b"set", b"a", b"b"]), words(&[b"PING"]), words(&[b"get", b"a A\n\"", b"b'\\n"])];
-        let all = read(bytes);
-        assert_eq!(all[..3], expected);
-        assert_eq!(all[3], Input::End);
+        let bytes = b"\r\n*0\r\n*-1\r\n  set  a b\r\nPING\nget \"a \\x41\\n\\\"\" 'b\\'\\n'\r\n";
+        let expected: [&[&[u8]]; 3] = [&[b"set", b"a", b"b"], &[b"PING"], &[b"get", b"a A\n\"", b"b'\\n"]];
+        assert_eq!(
+            read(bytes),
+            (expected.map(|words| words.iter().map(|word| word.to_vec()).collect()).to_vec(), Input::Partial)
+        );
     }
 
     #[test]
     fn what_is_cut_off_is_no_command() {
         let bytes = b"*2\r\n$3\r\nGET\r\n$1\r\nx\r\n";
         for cut in 0..bytes.len() {
-            assert_eq!(read(&bytes[..cut]), [Input::End], "cut at {cut}");
+            assert_eq!(read_command(&bytes[..cut]), Input::Partial, "cut at {cut}");
         }
+        assert_eq!(read_command(bytes), Input::Command(vec![b"GET".to_vec(), b"x".to_vec()], bytes.len()));
     }
 
     #[test]
     fn faults() {
-        let faults: [&[u8]; 8] = [
+        let faults: [&[u8]; 10] = [
             b"*x\r\n",
             b"*70000\r\n",
             b"*1\r\n:1\r\n",
             b"*1\r\n$-1\r\n",
             b"*1\r\n$2000000\r\n",
+            b"*1\r\n$99999999999999999999\r\n",
             b"*1\r\n$1\r\nabc\r\n",
             b"get \"a\r\n",
             b"get 'a'b\r\n",
+            &[b'a'; 70_000],
         ];
         for bytes in faults {
-            assert!(matches!(read(bytes)[..], [Input::Fault(_)]), "{}", String::from_utf8_lossy(bytes));
+            assert!(matches!(read_command(bytes), Input::Fault(_)), "{}", String::from_utf8_lossy(bytes));
         }
-        assert!(matches!(read(&[b'a'; 70_000])[..], [Input::Fault(_)]));
+        // Words that are too long together are refused before they have come.
+        let word = [format!("${LONGEST_WORD}\r\n").into_bytes(), vec![b'a'; LONGEST_WORD], b"\r\n".to_vec()].concat();
+        let bytes = [b"*5\r\n".to_vec(), word.repeat(4), b"$1\r\n".to_vec()].concat();
+        assert_eq!(read_command(&bytes), Input::Fault("invalid bulk length"));
+        let bytes = [b"*5\r\n".to_vec(), word.repeat(4)].concat();
+        assert_eq!(read_command(&bytes), Input::Partial);
+    }
+
+    fn written(reply: &Reply, version: Version) -> String {
+        let mut out = Vec::new();
+        reply.write(&mut out, version).unwrap();
+        String::from_utf8(out).unwrap()
     }
 
     #[test]
-    fn replies() {
-        let mut out = Vec::new();
-        let replies = [
-            Reply::Simple("OK"),
-            Reply::Error("ERR no".into()),
-            Reply::Integer(-1),
-            Reply::Bulk(b"a\r\n".to_vec()),
-            Reply::Bulk(Vec::new()),
-            Reply::Nil,
-            Reply::EmptyArray,
-        ];
-        for reply in replies {
-            reply.write(&mut out).unwrap();
+    fn replies_in_both_versions() {
+        // (as Redis' page of the protocol has them)
+        let pairs = Reply::Map(vec![(Reply::text("a"), Reply::Integer(1)), (Reply::text("b"), Reply::Nil)]);
+        for (reply, two, three) in [
+            (Reply::Simple("OK"), "+OK\r\n", "+OK\r\n"),
+            (Reply::Error(CommandFault::Syntax), "-ERR syntax error\r\n", "-ERR syntax error\r\n"),
+            (Reply::Integer(-1), ":-1\r\n", ":-1\r\n"),
+            (Reply::text("a\r\n"), "$3\r\na\r\n\r\n", "$3\r\na\r\n\r\n"),
+            (Reply::text(""), "$0\r\n\r\n", "$0\r\n\r\n"),
+            (Reply::Nil, "$-1\r\n", "_\r\n"),
+            (Reply::Array(vec![]), "*0\r\n", "*0\r\n"),
+            (Reply::Array(vec![Reply::Nil, Reply::Integer(2)]), "*2\r\n$-1\r\n:2\r\n", "*2\r\n_\r\n:2\r\n"),
+            (pairs, "*4\r\n$1\r\na\r\n:1\r\n$1\r\nb\r\n$-1\r\n", "%2\r\n$1\r\na\r\n:1\r\n$1\r\nb\r\n_\r\n"),
+        ] {
+            assert_eq!(written(&reply, Version::Two), two);
+            assert_eq!(written(&reply, Version::Three), three);
         }
-        assert_eq!(out, b"+OK\r\n-ERR no\r\n:-1\r\n$3\r\na\r\n\r\n$0\r\n\r\n$-1\r\n*0\r\n");
     }
 }

@@ -1,43 +1,68 @@
 //! Transactions, which aren't taken: what stands in one isn't done either.
+use crate::command_fault::CommandFault;
 use crate::commands::Asked;
 use crate::resp::Reply;
+use std::time::{Duration, Instant};
 
-/// Of one connection: whether a `MULTI` was refused and what ends it hasn't come. Who sent it takes what follows for a part of it, and wants
-/// all of it done together or nothing.
+/// After so long nobody takes what comes for a part of what began with a refused `WATCH`. (redis-py sends no `UNWATCH` then, and goes on using
+/// the connection.)
+const WATCHED: Duration = Duration::from_secs(1);
+
+/// Of one connection: whether a `MULTI` or a `WATCH` was refused and what ends it hasn't come. Who sent it takes what follows for a part of
+/// it, and wants all of it done together or nothing.
 #[derive(Default)]
 pub struct Transaction {
-    is_refused: bool,
+    refused: Option<Refused>,
+}
+
+#[derive(Clone, Copy)]
+enum Refused {
+    Multi,
+    Watch(Instant),
 }
 
 impl Transaction {
     /// What is to be done of what is asked: it, or nothing but this reply.
     pub fn judge(&mut self, asked: Asked) -> Result<Asked, Reply> {
-        match (asked, self.is_refused) {
-            (asked @ (Asked::Quit | Asked::Http), _) => Ok(asked),
-            (Asked::Multi, false) => {
-                self.is_refused = true;
-                Err(error("ERR MULTI isn't supported; nothing that follows is done until EXEC or DISCARD"))
+        let refused = |fault| Err(Reply::Error(fault));
+        if let Some(Refused::Watch(at)) = self.refused
+            && at.elapsed() >= WATCHED
+        {
+            self.refused = None;
+        }
+        let was_refused = self.refused.is_some();
+        match asked {
+            Asked::Quit | Asked::Http => Ok(asked),
+            Asked::Reset => {
+                self.refused = None;
+                Ok(asked)
             }
-            (Asked::Exec, false) => Err(error("ERR EXEC without MULTI")),
-            (Asked::Discard, false) => Err(error("ERR DISCARD without MULTI")),
-            (asked, false) => Ok(asked),
-            (Asked::Exec, true) => {
-                self.is_refused = false;
-                Err(error("EXECABORT nothing was done: MULTI isn't supported"))
+            Asked::Exec | Asked::Discard | Asked::Unwatch => {
+                self.refused = None;
+                match (asked, was_refused) {
+                    (Asked::Exec, true) => refused(CommandFault::ExecAborted),
+                    (Asked::Exec, false) => refused(CommandFault::WithoutMulti("EXEC")),
+                    (Asked::Discard, false) => refused(CommandFault::WithoutMulti("DISCARD")),
+                    _ => Err(Reply::Simple("OK")),
+                }
             }
-            (Asked::Discard, true) => {
-                self.is_refused = false;
-                Err(Reply::Simple("OK"))
+            _ if was_refused => {
+                if asked == Asked::Multi {
+                    self.refused = Some(Refused::Multi);
+                }
+                refused(CommandFault::Behind)
             }
-            (_, true) => {
-                Err(error("ERR it wasn't done: it is behind MULTI, which isn't supported, until EXEC or DISCARD"))
+            Asked::Multi => {
+                self.refused = Some(Refused::Multi);
+                refused(CommandFault::Multi)
             }
+            Asked::Watch => {
+                self.refused = Some(Refused::Watch(Instant::now()));
+                refused(CommandFault::Watch)
+            }
+            _ => Ok(asked),
         }
     }
-}
-
-fn error(text: &str) -> Reply {
-    Reply::Error(text.into())
 }
 
 #[cfg(test)]
@@ -45,36 +70,46 @@ mod tests {
     use super::*;
     use crate::commands::understand;
 
-    /// What is told of each line, one after the other; what is to be done is told as `done`.
-    fn told(lines: &[&str]) -> Vec<String> {
+    /// What is told of each line, one after the other; nothing where it is to be done.
+    fn told(lines: &[&str]) -> Vec<Option<Reply>> {
         let mut transaction = Transaction::default();
         let words = |line: &str| line.split(' ').map(|word| word.as_bytes().to_vec()).collect();
-        let told = |line: &&str| match transaction.judge(understand(words(line))) {
-            Ok(_) => "done".to_string(),
-            Err(Reply::Error(text)) => text.split([' ', ':']).take(4).collect::<Vec<_>>().join(" "),
-            Err(Reply::Simple(text)) => text.to_string(),
-            Err(other) => panic!("{other:?}"),
-        };
-        lines.iter().map(told).collect()
+        lines.iter().map(|line| transaction.judge(understand(words(line))).err()).collect()
     }
 
-    const MULTI: &str = "ERR MULTI isn't supported;";
-    const BEHIND: &str = "ERR it wasn't done";
+    const OK: Option<Reply> = Some(Reply::Simple("OK"));
+    const MULTI: Option<Reply> = Some(Reply::Error(CommandFault::Multi));
+    const WATCH: Option<Reply> = Some(Reply::Error(CommandFault::Watch));
+    const BEHIND: Option<Reply> = Some(Reply::Error(CommandFault::Behind));
+    const ABORTED: Option<Reply> = Some(Reply::Error(CommandFault::ExecAborted));
 
     #[test]
     fn what_is_behind_a_refused_multi_is_refused() {
         let lines = ["set x 0", "multi", "set x 1", "get x", "multi", "watch x", "keys", "exec", "set x 2"];
-        let wanted = ["done", MULTI, BEHIND, BEHIND, BEHIND, BEHIND, BEHIND, "EXECABORT nothing was done", "done"];
-        assert_eq!(told(&lines), wanted);
-        assert_eq!(told(&["MULTI 1", "del x", "discard", "del x"]), [MULTI, BEHIND, "OK", "done"]);
-        assert_eq!(told(&["multi", "unwatch", "quit"]), [MULTI, BEHIND, "done"]);
+        assert_eq!(told(&lines), [None, MULTI, BEHIND, BEHIND, BEHIND, BEHIND, BEHIND, ABORTED, None]);
+        assert_eq!(told(&["MULTI 1", "del x", "discard", "del x"]), [MULTI, BEHIND, OK, None]);
+        assert_eq!(told(&["multi", "ping", "quit"]), [MULTI, BEHIND, None]);
+        assert_eq!(told(&["multi", "reset", "ping"]), [MULTI, None, None]);
+    }
+
+    #[test]
+    fn what_is_behind_a_refused_watch_is_refused() {
+        let lines = ["watch x", "get x", "multi", "set x 1", "exec", "set x 2"];
+        assert_eq!(told(&lines), [WATCH, BEHIND, BEHIND, BEHIND, ABORTED, None]);
+        assert_eq!(told(&["watch x", "get x", "unwatch", "get x"]), [WATCH, BEHIND, OK, None]);
+        assert_eq!(told(&["unwatch", "watch x"]), [OK, WATCH]);
+        // A while later it is no more; behind a MULTI it stays so.
+        let words = |line: &str| understand(line.split(' ').map(|word| word.as_bytes().to_vec()).collect());
+        let mut transaction = Transaction { refused: Some(Refused::Watch(Instant::now() - WATCHED)) };
+        assert_eq!(transaction.judge(words("get x")).err(), None);
+        let mut transaction = Transaction { refused: Some(Refused::Watch(Instant::now())) };
+        assert_eq!(transaction.judge(words("multi")).err(), BEHIND);
+        assert!(matches!(transaction.refused, Some(Refused::Multi)));
     }
 
     #[test]
     fn nothing_is_ended_that_was_not_begun() {
-        assert_eq!(
-            told(&["exec", "discard", "get x"]),
-            ["ERR EXEC without MULTI", "ERR DISCARD without MULTI", "done"]
-        );
+        let without = |name| Some(Reply::Error(CommandFault::WithoutMulti(name)));
+        assert_eq!(told(&["exec", "discard", "get x"]), [without("EXEC"), without("DISCARD"), None]);
     }
 }

@@ -20,9 +20,9 @@ fn a_node_that_ends_is_noticed_though_nobody_asks() {
     assert!(told.contains("replica 0 of 3"), "{told}");
     assert!(told.contains("the node has ended (exit status: 4): log failed: no space left on device\n"), "{told}");
     // Its log is lost now, so it doesn't start again.
-    fs::remove_file(places.folder.join("0/log")).unwrap();
+    fs::remove_file(places.folder.join("0/generations/1/log")).unwrap();
     let (status, told) = run(&places, &lines);
-    assert_eq!(status, 1);
+    assert_eq!(status, 3);
     assert!(told.contains("was lost. This replica must not come back"), "{told}");
 }
 
@@ -45,7 +45,7 @@ fn what_the_node_tells_at_its_start_is_handed_on_once() {
 fn a_node_that_refuses_its_log_is_told() {
     let places = Places::new("refuses");
     let (status, told) = run(&places, "#!/bin/sh\necho log refused: bad checksum at byte 7 >&2; exit 2\n");
-    assert_eq!(status, 1);
+    assert_eq!(status, 3);
     assert!(told.contains("the node has ended (exit status: 2): log refused: bad checksum at byte 7\n"), "{told}");
 }
 

@@ -1,5 +1,7 @@
 //! Stores that a test starts, and their nodes.
 #![allow(dead_code)] // (each test uses a part)
+pub mod memory;
+
 use std::fs;
 use std::net::TcpListener;
 use std::os::unix::fs::PermissionsExt;
@@ -9,9 +11,10 @@ use std::thread;
 use std::time::{Duration, Instant};
 use store::client::{Client, Reply};
 
-/// A node that has no entry on the disk, and tells so: the answer to the first request, a sync of 5 bytes.
-pub const SYNCED: &str =
-    "#!/bin/sh\nhead -c 5 >/dev/null; printf 'EPLG\\002\\003\\000' > \"$7\"; printf '\\0\\0\\0\\5\\6\\0\\0\\0\\0'\n";
+/// A node of generation 1 that has no entry on the disk, and tells so: the answers to the first requests, a sync and a state.
+pub const SYNCED: &str = "#!/bin/sh\nhead -c 10 >/dev/null; mkdir -p \"$7/1\"; printf 'EPLG\\003\\003\\000' > \"$7/1/log\"; \
+     { printf 'EPOP\\3\\3\\0\\0\\0\\1'; head -c 49 /dev/zero; } > \"$7/1/opening\"; \
+     printf '\\0\\0\\0\\5\\6\\0\\0\\0\\0\\0\\0\\0\\26\\10\\0\\0\\0\\1'; head -c 17 /dev/zero\n";
 /// How long a test waits, and a store has a client wait: other work may leave them little of the processors.
 const PATIENCE: Duration = Duration::from_secs(120);
 const STORE_PATIENCE: &str = "60";
@@ -56,22 +59,41 @@ impl Places {
         command.args(["--replica", &replica.to_string(), "--peers", &self.peers.join(",")]);
         command.args(["--listen", &self.clients[replica], "--patience", STORE_PATIENCE]);
         let directory = self.folder.join(replica.to_string());
-        if !directory.join("log").exists() {
+        if !directory.join("generations").exists() {
             command.arg("--new");
         }
         command.arg("--dir").arg(directory).arg("--node").arg(node);
         command
     }
 
+    /// Where a replica takes clients.
+    pub fn port(&self, replica: usize) -> u16 {
+        self.clients[replica].rsplit_once(':').unwrap().1.parse().unwrap()
+    }
+
     /// Starts a replica, and waits until it takes clients.
     pub fn start(&self, replica: usize, node: &Path) -> Store {
-        let told = self.folder.join(format!("told-{replica}"));
-        let errors = fs::File::create(&told).unwrap();
-        let child = self.command(replica, node).stdin(Stdio::null()).stderr(errors).spawn().unwrap();
-        let port = self.clients[replica].rsplit_once(':').unwrap().1.parse().unwrap();
-        let store = Store { child, told, port };
+        self.start_with(replica, node, &[])
+    }
+
+    /// The same, with more words.
+    pub fn start_with(&self, replica: usize, node: &Path, words: &[&str]) -> Store {
+        let store = self.launch(self.command(replica, node).args(words), replica);
         wait("its start", || store.told().contains("node process"));
         store
+    }
+
+    /// Starts a replica by these words, and doesn't wait.
+    pub fn launch(&self, command: &mut Command, replica: usize) -> Store {
+        let told = self.folder.join(format!("told-{replica}"));
+        let errors = fs::File::create(&told).unwrap();
+        let child = command.stdin(Stdio::null()).stderr(errors).spawn().unwrap();
+        Store { child, told, port: self.port(replica) }
+    }
+
+    /// The folder of a replica.
+    pub fn directory(&self, replica: usize) -> PathBuf {
+        self.folder.join(replica.to_string())
     }
 }
 
@@ -89,6 +111,18 @@ pub struct Store {
 }
 
 impl Store {
+    /// Has it end by a signal, and waits: its status.
+    pub fn end(&mut self, signal: &str) -> Option<i32> {
+        let process = self.child.id().to_string();
+        assert!(Command::new("kill").args(["-s", signal, &process]).status().unwrap().success());
+        self.child.wait().unwrap().code()
+    }
+
+    /// Its status, once it has ended by itself.
+    pub fn status(&mut self) -> Option<i32> {
+        self.child.wait().unwrap().code()
+    }
+
     /// What it has told on standard error.
     pub fn told(&self) -> String {
         fs::read_to_string(&self.told).unwrap()

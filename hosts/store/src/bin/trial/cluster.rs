@@ -1,21 +1,28 @@
 //! The stores of a round: starting, killing, stopping them.
 use crate::links::Link;
 use crate::options::{Options, Plant};
-use std::fs::{File, OpenOptions, TryLockError};
+use std::fs::{File, OpenOptions};
 use std::io;
 use std::net::TcpListener;
 use std::os::unix::process::CommandExt;
-use std::path::PathBuf;
+use std::path::{Path, PathBuf};
 use std::process::{Child, Command, ExitStatus, Stdio};
+use std::sync::atomic::{AtomicBool, Ordering};
 use std::sync::{Arc, Mutex};
 use std::thread;
 use std::time::{Duration, Instant};
+use store::client::{Client, Reply};
 
 /// A log's header, and what stands around the bytes of an entry: two lengths, what was on the disk, and a checksum.
 const LOG_HEADER: usize = 43;
 const RECORD_FRAME: usize = 24;
 /// So many are cut off, where records are.
 const LAST_RECORDS: usize = 4;
+
+/// What a store tells that comes in the place of a lost machine.
+const COMES_IN: &str = "names this machine";
+/// How often others are asked to let it in.
+const MOST_TRIES: usize = 60;
 
 /// What is killed.
 #[derive(Clone, Copy, Debug)]
@@ -35,6 +42,10 @@ pub struct Cluster {
     /// From each replica to each other one.
     pub links: Vec<Vec<Option<Arc<Link>>>>,
     running: Vec<Mutex<Option<Child>>>,
+    /// Which machines came in the place of lost ones.
+    joined: Vec<AtomicBool>,
+    /// The folders of lost machines, with their replicas' numbers: the cluster never sees them again.
+    lost: Mutex<Vec<(usize, PathBuf)>>,
 }
 
 /// Ports below those that the system gives to connections by itself.
@@ -76,6 +87,8 @@ impl Cluster {
             peer_ports: peer_ports.to_vec(),
             links,
             running: (0..replicas).map(|_| Mutex::new(None)).collect(),
+            joined: (0..replicas).map(|_| AtomicBool::new(false)).collect(),
+            lost: Mutex::default(),
         };
         (0..replicas).try_for_each(|replica| cluster.launch(replica))?;
         Ok(cluster)
@@ -85,12 +98,29 @@ impl Cluster {
         self.directory.join(replica.to_string())
     }
 
-    pub fn log(&self, replica: usize) -> PathBuf {
-        self.folder(replica).join("log")
+    /// The folder of the round.
+    pub fn directory(&self) -> &Path {
+        &self.directory
     }
 
-    pub fn receipts(&self, replica: usize) -> PathBuf {
-        self.folder(replica).join("receipts")
+    /// All folders that machines of this number ever had.
+    pub fn folders(&self, replica: usize) -> Vec<PathBuf> {
+        let lost = self.lost.lock().unwrap();
+        let of_it = lost.iter().filter(|(of, _)| *of == replica).map(|(_, folder)| folder.clone());
+        of_it.chain([self.folder(replica)]).collect()
+    }
+
+    /// The newest generation that was opened anywhere.
+    pub fn newest(&self) -> u32 {
+        let all = (0..self.replicas).flat_map(|replica| self.folders(replica));
+        all.filter_map(|folder| newest(&folder)).max().unwrap_or(0)
+    }
+
+    /// The log of a replica in its newest generation.
+    pub fn log(&self, replica: usize) -> PathBuf {
+        let folder = self.folder(replica);
+        let generation = newest(&folder).unwrap_or(1);
+        folder.join(format!("generations/{generation}/log"))
     }
 
     fn told(&self, replica: usize) -> PathBuf {
@@ -113,7 +143,16 @@ impl Cluster {
         command.args(["--replica", &replica.to_string(), "--peers", &self.peers(replica)]);
         command.args(["--listen", &self.client_ports[replica].to_string(), "--patience", "3"]);
         command.arg("--dir").arg(self.folder(replica)).arg("--node").arg(&self.options.node);
-        if !self.log(replica).exists() {
+        for (flag, number) in
+            [("--seal-numbers", self.options.numbers), ("--seal-dependencies", self.options.dependencies)]
+        {
+            command.args([flag, &number.to_string()]);
+        }
+        // All that there ever was is audited.
+        command.args(["--keep", "1000000"]);
+        if self.joined[replica].load(Ordering::SeqCst) {
+            command.arg("--join");
+        } else if newest(&self.folder(replica)).is_none() {
             command.arg("--new");
         }
         match self.options.plant {
@@ -148,6 +187,51 @@ impl Cluster {
             None | Some(1) => Ok(()),
             Some(code) => Err(format!("the store of replica {replica} has ended with status {code}")),
         }
+    }
+
+    /// Loses a machine for good, and has another one come in its place, with an empty folder.
+    pub fn replace(&self, replica: usize) -> Result<(), String> {
+        let told = |error: io::Error| format!("a machine can't be replaced: {error}");
+        self.kill(replica, Target::Both)?;
+        let folder = self.folder(replica);
+        let lost = self.directory.join(format!("{replica}-lost-{}", self.lost.lock().unwrap().len()));
+        // (its node may still be ending)
+        wait_for(|| is_free(&folder).then_some(())).ok_or(format!("the node of replica {replica} doesn't end"))?;
+        std::fs::rename(&folder, &lost).map_err(told)?;
+        self.lost.lock().unwrap().push((replica, lost));
+        self.joined[replica].store(true, Ordering::SeqCst);
+        let before = std::fs::read_to_string(self.told(replica)).map_err(told)?.len();
+        self.launch(replica).map_err(told)?;
+        let said = || Some(std::fs::read_to_string(self.told(replica)).ok()?.get(before..)?.to_string());
+        let word = || Some(said()?.split_once(&format!("EPAXOS REPLACE {replica} "))?.1.get(..32)?.to_string());
+        let identity = wait_for(word).ok_or(format!("the new machine of replica {replica} doesn't tell who it is"))?;
+        let others: Vec<usize> = (0..self.replicas).filter(|other| *other != replica).collect();
+        let words = ["EPAXOS".to_string(), "REPLACE".to_string(), replica.to_string(), identity];
+        let words: Vec<&[u8]> = words.iter().map(|word| word.as_bytes()).collect();
+        for count in 0.. {
+            let port = self.client_ports[others[count % others.len()]];
+            let answer = Client::connect(port, Duration::from_secs(5)).and_then(|mut client| client.ask(&words));
+            if matches!(answer, Ok(Reply::Bulk(_) | Reply::Simple(_)))
+                || said().is_some_and(|told| told.contains(COMES_IN))
+            {
+                break;
+            }
+            if count == MOST_TRIES {
+                return Err(format!("no generation names the new machine of replica {replica}: {answer:?}"));
+            }
+            thread::sleep(Duration::from_millis(200));
+        }
+        wait_for(|| said()?.contains(COMES_IN).then_some(()))
+            .ok_or(format!("the new machine of replica {replica} doesn't come in: {:?}", said()))
+    }
+
+    /// Asks a replica to end its generation, without waiting.
+    pub fn seal(&self, replica: usize) {
+        let port = self.client_ports[replica];
+        thread::spawn(move || {
+            let client = Client::connect(port, Duration::from_secs(2));
+            client.and_then(|mut client| client.ask(&[b"EPAXOS", b"SEAL"]))
+        });
     }
 
     /// Cuts the last records off the log of a replica that was killed.
@@ -198,21 +282,15 @@ impl Cluster {
         for replica in 0..self.replicas {
             let Some(mut child) = self.running[replica].lock().unwrap().take() else { continue };
             signal("TERM", &child.id().to_string());
-            end_within(&mut child, Duration::from_secs(10)).ok_or(format!("replica {replica} doesn't end"))?;
+            let status = end_within(&mut child, Duration::from_secs(10));
+            match status.ok_or(format!("replica {replica} doesn't end"))?.code() {
+                Some(0) => {}
+                code => return Err(format!("replica {replica} ended with {code:?} where it was told to")),
+            }
         }
         (0..self.replicas).try_for_each(|replica| {
-            let path = self.folder(replica).join("node-errors");
-            let start = Instant::now();
-            loop {
-                let file = File::open(&path).map_err(|error| error.to_string())?;
-                match file.try_lock() {
-                    Ok(()) => return Ok(()),
-                    Err(TryLockError::WouldBlock) if start.elapsed() < Duration::from_secs(10) => {
-                        thread::sleep(Duration::from_millis(10));
-                    }
-                    Err(_) => return Err(format!("the node of replica {replica} doesn't end")),
-                }
-            }
+            let folder = self.folder(replica);
+            wait_for(|| is_free(&folder).then_some(())).ok_or(format!("the node of replica {replica} doesn't end"))
         })
     }
 }
@@ -224,6 +302,29 @@ impl Drop for Cluster {
             let _ = self.kill(replica, Target::Both);
         }
     }
+}
+
+/// The newest generation that a store's folder has.
+fn newest(folder: &Path) -> Option<u32> {
+    let found = std::fs::read_dir(folder.join("generations")).ok()?.flatten();
+    found.filter_map(|entry| entry.file_name().to_str()?.parse().ok()).max()
+}
+
+/// Whether neither a store nor its node has the folder.
+fn is_free(folder: &Path) -> bool {
+    File::open(folder.join("node-errors")).is_ok_and(|file| file.try_lock().is_ok())
+}
+
+/// What this tells, once it tells something.
+fn wait_for<T>(tell: impl Fn() -> Option<T>) -> Option<T> {
+    let start = Instant::now();
+    while start.elapsed() < Duration::from_secs(30) {
+        if let Some(told) = tell() {
+            return Some(told);
+        }
+        thread::sleep(Duration::from_millis(20));
+    }
+    None
 }
 
 fn make_links(peer_ports: &[u16], listeners: Vec<TcpListener>) -> io::Result<Vec<Vec<Option<Arc<Link>>>>> {

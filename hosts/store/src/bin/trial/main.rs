@@ -63,10 +63,12 @@ fn play(options: &Options, round: usize) -> Result<usize, String> {
     cluster.stop()?;
     let told = notes.iter().filter(|note| note.operation.end.is_some()).count();
     println!(
-        "round {round}: {told} commands told, {} not, {} proposed again; {} kills, {} cuts, {} pauses; {}",
+        "round {round}: {told} commands told, {} not, {} proposed again; {} generations; {} kills, {} machines replaced, {} cuts, {} pauses; {}",
         notes.len() - told,
         verdict::count_lost(&cluster),
+        cluster.newest(),
         count.kills,
+        count.replaced,
         count.cuts,
         count.pauses,
         waits(&notes)

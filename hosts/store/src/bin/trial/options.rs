@@ -9,13 +9,13 @@ trial: a cluster of stores on this machine, clients, kills and cuts; then what t
           [--plant early|emptied|unsynced|changed] [--store PATH] [--dir DIR] [--seed S]
 
     --node PATH      the program `epaxos`
-    --short          20 seconds, 3 kills: the default
-    --long           20 rounds of 30 seconds with 5 kills each, every round with fresh folders
-    --smoke          no kills: `redis-cli` and `redis-benchmark`, where they are, are told what they should be; then one
-                     replica's instances are used up
+    --short          60 seconds, 6 kills, one machine replaced, two changes of generation or more: the default
+    --long           10 rounds of 60 seconds with 10 kills each and two machines replaced, every round with fresh folders
+    --smoke          no kills: `redis-cli` and `redis-benchmark`, where they are, are told what they should be
     --replicas N     3, the default, or 5 or 7
-    --seconds S, --kills K, --rounds R    other numbers
-    --audit          also has `epaxos collect` and `epaxos audit` judge the logs and receipts of each round
+    --seconds S, --kills K, --replaced M, --rounds R    other numbers
+    --seal-numbers N, --seal-dependencies N    when stores end a generation; default 300 and 200
+    --audit          also has `epaxos collect` and `epaxos audit` judge the logs and receipts of each round: its generations as one chain
     --plant early    the stores answer a SET before its receipt has come
     --plant emptied  a replica is started with an emptied log
     --plant unsynced a replica that was killed has lost its last entries, as by a node that answers before its sync
@@ -44,11 +44,25 @@ pub struct Options {
     pub replicas: usize,
     pub time: Duration,
     pub kills: usize,
+    /// How many machines are lost for good, and replaced.
+    pub replaced: usize,
+    /// When stores end a generation.
+    pub numbers: usize,
+    pub dependencies: usize,
+    /// So many changes of generation there have to be.
+    pub least_changes: u32,
     pub rounds: usize,
     pub smoke: bool,
     pub audit: bool,
     pub plant: Option<Plant>,
     pub seed: u64,
+}
+
+impl Options {
+    fn play(&mut self, seconds: u64, kills: usize, replaced: usize, rounds: usize) {
+        self.time = Duration::from_secs(seconds);
+        (self.kills, self.replaced, self.rounds) = (kills, replaced, rounds);
+    }
 }
 
 /// Reads the words after the program's name. None: help is asked for.
@@ -59,13 +73,16 @@ pub fn read(words: impl IntoIterator<Item = String>) -> Result<Option<Options>, 
         let mut value = || words.next().ok_or(format!("{word} wants a value"));
         match word.as_str() {
             "--help" | "-h" => return Ok(None),
-            "--short" => (options.time, options.kills, options.rounds) = (Duration::from_secs(20), 3, 1),
-            "--long" => (options.time, options.kills, options.rounds) = (Duration::from_secs(30), 5, 20),
+            "--short" => options.play(60, 6, 1, 1),
+            "--long" => options.play(60, 10, 2, 10),
             "--node" => options.node = PathBuf::from(value()?),
             "--store" => options.store = PathBuf::from(value()?),
             "--dir" => options.directory = PathBuf::from(value()?),
             "--replicas" => options.replicas = number(&value()?)?,
             "--seconds" => options.time = Duration::from_secs(number(&value()?)? as u64),
+            "--replaced" => options.replaced = number(&value()?)?,
+            "--seal-numbers" => options.numbers = number(&value()?)?,
+            "--seal-dependencies" => options.dependencies = number(&value()?)?,
             "--kills" => options.kills = number(&value()?)?,
             "--rounds" => options.rounds = number(&value()?)?,
             "--seed" => options.seed = number(&value()?)? as u64,
@@ -77,6 +94,9 @@ pub fn read(words: impl IntoIterator<Item = String>) -> Result<Option<Options>, 
     }
     if options.node.as_os_str().is_empty() {
         return Err("--node is missing".into());
+    }
+    if options.smoke {
+        options.least_changes = 0;
     }
     if ![3, 5, 7].contains(&options.replicas) {
         return Err("--replicas: 3, 5 or 7".into());
@@ -93,8 +113,12 @@ fn defaults() -> Result<Options, String> {
         store: program.with_file_name("store"),
         directory,
         replicas: 3,
-        time: Duration::from_secs(20),
-        kills: 3,
+        time: Duration::from_secs(60),
+        kills: 6,
+        replaced: 1,
+        numbers: 300,
+        dependencies: 200,
+        least_changes: 2,
         rounds: 1,
         smoke: false,
         audit: false,

@@ -9,6 +9,7 @@ use store::random::Random;
 #[derive(Default, Clone, Copy, Debug)]
 pub struct Count {
     pub kills: usize,
+    pub replaced: usize,
     pub cuts: usize,
     pub pauses: usize,
 }
@@ -20,9 +21,9 @@ pub fn run(options: &Options, cluster: &Cluster, seed: u64) -> Result<Count, Str
     let mut weather = Troubles { random: Random::from_seed(seed.rotate_left(32)), ..kills };
     thread::scope(|scope| {
         let weather = scope.spawn(move || weather.weather());
-        let killed = kills.kills(options.kills);
+        let killed = kills.kills(options.kills, options.replaced);
         let (cuts, pauses) = weather.join().map_err(|_| "the weather failed")?;
-        killed.map(|kills| Count { kills, cuts, pauses })
+        killed.map(|kills| Count { kills, replaced: options.replaced, cuts, pauses })
     })
 }
 
@@ -49,13 +50,22 @@ impl Troubles<'_> {
         (0..count).map(|place| (first + place) % self.cluster.replicas).collect()
     }
 
-    /// Kills at random moments, each in its share of the time. By that plant one finds its log emptied when it starts again.
-    fn kills(&mut self, count: usize) -> Result<usize, String> {
+    /// Kills at random moments, each in its share of the time; some of them for good, so that another machine comes. By that plant one
+    /// finds its log emptied when it starts again.
+    fn kills(&mut self, count: usize, replaced: usize) -> Result<usize, String> {
         let to_empty = (self.plant == Some(Plant::Emptied)).then_some(count / 3);
-        for kill in 0..count {
-            let share = (kill as f64 + self.random.below(800) as f64 / 1_000.0) / count as f64;
+        let all = count + replaced;
+        for kill in 0..all {
+            let share = (kill as f64 + self.random.below(800) as f64 / 1_000.0) / all as f64;
             thread::sleep(self.time.mul_f64(share).saturating_sub(self.start.elapsed()));
-            self.kill(to_empty == Some(kill))?;
+            // (spread over the round, none at its beginning)
+            let is_loss = (kill + 1) * replaced / all > kill * replaced / all;
+            if is_loss {
+                let replica = self.any_replica();
+                self.cluster.replace(replica)?;
+            } else {
+                self.kill(to_empty == Some(kill))?;
+            }
         }
         thread::sleep(self.time.saturating_sub(self.start.elapsed()));
         Ok(count)
@@ -70,6 +80,11 @@ impl Troubles<'_> {
         // Now and then all of them, as when the current fails.
         let count = if self.random.below(8) == 0 { self.cluster.replicas } else { 1 };
         let killed = self.some_replicas(count);
+        // Some die while they go from one generation to the next.
+        if self.random.below(2) == 0 {
+            self.cluster.seal(self.some_replicas(1)[0]);
+            self.wait(0, 80);
+        }
         killed.iter().try_for_each(|replica| self.cluster.kill(*replica, target))?;
         self.wait(20, 1_500);
         let told = |error: std::io::Error| format!("a replica can't be started: {error}");

@@ -1,16 +1,22 @@
 //! Judging a round: by what the clients noted, by the receipts, and by the audit of the logs.
 use crate::cluster::Cluster;
-use crate::linearizable::{self, Operation, Verdict};
+use crate::linearizable::{self, Action, Operation, Verdict};
 use crate::options::Options;
 use crate::workers::{Note, keys};
+use std::fs::File;
+use std::ops::RangeInclusive;
+use std::path::PathBuf;
 use std::process::{Command, Stdio};
 use store::bytes::Fields;
-use store::protocol::{Receipt, Reply};
+use store::protocol::Receipt;
 
 /// The faults of a round.
 pub fn judge(options: &Options, cluster: &Cluster, notes: &[Note]) -> Vec<String> {
     let mut faults = judge_notes(notes);
     faults.extend(judge_receipts(cluster, notes).err());
+    if cluster.newest() <= options.least_changes {
+        faults.push(format!("there were {} generations, and more are wanted", cluster.newest()));
+    }
     if options.audit {
         faults.extend(audit(options, cluster).err());
     }
@@ -34,60 +40,110 @@ fn judge_notes(notes: &[Note]) -> Vec<String> {
     faults
 }
 
-/// How many receipts of a replica there are: of commands that were done, and that were lost.
-fn count_receipts(cluster: &Cluster, replica: usize) -> Result<(usize, usize), String> {
-    let bytes = std::fs::read(cluster.receipts(replica)).map_err(|error| format!("no receipts: {error}"))?;
-    let mut fields = Fields::new(&bytes);
-    let (mut done, mut lost) = (0, 0);
-    while let Some(receipt) = Receipt::read(&mut fields) {
-        *if receipt.reply == Reply::Lost { &mut lost } else { &mut done } += 1;
-    }
-    match fields.left() {
-        0 => Ok((done, lost)),
-        _ => Err(format!("the receipts of replica {replica} end within one")),
-    }
-}
-
-/// How many proposals of a round were lost.
-pub fn count_lost(cluster: &Cluster) -> usize {
-    (0..cluster.replicas).filter_map(|replica| count_receipts(cluster, replica).ok()).map(|(_, lost)| lost).sum()
-}
-
-/// Each command that was told has a receipt that isn't lost.
+/// Each command that was told has a receipt that says that it was done. (Of what was done without a reply there is none.)
 fn judge_receipts(cluster: &Cluster, notes: &[Note]) -> Result<(), String> {
     for replica in 0..cluster.replicas {
         let (receipts, _) = count_receipts(cluster, replica)?;
-        let told = notes.iter().filter(|note| note.replica == replica && note.operation.end.is_some()).count();
-        if receipts < told {
-            return Err(format!("replica {replica} told of {told} commands and has {receipts} receipts"));
+        let is_told = |note: &&Note| note.replica == replica && note.operation.end.is_some();
+        let is_get = |note: &&Note| matches!(note.operation.action, Action::Get(_));
+        let told = notes.iter().filter(is_told).filter(|note| !is_get(note)).count();
+        if receipts == 0 && told > 0 {
+            return Err(format!("replica {replica} told of {told} commands and has no receipt"));
         }
     }
     Ok(())
 }
 
-/// `epaxos collect`, piped into `epaxos audit`.
-fn audit(options: &Options, cluster: &Cluster) -> Result<(), String> {
-    let mut command = Command::new(&options.node);
-    command.arg("collect");
-    for replica in 0..cluster.replicas {
-        command.arg("--receipts").arg(cluster.receipts(replica));
-    }
-    command.args((0..cluster.replicas).map(|replica| cluster.log(replica)));
-    let told = |error: std::io::Error| format!("{} can't be run: {error}", options.node.display());
-    let mut collecting = command.stdout(Stdio::piped()).spawn().map_err(told)?;
-    let bundle = collecting.stdout.take().ok_or("collect has no output")?;
-    let audited = Command::new(&options.node).arg("audit").stdin(bundle).output().map_err(told)?;
-    let collected = collecting.wait().map_err(told)?;
-    if !collected.success() {
-        return Err(format!("collect ends with {collected}"));
-    }
-    let report = String::from_utf8_lossy(&audited.stdout);
-    let mut lines = report.lines();
-    match (lines.next(), audited.status.success()) {
-        (Some("verdict accepted"), true) => Ok(()),
-        (first, _) => {
-            let lines = [first.unwrap_or(""), lines.next().unwrap_or("")].join(", ");
-            Err(format!("audit: {lines} ({}) {}", audited.status, String::from_utf8_lossy(&audited.stderr).trim()))
+/// How many receipts of a replica's machines there are: of commands that were done, and that weren't.
+fn count_receipts(cluster: &Cluster, replica: usize) -> Result<(usize, usize), String> {
+    let (mut done, mut not) = (0, 0);
+    for path in receipts(cluster, replica, 1..=cluster.newest()) {
+        let bytes = std::fs::read(&path).map_err(|error| format!("no receipts: {error}"))?;
+        let mut fields = Fields::new(&bytes);
+        while let Some(receipt) = Receipt::read(&mut fields) {
+            *if receipt.reply.is_done() { &mut done } else { &mut not } += 1;
+        }
+        if fields.left() > 0 {
+            return Err(format!("the receipts {} end within one", path.display()));
         }
     }
+    Ok((done, not))
+}
+
+/// The files of receipts of a replica's machines.
+fn receipts(cluster: &Cluster, replica: usize, generations: RangeInclusive<u32>) -> Vec<PathBuf> {
+    let folders = cluster.folders(replica);
+    let of = |generation: u32| folders.iter().map(move |folder| folder.join(format!("receipts/{generation}")));
+    generations.flat_map(of).filter(|path| path.exists()).collect()
+}
+
+/// How many proposals of a round weren't done: lost, or behind a seal.
+pub fn count_lost(cluster: &Cluster) -> usize {
+    (0..cluster.replicas).filter_map(|replica| count_receipts(cluster, replica).ok()).map(|(_, not)| not).sum()
+}
+
+/// `epaxos collect` of each generation, and `epaxos audit --chain` of all of them.
+fn audit(options: &Options, cluster: &Cluster) -> Result<(), String> {
+    let mut chain = Vec::new();
+    for generation in 1..=cluster.newest() {
+        let bundle = cluster.directory().join(format!("{generation}.bundle"));
+        let file = File::create(&bundle).map_err(|error| format!("{}: {error}", bundle.display()))?;
+        let mut command = Command::new(&options.node);
+        command.args(["collect", "--generation", &generation.to_string()]);
+        for replica in 0..cluster.replicas {
+            for path in receipts(cluster, replica, generation..=generation) {
+                command.arg("--receipts").arg(path);
+            }
+            command.arg(view(options, cluster, replica, generation)?);
+        }
+        run(command.stdout(file))?;
+        chain.push(bundle);
+    }
+    let audited = run(Command::new(&options.node).args(["audit", "--chain"]).args(&chain))?;
+    let told = String::from_utf8_lossy(&audited);
+    match told.lines().next() {
+        Some("verdict accepted") if told.lines().count() == chain.len() + 1 => Ok(()),
+        _ => Err(format!("audit: {told}")),
+    }
+}
+
+/// What a program told that ended well.
+fn run(command: &mut Command) -> Result<Vec<u8>, String> {
+    let words = format!("{command:?}").chars().take(300).collect::<String>();
+    let output = command.stdin(Stdio::null()).stderr(Stdio::piped()).spawn().and_then(|child| child.wait_with_output());
+    let output = output.map_err(|error| format!("{words}: {error}"))?;
+    if output.status.success() {
+        return Ok(output.stdout);
+    }
+    let (told, errors) = (String::from_utf8_lossy(&output.stdout), String::from_utf8_lossy(&output.stderr));
+    Err(format!("{words} ends with {}: {} {}", output.status, told.trim(), errors.trim()))
+}
+
+/// The folder that has a replica's opening and log of this generation. One who took no part told nothing: it is begun and ended there.
+fn view(options: &Options, cluster: &Cluster, replica: usize, generation: u32) -> Result<PathBuf, String> {
+    let with = |folders: Vec<PathBuf>, name: &str| -> Vec<PathBuf> {
+        let folders = folders.into_iter().map(|folder| folder.join("generations"));
+        folders.filter(|folder| folder.join(format!("{generation}/{name}")).exists()).collect()
+    };
+    let mut logs = with(cluster.folders(replica), "log");
+    if logs.len() > 1 {
+        return Err(format!("replica {replica} has two logs in generation {generation}: {logs:?}"));
+    }
+    if let Some(folder) = logs.pop() {
+        return Ok(folder);
+    }
+    let all = (0..cluster.replicas).flat_map(|replica| cluster.folders(replica)).collect();
+    let opening = with(all, "opening").pop().ok_or(format!("no opening of generation {generation}"))?;
+    let folder = cluster.directory().join(format!("none-{replica}-{generation}"));
+    std::fs::create_dir_all(&folder).map_err(|error| error.to_string())?;
+    let mut command = Command::new(&options.node);
+    command.args(["node", "--replicas", &cluster.replicas.to_string(), "--replica", &replica.to_string(), "--dir"]);
+    command.arg(&folder);
+    if generation == 1 {
+        command.arg("--new");
+    } else {
+        command.arg("--take").arg(opening.join(format!("{generation}/opening")));
+    }
+    run(&mut command)?;
+    Ok(folder)
 }

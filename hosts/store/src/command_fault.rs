@@ -1,0 +1,181 @@
+//! Why a client's command isn't answered by its reply.
+use crate::protocol::{Fault, LONGEST_KEY};
+use crate::stored::{LONGEST_CONTENT, LONGEST_OWNER};
+use std::fmt;
+
+/// What a client is told in the place of a reply.
+#[derive(Clone, PartialEq, Eq, Debug)]
+pub enum CommandFault {
+    /// Its time is over. It may still be done.
+    Unanswered,
+    /// The store ends. It may still be done.
+    StoreEnds,
+    /// This replica lagged, and nobody knows whether it was done.
+    Doubtful,
+    /// It was done, and nobody knows its reply.
+    Unseen,
+    /// It wasn't done: no majority is reached.
+    NoMajority,
+    /// It wasn't done: no-ops were committed in the places of all its tries.
+    Lost,
+    /// It wasn't done: at each try others had changed the key.
+    Contended,
+    /// It wasn't done: its time was over before it was proposed, since others wait before it.
+    Waiting,
+    /// It wasn't done: its time is over, and it would have had to look first.
+    NotInTime,
+    /// It wasn't done: the node refused it.
+    Node(Fault),
+    /// It wasn't done: no client number is left, or their file can't be written.
+    Numbers(String),
+    /// The keys can't be listed.
+    Listing(String),
+    /// What somebody who runs the store has asked for isn't done.
+    Managing(String),
+    /// It isn't an identity: 32 hexadecimal digits.
+    Identity,
+    /// Of a command of several keys: what befell this one, counted from 1.
+    AtKey(Box<CommandFault>, usize),
+
+    /// These bytes aren't of the Redis protocol.
+    Malformed(&'static str),
+    Unknown(String),
+    /// No such subcommand of this command.
+    UnknownSubcommand(&'static str, String),
+    WrongCount(String),
+    Syntax,
+    NotAnInteger,
+    Overflow,
+    DecrementOverflow,
+    TooLong,
+    /// The time to live is out of range, in this command.
+    InvalidExpire(&'static str),
+    IncompatibleExpire,
+    LaterAndEarlier,
+    UnsupportedOption(String),
+    KeyLength,
+    ValueLength,
+    OwnerLength,
+    /// The key holds a lock, or none where one is asked for.
+    WrongType,
+    Cursor,
+    DatabaseIndex,
+    Protocol,
+    NotAProtocol,
+    ClientName,
+    NoPassword,
+    WrongPassword,
+    /// The password has to be said first.
+    NotKnown,
+    /// All places are taken: it is asked on one for who asks how the store is.
+    Full,
+    /// Clients have too much under way together.
+    NoMemory,
+    /// This replica doesn't take part.
+    Apart,
+    NoScript,
+    Script,
+    /// MULTI is refused, and what follows it.
+    Multi,
+    Watch,
+    Behind,
+    ExecAborted,
+    WithoutMulti(&'static str),
+    Http,
+}
+
+impl CommandFault {
+    /// Whether the command may be done, now or later.
+    pub fn may_be_done(&self) -> bool {
+        match self {
+            CommandFault::Unanswered | CommandFault::StoreEnds | CommandFault::Doubtful | CommandFault::Unseen => true,
+            CommandFault::AtKey(fault, _) => fault.may_be_done(),
+            _ => false,
+        }
+    }
+}
+
+impl fmt::Display for CommandFault {
+    fn fmt(&self, f: &mut fmt::Formatter) -> fmt::Result {
+        match self {
+            CommandFault::Unanswered => f.write_str("TRYAGAIN no majority has answered in time; the command may still be done"),
+            CommandFault::StoreEnds => f.write_str("TRYAGAIN the store ends; the command may still be done"),
+            CommandFault::Doubtful => f.write_str("TRYAGAIN this replica lagged; the command may be done"),
+            CommandFault::Unseen => f.write_str("TRYAGAIN the command was done, and its reply is lost"),
+            CommandFault::NoMajority => f.write_str("TRYAGAIN the command wasn't done: no majority is reached"),
+            CommandFault::Lost => f.write_str("TRYAGAIN the command wasn't done: others have taken its places"),
+            CommandFault::Contended => f.write_str("TRYAGAIN the command wasn't done: others changed the key at each try"),
+            CommandFault::Waiting => f.write_str("TRYAGAIN the command wasn't done: too many others wait"),
+            CommandFault::NotInTime => f.write_str("TRYAGAIN the command wasn't done: no majority has answered in time"),
+            CommandFault::Node(fault) => match *fault {
+                Fault::SPACE_FULL => f.write_str("FULL this replica has used all of its instances; ask another one"),
+                Fault::SEQ_EXHAUSTED | Fault::STAMP_FULL => write!(f, "FULL the node refused: {fault}"),
+                Fault::MEMORY => write!(f, "OOM the node refused, ask again: {fault}"),
+                _ => write!(f, "ERR the node refused: {fault}"),
+            },
+            CommandFault::Numbers(what) => write!(f, "ERR {what}"),
+            CommandFault::Listing(what) => write!(f, "ERR the keys can't be listed: {what}"),
+            CommandFault::Managing(what) => write!(f, "ERR {what}"),
+            CommandFault::Identity => f.write_str("ERR an identity has 32 hexadecimal digits"),
+            CommandFault::AtKey(fault, place) => {
+                write!(f, "{fault} (this is of key {place}; each key is a command of its own, and others may be done)")
+            }
+            CommandFault::Malformed(what) => write!(f, "ERR Protocol error: {what}"),
+            CommandFault::Unknown(name) => write!(f, "ERR unknown command '{name}'"),
+            CommandFault::UnknownSubcommand(name, sub) => write!(f, "ERR unknown subcommand '{sub}' of {name}"),
+            CommandFault::WrongCount(name) => write!(f, "ERR wrong number of arguments for '{name}' command"),
+            CommandFault::Syntax => f.write_str("ERR syntax error"),
+            CommandFault::NotAnInteger => f.write_str("ERR value is not an integer or out of range"),
+            CommandFault::Overflow => f.write_str("ERR increment or decrement would overflow"),
+            CommandFault::DecrementOverflow => f.write_str("ERR decrement would overflow"),
+            CommandFault::TooLong => write!(f, "ERR string exceeds maximum allowed size ({LONGEST_CONTENT} bytes)"),
+            CommandFault::InvalidExpire(name) => write!(f, "ERR invalid expire time in '{name}' command"),
+            CommandFault::IncompatibleExpire => {
+                f.write_str("ERR NX and XX, GT or LT options at the same time are not compatible")
+            }
+            CommandFault::LaterAndEarlier => {
+                f.write_str("ERR GT and LT options at the same time are not compatible")
+            }
+            CommandFault::KeyLength => write!(f, "ERR a key has 1 to {LONGEST_KEY} bytes"),
+            CommandFault::ValueLength => write!(f, "ERR a value has at most {LONGEST_CONTENT} bytes"),
+            CommandFault::UnsupportedOption(option) => write!(f, "ERR Unsupported option {option}"),
+            CommandFault::OwnerLength => write!(f, "ERR an owner has 1 to {LONGEST_OWNER} bytes"),
+            CommandFault::WrongType => f.write_str("WRONGTYPE Operation against a key holding the wrong kind of value"),
+            CommandFault::Cursor => f.write_str("ERR invalid cursor"),
+            CommandFault::DatabaseIndex => f.write_str("ERR DB index is out of range"),
+            CommandFault::Protocol => f.write_str("NOPROTO unsupported protocol version"),
+            CommandFault::NotAProtocol => f.write_str("ERR Protocol version is not an integer or out of range"),
+            CommandFault::ClientName => {
+                f.write_str("ERR Client names cannot contain spaces, newlines or special characters.")
+            }
+            CommandFault::NoPassword => f.write_str("ERR AUTH called without any password configured"),
+            CommandFault::WrongPassword => {
+                f.write_str("WRONGPASS invalid username-password pair or user is disabled.")
+            }
+            CommandFault::NotKnown => f.write_str("NOAUTH Authentication required."),
+            CommandFault::Full => f.write_str("ERR max number of clients reached; PING and INFO are answered"),
+            CommandFault::NoMemory => {
+                f.write_str("OOM the command wasn't done: clients have more under way than --memory allows")
+            }
+            CommandFault::Apart => {
+                f.write_str("TRYAGAIN this replica takes no part: it reaches no majority, or waits to join")
+            }
+            CommandFault::NoScript => f.write_str("NOSCRIPT No matching script. Scripts aren't supported, but for those of locks"),
+            CommandFault::Script => f.write_str("ERR scripts aren't supported, but for those of locks that README lists"),
+            CommandFault::Multi => {
+                f.write_str("ERR MULTI isn't supported; nothing that follows is done until EXEC or DISCARD")
+            }
+            CommandFault::Watch => f.write_str(
+                "ERR WATCH isn't supported, nor is MULTI; nothing that follows is done until EXEC, DISCARD or UNWATCH",
+            ),
+            CommandFault::Behind => f.write_str(
+                "ERR it wasn't done: it is behind MULTI or WATCH, which aren't supported, until EXEC, DISCARD or UNWATCH",
+            ),
+            CommandFault::ExecAborted => f.write_str("EXECABORT nothing was done: MULTI and WATCH aren't supported"),
+            CommandFault::WithoutMulti(name) => write!(f, "ERR {name} without MULTI"),
+            CommandFault::Http => f.write_str("ERR this is no web server"),
+        }
+    }
+}
+
+impl std::error::Error for CommandFault {}

@@ -1,0 +1,197 @@
+//! The generation that a replica is in: what of it is used up, and how far it is with its end.
+use crate::protocol::{INSTANCES, State};
+use std::time::{Duration, Instant};
+
+/// A seal that isn't committed for so long is proposed again, and commands aren't held for it any more.
+const SEAL_PATIENCE: Duration = Duration::from_millis(500);
+/// A change of generation may take at most one part in so many of the time.
+const SHARE_OF_CHANGES: u32 = 10;
+/// From so many own numbers on it is sealed whatever a change takes.
+const URGENT: u16 = INSTANCES - 100;
+
+/// When a generation is to be sealed: where one of these is reached.
+#[derive(Clone, Copy, PartialEq, Eq, Debug)]
+pub struct Limits {
+    /// Own numbers.
+    pub numbers: u16,
+    /// Dependencies of an own command.
+    pub dependencies: u16,
+    /// Bytes of the log.
+    pub log: u64,
+}
+
+/// How far it is with its end.
+#[derive(Clone, Copy, PartialEq, Eq, Debug)]
+pub enum Stage {
+    Open,
+    /// A seal is under way since then.
+    Sealing(Instant),
+    /// One is committed, and not executed here.
+    Committed,
+    /// One was executed here, then.
+    Sealed(Instant),
+}
+
+/// The present generation.
+pub struct Generation {
+    pub number: u32,
+    /// The number that the last own proposal took.
+    pub used: u16,
+    /// The most that an own command has.
+    pub dependencies: u16,
+    /// How many entries the log has.
+    pub entries: u32,
+    /// How many bytes the log had when it was last looked at.
+    pub log: u64,
+    pub stage: Stage,
+    /// Whether its end was asked for.
+    pub is_asked: bool,
+    /// When it may be sealed first, but where it is urgent.
+    pub(crate) least: Instant,
+}
+
+impl Generation {
+    /// That of a node which has just begun to serve it. The change to it took so long.
+    pub fn new(state: State, cost: Duration, now: Instant) -> Generation {
+        Generation {
+            number: state.generation,
+            used: state.used,
+            dependencies: state.dependencies,
+            entries: state.entries,
+            log: 0,
+            stage: if state.is_sealed { Stage::Sealed(now) } else { Stage::Open },
+            is_asked: false,
+            least: now + cost * SHARE_OF_CHANGES,
+        }
+    }
+
+    /// Whether what clients propose is held, until the next generation or until the seal that is under way seems lost.
+    pub fn is_holding(&self, now: Instant) -> bool {
+        match self.stage {
+            Stage::Open => false,
+            Stage::Sealing(since) => now < since + SEAL_PATIENCE,
+            Stage::Committed | Stage::Sealed(_) => true,
+        }
+    }
+
+    /// When it isn't held any more, if nothing comes.
+    pub fn held_until(&self) -> Option<Instant> {
+        match self.stage {
+            Stage::Sealing(since) => Some(since + SEAL_PATIENCE),
+            _ => None,
+        }
+    }
+
+    /// Whether so many more commands have numbers.
+    pub fn has_room(&self, more: usize) -> bool {
+        usize::from(self.used) + more < usize::from(INSTANCES)
+    }
+
+    pub fn is_sealed(&self) -> bool {
+        matches!(self.stage, Stage::Sealed(_))
+    }
+
+    /// Whether this replica is to propose a seal.
+    pub fn wants_seal(&self, limits: &Limits, now: Instant) -> bool {
+        let is_free = match self.stage {
+            Stage::Open => true,
+            Stage::Sealing(since) => now >= since + SEAL_PATIENCE,
+            Stage::Committed | Stage::Sealed(_) => false,
+        };
+        let is_full = self.used >= limits.numbers || self.dependencies >= limits.dependencies || self.log >= limits.log;
+        is_free && (self.is_asked || self.used >= URGENT || (is_full && now >= self.least))
+    }
+
+    /// A seal is under way.
+    pub fn note_seal(&mut self, now: Instant) {
+        match self.stage {
+            Stage::Open => self.stage = Stage::Sealing(now),
+            Stage::Sealing(since) if now >= since + SEAL_PATIENCE => self.stage = Stage::Sealing(now),
+            _ => {}
+        }
+    }
+
+    /// The seal that was under way was lost.
+    pub fn lose_seal(&mut self) {
+        if let Stage::Sealing(_) = self.stage {
+            self.stage = Stage::Open;
+        }
+    }
+
+    /// A seal is committed.
+    pub fn commit_seal(&mut self) {
+        if !self.is_sealed() {
+            self.stage = Stage::Committed;
+        }
+    }
+
+    /// What the node tells of itself.
+    pub fn learn(&mut self, state: State, now: Instant) {
+        self.used = self.used.max(state.used);
+        self.dependencies = self.dependencies.max(state.dependencies);
+        self.entries = self.entries.max(state.entries);
+        if state.is_sealed && !self.is_sealed() {
+            self.stage = Stage::Sealed(now);
+        }
+    }
+}
+
+#[cfg(test)]
+mod tests {
+    use super::*;
+
+    const LIMITS: Limits = Limits { numbers: 1_000, dependencies: 300, log: 1 << 20 };
+
+    fn at(used: u16, dependencies: u16, now: Instant) -> Generation {
+        let state = State { generation: 3, used, dependencies, ..State::default() };
+        Generation::new(state, Duration::from_millis(50), now)
+    }
+
+    #[test]
+    fn what_is_reached_seals() {
+        let start = Instant::now();
+        let now = start + Duration::from_millis(500);
+        let wants = |used, dependencies, log| {
+            let mut it = at(used, dependencies, start);
+            it.log = log;
+            it.wants_seal(&LIMITS, now)
+        };
+        assert!(!wants(999, 299, (1 << 20) - 1));
+        assert!(wants(1_000, 0, 0) && wants(0, 300, 0) && wants(0, 0, 1 << 20));
+        // A change took 50 ms, so that the next one comes 500 ms later at the earliest, but where numbers run out.
+        assert!(!at(1_500, 300, start).wants_seal(&LIMITS, start + Duration::from_millis(499)));
+        assert!(at(1_890, 0, start).wants_seal(&LIMITS, start));
+        let mut asked = at(0, 0, start);
+        asked.is_asked = true;
+        assert!(asked.wants_seal(&LIMITS, start));
+    }
+
+    #[test]
+    fn a_seal_goes_its_way() {
+        let start = Instant::now();
+        let later = start + SEAL_PATIENCE;
+        let mut it = at(1_900, 0, start);
+        it.note_seal(start);
+        assert!(it.is_holding(start) && !it.wants_seal(&LIMITS, start));
+        assert_eq!(it.held_until(), Some(later));
+        // It seems lost.
+        assert!(!it.is_holding(later) && it.wants_seal(&LIMITS, later));
+        it.note_seal(later);
+        assert!(it.is_holding(later));
+        it.lose_seal();
+        assert_eq!(it.stage, Stage::Open);
+        it.commit_seal();
+        it.lose_seal();
+        assert!(it.is_holding(later) && !it.wants_seal(&LIMITS, later));
+        it.learn(State { is_sealed: true, entries: 9, ..State::default() }, later);
+        assert!(it.is_sealed() && it.entries == 9);
+        it.commit_seal();
+        assert!(it.is_sealed());
+    }
+
+    #[test]
+    fn numbers_end() {
+        assert!(at(1_988, 0, Instant::now()).has_room(1));
+        assert!(!at(1_988, 0, Instant::now()).has_room(2));
+    }
+}

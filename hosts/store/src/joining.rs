@@ -1,0 +1,107 @@
+//! A machine that comes in the place of a lost one: it waits until a generation begins whose seal names it, and takes its opening.
+use crate::directory::Directory;
+use crate::driver::{Ask, Event, Stop, Told, What};
+use crate::identities::digits;
+use crate::members::Members;
+use crate::messages::Message;
+use crate::node::Begin;
+use crate::opening::Opening;
+use crate::openings::{Fetch, Step};
+use crate::peers::{Membership, Peers};
+use crate::say::say;
+use std::path::Path;
+use std::sync::mpsc::{Receiver, RecvTimeoutError};
+use std::time::{Duration, Instant};
+
+const PAUSE: Duration = Duration::from_millis(200);
+
+/// What waits.
+pub struct Joining<'a> {
+    pub membership: &'a Membership,
+    pub directory: &'a Directory,
+    pub peers: &'a Peers,
+    pub events: &'a Receiver<Event>,
+}
+
+impl Joining<'_> {
+    /// Waits until the opening of a generation that names this machine is here.
+    pub fn wait(&self) -> Result<Begin, Stop> {
+        let who = digits(&self.membership.identities.own());
+        let replica = self.membership.place.replica;
+        say(&format!("it waits to be let in, by EPAXOS REPLACE {replica} {who} at another replica"));
+        // The last generation that was looked at and doesn't name this machine.
+        let mut looked = 0;
+        let mut fetch: Option<Fetch> = None;
+        let path = self.directory.taken();
+        let failed = |error| Stop::File(path.clone(), error);
+        loop {
+            let event = match self.events.recv_timeout(PAUSE) {
+                Ok(event) => event,
+                Err(RecvTimeoutError::Timeout) => continue,
+                Err(RecvTimeoutError::Disconnected) => return Err(Stop::Alone),
+            };
+            let now = Instant::now();
+            let (from, message) = match event {
+                Event::Came { from, bytes } => (from, Message::read(&bytes)),
+                Event::PeerReached(peer) => {
+                    let hello = Message::Hello { generation: 0, is_sealed: false, seen: 0 };
+                    self.peers.send_first(peer, hello.write());
+                    continue;
+                }
+                Event::Ask(ask) => {
+                    refuse(ask, &who);
+                    continue;
+                }
+                Event::End => return Err(Stop::Asked),
+                Event::PeerCame(peer) => {
+                    self.peers.hurry(peer);
+                    continue;
+                }
+                Event::NodeEnded(_) => continue,
+            };
+            match message {
+                Some(Message::Hello { generation, .. })
+                    if generation > looked && fetch.as_ref().is_none_or(|fetch| fetch.is_stale(now)) =>
+                {
+                    let (begun, want) = Fetch::begin(&path, from, now).map_err(failed)?;
+                    fetch = Some(begun);
+                    self.peers.send(from, want.write());
+                }
+                Some(piece @ Message::Piece { .. }) => {
+                    let Some(it) = &mut fetch else { continue };
+                    match it.take(from, piece, now).map_err(failed)? {
+                        Step::Ask(next) => self.peers.send(from, next.write()),
+                        Step::Ignored => {}
+                        Step::Done(generation) => {
+                            fetch = None;
+                            looked = looked.max(generation);
+                            if self.is_named(&path) {
+                                say(&format!("generation {generation} names this machine, and it comes in"));
+                                return Ok(Begin::Take(path));
+                            }
+                        }
+                    }
+                }
+                _ => {}
+            }
+        }
+    }
+
+    /// Whether the seal that began the generation of this file names this machine.
+    fn is_named(&self, path: &Path) -> bool {
+        let seal = Opening::read(path).ok().and_then(|opening| opening.seal);
+        let members = seal.as_deref().and_then(Members::read);
+        let own = members.and_then(|members| members.0.get(usize::from(self.membership.place.replica)).cloned());
+        own.is_some_and(|member| member.identity == Some(self.membership.identities.own()))
+    }
+}
+
+/// Nothing is done here yet.
+fn refuse(ask: Ask, who: &str) {
+    let told = match ask.what {
+        What::Info => Told::Info(format!("state:joining\r\nidentity:{who}\r\n")),
+        What::Manage(_) => Told::Managed(Err(format!("this machine waits to be let in, as {who}"))),
+        What::Propose { .. } | What::Read(_) => Told::Alone,
+    };
+    ask.reply.send(told);
+}

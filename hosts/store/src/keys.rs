@@ -1,0 +1,765 @@
+//! What clients ask of keys, made into commands of the protocol.
+//!
+//! Of each key at most one command of this replica is under way. All that is asked of the key meanwhile waits, and the next command does it
+//! all: where it is only read one `get`, where something is written whatever was there one `put` or `del`, else a comparison (`cas`) from
+//! what is there to what is to be there. So all of it happens at the command's place in the history, one after the other in the order in
+//! which it was asked. A comparison that finds another value is tried again with that one.
+use crate::actions::Action;
+use crate::command_fault::CommandFault;
+use crate::driver::{Ask, Event, Told, What};
+use crate::numbers::Numbers;
+use crate::protocol::{self, Command};
+use crate::replies::Place;
+use crate::resp::Reply;
+use crate::say::say;
+use crate::stored::{self, Stored};
+use crate::teller::Teller;
+use std::collections::{HashMap, VecDeque};
+use std::io;
+use std::sync::atomic::{AtomicU64, Ordering};
+use std::sync::mpsc::{Sender, SyncSender, TrySendError, channel};
+use std::sync::{Arc, Mutex, MutexGuard, PoisonError};
+use std::thread;
+
+/// A command in whose place a no-op was committed is proposed at most so often.
+const MOST_LOST: usize = 5;
+/// A comparison that finds another value is proposed at most so often.
+const MOST_TRIES: usize = 100;
+/// At most so much is done by one command.
+const MOST_TOGETHER: usize = 512;
+/// So many keys' last values are kept, of at most so many bytes, as what a comparison may find.
+const MOST_KNOWN: usize = 1_024;
+const LONGEST_KNOWN: usize = 1_024;
+
+/// All keys that something is asked of.
+pub struct Keys {
+    state: Mutex<State>,
+    events: SyncSender<Event>,
+    /// For what finds no room among the driver's events: a thread waits with it.
+    overflow: Sender<Event>,
+    given: AtomicU64,
+}
+
+struct State {
+    keys: HashMap<Vec<u8>, Key>,
+    /// What some keys had when their last command was done. Others may have changed it.
+    known: HashMap<Vec<u8>, Option<Vec<u8>>>,
+    numbers: Arc<Mutex<Numbers>>,
+    /// Clients of the protocol with nothing under way.
+    free: Vec<Client>,
+    /// The greatest stamp that was told here.
+    seen: u64,
+    flights: u64,
+}
+
+/// A client of the protocol: one command of its is under way at a time.
+#[derive(Clone, Copy)]
+struct Client {
+    number: u32,
+    /// How many requests it has made.
+    requests: u32,
+}
+
+#[derive(Default)]
+struct Key {
+    flight: Option<Flight>,
+    waiting: VecDeque<Asked>,
+}
+
+/// What a client asks of a key.
+struct Asked {
+    id: u64,
+    action: Action,
+    place: Place,
+    /// Whether its client waits no longer.
+    is_over: bool,
+}
+
+/// A command that is under way, and what it does.
+struct Flight {
+    number: u64,
+    asked: Vec<Asked>,
+    step: Step,
+    /// The time by which deadlines are judged.
+    now: u64,
+    lost: usize,
+    tries: usize,
+}
+
+#[derive(Clone, PartialEq, Eq, Debug)]
+enum Step {
+    Read,
+    /// Written whatever is there.
+    Write,
+    /// Written where this is there.
+    Compare(Option<Vec<u8>>),
+}
+
+/// A command that is to be proposed, once the state isn't locked any more.
+struct Launch {
+    key: Vec<u8>,
+    flight: u64,
+    client: Client,
+    seen: u64,
+    command: Command,
+}
+
+impl Keys {
+    pub fn start(events: SyncSender<Event>, numbers: Arc<Mutex<Numbers>>) -> io::Result<Arc<Keys>> {
+        let (overflow, waiting) = channel();
+        let later = events.clone();
+        let hand_on = move || _ = waiting.into_iter().try_for_each(|event| later.send(event));
+        thread::Builder::new().name("overflow".into()).spawn(hand_on)?;
+        let (keys, known, free) = (HashMap::new(), HashMap::new(), Vec::new());
+        let state = State { keys, known, numbers, free, seen: 0, flights: 0 };
+        Ok(Arc::new(Keys { state: Mutex::new(state), events, overflow, given: AtomicU64::new(0) }))
+    }
+
+    /// A number for what is asked, by which it can be withdrawn.
+    pub fn id(&self) -> u64 {
+        self.given.fetch_add(1, Ordering::Relaxed)
+    }
+
+    /// Has the action done.
+    pub fn ask(self: &Arc<Keys>, id: u64, key: Vec<u8>, action: Action, place: Place) {
+        let mut state = self.state();
+        let waits = state.keys.entry(key.clone()).or_default();
+        waits.waiting.push_back(Asked { id, action, place, is_over: false });
+        let launch = if waits.flight.is_none() { state.begin(key) } else { None };
+        drop(state);
+        self.launch(launch);
+    }
+
+    /// Its client waits no longer: what it is to be told. None where it was answered already.
+    pub fn withdraw(self: &Arc<Keys>, id: u64, key: &[u8]) -> Option<CommandFault> {
+        let mut state = self.state();
+        let found = state.keys.get_mut(key)?;
+        if let Some(place) = found.waiting.iter().position(|asked| asked.id == id) {
+            found.waiting.remove(place);
+            return Some(CommandFault::Waiting);
+        }
+        let flight = found.flight.as_mut()?;
+        let asked = flight.asked.iter_mut().find(|asked| asked.id == id)?;
+        asked.is_over = true;
+        let changes = !asked.action.only_reads() && flight.step != Step::Read;
+        // A command that nobody waits for is left to itself.
+        let is_left = flight.asked.iter().all(|asked| asked.is_over);
+        let launch = if is_left { state.next(key.to_vec()) } else { None };
+        drop(state);
+        self.launch(launch);
+        Some(if changes { CommandFault::Unanswered } else { CommandFault::NotInTime })
+    }
+
+    fn state(&self) -> MutexGuard<'_, State> {
+        // (a thread that panics ends the store)
+        self.state.lock().unwrap_or_else(PoisonError::into_inner)
+    }
+
+    /// Hands a command to the driver.
+    fn launch(self: &Arc<Keys>, launch: Option<Launch>) {
+        let Some(Launch { key, flight, client, seen, command }) = launch else { return };
+        let what = What::Propose { client: client.number, request: client.requests, seen, command };
+        let keys = self.clone();
+        let reply = Teller::new(move |told| keys.take(key, flight, client, told));
+        match self.events.try_send(Event::Ask(Ask { what, reply })) {
+            Err(TrySendError::Full(event)) => _ = self.overflow.send(event),
+            // (where the driver has ended, the teller tells it as it is dropped)
+            Err(TrySendError::Disconnected(_)) | Ok(()) => {}
+        }
+    }
+
+    /// What became of a command.
+    fn take(self: &Arc<Keys>, key: Vec<u8>, flight: u64, client: Client, told: Told) {
+        let mut state = self.state();
+        state.free.push(client);
+        if let Told::Done { stamp, .. } | Told::DoneUnseen { stamp } = &told {
+            state.seen = state.seen.max(*stamp);
+        }
+        let launch = state.take(key, flight, told);
+        drop(state);
+        self.launch(launch);
+    }
+}
+
+impl State {
+    /// Begins a command for what waits.
+    fn begin(&mut self, key: Vec<u8>) -> Option<Launch> {
+        self.flights += 1;
+        let (number, now) = (self.flights, stored::now());
+        let found = self.keys.get_mut(&key)?;
+        found.flight = Some(Flight { number, asked: Vec::new(), step: Step::Read, now, lost: 0, tries: 0 });
+        let known = self.known.get(&key).cloned();
+        self.propose(key, known)
+    }
+
+    /// The key's command is over: the next one, where something waits.
+    fn next(&mut self, key: Vec<u8>) -> Option<Launch> {
+        let found = self.keys.get_mut(&key)?;
+        found.flight = None;
+        if found.waiting.is_empty() {
+            self.keys.remove(&key);
+            return None;
+        }
+        self.begin(key)
+    }
+
+    /// Proposes the command of the key's flight, of all that waits and isn't over. `current` is what the key may have now.
+    fn propose(&mut self, key: Vec<u8>, current: Option<Option<Vec<u8>>>) -> Option<Launch> {
+        let found = self.keys.get_mut(&key)?;
+        let flight = found.flight.as_mut()?;
+        flight.asked.retain(|asked| !asked.is_over);
+        let room = MOST_TOGETHER.saturating_sub(flight.asked.len()).min(found.waiting.len());
+        flight.asked.extend(found.waiting.drain(..room));
+        if flight.asked.is_empty() {
+            return self.next(key);
+        }
+        flight.now = stored::now();
+        let (step, command) = command(&flight.asked, &key, current, flight.now);
+        flight.step = step;
+        let flight = flight.number;
+        let client = match self.client() {
+            Ok(client) => client,
+            Err(what) => {
+                say(&what);
+                return self.fail(key, CommandFault::Numbers(what));
+            }
+        };
+        Some(Launch { key, flight, client, seen: self.seen, command })
+    }
+
+    /// A client of the protocol with a new request. One whose requests are all made isn't used any more.
+    fn client(&mut self) -> Result<Client, String> {
+        while let Some(client) = self.free.pop() {
+            if let Some(requests) = client.requests.checked_add(1) {
+                return Ok(Client { requests, ..client });
+            }
+        }
+        let number = self.numbers.lock().unwrap_or_else(PoisonError::into_inner).give()?;
+        Ok(Client { number, requests: 1 })
+    }
+
+    fn take(&mut self, key: Vec<u8>, number: u64, told: Told) -> Option<Launch> {
+        let flight = self.keys.get_mut(&key)?.flight.as_mut().filter(|flight| flight.number == number)?;
+        match told {
+            Told::Done { reply, .. } => match reply {
+                protocol::Reply::Absent => self.done(key, None),
+                protocol::Reply::Present(value) => self.done(key, Some(value)),
+                protocol::Reply::Closed => self.propose_again(key),
+                protocol::Reply::Lost | protocol::Reply::Ordered => {
+                    flight.lost += 1;
+                    if flight.lost < MOST_LOST { self.propose_again(key) } else { self.fail(key, CommandFault::Lost) }
+                }
+            },
+            Told::DoneUnseen { .. } | Told::Doubtful if flight.step == Step::Read => self.propose_again(key),
+            Told::DoneUnseen { .. } if flight.step == Step::Write => self.done_unseen(key),
+            Told::DoneUnseen { .. } | Told::Doubtful => self.fail(key, CommandFault::Doubtful),
+            Told::Refused(fault) => self.fail(key, CommandFault::Node(fault)),
+            Told::Alone => self.fail(key, CommandFault::NoMajority),
+            Told::Late => self.fail(key, CommandFault::Waiting),
+            _ => self.fail(key, CommandFault::StoreEnds),
+        }
+    }
+
+    /// Nothing was done: the same again, with what else waits by now.
+    fn propose_again(&mut self, key: Vec<u8>) -> Option<Launch> {
+        let current = match &self.keys.get(&key)?.flight.as_ref()?.step {
+            Step::Compare(expected) => Some(expected.clone()),
+            Step::Read | Step::Write => None,
+        };
+        self.propose(key, current)
+    }
+
+    /// The command was done, where the key had this.
+    fn done(&mut self, key: Vec<u8>, before: Option<Vec<u8>>) -> Option<Launch> {
+        let flight = self.keys.get_mut(&key)?.flight.as_mut()?;
+        let is_written = match &flight.step {
+            Step::Read => false,
+            Step::Write => true,
+            Step::Compare(expected) => *expected == before,
+        };
+        if !is_written {
+            flight.now = stored::now();
+        }
+        let current = before.clone().map(Stored::read);
+        let (after, replies) = fold(&flight.asked, current.clone(), flight.now);
+        if !is_written && after != current {
+            flight.tries += usize::from(flight.step != Step::Read);
+            let is_hopeless = flight.tries == MOST_TRIES;
+            return if is_hopeless { self.fail(key, CommandFault::Contended) } else { self.propose(key, Some(before)) };
+        }
+        for (asked, reply) in std::mem::take(&mut flight.asked).into_iter().zip(replies) {
+            asked.answer(reply);
+        }
+        self.know(&key, if is_written { after.map(Stored::into_bytes) } else { before });
+        self.next(key)
+    }
+
+    /// What was written whatever was there was done, and nobody knows what was there.
+    fn done_unseen(&mut self, key: Vec<u8>) -> Option<Launch> {
+        let flight = self.keys.get_mut(&key)?.flight.as_mut()?;
+        let first = flight.asked.iter().position(|asked| asked.action.is_blind())?;
+        let (_, replies) = fold(&flight.asked[first..], None, flight.now);
+        let mut asked = std::mem::take(&mut flight.asked);
+        for (place, (asked, reply)) in asked.split_off(first).into_iter().zip(replies).enumerate() {
+            let is_known = place > 0 || asked.action.is_told_blindly();
+            asked.answer(if is_known { reply } else { Reply::Error(CommandFault::Unseen) });
+        }
+        asked.into_iter().for_each(|asked| asked.answer(Reply::Error(CommandFault::Unseen)));
+        self.known.remove(&key);
+        self.next(key)
+    }
+
+    fn know(&mut self, key: &[u8], value: Option<Vec<u8>>) {
+        if value.as_ref().is_some_and(|value| value.len() > LONGEST_KNOWN) {
+            self.known.remove(key);
+            return;
+        }
+        if self.known.len() >= MOST_KNOWN && !self.known.contains_key(key) {
+            self.known.clear();
+        }
+        self.known.insert(key.to_vec(), value);
+    }
+
+    /// Nothing more is done for what the key's flight has asked.
+    fn fail(&mut self, key: Vec<u8>, fault: CommandFault) -> Option<Launch> {
+        let flight = self.keys.get_mut(&key)?.flight.as_mut()?;
+        for asked in std::mem::take(&mut flight.asked) {
+            asked.answer(Reply::Error(fault.clone()));
+        }
+        self.known.remove(&key);
+        self.next(key)
+    }
+}
+
+impl Asked {
+    fn answer(self, reply: Reply) {
+        if !self.is_over {
+            self.place.tell(reply);
+        }
+    }
+}
+
+/// Does all actions, one after the other: what then lies there, and the replies.
+fn fold(asked: &[Asked], current: Option<Stored>, now: u64) -> (Option<Stored>, Vec<Reply>) {
+    let mut current = current;
+    let mut replies = Vec::with_capacity(asked.len());
+    for Asked { action, .. } in asked {
+        let reply;
+        (current, reply) = action.apply(current, now);
+        replies.push(reply);
+    }
+    (current.filter(|stored| !stored.is_over(now)), replies)
+}
+
+/// The command that does all of this. `current` is what may be there.
+fn command(asked: &[Asked], key: &[u8], current: Option<Option<Vec<u8>>>, now: u64) -> (Step, Command) {
+    let key = key.to_vec();
+    if let Some(first) = asked.iter().position(|asked| asked.action.is_blind()) {
+        let (after, _) = fold(&asked[first..], None, now);
+        let command = match after.map(Stored::into_bytes) {
+            Some(value) => Command::Put { key, value },
+            None => Command::Del { key },
+        };
+        return (Step::Write, command);
+    }
+    let Some(before) = current else { return (Step::Read, Command::Get { key }) };
+    let stored = before.clone().map(Stored::read);
+    let (after, _) = fold(asked, stored.clone(), now);
+    if after == stored {
+        return (Step::Read, Command::Get { key });
+    }
+    let new = after.map(Stored::into_bytes);
+    (Step::Compare(before.clone()), Command::Cas { key, expected: before, new })
+}
+
+#[cfg(test)]
+mod tests {
+    use super::*;
+    use crate::actions::{Keep, Only, Set, Tells};
+    use crate::protocol::Fault;
+    use crate::random::Random;
+    use crate::replies::Message;
+    use std::collections::BTreeSet;
+    use std::path::PathBuf;
+    use std::sync::mpsc::{Receiver, sync_channel};
+    use std::time::Duration;
+
+    type Map = HashMap<Vec<u8>, Vec<u8>>;
+
+    /// What a command of the protocol does to a map, and its reply: by the table of docs/PROTOCOL.md.
+    fn execute(map: &mut Map, command: &Command) -> protocol::Reply {
+        let (Command::Get { key } | Command::Put { key, .. } | Command::Del { key } | Command::Cas { key, .. }) =
+            command
+        else {
+            panic!("{command:?}")
+        };
+        let before = map.get(key).cloned();
+        let after = match command {
+            Command::Put { value, .. } => Some(value.clone()),
+            Command::Del { .. } => None,
+            Command::Cas { expected, new, .. } if before == *expected => new.clone(),
+            _ => before.clone(),
+        };
+        match after {
+            Some(value) => _ = map.insert(key.clone(), value),
+            None => _ = map.remove(key),
+        }
+        before.map_or(protocol::Reply::Absent, protocol::Reply::Present)
+    }
+
+    /// The keys of a store, whose driver is the test; its folder is removed in the end.
+    struct Store {
+        keys: Arc<Keys>,
+        events: Mutex<Receiver<Event>>,
+        folder: PathBuf,
+        messages: Sender<Message>,
+        told: Mutex<Receiver<Message>>,
+    }
+
+    impl Store {
+        fn new() -> Store {
+            static STORES: AtomicU64 = AtomicU64::new(0);
+            let place = STORES.fetch_add(1, Ordering::Relaxed);
+            let folder = std::env::temp_dir().join(format!("store-keys-{}-{place}", std::process::id()));
+            std::fs::create_dir_all(&folder).unwrap();
+            let (sender, events) = sync_channel(64);
+            let keys = Keys::start(sender, Arc::new(Mutex::new(Numbers::new(&folder, 0)))).unwrap();
+            let (messages, told) = channel();
+            Store { keys, events: Mutex::new(events), folder, messages, told: Mutex::new(told) }
+        }
+
+        /// Asks; its reply is told under this number.
+        fn ask(&self, command: u64, key: &str, action: Action) -> u64 {
+            let id = self.keys.id();
+            self.keys.ask(id, key.into(), action, Place { messages: self.messages.clone(), command, part: 0 });
+            id
+        }
+
+        /// The next command that is proposed: its client, request and seen stamp.
+        fn proposed(&self) -> (u32, u32, u64, Command, Teller) {
+            match self.events.lock().unwrap().recv_timeout(Duration::from_secs(60)).unwrap() {
+                Event::Ask(Ask { what: What::Propose { client, request, seen, command }, reply }) => {
+                    (client, request, seen, command, reply)
+                }
+                _ => panic!(),
+            }
+        }
+
+        fn is_idle(&self) -> bool {
+            self.events.lock().unwrap().try_recv().is_err()
+        }
+
+        /// What was told, by the numbers.
+        fn told(&self) -> Vec<(u64, Reply)> {
+            let part =
+                |message| if let Message::Part(command, 0, reply) = message { (command, reply) } else { panic!() };
+            self.told.lock().unwrap().try_iter().map(part).collect()
+        }
+    }
+
+    impl Drop for Store {
+        fn drop(&mut self) {
+            std::fs::remove_dir_all(&self.folder).unwrap();
+        }
+    }
+
+    fn done(stamp: u64, reply: protocol::Reply) -> Told {
+        Told::Done { stamp, reply }
+    }
+
+    fn present(value: &str) -> protocol::Reply {
+        protocol::Reply::Present(value.into())
+    }
+
+    fn set(value: &str) -> Action {
+        Action::Set(Set { value: value.into(), keep: Keep::None, only: Only::Always, tells: Tells::Ok })
+    }
+
+    fn get(key: &str) -> Command {
+        Command::Get { key: key.into() }
+    }
+
+    fn cas(key: &str, expected: Option<&str>, new: Option<&str>) -> Command {
+        Command::Cas { key: key.into(), expected: expected.map(Into::into), new: new.map(Into::into) }
+    }
+
+    #[test]
+    fn what_waits_is_done_by_one_command() {
+        let store = Store::new();
+        (0..3).for_each(|number| _ = store.ask(number, "x", Action::Get));
+        let (client, request, seen, command, teller) = store.proposed();
+        assert_eq!((client, request, seen, command), (1, 1, 0, get("x")));
+        // Another key doesn't wait for it, and is another client's.
+        store.ask(3, "y", Action::Get);
+        let (client, request, seen, command, other) = store.proposed();
+        assert_eq!((client, request, seen, command), (9, 1, 0, get("y")));
+        assert!(store.is_idle() && store.told().is_empty());
+        teller.send(done(7, present("1")));
+        assert_eq!(store.told(), [(0, Reply::text("1"))]);
+        let (client, request, seen, command, teller) = store.proposed();
+        assert_eq!((client, request, seen, command), (1, 2, 7, get("x")));
+        other.send(done(3, protocol::Reply::Absent));
+        assert_eq!(store.told(), [(3, Reply::Nil)]);
+        // What is written whatever was there is put, and what was asked before and after it is told by what was there.
+        for (number, action) in [(4, Action::Add(1)), (5, set("5")), (6, Action::Add(2)), (7, Action::Get)] {
+            store.ask(number, "x", action);
+        }
+        teller.send(done(8, present("2")));
+        assert_eq!(store.told(), [(1, Reply::text("2")), (2, Reply::text("2"))]);
+        let (_, _, seen, command, teller) = store.proposed();
+        assert_eq!((seen, command), (8, Command::Put { key: b"x".to_vec(), value: b"7".to_vec() }));
+        teller.send(done(9, present("3")));
+        let expected =
+            [(4, Reply::Integer(4)), (5, Reply::Simple("OK")), (6, Reply::Integer(7)), (7, Reply::text("7"))];
+        assert_eq!(store.told(), expected);
+        assert!(store.is_idle());
+    }
+
+    #[test]
+    fn what_looks_first_is_compared() {
+        let store = Store::new();
+        store.ask(0, "x", Action::Add(1));
+        let (.., command, teller) = store.proposed();
+        assert_eq!(command, get("x"));
+        teller.send(done(1, protocol::Reply::Absent));
+        let (.., command, teller) = store.proposed();
+        assert_eq!(command, cas("x", None, Some("1")));
+        // Another one was first. What came meanwhile is done with it.
+        store.ask(1, "x", Action::Add(10));
+        teller.send(done(2, present("5")));
+        let (.., command, teller) = store.proposed();
+        assert_eq!(command, cas("x", Some("5"), Some("16")));
+        assert!(store.told().is_empty());
+        teller.send(done(3, present("5")));
+        assert_eq!(store.told(), [(0, Reply::Integer(6)), (1, Reply::Integer(16))]);
+        // The next one begins with what is known, and takes what it is told.
+        store.ask(2, "x", Action::Add(1));
+        let (.., command, teller) = store.proposed();
+        assert_eq!(command, cas("x", Some("16"), Some("17")));
+        teller.send(done(4, present("a")));
+        assert_eq!(store.told(), [(2, Reply::Error(CommandFault::NotAnInteger))]);
+        // Where nothing is to change, the key is read.
+        store.ask(3, "x", Action::Add(1));
+        let (.., command, teller) = store.proposed();
+        assert_eq!(command, get("x"));
+        teller.send(done(5, present("1")));
+        let (.., command, teller) = store.proposed();
+        assert_eq!(command, cas("x", Some("1"), Some("2")));
+        teller.send(done(6, present("1")));
+        assert_eq!(store.told(), [(3, Reply::Integer(2))]);
+    }
+
+    #[test]
+    fn what_is_past_its_deadline_is_removed_before_nil_is_told() {
+        let store = Store::new();
+        store.ask(0, "x", Action::Get);
+        let old = Stored::Value { content: b"v".to_vec(), deadline: Some(1) }.into_bytes();
+        store.proposed().4.send(done(1, protocol::Reply::Present(old.clone())));
+        assert!(store.told().is_empty());
+        let (.., command, teller) = store.proposed();
+        assert_eq!(command, Command::Cas { key: b"x".to_vec(), expected: Some(old.clone()), new: None });
+        // Another one has given it a value.
+        teller.send(done(2, present("w")));
+        assert_eq!(store.told(), [(0, Reply::text("w"))]);
+        store.ask(1, "x", Action::Get);
+        store.proposed().4.send(done(3, protocol::Reply::Present(old.clone())));
+        store.proposed().4.send(done(4, protocol::Reply::Present(old)));
+        assert_eq!(store.told(), [(1, Reply::Nil)]);
+        assert!(store.is_idle());
+    }
+
+    #[test]
+    fn what_is_lost_is_proposed_again() {
+        let store = Store::new();
+        store.ask(0, "x", set("1"));
+        let put = Command::Put { key: b"x".to_vec(), value: b"1".to_vec() };
+        // (what found the generation closed isn't counted)
+        for number in 0..20 {
+            let (client, request, seen, command, teller) = store.proposed();
+            assert_eq!((client, request, seen, &command), (1, number + 1, u64::from(number), &put));
+            teller.send(done(u64::from(number) + 1, protocol::Reply::Closed));
+        }
+        for number in 0..MOST_LOST {
+            assert!(store.told().is_empty());
+            let (.., command, teller) = store.proposed();
+            assert_eq!(command, put);
+            teller.send(done(30 + number as u64, protocol::Reply::Lost));
+        }
+        assert_eq!(store.told(), [(0, Reply::Error(CommandFault::Lost))]);
+        // So is a comparison that others are before each time.
+        store.ask(1, "x", Action::Add(1));
+        for number in 0..MOST_TRIES {
+            store.proposed().4.send(done(40, present(&number.to_string())));
+        }
+        assert!(store.told().is_empty());
+        store.proposed().4.send(done(40, present("0")));
+        assert_eq!(store.told(), [(1, Reply::Error(CommandFault::Contended))]);
+        assert!(store.is_idle());
+    }
+
+    #[test]
+    fn replies_that_nobody_knows() {
+        let store = Store::new();
+        for (number, action) in [(0, Action::Get), (1, set("1")), (2, Action::Add(1))] {
+            store.ask(number, "x", action);
+        }
+        // What is read is read again.
+        store.proposed().4.send(Told::DoneUnseen { stamp: 5 });
+        let (_, _, seen, command, teller) = store.proposed();
+        assert_eq!((seen, command), (5, Command::Put { key: b"x".to_vec(), value: b"2".to_vec() }));
+        teller.send(Told::DoneUnseen { stamp: 6 });
+        let unseen = Reply::Error(CommandFault::Unseen);
+        assert_eq!(store.told(), [(1, Reply::Simple("OK")), (2, Reply::Integer(2)), (0, unseen.clone())]);
+        for (number, action) in [(3, Action::Delete), (4, Action::Get)] {
+            store.ask(number, "x", action);
+        }
+        store.proposed().4.send(Told::DoneUnseen { stamp: 7 });
+        assert_eq!(store.told(), [(3, unseen)]);
+        store.proposed().4.send(Told::Doubtful);
+        store.proposed().4.send(done(8, protocol::Reply::Absent));
+        assert_eq!(store.told(), [(4, Reply::Nil)]);
+        // Whether a comparison found what it expected nobody knows.
+        for told in [Told::DoneUnseen { stamp: 9 }, Told::Doubtful] {
+            store.ask(5, "x", Action::Add(1));
+            let (.., command, teller) = store.proposed();
+            if command == get("x") {
+                teller.send(done(9, protocol::Reply::Absent));
+                store.proposed().4.send(told);
+            } else {
+                teller.send(told);
+            }
+            assert_eq!(store.told(), [(5, Reply::Error(CommandFault::Doubtful))]);
+        }
+        store.ask(6, "y", set("1"));
+        store.proposed().4.send(Told::Doubtful);
+        assert_eq!(store.told(), [(6, Reply::Error(CommandFault::Doubtful))]);
+    }
+
+    #[test]
+    fn refusals_are_told_to_all() {
+        let store = Store::new();
+        let refused = [
+            (Some(Told::Refused(Fault::MEMORY)), CommandFault::Node(Fault::MEMORY)),
+            (Some(Told::Alone), CommandFault::NoMajority),
+            (Some(Told::Late), CommandFault::Waiting),
+            (Some(Told::Ended), CommandFault::StoreEnds),
+            // (the driver drops it)
+            (None, CommandFault::StoreEnds),
+        ];
+        for (told, fault) in refused {
+            store.ask(0, "x", set("1"));
+            let teller = store.proposed().4;
+            store.ask(1, "x", set("2"));
+            match told {
+                Some(told) => teller.send(told),
+                None => drop(teller),
+            }
+            assert_eq!(store.told(), [(0, Reply::Error(fault))]);
+            store.proposed().4.send(done(1, protocol::Reply::Absent));
+            assert_eq!(store.told(), [(1, Reply::Simple("OK"))]);
+        }
+    }
+
+    #[test]
+    fn who_waits_no_longer_is_told_whether_it_may_be_done() {
+        let store = Store::new();
+        let first = store.ask(0, "x", set("1"));
+        let second = store.ask(1, "x", set("2"));
+        let teller = store.proposed().4;
+        assert_eq!(store.keys.withdraw(second, b"x"), Some(CommandFault::Waiting));
+        assert_eq!(store.keys.withdraw(second, b"x"), None);
+        let third = store.ask(2, "x", Action::Add(1));
+        // A command that nobody waits for doesn't hold up what follows.
+        assert_eq!(store.keys.withdraw(first, b"x"), Some(CommandFault::Unanswered));
+        let (client, .., command, look) = store.proposed();
+        assert_eq!((client, command), (9, get("x")));
+        // Its answer comes late, and is nobody's. Its client is free then.
+        teller.send(done(1, protocol::Reply::Absent));
+        assert!(store.told().is_empty());
+        assert_eq!(store.keys.withdraw(third, b"x"), Some(CommandFault::NotInTime));
+        look.send(done(1, protocol::Reply::Absent));
+        assert!(store.told().is_empty() && store.is_idle());
+        // What is withdrawn isn't proposed again, but what was proposed counts.
+        let ids = [3, 4].map(|number| store.ask(number, "y", Action::Add(1)));
+        store.proposed().4.send(done(2, protocol::Reply::Absent));
+        let (.., command, teller) = store.proposed();
+        assert_eq!(command, cas("y", None, Some("2")));
+        assert_eq!(store.keys.withdraw(ids[0], b"y"), Some(CommandFault::Unanswered));
+        teller.send(done(3, present("7")));
+        let (.., command, teller) = store.proposed();
+        assert_eq!(command, cas("y", Some("7"), Some("8")));
+        teller.send(done(4, present("7")));
+        assert_eq!(store.told(), [(4, Reply::Integer(8))]);
+        let ids = [5, 6].map(|number| store.ask(number, "y", Action::Add(1)));
+        let (.., command, teller) = store.proposed();
+        assert_eq!(command, cas("y", Some("8"), Some("9")));
+        store.keys.withdraw(ids[0], b"y");
+        let (.., next, other) = store.proposed();
+        assert_eq!(next, cas("y", Some("8"), Some("9")));
+        teller.send(done(5, present("8")));
+        other.send(done(6, present("9")));
+        store.proposed().4.send(done(7, present("9")));
+        assert_eq!(store.told(), [(6, Reply::Integer(10))]);
+    }
+
+    /// Three stores, whose drivers execute all on one map, and lose and hold up some.
+    #[test]
+    fn counters_and_locks_of_several_stores() {
+        let map = Arc::new(Mutex::new(Map::new()));
+        let stores = [0, 1, 2].map(|_| Store::new());
+        let (add, most) = (60, 10);
+        thread::scope(|scope| {
+            for (seed, store) in stores.iter().enumerate() {
+                let map = map.clone();
+                let drive = move || {
+                    let (mut random, events) = (Random::from_seed(seed as u64 + 1), store.events.lock().unwrap());
+                    while let Ok(Event::Ask(Ask { what: What::Propose { command, .. }, reply })) =
+                        events.recv_timeout(Duration::from_millis(500))
+                    {
+                        let told = match random.below(8) {
+                            0 => protocol::Reply::Closed,
+                            _ => execute(&mut map.lock().unwrap(), &command),
+                        };
+                        thread::sleep(Duration::from_micros(random.below(300)));
+                        reply.send(done(1, told));
+                    }
+                };
+                scope.spawn(drive);
+                scope.spawn(move || {
+                    for number in 0..add {
+                        store.ask(number, "counter", Action::Add(1));
+                        thread::sleep(Duration::from_micros(100));
+                    }
+                    for number in 0..most {
+                        let owner = format!("{seed}-{number}").into_bytes();
+                        store.ask(1_000 + number, "lock", Action::Lock { owner: owner.clone(), deadline: u64::MAX });
+                        store.ask(2_000 + number, "lock", Action::Unlock { owner });
+                        thread::sleep(Duration::from_micros(100));
+                    }
+                });
+            }
+        });
+        let mut told: Vec<_> = stores.iter().map(Store::told).collect();
+        let mut counted = BTreeSet::new();
+        let mut tokens = BTreeSet::new();
+        for told in &mut told {
+            assert_eq!(told.len(), (add + 2 * most) as usize);
+            // The replies of one store rise in the order in which it asked.
+            let mut last = 0;
+            for (number, reply) in told.iter() {
+                match (number, reply) {
+                    (..1_000, Reply::Integer(value)) => {
+                        assert!(*value > last && counted.insert(*value));
+                        last = *value;
+                    }
+                    (1_000..2_000, Reply::Integer(token)) => assert!(tokens.insert(*token)),
+                    (1_000.., Reply::Nil | Reply::Integer(0 | 1)) => {}
+                    odd => panic!("{odd:?}"),
+                }
+            }
+        }
+        assert_eq!(counted, (1..=3 * add as i64).collect());
+        assert_eq!(map.lock().unwrap()[&b"counter".to_vec()], (3 * add).to_string().into_bytes());
+        assert_eq!(tokens, (1..=tokens.len() as i64).collect());
+    }
+}

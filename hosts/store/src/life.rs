@@ -1,0 +1,398 @@
+//! How a driver goes from generation to generation: seals, openings, and who takes part.
+use crate::driver::{Driver, Held, Manage, Stop, Told, Waiting, Wish};
+use crate::generation::{Generation, Stage};
+use crate::identities::digits;
+use crate::members::{Member, Members};
+use crate::messages::Message;
+use crate::node::{Begin, Core, NodeFault};
+use crate::opening::Opening;
+use crate::openings::{Fetch, Step, piece};
+use crate::options::Plant;
+use crate::protocol::{Answer, Reply, Request};
+use crate::random::Random;
+use crate::receipts::Receipts;
+use crate::say::say;
+use crate::teller::Teller;
+use crate::timers::Timers;
+use std::collections::HashMap;
+use std::fmt::Write;
+use std::sync::Mutex;
+use std::time::{Duration, Instant};
+
+/// Between two words to peers, and two looks at the log's length.
+const TICK: Duration = Duration::from_secs(1);
+/// A generation whose seal was executed is served so long, for peers that are reached and haven't executed it.
+const MOST_WAIT_FOR_PEERS: Duration = Duration::from_millis(100);
+/// A replica that lags closes by itself in this time, or takes the opening of another one.
+const BEHIND: Duration = Duration::from_millis(150);
+/// Who asked for something is told no once so many generations have begun without it.
+const MOST_GENERATIONS: u32 = 3;
+/// Who was told to end waits so long for what is under way.
+const MOST_WAIT_FOR_END: Duration = Duration::from_secs(5);
+
+impl<C: Core> Driver<C> {
+    /// Once a second: tells the peers how far it is, and looks after itself.
+    pub(crate) fn tick(&mut self) -> Result<(), Stop> {
+        let now = Instant::now();
+        if now < self.next_tick {
+            return Ok(());
+        }
+        self.next_tick = now + TICK;
+        self.greet_all();
+        self.others.save(self.generation.number);
+        self.generation.log = self.directory.log_length(self.generation.number);
+        if self.is_unexecuted { self.execute_all() } else { Ok(()) }
+    }
+
+    /// When there is something to do next for all this.
+    pub(crate) fn next_of_life(&self) -> Option<Instant> {
+        let sealed = match self.generation.stage {
+            Stage::Sealed(since) => Some(since + MOST_WAIT_FOR_PEERS),
+            _ => None,
+        };
+        let behind = match (&self.fetch, self.behind_since) {
+            (Some(fetch), _) => Some(fetch.due()),
+            (None, since) => since.map(|since| since + BEHIND),
+        };
+        let held = self.held.front().map(|held| held.since + self.patience);
+        let alone = self.alone_since.map(|since| since + TICK).filter(|_| held.is_some());
+        let holding = self.generation.held_until().filter(|_| held.is_some());
+        let all = [Some(self.next_tick), sealed, behind, held, alone, holding, self.ends_at];
+        all.into_iter().flatten().min()
+    }
+
+    fn hello(&self, peer: u8) -> Vec<u8> {
+        let (generation, is_sealed) = (self.generation.number, self.generation.is_sealed());
+        Message::Hello { generation, is_sealed, seen: self.others.seen(peer) }.write()
+    }
+
+    /// Tells a peer how far this replica is, before anything else.
+    pub(crate) fn greet(&mut self, peer: u8) {
+        self.peers.send_first(peer, self.hello(peer));
+        self.timers.hurry(Instant::now());
+    }
+
+    fn greet_all(&mut self) {
+        for peer in self.peer_numbers() {
+            self.peers.send(peer, self.hello(peer));
+        }
+    }
+
+    /// Tells a peer that lags, now and then.
+    pub(crate) fn greet_late(&mut self, peer: u8) {
+        if self.others.is_word_due(peer, Instant::now()) {
+            self.peers.send(peer, self.hello(peer));
+        }
+    }
+
+    /// Hears what a peer's host tells.
+    pub(crate) fn hear(&mut self, from: u8, bytes: &[u8]) -> Result<(), Stop> {
+        match Message::read(bytes) {
+            Some(Message::Hello { generation, is_sealed, seen }) => {
+                self.hear_hello(from, generation, is_sealed, seen)?
+            }
+            Some(Message::Want { generation, offset }) => {
+                // (where it can't be read, somebody else has it)
+                if let Ok(piece) = piece(&self.directory, self.generation.number, generation, offset) {
+                    self.peers.send(from, piece.write());
+                }
+            }
+            Some(piece @ Message::Piece { .. }) => self.take_piece(from, piece)?,
+            Some(Message::Ask { client, request, seen, command }) => {
+                let answers = self.answers.clone();
+                let reply = Teller::new(move |told| answer(&answers, from, (client, request), told));
+                let since = Instant::now();
+                self.held.push_back(Held { since, client, request, seen, command, reply, is_handed: true });
+            }
+            Some(Message::Answer { client, request, stamp, reply }) => {
+                if let Some((_, _, teller)) = self.handed.remove(&(client, request)) {
+                    teller.send(reply.map_or(Told::Doubtful, |reply| Told::Done { stamp, reply }));
+                }
+            }
+            None => self.refused_frames += 1,
+        }
+        Ok(())
+    }
+
+    fn hear_hello(&mut self, peer: u8, generation: u32, is_sealed: bool, seen: u32) -> Result<(), Stop> {
+        let (own, entries) = (self.generation.number, self.generation.entries);
+        let is_forgotten = (generation == own && seen > entries) || (generation > own && seen > 0);
+        if is_forgotten && self.plant != Some(Plant::Forgetful) {
+            return Err(Stop::Forgotten {
+                peer,
+                generation,
+                seen,
+                entries: if generation == own { entries } else { 0 },
+            });
+        }
+        if self.others.hear(peer, generation, is_sealed) {
+            self.timers.hurry(Instant::now());
+        }
+        if generation < own {
+            self.greet_late(peer);
+        }
+        Ok(())
+    }
+
+    fn take_piece(&mut self, from: u8, piece: Message) -> Result<(), Stop> {
+        let Some(fetch) = &mut self.fetch else { return Ok(()) };
+        let path = fetch.path().to_path_buf();
+        match fetch.take(from, piece, Instant::now()).map_err(|error| Stop::File(path.clone(), error))? {
+            Step::Ask(next) => self.peers.send(from, next.write()),
+            Step::Done(generation) => {
+                self.fetch = None;
+                if generation > self.generation.number {
+                    let whole = self.directory.keep_taken().map_err(|error| Stop::File(path, error))?;
+                    self.taken = Some(whole);
+                }
+            }
+            Step::Ignored => {}
+        }
+        Ok(())
+    }
+
+    /// Tells the replicas whose commands these were what became of them; and clients whose commands were handed to a replica that was lost
+    /// since that nobody knows.
+    pub(crate) fn answer_peers(&mut self) {
+        let answers = self.answers.lock().map(|mut answers| std::mem::take(&mut *answers)).unwrap_or_default();
+        for (to, answer) in answers {
+            self.peers.send(to, answer.write());
+        }
+        if self.handed.is_empty() {
+            return;
+        }
+        let now = Instant::now();
+        for (place, (to, since, reply)) in std::mem::take(&mut self.handed) {
+            if self.is_reached(to) && now < since + self.patience {
+                self.handed.insert(place, (to, since, reply));
+            } else {
+                reply.send(Told::Doubtful);
+            }
+        }
+    }
+
+    /// Where a seal is committed: executes what is known, until the seal was executed too.
+    pub(crate) fn close(&mut self) -> Result<(), Stop> {
+        if self.generation.stage == Stage::Committed && self.is_unexecuted {
+            self.execute_all()?;
+            if self.generation.is_sealed() {
+                self.greet_all();
+            }
+        }
+        Ok(())
+    }
+
+    /// Goes on to a later generation, where that is due, or ends.
+    pub(crate) fn go_on(&mut self) -> Result<(), Stop> {
+        let now = Instant::now();
+        let is_idle = self.waiting.is_empty() && self.handed.is_empty();
+        if self.ends_at.is_some_and(|at| is_idle || now >= at) {
+            return Err(Stop::Asked);
+        }
+        if let Stage::Sealed(since) = self.generation.stage {
+            let number = self.generation.number;
+            let is_waited_for = |peer: u8| self.is_reached(peer) && !self.others.has_sealed(peer, number);
+            if now >= since + MOST_WAIT_FOR_PEERS || !self.peer_numbers().any(is_waited_for) {
+                self.change(&Begin::Again)?;
+            }
+            return Ok(());
+        }
+        match self.taken.take() {
+            Some(path) => self.change(&Begin::Take(path)),
+            None => self.catch_up(now),
+        }
+    }
+
+    /// Asks for an opening, where peers are in a later generation and this replica doesn't close its own.
+    fn catch_up(&mut self, now: Instant) -> Result<(), Stop> {
+        let own = self.generation.number;
+        let later = |peer: &u8| self.is_reached(*peer) && self.others.generation(*peer) > own;
+        let later: Vec<u8> = self.peer_numbers().filter(later).collect();
+        if later.is_empty() {
+            (self.behind_since, self.fetch) = (None, None);
+            return Ok(());
+        }
+        let since = *self.behind_since.get_or_insert(now);
+        if now < since + BEHIND || self.fetch.as_ref().is_some_and(|fetch| !fetch.is_stale(now)) {
+            return Ok(());
+        }
+        let peer = later[Random::new().below(later.len() as u64) as usize];
+        let path = self.directory.taken();
+        let (fetch, want) = Fetch::begin(&path, peer, now).map_err(|error| Stop::File(path, error))?;
+        self.fetch = Some(fetch);
+        self.peers.send(peer, want.write());
+        Ok(())
+    }
+
+    /// Ends the core, and starts it in a later generation.
+    fn change(&mut self, begin: &Begin) -> Result<(), Stop> {
+        let start = Instant::now();
+        let before = self.generation.number;
+        self.node.start_again(begin).map_err(Stop::Node)?;
+        let answers = self.node.ask(&[Request::Sync, Request::State]).map_err(|fault| match begin {
+            Begin::Take(_) => Stop::NotTaken(fault),
+            _ => Stop::Node(fault),
+        })?;
+        self.node.told().iter().for_each(|line| say(&format!("the node tells: {line}")));
+        let [Answer::Synced(_), Answer::State(state)] = answers[..] else {
+            return self.bad_answer(&answers[0]);
+        };
+        if state.generation <= before {
+            return Err(Stop::Node(NodeFault::BadAnswer(format!("it doesn't go on from generation {before}"))));
+        }
+        if let Begin::Take(path) = begin {
+            say(&format!("generation {} is taken from a peer", state.generation));
+            // (where it stays it is refused at the next start, and removed then)
+            let _ = std::fs::remove_file(path);
+        }
+        let opening = self.opening(state.generation)?;
+        let path = self.directory.receipts(state.generation);
+        self.receipts = Receipts::open(&path).map_err(|error| Stop::File(path, error))?;
+        let now = Instant::now();
+        self.timers = Timers::new(self.place.replica, now, Random::new());
+        self.changes = (self.changes.0 + 1, now - start);
+        self.generation = Generation::new(state, now - start, now);
+        self.others.begin();
+        (self.fetch, self.behind_since, self.is_unexecuted) = (None, None, true);
+        let waiting = std::mem::take(&mut self.waiting);
+        settle(waiting, &opening, before);
+        self.meet(&opening)?;
+        self.directory.drop_left(self.kept);
+        self.greet_all();
+        self.fulfil();
+        Ok(())
+    }
+
+    fn opening(&self, generation: u32) -> Result<Opening, Stop> {
+        let path = self.directory.opening(generation);
+        Opening::read(&path).map_err(|error| Stop::File(path, error))
+    }
+
+    /// At a start: learns who takes part.
+    pub(crate) fn meet_members(&mut self) -> Result<(), Stop> {
+        self.opening(self.generation.number).and_then(|opening| self.meet(&opening))
+    }
+
+    /// Takes those for members whom the seal that began the generation names.
+    fn meet(&mut self, opening: &Opening) -> Result<(), Stop> {
+        let Some(members) = opening.seal.as_deref().and_then(Members::read) else { return Ok(()) };
+        for (replica, member) in members.0.iter().take(self.place.replicas).enumerate() {
+            let replica = replica as u8;
+            if replica == self.place.replica {
+                if member.identity.is_some_and(|identity| identity != self.membership.identities.own()) {
+                    return Err(Stop::Replaced(opening.generation));
+                }
+                continue;
+            }
+            if let Some(address) = &member.address {
+                self.peers.set_address(replica, address);
+            }
+            let Some(identity) = member.identity else { continue };
+            let file = || self.directory.path().join(crate::identities::NAME);
+            if self.membership.identities.set(replica, identity).map_err(|error| Stop::File(file(), error))? {
+                say(&format!("replica {replica} is {} from generation {} on", digits(&identity), opening.generation));
+                self.others.forget(replica);
+                self.peers.part(replica);
+            }
+        }
+        self.members = members;
+        Ok(())
+    }
+
+    /// Who is to take part in the next generation, as far as this replica is asked.
+    pub(crate) fn next_members(&self) -> Members {
+        let mut members = self.members.clone();
+        members.0.resize(self.place.replicas, Member::default());
+        for (replica, member) in members.0.iter_mut().enumerate() {
+            member.identity = self.membership.identities.of(replica as u8);
+        }
+        for (replica, member) in self.wishes.iter().filter_map(|wish| wish.change.clone()) {
+            members.0[usize::from(replica)] = member;
+        }
+        members
+    }
+
+    /// Takes what somebody who runs the store asks for.
+    pub(crate) fn manage(&mut self, manage: Manage, reply: Teller) {
+        let change = match manage {
+            Manage::Members => return reply.send(Told::Managed(Ok(self.list_members()))),
+            Manage::Seal => None,
+            Manage::Replace { replica, .. } if usize::from(replica) >= self.place.replicas => {
+                return reply.send(Told::Managed(Err(format!("there is no replica {replica}"))));
+            }
+            Manage::Replace { replica, .. } if replica == self.place.replica => {
+                return reply.send(Told::Managed(Err("ask another replica: this one is here".into())));
+            }
+            Manage::Replace { replica, identity, address } => {
+                Some((replica, Member { identity: Some(identity), address }))
+            }
+        };
+        self.generation.is_asked = true;
+        self.wishes.push(Wish { generation: self.generation.number, change, reply });
+    }
+
+    /// Tells who asked for something that is so by now; the rest is asked for again.
+    fn fulfil(&mut self) {
+        let now = self.generation.number;
+        for wish in std::mem::take(&mut self.wishes) {
+            let is_so = match &wish.change {
+                None => now > wish.generation,
+                Some((replica, member)) => self.members.0.get(usize::from(*replica)) == Some(member),
+            };
+            if is_so {
+                wish.reply.send(Told::Managed(Ok(format!("generation {now}"))));
+            } else if now >= wish.generation + MOST_GENERATIONS {
+                wish.reply.send(Told::Managed(Err("others asked for something else".into())));
+            } else {
+                self.generation.is_asked = true;
+                self.wishes.push(wish);
+            }
+        }
+    }
+
+    /// A line for each replica: its number, identity, address, generation, and whether it is reached.
+    fn list_members(&self) -> String {
+        let mut text = format!("generation {}\n", self.generation.number);
+        for (replica, member) in self.next_members().0.iter().enumerate() {
+            let who = member.identity.as_ref().map_or("not met yet".into(), digits);
+            let place = member.address.as_deref().unwrap_or("as by --peers");
+            let replica = replica as u8;
+            let state = match replica {
+                me if me == self.place.replica => "this one".to_string(),
+                peer if self.is_reached(peer) => format!("reached, in generation {}", self.others.generation(peer)),
+                _ => "lost".into(),
+            };
+            let _ = writeln!(text, "{replica} {who} {place} {state}");
+        }
+        text
+    }
+
+    /// The store is to end: nothing more is proposed, and who waits is told.
+    pub(crate) fn end(&mut self) {
+        self.ends_at.get_or_insert(Instant::now() + MOST_WAIT_FOR_END);
+        self.held.drain(..).for_each(|held| held.reply.send(Told::Late));
+    }
+}
+
+/// Notes what a replica is to be told of a command that it has handed to this one. What wasn't done may be asked again.
+fn answer(answers: &Mutex<Vec<(u8, Message)>>, to: u8, (client, request): (u32, u32), told: Told) {
+    let (stamp, reply) = match told {
+        Told::Done { stamp, reply } => (stamp, Some(reply)),
+        Told::Alone | Told::Late | Told::Refused(_) => (0, Some(Reply::Lost)),
+        _ => (0, None),
+    };
+    if let Ok(mut answers) = answers.lock() {
+        answers.push((to, Message::Answer { client, request, stamp, reply }));
+    }
+}
+
+/// What became of the commands that were under way in the generation before: an opening of the next one lists those that were done.
+fn settle(waiting: HashMap<(u32, u32), Waiting>, opening: &Opening, before: u32) {
+    for Waiting { instance, reply } in waiting.into_values() {
+        reply.send(match opening.executed.contains(&instance) {
+            _ if opening.generation != before + 1 => Told::Doubtful,
+            true => Told::DoneUnseen { stamp: opening.since },
+            false => Told::Done { stamp: opening.since, reply: Reply::Closed },
+        });
+    }
+}

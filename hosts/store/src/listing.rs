@@ -1,0 +1,200 @@
+//! The keys that there are, as `epaxos contents` tells them of this replica's folder: after all that its node has executed.
+use crate::command_fault::CommandFault;
+use crate::commands::List;
+use crate::glob::fits;
+use crate::resp::Reply;
+use crate::stored::{Stored, now};
+use std::path::PathBuf;
+use std::process::{Command, Stdio};
+use std::sync::{Arc, Mutex, PoisonError};
+use std::time::{Duration, Instant};
+
+/// A SCAN goes on in a list that isn't older than this.
+const FRESH: Duration = Duration::from_secs(10);
+/// Cursors have so many bits, so that any client's integers can hold them.
+const CURSOR_BITS: u32 = 48;
+
+/// Lists keys by a program of its own, one list at a time.
+pub struct Listing {
+    program: PathBuf,
+    folder: PathBuf,
+    last: Mutex<Option<(Instant, Arc<Vec<Listed>>)>>,
+}
+
+/// A key with what it has.
+struct Listed {
+    /// Its place in a scan, from 1: the same at all replicas and at all times.
+    place: u64,
+    key: Vec<u8>,
+    stored: Stored,
+}
+
+impl Listing {
+    /// By this program, of the folder of its node's generations.
+    pub fn new(program: PathBuf, folder: PathBuf) -> Listing {
+        Listing { program, folder, last: Mutex::new(None) }
+    }
+
+    pub fn answer(&self, list: &List) -> Result<Reply, CommandFault> {
+        let mut last = self.last.lock().unwrap_or_else(PoisonError::into_inner);
+        let goes_on = matches!(list, List::Scan { cursor: 1.., .. });
+        let kept = last.take().filter(|(start, _)| goes_on && start.elapsed() < FRESH);
+        let kept = match kept {
+            Some(kept) => kept,
+            None => (Instant::now(), Arc::new(self.list()?)),
+        };
+        let listed = kept.1.clone();
+        // (a list is kept while a scan goes on)
+        *last = Some(kept).filter(|_| matches!(list, List::Scan { .. }));
+        drop(last);
+        Ok(answer(list, &listed))
+    }
+
+    fn list(&self) -> Result<Vec<Listed>, CommandFault> {
+        let failed = |what: String| CommandFault::Listing(what);
+        let output = Command::new(&self.program)
+            .arg("contents")
+            .arg(&self.folder)
+            .stdin(Stdio::null())
+            .output()
+            .map_err(|error| failed(format!("{}: {error}", self.program.display())))?;
+        if !output.status.success() {
+            let told = String::from_utf8_lossy(&output.stderr);
+            return Err(failed(format!("{}: {}", output.status, told.lines().next().unwrap_or("it tells nothing"))));
+        }
+        read(&output.stdout).ok_or_else(|| failed("the program tells something else".into()))
+    }
+}
+
+/// The keys of what `contents` prints, by their places.
+fn read(text: &[u8]) -> Option<Vec<Listed>> {
+    let mut lines = text.strip_suffix(b"\n")?.split(|byte| *byte == b'\n');
+    lines.next().filter(|line| line.starts_with(b"generation "))?;
+    let mut listed = lines.map(read_line).collect::<Option<Vec<_>>>()?;
+    listed.sort_by(|first, second| (first.place, &first.key).cmp(&(second.place, &second.key)));
+    Some(listed)
+}
+
+fn read_line(line: &[u8]) -> Option<Listed> {
+    let space = line.iter().position(|byte| *byte == b' ')?;
+    let (key, value) = (word(&line[..space])?, word(&line[space + 1..])?);
+    Some(Listed { place: place(&key), key, stored: Stored::read(value) })
+}
+
+/// The bytes that a word spells.
+fn word(word: &[u8]) -> Option<Vec<u8>> {
+    if word == b"%-" {
+        return Some(Vec::new());
+    }
+    let mut bytes = Vec::with_capacity(word.len());
+    let mut rest = word;
+    while let Some((byte, after)) = rest.split_first() {
+        rest = after;
+        if *byte != b'%' {
+            bytes.push(*byte);
+            continue;
+        }
+        let (digits, after) = rest.split_at_checked(2)?;
+        rest = after;
+        bytes.push(u8::from_str_radix(std::str::from_utf8(digits).ok()?, 16).ok()?);
+    }
+    Some(bytes)
+}
+
+/// The key's place in a scan, by the hash of Fowler, Noll and Vo (FNV-1a).
+fn place(key: &[u8]) -> u64 {
+    let hash = key
+        .iter()
+        .fold(0xcbf2_9ce4_8422_2325, |hash: u64, byte| (hash ^ u64::from(*byte)).wrapping_mul(0x0000_0100_0000_01b3));
+    (hash >> (64 - CURSOR_BITS)).max(1)
+}
+
+fn answer(list: &List, listed: &[Listed]) -> Reply {
+    let now = now();
+    let there = |listed: &&Listed| !listed.stored.is_over(now);
+    let bulk = |listed: &Listed| Reply::Bulk(listed.key.clone());
+    match list {
+        List::Size => Reply::Integer(listed.iter().filter(there).count() as i64),
+        List::Keys(pattern) => {
+            Reply::Array(listed.iter().filter(there).filter(|it| fits(pattern, &it.key)).map(bulk).collect())
+        }
+        List::Scan { cursor, pattern, count, kind } => {
+            let start = listed.partition_point(|it| it.place < *cursor);
+            let mut end = start.saturating_add(*count).min(listed.len());
+            // (keys of one place come together)
+            while end > 0 && end < listed.len() && listed[end].place == listed[end - 1].place {
+                end += 1;
+            }
+            let next = listed.get(end).map_or(0, |it| it.place);
+            let is_asked = |it: &&Listed| {
+                pattern.as_ref().is_none_or(|pattern| fits(pattern, &it.key))
+                    && kind.as_ref().is_none_or(|kind| it.stored.kind().as_bytes() == kind)
+            };
+            let keys = listed[start..end].iter().filter(there).filter(is_asked).map(bulk).collect();
+            Reply::Array(vec![Reply::text(&next.to_string()), Reply::Array(keys)])
+        }
+    }
+}
+
+#[cfg(test)]
+mod tests {
+    use super::*;
+    use std::collections::BTreeSet;
+
+    #[test]
+    fn what_contents_prints_is_read() {
+        let text = b"generation 2 entries 7 contents 3 00ff\na 1\nb%20%25 %-\n%ff x%0ay\n";
+        let mut read: Vec<_> = read(text).unwrap().into_iter().map(|it| (it.key, it.stored.into_bytes())).collect();
+        read.sort();
+        assert_eq!(
+            read,
+            [(b"a".to_vec(), b"1".to_vec()), (b"b %".to_vec(), Vec::new()), (b"\xff".to_vec(), b"x\ny".to_vec())]
+        );
+        assert!(super::read(b"generation 1 entries 0 contents 0 00\n").unwrap().is_empty());
+        for odd in [&b""[..], b"a 1\n", b"generation 1\na\n", b"generation 1\na %1\n", b"generation 1\na 1"] {
+            assert!(super::read(odd).is_none());
+        }
+    }
+
+    fn listed(keys: impl IntoIterator<Item = String>) -> Vec<Listed> {
+        let lines: String = keys.into_iter().map(|key| format!("{key} 1\n")).collect();
+        read(format!("generation 1 entries 1 contents 1 00\n{lines}").as_bytes()).unwrap()
+    }
+
+    #[test]
+    fn a_scan_tells_each_key_that_stays_once() {
+        let name = |number: usize| format!("key-{number}");
+        let mut told = Vec::new();
+        let (mut cursor, mut round) = (0, 0);
+        loop {
+            // Meanwhile other keys come and go.
+            let there = listed((0..100).map(name).chain((0..round).map(|number| format!("other-{number}"))));
+            let list =
+                List::Scan { cursor, pattern: Some(b"key-*".to_vec()), count: 7, kind: Some(b"string".to_vec()) };
+            let Reply::Array(parts) = answer(&list, &there) else { panic!() };
+            let [Reply::Bulk(next), Reply::Array(keys)] = &parts[..] else { panic!() };
+            told.extend(keys.iter().map(|key| if let Reply::Bulk(key) = key { key.clone() } else { panic!() }));
+            cursor = String::from_utf8(next.clone()).unwrap().parse().unwrap();
+            round += 1;
+            if cursor == 0 {
+                break;
+            }
+        }
+        assert!(round > 10);
+        assert_eq!(told.len(), 100);
+        assert_eq!(told.into_iter().collect::<BTreeSet<_>>(), (0..100).map(|it| name(it).into_bytes()).collect());
+    }
+
+    #[test]
+    fn what_is_past_its_deadline_is_not_listed() {
+        let text = b"generation 1 entries 1 contents 2 00\na %ff%01%00%00%00%00%00%00%00%01x\nlock %ff%02%00%00%00%00%00%00%00%01%00%00%00%00%00%00%00%00\n";
+        let there = read(text).unwrap();
+        assert_eq!(answer(&List::Size, &there), Reply::Integer(1));
+        assert_eq!(answer(&List::Keys(b"*".to_vec()), &there), Reply::Array(vec![Reply::text("lock")]));
+        let list =
+            |kind: &str| List::Scan { cursor: 0, pattern: None, count: 10, kind: Some(kind.as_bytes().to_vec()) };
+        let scanned = |keys| Reply::Array(vec![Reply::text("0"), Reply::Array(keys)]);
+        assert_eq!(answer(&list("lock"), &there), scanned(vec![Reply::text("lock")]));
+        assert_eq!(answer(&list("string"), &there), scanned(vec![]));
+    }
+}

@@ -1,0 +1,154 @@
+//! What hosts tell one another, on the connections of frames: how far each is, and openings, in pieces.
+use crate::bytes::Fields;
+use crate::protocol::{Command, Reply};
+
+/// A frame begins with other bytes.
+const MAGIC: &[u8] = b"ES";
+/// An opening is handed in pieces of so many bytes at most.
+pub const LONGEST_PIECE: u64 = 128 << 10;
+
+#[derive(Clone, PartialEq, Eq, Debug)]
+pub enum Message {
+    /// How far the sender is.
+    Hello {
+        generation: u32,
+        /// Whether it has executed the generation's seal.
+        is_sealed: bool,
+        /// The greatest number of an entry of the receiver that it saw in this generation.
+        seen: u32,
+    },
+    /// It wants what is behind this place of the opening of this generation, or of the newest one, by 0.
+    Want { generation: u32, offset: u64 },
+    /// A client's command, which the receiver is to propose: the sender's own proposals would wait for a replica that is gone.
+    Ask { client: u32, request: u32, seen: u64, command: Command },
+    /// What became of such a command: its stamp and its reply. Without a reply nobody knows.
+    Answer { client: u32, request: u32, stamp: u64, reply: Option<Reply> },
+    /// A piece of an opening, which has so many bytes in all.
+    Piece { generation: u32, total: u64, offset: u64, bytes: Vec<u8> },
+}
+
+impl Message {
+    /// Whether the bytes are a message, and no frame.
+    pub fn is_one(bytes: &[u8]) -> bool {
+        bytes.starts_with(MAGIC)
+    }
+
+    pub fn write(&self) -> Vec<u8> {
+        let mut out = MAGIC.to_vec();
+        match self {
+            Message::Hello { generation, is_sealed, seen } => {
+                out.push(1);
+                out.extend(generation.to_be_bytes());
+                out.push(u8::from(*is_sealed));
+                out.extend(seen.to_be_bytes());
+            }
+            Message::Want { generation, offset } => {
+                out.push(2);
+                out.extend(generation.to_be_bytes());
+                out.extend(offset.to_be_bytes());
+            }
+            Message::Ask { client, request, seen, command } => {
+                out.push(4);
+                out.extend(client.to_be_bytes());
+                out.extend(request.to_be_bytes());
+                out.extend(seen.to_be_bytes());
+                command.write(&mut out);
+            }
+            Message::Answer { client, request, stamp, reply } => {
+                out.push(5);
+                out.extend(client.to_be_bytes());
+                out.extend(request.to_be_bytes());
+                out.extend(stamp.to_be_bytes());
+                out.push(u8::from(reply.is_some()));
+                reply.iter().for_each(|reply| reply.write(&mut out));
+            }
+            Message::Piece { generation, total, offset, bytes } => {
+                out.push(3);
+                out.extend(generation.to_be_bytes());
+                out.extend(total.to_be_bytes());
+                out.extend(offset.to_be_bytes());
+                out.extend(bytes);
+            }
+        }
+        out
+    }
+
+    /// None where the bytes spell none.
+    pub fn read(bytes: &[u8]) -> Option<Message> {
+        let mut fields = Fields::new(bytes);
+        if fields.run(MAGIC.len())? != MAGIC {
+            return None;
+        }
+        let message = match fields.u8()? {
+            1 => Message::Hello { generation: fields.u32()?, is_sealed: flag(fields.u8()?)?, seen: fields.u32()? },
+            2 => Message::Want { generation: fields.u32()?, offset: fields.u64()? },
+            3 => {
+                let (generation, total, offset) = (fields.u32()?, fields.u64()?, fields.u64()?);
+                let length = fields.left();
+                Message::Piece { generation, total, offset, bytes: fields.run(length)?.to_vec() }
+            }
+            4 => Message::Ask {
+                client: fields.u32()?,
+                request: fields.u32()?,
+                seen: fields.u64()?,
+                command: Command::read(&mut fields)?,
+            },
+            5 => Message::Answer {
+                client: fields.u32()?,
+                request: fields.u32()?,
+                stamp: fields.u64()?,
+                reply: if flag(fields.u8()?)? { Some(Reply::read(&mut fields)?) } else { None },
+            },
+            _ => return None,
+        };
+        (fields.left() == 0).then_some(message)
+    }
+}
+
+fn flag(byte: u8) -> Option<bool> {
+    match byte {
+        0 => Some(false),
+        1 => Some(true),
+        _ => None,
+    }
+}
+
+#[cfg(test)]
+mod tests {
+    use super::*;
+
+    #[test]
+    fn word_for_word() {
+        let hello = Message::Hello { generation: 258, is_sealed: true, seen: 3 };
+        let spelled = [b'E', b'S', 1, 0, 0, 1, 2, 1, 0, 0, 0, 3];
+        assert_eq!(hello.write(), spelled);
+        let want = Message::Want { generation: 1, offset: 2 };
+        assert_eq!(want.write(), [b'E', b'S', 2, 0, 0, 0, 1, 0, 0, 0, 0, 0, 0, 0, 2]);
+        let piece = Message::Piece { generation: 1, total: 9, offset: 2, bytes: vec![7, 8] };
+        let head = [b'E', b'S', 3, 0, 0, 0, 1, 0, 0, 0, 0, 0, 0, 0, 9, 0, 0, 0, 0, 0, 0, 0, 2, 7, 8];
+        assert_eq!(piece.write(), head);
+        for message in [hello, want, piece] {
+            let bytes = message.write();
+            assert!(Message::is_one(&bytes));
+            assert_eq!(Message::read(&bytes), Some(message));
+            for cut in 0..bytes.len() - 2 {
+                assert_eq!(Message::read(&bytes[..cut]), None);
+            }
+        }
+        let command = Command::Del { key: b"k".to_vec() };
+        let ask = Message::Ask { client: 1, request: 2, seen: 3, command };
+        let spelled_ask = [b'E', b'S', 4, 0, 0, 0, 1, 0, 0, 0, 2, 0, 0, 0, 0, 0, 0, 0, 3, 4, 1, 0, 0, 0, 0, 0, b'k'];
+        let answer = |reply| Message::Answer { client: 1, request: 2, stamp: 3, reply };
+        let told = answer(Some(Reply::Present(vec![7])));
+        let spelled_told = [b'E', b'S', 5, 0, 0, 0, 1, 0, 0, 0, 2, 0, 0, 0, 0, 0, 0, 0, 3, 1, 1, 0, 0, 0, 1, 7];
+        assert_eq!((ask.write(), told.write()), (spelled_ask.to_vec(), spelled_told.to_vec()));
+        for message in [ask, told, answer(None)] {
+            let bytes = message.write();
+            assert_eq!(Message::read(&bytes[..bytes.len() - 1]), None);
+            assert_eq!(Message::read(&bytes), Some(message));
+        }
+        assert_eq!(Message::read(&[&spelled[..], &[0]].concat()), None);
+        assert_eq!(Message::read(b"ES\x06"), None);
+        assert!(!Message::is_one(b"EP\x03"));
+    }
+}

@@ -1,0 +1,107 @@
+//! What a file tells that a generation opens with.
+use crate::protocol::Instance;
+use std::collections::HashSet;
+use std::fs::File;
+use std::io::{self, BufReader, Read};
+use std::path::Path;
+
+const MAGIC: [u8; 5] = *b"EPOP\x03";
+
+/// An opening, but for its map. The node has looked at its digest.
+#[derive(Clone, Default, PartialEq, Eq, Debug)]
+pub struct Opening {
+    pub replicas: u8,
+    pub generation: u32,
+    /// The stamp that clocks go on from.
+    pub since: u64,
+    /// The value of the seal that began the generation. None of generation 1.
+    pub seal: Option<Vec<u8>>,
+    /// How many keys have a value.
+    pub keys: u32,
+    /// The instances whose commands the generation before did.
+    pub executed: HashSet<Instance>,
+}
+
+impl Opening {
+    pub fn read(path: &Path) -> io::Result<Opening> {
+        Opening::from(BufReader::with_capacity(1 << 16, File::open(path)?))
+    }
+
+    fn from(mut input: impl Read) -> io::Result<Opening> {
+        if array(&mut input)? != MAGIC {
+            return Err(bad());
+        }
+        let [replicas] = array(&mut input)?;
+        let generation = u32::from_be_bytes(array(&mut input)?);
+        let since = u64::from_be_bytes(array(&mut input)?);
+        let seal = match array(&mut input)? {
+            [0] => None,
+            [1] => {
+                let length = u32::from_be_bytes(array(&mut input)?);
+                Some(run(&mut input, length)?)
+            }
+            _ => return Err(bad()),
+        };
+        let keys = u32::from_be_bytes(array(&mut input)?);
+        for _ in 0..keys {
+            let [key] = array(&mut input)?;
+            let value = u32::from_be_bytes(array(&mut input)?);
+            run(&mut input, u32::from(key) + value)?;
+        }
+        let count = u32::from_be_bytes(array(&mut input)?);
+        let mut executed = HashSet::new();
+        for _ in 0..count {
+            let [replica, high, low] = array(&mut input)?;
+            executed.insert(Instance { replica, number: u16::from_be_bytes([high, low]) });
+        }
+        array::<32>(&mut input)?;
+        Ok(Opening { replicas, generation, since, seal, keys, executed })
+    }
+}
+
+fn bad() -> io::Error {
+    io::ErrorKind::InvalidData.into()
+}
+
+fn array<const N: usize>(input: &mut impl Read) -> io::Result<[u8; N]> {
+    let mut bytes = [0; N];
+    input.read_exact(&mut bytes)?;
+    Ok(bytes)
+}
+
+fn run(input: &mut impl Read, length: u32) -> io::Result<Vec<u8>> {
+    let mut bytes = Vec::new();
+    input.take(length.into()).read_to_end(&mut bytes)?;
+    if bytes.len() == length as usize { Ok(bytes) } else { Err(io::ErrorKind::UnexpectedEof.into()) }
+}
+
+#[cfg(test)]
+mod tests {
+    use super::*;
+
+    /// The examples of docs/FORMATS.md, section 12.2.
+    #[test]
+    fn the_examples_of_the_page() {
+        let digits = |text: &str| -> Vec<u8> {
+            let digits: Vec<u8> = text.bytes().filter(|byte| !byte.is_ascii_whitespace()).collect();
+            let pair = |pair: &[u8]| u8::from_str_radix(std::str::from_utf8(pair).unwrap(), 16).unwrap();
+            digits.chunks(2).map(pair).collect()
+        };
+        let first = digits(
+            "45504f50 03 03 00000001 0000000000000000 00 00000000 00000000
+             eb5a8aa78654c433ae5ae2e8b6468a4d6af5d3dde105ada9fd77d626eb39478e",
+        );
+        let told = Opening { replicas: 3, generation: 1, ..Opening::default() };
+        assert_eq!(Opening::from(&first[..]).unwrap(), told);
+        let second = digits(
+            "45504f50 03 03 00000002 0000000000000005 01 00000001 78 00000001 01 00000001 61 31
+             00000002  00 0001  02 0007 ba4a4d800fb593e6b4257ad4a8286b173b475a92cf8b8c816f8b2f08e944b31a",
+        );
+        let executed = [(0, 1), (2, 7)].map(|(replica, number)| Instance { replica, number }).into();
+        let told = Opening { replicas: 3, generation: 2, since: 5, seal: Some(b"x".to_vec()), keys: 1, executed };
+        assert_eq!(Opening::from(&second[..]).unwrap(), told);
+        for cut in 0..second.len() {
+            assert!(Opening::from(&second[..cut]).is_err());
+        }
+    }
+}

@@ -1,0 +1,135 @@
+//! Who is let in by a password, and what clients can't take up.
+mod common;
+use common::memory::Memory;
+use common::{ask, wait};
+use std::io::{Read, Write};
+use std::net::TcpStream;
+use std::sync::Arc;
+use std::time::{Duration, Instant};
+use store::client::{Client, Reply};
+use store::memory;
+use store::password::Password;
+use store::places::Places;
+
+fn error(reply: Reply) -> String {
+    if let Reply::Error(text) = reply { text } else { panic!("{reply:?}") }
+}
+
+fn ok() -> Reply {
+    Reply::Simple("OK".into())
+}
+
+#[test]
+fn nothing_is_done_before_the_password() {
+    let memory =
+        Memory::start_with("auth", Duration::ZERO, |it| it.password = Some(Password::of(b"a-long-secret-word")));
+    let mut client = memory.client();
+    for line in
+        ["GET x", "SET x 1", "PING", "INFO", "KEYS *", "CLIENT ID", "MULTI", "EPAXOS SEAL", "NOTHING", "HELLO 3"]
+    {
+        assert!(error(ask(&mut client, line)).starts_with("NOAUTH "), "{line}");
+    }
+    for line in ["AUTH wrong", "AUTH other a-long-secret-word", "HELLO 3 AUTH default wrong"] {
+        assert!(error(ask(&mut client, line)).starts_with("WRONGPASS "), "{line}");
+    }
+    assert!(error(ask(&mut client, "GET x")).starts_with("NOAUTH "));
+    assert_eq!(ask(&mut client, "AUTH a-long-secret-word"), ok());
+    assert_eq!(ask(&mut client, "SET x 1"), ok());
+    assert_eq!(ask(&mut client, "AUTH default a-long-secret-word"), ok());
+    assert_eq!(ask(&mut client, "RESET"), Reply::Simple("RESET".into()));
+    assert!(error(ask(&mut client, "GET x")).starts_with("NOAUTH "));
+    let mut client = memory.client();
+    assert!(matches!(ask(&mut client, "HELLO 3 AUTH default a-long-secret-word"), Reply::Map(_)));
+    assert_eq!(ask(&mut client, "GET x"), Reply::Bulk(Some(b"1".to_vec())));
+    // What is too long isn't waited for.
+    let mut stranger = TcpStream::connect(("127.0.0.1", memory.port)).unwrap();
+    stranger.write_all(b"*2\r\n$4\r\nAUTH\r\n$200000\r\n").unwrap();
+    let _ = stranger.write_all(&[b'a'; 100_000]);
+    let mut told = String::new();
+    let _ = stranger.read_to_string(&mut told);
+    assert!(told.is_empty() || told.starts_with("-OOM "), "{told}");
+}
+
+#[test]
+fn unfinished_commands_take_what_they_are() {
+    let most = 4 << 20;
+    let memory = Memory::start_with("unfinished", Duration::ZERO, |it| it.memory = memory::Memory::new(most));
+    let mut begun = Vec::new();
+    for _ in 0..40 {
+        let mut stream = TcpStream::connect(("127.0.0.1", memory.port)).unwrap();
+        stream.set_read_timeout(Some(Duration::from_secs(60))).unwrap();
+        stream.write_all(b"*3\r\n$3\r\nSET\r\n$1\r\nx\r\n$200000\r\n").unwrap();
+        let _ = stream.write_all(&[b'a'; 190_000]);
+        begun.push(stream);
+    }
+    // Some were refused, and closed: there are 190,000 bytes for 22 of 40.
+    let is_closed = |stream: &TcpStream| {
+        stream.set_nonblocking(true).unwrap();
+        let told = (&*stream).read(&mut [0; 100]);
+        told.is_ok() || told.is_err_and(|error| error.kind() != std::io::ErrorKind::WouldBlock)
+    };
+    wait("the bound", || begun.iter().filter(|stream| is_closed(stream)).count() >= 15);
+    // They make room again.
+    drop(begun);
+    wait("room", || {
+        Client::connect(memory.port, Duration::from_secs(60))
+            .unwrap()
+            .ask(&[b"SET", b"x", b"1"])
+            .is_ok_and(|it| it == ok())
+    });
+}
+
+#[test]
+fn replies_that_nobody_takes_are_bounded() {
+    let memory = Memory::start_with("untaken", Duration::ZERO, |it| it.memory = memory::Memory::new(8 << 20));
+    let mut client = memory.client();
+    assert_eq!(client.ask(&[b"SET", b"x", &[b'v'; 60_000]]).unwrap(), ok());
+    let mut greedy = TcpStream::connect(("127.0.0.1", memory.port)).unwrap();
+    greedy.set_write_timeout(Some(Duration::from_millis(200))).unwrap();
+    let gets = b"GET x\r\n".repeat(3_000);
+    let _ = greedy.write_all(&gets);
+    // Others are told so while it lasts, and go on once it is gone.
+    drop(greedy);
+    let is_told = || memory.client().ask(&[b"GET", b"x"]).is_ok_and(|reply| matches!(reply, Reply::Bulk(Some(_))));
+    wait("room", is_told);
+}
+
+#[test]
+fn places_are_kept_for_who_asks_how_it_is() {
+    let places = Arc::new(Places::new(3, Duration::from_secs(3_600)));
+    let memory = Memory::start_with("places", Duration::ZERO, |it| it.places = places);
+    let mut clients: Vec<_> = (0..3).map(|_| memory.client()).collect();
+    clients.iter_mut().for_each(|client| assert_eq!(ask(client, "SET x 1"), ok()));
+    let mut more = memory.client();
+    assert_eq!(ask(&mut more, "PING"), Reply::Simple("PONG".into()));
+    assert!(matches!(ask(&mut more, "INFO"), Reply::Bulk(Some(_))));
+    assert!(error(ask(&mut more, "GET x")).starts_with("ERR max number of clients reached"));
+    let mut kept: Vec<_> = (0..15).map(|_| memory.client()).collect();
+    kept.iter_mut().for_each(|client| assert_eq!(ask(client, "PING"), Reply::Simple("PONG".into())));
+    assert!(error(memory.client().read().unwrap()).starts_with("ERR max number of clients reached"));
+    // One leaves, and another one is taken in its place.
+    clients.pop();
+    drop(kept);
+    drop(more);
+    wait("a place", || {
+        memory.client().ask(&[b"GET", b"x"]).is_ok_and(|reply| reply == Reply::Bulk(Some(b"1".to_vec())))
+    });
+}
+
+#[test]
+fn how_it_is_where_the_core_is_slow_or_alone() {
+    let mut metrics = None;
+    let memory = Memory::start_with("slow", Duration::from_secs(20), |it| metrics = Some(it.metrics.clone()));
+    let metrics = metrics.unwrap();
+    let mut slow = memory.client();
+    slow.send(&[&[b"SET", b"x", b"1"]]).unwrap();
+    std::thread::sleep(Duration::from_millis(100));
+    let start = Instant::now();
+    let mut client = memory.client();
+    assert_eq!(ask(&mut client, "PING"), Reply::Simple("PONG".into()));
+    let Reply::Bulk(Some(text)) = ask(&mut client, "INFO") else { panic!() };
+    assert!(text.starts_with(b"core_is_slow:1\r\n"), "{}", String::from_utf8_lossy(&text));
+    assert!(start.elapsed() < Duration::from_secs(10));
+    metrics.takes_part.set(0);
+    assert!(error(ask(&mut client, "PING")).starts_with("TRYAGAIN this replica takes no part"));
+}

@@ -1,0 +1,113 @@
+//! A store's clients' side over a map in memory, in the place of a driver and its node.
+use std::collections::HashMap;
+use std::net::TcpListener;
+use std::path::PathBuf;
+use std::sync::atomic::{AtomicU64, Ordering};
+use std::sync::mpsc::{Receiver, sync_channel};
+use std::sync::{Arc, Mutex};
+use std::thread;
+use std::time::Duration;
+use store::client::Client;
+use store::clients::{Shared, listen};
+use store::driver::{Ask, Event, Told, What};
+use store::keys::Keys;
+use store::listing::Listing;
+use store::memory::Memory as Bytes;
+use store::metrics::Metrics;
+use store::numbers::Numbers;
+use store::protocol::{Command, Reply};
+
+const PATIENCE: Duration = Duration::from_secs(60);
+
+/// A server that takes clients. Its threads end with the process; its folder is removed when it is let go.
+pub struct Memory {
+    pub port: u16,
+    pub folder: PathBuf,
+}
+
+impl Memory {
+    /// Starts one that takes so long for what has come.
+    pub fn start(name: &str, takes: Duration) -> Memory {
+        Memory::start_with(name, takes, |_| ())
+    }
+
+    /// Likewise, with other settings.
+    pub fn start_with(name: &str, takes: Duration, change: impl FnOnce(&mut Shared)) -> Memory {
+        let folder = std::env::temp_dir().join(format!("store-memory-{name}-{}", std::process::id()));
+        std::fs::create_dir_all(&folder).unwrap();
+        let listener = TcpListener::bind("127.0.0.1:0").unwrap();
+        let port = listener.local_addr().unwrap().port();
+        let (events, asked) = sync_channel(4_096);
+        let keys = Keys::start(events.clone(), Arc::new(Mutex::new(Numbers::new(&folder, 0)))).unwrap();
+        let listing = Listing::new(folder.join("contents"), folder.clone());
+        let metrics = Arc::<Metrics>::default();
+        metrics.takes_part.set(1);
+        let mut shared = Shared {
+            events,
+            keys,
+            listing,
+            patience: PATIENCE,
+            password: None,
+            memory: Bytes::new(64 << 20),
+            metrics,
+            places: Arc::default(),
+            served: AtomicU64::new(0),
+        };
+        change(&mut shared);
+        thread::spawn(move || drive(&asked, takes));
+        thread::spawn(move || listen(listener, Arc::new(shared)));
+        Memory { port, folder }
+    }
+
+    pub fn client(&self) -> Client {
+        Client::connect(self.port, PATIENCE).unwrap()
+    }
+}
+
+impl Drop for Memory {
+    fn drop(&mut self) {
+        let _ = std::fs::remove_dir_all(&self.folder);
+    }
+}
+
+/// How many commands were executed, over all of these.
+pub static EXECUTED: AtomicU64 = AtomicU64::new(0);
+
+/// Takes what has come, waits, and answers all of it.
+fn drive(asked: &Receiver<Event>, takes: Duration) {
+    let mut map = HashMap::new();
+    while let Ok(first) = asked.recv() {
+        let mut events = vec![first];
+        events.extend(asked.try_iter());
+        thread::sleep(takes);
+        for event in events {
+            let Event::Ask(Ask { what, reply }) = event else { continue };
+            reply.send(match what {
+                What::Propose { command, .. } => Told::Done { stamp: 1, reply: execute(&mut map, &command) },
+                What::Read(key) => Told::Value(map.get(&key).cloned()),
+                _ => Told::Info("replica:0\r\n".into()),
+            });
+        }
+    }
+}
+
+/// What a command of the protocol does, and its reply.
+fn execute(map: &mut HashMap<Vec<u8>, Vec<u8>>, command: &Command) -> Reply {
+    EXECUTED.fetch_add(1, Ordering::Relaxed);
+    let (Command::Get { key } | Command::Put { key, .. } | Command::Del { key } | Command::Cas { key, .. }) = command
+    else {
+        panic!("{command:?}")
+    };
+    let before = map.get(key).cloned();
+    let after = match command {
+        Command::Put { value, .. } => Some(value.clone()),
+        Command::Del { .. } => None,
+        Command::Cas { expected, new, .. } if before == *expected => new.clone(),
+        _ => before.clone(),
+    };
+    match after {
+        Some(value) => _ = map.insert(key.clone(), value),
+        None => _ = map.remove(key),
+    }
+    before.map_or(Reply::Absent, Reply::Present)
+}

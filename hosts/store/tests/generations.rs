@@ -1,0 +1,139 @@
+//! Stores around the proved program that go from generation to generation.
+mod common;
+use common::{Places, Store, ask, real_node, wait};
+use std::fs;
+use std::path::Path;
+use std::process::Command;
+use store::client::Reply;
+
+/// A generation ends after so few commands.
+const SHORT: [&str; 2] = ["--seal-numbers", "20"];
+
+fn value(number: usize) -> Reply {
+    Reply::Bulk(Some(format!("value-{number}").into_bytes()))
+}
+
+/// Sets keys of these numbers, each at one store after the other.
+fn set(stores: &[&Store], numbers: std::ops::Range<usize>) {
+    for number in numbers {
+        let line = format!("SET key-{number} value-{number}");
+        // (where a peer is lost for a while it is asked again: the value is the same)
+        wait("a majority", || stores[number % stores.len()].ask(&line) == Reply::Simple("OK".into()));
+    }
+}
+
+fn generation(store: &Store) -> usize {
+    store.info("generation").parse().unwrap()
+}
+
+/// The store has all these keys, and is asked without the others.
+fn has_all(store: &Store, numbers: std::ops::Range<usize>) {
+    for number in numbers {
+        let key = format!("key-{number}");
+        wait("a local read", || store.local(&key) == value(number));
+    }
+}
+
+fn copy(from: &Path, to: &Path) {
+    let is_well = Command::new("cp").arg("-r").arg(from).arg(to).status().unwrap().success();
+    assert!(is_well);
+}
+
+#[test]
+fn generations_follow_one_another() {
+    let Some(node) = real_node() else { return };
+    let places = Places::new("generations");
+    let start = || [0, 1, 2].map(|replica| places.start_with(replica, &node, &SHORT));
+    let stores = start();
+    set(&stores.each_ref(), 0..200);
+    for store in &stores {
+        assert!(generation(store) >= 3, "generation {}", generation(store));
+        has_all(store, 0..200);
+    }
+    let told = stores[1].ask("EPAXOS SEAL");
+    let Reply::Bulk(Some(told)) = told else { panic!("{told:?}") };
+    assert!(told.starts_with(b"generation "));
+    let mut stores = stores.map(Some);
+    for store in stores.iter_mut() {
+        assert_eq!(store.take().unwrap().end("TERM"), Some(0));
+    }
+    let stores = start();
+    stores.iter().for_each(|store| has_all(store, 0..200));
+}
+
+#[test]
+fn who_lags_takes_an_opening() {
+    let Some(node) = real_node() else { return };
+    let places = Places::new("lags");
+    let stores = [0, 1, 2].map(|replica| places.start_with(replica, &node, &SHORT));
+    set(&stores.each_ref(), 0..10);
+    let [zero, one, two] = stores;
+    drop(two);
+    for place in 0..3 {
+        set(&[&zero, &one], 10 + 50 * place..60 + 50 * place);
+        assert!(matches!(zero.ask("EPAXOS SEAL"), Reply::Bulk(Some(_))));
+    }
+    assert!(generation(&zero) >= 4);
+    let two = places.start_with(2, &node, &SHORT);
+    wait("the newest generation", || generation(&two) == generation(&zero));
+    assert!(two.told().contains("is taken from a peer"));
+    has_all(&two, 0..160);
+    set(&[&two], 160..170);
+    has_all(&zero, 0..170);
+}
+
+#[test]
+fn a_lost_machine_is_replaced() {
+    let Some(node) = real_node() else { return };
+    let places = Places::new("replaced");
+    let stores = [0, 1, 2].map(|replica| places.start_with(replica, &node, &SHORT));
+    set(&stores.each_ref(), 0..50);
+    let [zero, one, two] = stores;
+    drop(two);
+    // (its node may still be ending)
+    wait("the end of its node", || fs::rename(places.directory(2), places.folder.join("lost")).is_ok());
+    set(&[&zero, &one], 50..100);
+    let mut command = Command::new(env!("CARGO_BIN_EXE_store"));
+    let words = places.command(2, &node);
+    // (an empty folder gets `--new` there)
+    command.args(words.get_args().filter(|word| *word != "--new")).arg("--join");
+    let two = places.launch(&mut command, 2);
+    let wish = "EPAXOS REPLACE 2 ";
+    wait("its identity", || two.told().contains(wish));
+    let told = two.told();
+    let identity = &told.split_once(wish).unwrap().1[..32];
+    assert!(matches!(ask(&mut two.client(), "SET x 1"), Reply::Error(_)));
+    assert!(matches!(one.ask(&format!("{wish}{identity}")), Reply::Bulk(Some(_))));
+    wait("the new machine", || two.told().contains("node process"));
+    has_all(&two, 0..100);
+    set(&[&zero, &one, &two], 100..130);
+    // The old machine is refused.
+    drop(two);
+    wait("its folder", || fs::rename(places.directory(2), places.folder.join("new")).is_ok());
+    copy(&places.folder.join("lost"), &places.directory(2));
+    let mut old = places.launch(&mut places.command(2, &node), 2);
+    wait("its peers", || old.told().contains("knows another replica under this one's number"));
+    assert!(matches!(old.ask("SET x 1"), Reply::Error(_)));
+    assert_eq!(old.end("TERM"), Some(0));
+}
+
+#[test]
+fn an_older_copy_of_a_folder_does_not_speak() {
+    let Some(node) = real_node() else { return };
+    let places = Places::new("older");
+    let long = ["--seal-numbers", "1900"];
+    let stores = [0, 1, 2].map(|replica| places.start_with(replica, &node, &long));
+    set(&stores.each_ref(), 0..20);
+    let [zero, one, two] = stores;
+    drop(two);
+    wait("its folder", || fs::rename(places.directory(2), places.folder.join("older")).is_ok());
+    copy(&places.folder.join("older"), &places.directory(2));
+    let two = places.start_with(2, &node, &long);
+    set(&[&zero, &one, &two], 20..60);
+    drop(two);
+    wait("its folder", || fs::rename(places.directory(2), places.folder.join("newer")).is_ok());
+    copy(&places.folder.join("older"), &places.directory(2));
+    let mut two = places.launch(&mut places.command(2, &node), 2);
+    assert_eq!(two.status(), Some(3));
+    assert!(two.told().contains("the folder is an older copy"), "{}", two.told());
+}

@@ -1,0 +1,171 @@
+//! Locks under kills: clients take, renew and give back locks at three replicas while these are killed, and note what they were told. Then
+//! no two of them had a lock at one time, and tokens rise. `LOCKS_SECONDS` has it go on for longer than its few seconds.
+mod common;
+use common::{Places, real_node};
+use std::collections::HashMap;
+use std::sync::Mutex;
+use std::sync::atomic::{AtomicBool, AtomicUsize, Ordering};
+use std::thread;
+use std::time::{Duration, Instant};
+use store::client::{Client, Reply};
+use store::random::Random;
+
+const LOCKS: u64 = 2;
+const CLIENTS: usize = 12;
+const SECONDS: u64 = 12;
+/// A kill at each replica in turn, after so long at least.
+const PAUSE: Duration = Duration::from_millis(1_500);
+const PATIENCE: Duration = Duration::from_secs(15);
+
+/// That an owner has a lock: surely from when it was told so, until it begins to give it back or its time may be over.
+#[derive(Clone, Copy, PartialEq, Eq, Debug)]
+struct Held {
+    lock: u64,
+    token: i64,
+    owner: usize,
+    /// When it asked first.
+    asked: Duration,
+    from: Duration,
+    until: Duration,
+}
+
+/// Two that had one lock at one time, or whose tokens don't rise as time goes on.
+fn fault(held: &[Held]) -> Option<(Held, Held)> {
+    for (place, first) in held.iter().enumerate() {
+        for second in held[place + 1..].iter().filter(|second| second.lock == first.lock) {
+            let (first, second) = if first.from <= second.from { (first, second) } else { (second, first) };
+            let shares_time = second.from < first.until;
+            let falls = first.from < second.asked && second.token <= first.token;
+            if first.token == second.token || shares_time || falls {
+                return Some((*first, *second));
+            }
+        }
+    }
+    None
+}
+
+#[test]
+fn faults_are_found() {
+    let second = |lock, token, times: [u64; 3]| {
+        let [asked, from, until] = times.map(Duration::from_secs);
+        Held { lock, token, owner: token as usize, asked, from, until }
+    };
+    let first = second(1, 1, [0, 1, 3]);
+    assert_eq!(fault(&[first, second(1, 2, [2, 3, 5]), second(2, 2, [2, 3, 5])]), None);
+    assert!(fault(&[first, second(1, 2, [1, 2, 5])]).is_some());
+    assert!(fault(&[second(1, 2, [1, 2, 5]), first]).is_some());
+    assert!(fault(&[first, second(1, 1, [4, 5, 6])]).is_some());
+    assert!(fault(&[second(1, 3, [0, 1, 2]), second(1, 2, [4, 5, 6])]).is_some());
+}
+
+/// One client: at one replica until that is lost, then at another one.
+struct Owner<'a> {
+    number: usize,
+    ports: &'a [u16],
+    start: Instant,
+    random: Random,
+    client: Option<Client>,
+}
+
+impl Owner<'_> {
+    /// Asks; None where the connection is lost.
+    fn ask(&mut self, words: &[&str]) -> Option<Reply> {
+        if self.client.is_none() {
+            let port = self.ports[self.random.below(self.ports.len() as u64) as usize];
+            self.client = Client::connect(port, PATIENCE).ok();
+        }
+        let words: Vec<_> = words.iter().map(|word| word.as_bytes()).collect();
+        let reply = self.client.as_mut()?.ask(&words).ok();
+        if reply.is_none() {
+            self.client = None;
+        }
+        reply
+    }
+
+    fn wait(&mut self, most: u64) {
+        thread::sleep(Duration::from_millis(self.random.below(most)));
+    }
+
+    /// Takes a lock, has it for a while, maybe renews it, and mostly gives it back: when it had it surely.
+    fn once(&mut self, turn: usize) -> Option<Held> {
+        let lock = self.random.below(LOCKS);
+        let (key, owner) = (format!("lock-{lock}"), format!("{}-{turn}", self.number));
+        let time = 300 + self.random.below(2_000);
+        let asked = self.start.elapsed();
+        let reply = self.ask(&["EPAXOS", "LOCK", &key, &owner, &time.to_string()]);
+        let Some(Reply::Integer(token)) = reply else {
+            self.wait(50);
+            return None;
+        };
+        let from = self.start.elapsed();
+        let mut held =
+            Held { lock, token, owner: self.number, asked, from, until: asked + Duration::from_millis(time) };
+        self.wait(60);
+        if self.random.below(3) == 0 {
+            let asked = self.start.elapsed();
+            match self.ask(&["EPAXOS", "RENEW", &key, &owner, &time.to_string()]) {
+                // (told after the time was over it would be of no use)
+                Some(Reply::Integer(renewed)) => {
+                    assert_eq!(renewed, token);
+                    held.until = asked + Duration::from_millis(time);
+                }
+                Some(Reply::Bulk(None)) => held.until = held.until.min(asked),
+                _ => {}
+            }
+            self.wait(60);
+        }
+        if self.random.below(4) != 0 {
+            held.until = held.until.min(self.start.elapsed());
+            self.ask(&["EPAXOS", "UNLOCK", &key, &owner]);
+        } else {
+            // It sleeps, and whoever comes next takes it over.
+            held.until = held.until.min(self.start.elapsed() + Duration::from_millis(time));
+        }
+        Some(held).filter(|held| held.from < held.until)
+    }
+}
+
+#[test]
+fn no_two_have_a_lock() {
+    let Some(node) = real_node() else { return };
+    let seconds = std::env::var("LOCKS_SECONDS").ok().and_then(|text| text.parse().ok()).unwrap_or(SECONDS);
+    let time = Duration::from_secs(seconds);
+    let places = Places::new("locks");
+    let stores = [0, 1, 2].map(|replica| Mutex::new(Some(places.start(replica, &node))));
+    let ports = [0, 1, 2].map(|replica| places.port(replica));
+    let (start, is_over, turns) = (Instant::now(), AtomicBool::new(false), AtomicUsize::new(0));
+    let mut kills = 0;
+    let held: Vec<Held> = thread::scope(|scope| {
+        let owners: Vec<_> = (0..CLIENTS)
+            .map(|number| {
+                let (ports, is_over, turns) = (&ports, &is_over, &turns);
+                scope.spawn(move || {
+                    let random = Random::from_seed(0x9e37_79b9 * (number as u64 + 1));
+                    let mut owner = Owner { number, ports, start, random, client: None };
+                    let mut held = Vec::new();
+                    while !is_over.load(Ordering::Relaxed) {
+                        held.extend(owner.once(turns.fetch_add(1, Ordering::Relaxed)));
+                    }
+                    held
+                })
+            })
+            .collect();
+        let mut random = Random::from_seed(7);
+        while start.elapsed() < time {
+            thread::sleep(PAUSE + Duration::from_millis(random.below(1_000)));
+            let replica = random.below(3) as usize;
+            // (a store that is let go is killed)
+            *stores[replica].lock().unwrap() = None;
+            thread::sleep(Duration::from_millis(random.below(800)));
+            *stores[replica].lock().unwrap() = Some(places.start(replica, &node));
+            kills += 1;
+        }
+        is_over.store(true, Ordering::Relaxed);
+        owners.into_iter().flat_map(|owner| owner.join().unwrap()).collect()
+    });
+    let mut by_lock = HashMap::<u64, usize>::new();
+    held.iter().for_each(|held| *by_lock.entry(held.lock).or_default() += 1);
+    println!("{} tries, {} holders, {kills} kills, {} s", turns.into_inner(), held.len(), start.elapsed().as_secs());
+    assert_eq!(fault(&held), None);
+    assert!(by_lock.len() == LOCKS as usize && held.len() > 20, "{by_lock:?}");
+}
