@@ -118,7 +118,8 @@ impl Action {
     /// Whether what lies there afterwards doesn't depend on what was there before.
     pub fn is_blind(&self) -> bool {
         match self {
-            Action::Set(set) => set.only == Only::Always && set.keep != Keep::As,
+            // (one that tells what was there isn't done to a lock)
+            Action::Set(set) => set.only == Only::Always && set.keep != Keep::As && set.tells != Tells::Before,
             Action::Delete => true,
             _ => false,
         }
@@ -126,7 +127,7 @@ impl Action {
 
     /// Whether its reply doesn't depend on what was there before either.
     pub fn is_told_blindly(&self) -> bool {
-        self.is_blind() && matches!(self, Action::Set(set) if set.tells != Tells::Before)
+        self.is_blind() && matches!(self, Action::Set(_))
     }
 
     /// Whether it changes nothing, unless something is past its deadline.
@@ -147,42 +148,35 @@ impl Action {
     /// Does it at this time. What is past its deadline isn't there. Where it can't be done nothing changes.
     pub fn apply(&self, current: Option<Stored>, now: u64) -> Done {
         let current = current.filter(|stored| !stored.is_over(now));
-        match self.attempt(current.clone(), now) {
+        if self.only_reads() {
+            let reply = self.read(&current, now).unwrap_or_else(Reply::Error);
+            return (current, reply);
+        }
+        match self.write(current.clone(), now) {
             Ok(done) => done,
             Err(fault) => (current, Reply::Error(fault)),
         }
     }
 
-    fn attempt(&self, current: Option<Stored>, now: u64) -> Result<Done, CommandFault> {
+    /// The reply of an action that only reads.
+    fn read(&self, current: &Option<Stored>, now: u64) -> Result<Reply, CommandFault> {
+        let number = |time: Result<u64, i64>, unit: &Unit| time.map_or_else(|none| none, |time| unit.rounded(time));
+        Ok(match self {
+            Action::Get => bulk(content(current)?),
+            Action::Peek => bulk(content(current).unwrap_or(None)),
+            Action::Length => Reply::Integer(content(current)?.map_or(0, <[u8]>::len) as i64),
+            Action::Exists => Reply::Integer(current.is_some().into()),
+            Action::Kind => Reply::Simple(current.as_ref().map_or("none", Stored::kind)),
+            Action::TimeLeft(unit) => Reply::Integer(number(time_left(current, now), unit)),
+            Action::Deadline(unit) => Reply::Integer(number(deadline(current), unit)),
+            Action::Holder => holder(current, now)?,
+            _ => Reply::Nil,
+        })
+    }
+
+    /// What an action that writes does.
+    fn write(&self, current: Option<Stored>, now: u64) -> Result<Done, CommandFault> {
         match self {
-            Action::Get => {
-                let reply = bulk(content(&current)?);
-                Ok((current, reply))
-            }
-            Action::Peek => {
-                let reply = bulk(content(&current).unwrap_or(None));
-                Ok((current, reply))
-            }
-            Action::Length => {
-                let length = content(&current)?.map_or(0, <[u8]>::len);
-                Ok((current, Reply::Integer(length as i64)))
-            }
-            Action::Exists => {
-                let is_there = current.is_some();
-                Ok((current, Reply::Integer(is_there.into())))
-            }
-            Action::Kind => {
-                let kind = current.as_ref().map_or("none", Stored::kind);
-                Ok((current, Reply::Simple(kind)))
-            }
-            Action::TimeLeft(unit) => {
-                let left = time_left(&current, now);
-                Ok((current, Reply::Integer(left.map_or_else(|none| none, |left| unit.rounded(left)))))
-            }
-            Action::Deadline(unit) => {
-                let deadline = deadline(&current);
-                Ok((current, Reply::Integer(deadline.map_or_else(|none| none, |deadline| unit.rounded(deadline)))))
-            }
             Action::Set(set) => set.attempt(current),
             Action::Delete => Ok((None, Reply::Integer(current.is_some().into()))),
             Action::GetDelete => Ok((None, bulk(content(&current)?))),
@@ -200,10 +194,6 @@ impl Action {
             Action::Lock { owner, deadline } => take(current, owner, *deadline, now),
             Action::Renew { owner, deadline } => renew(current, owner, *deadline, now),
             Action::Unlock { owner } => unlock(current, owner, now),
-            Action::Holder => {
-                let reply = holder(&current, now)?;
-                Ok((current, reply))
-            }
             Action::DeleteIfEqual(value) => {
                 if content(&current)? == Some(value) {
                     Ok((None, Reply::Integer(1)))
@@ -212,7 +202,8 @@ impl Action {
                 }
             }
             Action::ExtendIfEqual { value, time } => extend(current, value, *time, now),
-            Action::Tidy => Ok((current, Reply::Nil)),
+            // (what is past its deadline is gone already)
+            _ => Ok((current, Reply::Nil)),
         }
     }
 }
@@ -408,4 +399,111 @@ fn extend(current: Option<Stored>, value: &[u8], time: Extension, now: u64) -> R
     };
     let deadline = u64::try_from(deadline).unwrap_or(0);
     Ok((Keep::At(deadline).applied(current, now), Reply::Integer(1)))
+}
+
+#[cfg(test)]
+mod tests {
+    use super::*;
+
+    const NOW: u64 = 1_000;
+
+    /// Each thing that may lie there.
+    fn all_stored() -> Vec<Option<Stored>> {
+        let value = |content: &str, deadline| Some(Stored::Value { content: content.into(), deadline });
+        let lock = |token, holder: Option<(&str, u64)>| {
+            let holder = holder.map(|(owner, deadline)| Holder { owner: owner.into(), deadline });
+            Some(Stored::Lock(Lock { token, holder }))
+        };
+        vec![
+            None,
+            value("", None),
+            value("5", None),
+            value("a", None),
+            value("5", Some(NOW + 100)),
+            value("5", Some(NOW)),
+            lock(1, None),
+            lock(2, Some(("me", NOW + 100))),
+            lock(3, Some(("you", NOW + 100))),
+            lock(4, Some(("me", NOW))),
+            lock(i64::MAX as u64, None),
+        ]
+    }
+
+    /// Each action, and each SET.
+    fn all_actions() -> Vec<Action> {
+        let mut all = vec![
+            Action::Get,
+            Action::Peek,
+            Action::Length,
+            Action::Exists,
+            Action::Kind,
+            Action::TimeLeft(Unit::Seconds),
+            Action::Deadline(Unit::Milliseconds),
+            Action::Delete,
+            Action::GetDelete,
+            Action::Add(1),
+            Action::Append(b"1".to_vec()),
+            Action::Expire { deadline: 1_200, only: OnlyExpire::default() },
+            Action::Expire { deadline: -5, only: OnlyExpire { later: true, ..OnlyExpire::default() } },
+            Action::Persist,
+            Action::Lock { owner: b"me".to_vec(), deadline: 1_300 },
+            Action::Renew { owner: b"me".to_vec(), deadline: 1_300 },
+            Action::Unlock { owner: b"me".to_vec() },
+            Action::Holder,
+            Action::DeleteIfEqual(b"5".to_vec()),
+            Action::ExtendIfEqual { value: b"5".to_vec(), time: Extension::By(10) },
+            Action::Tidy,
+        ];
+        for keep in [Keep::None, Keep::As, Keep::At(1_500), Keep::At(NOW)] {
+            all.push(Action::GetExpire(keep));
+            for only in [Only::Always, Only::IfAbsent, Only::IfPresent, Only::IfEqual(b"5".to_vec())] {
+                for tells in [Tells::Ok, Tells::Before, Tells::Number] {
+                    all.push(Action::Set(Set { value: b"7".to_vec(), keep, only: only.clone(), tells }));
+                }
+            }
+        }
+        all
+    }
+
+    #[test]
+    fn what_is_blind_and_what_only_reads() {
+        for action in all_actions() {
+            for stored in all_stored() {
+                let live = stored.clone().filter(|stored| !stored.is_over(NOW));
+                let (after, reply) = action.apply(stored.clone(), NOW);
+                if action.is_blind() {
+                    let (blindly, told) = action.apply(None, NOW);
+                    assert_eq!(after, blindly, "{action:?} of {stored:?}");
+                    assert!(!action.is_told_blindly() || reply == told, "{action:?} of {stored:?}");
+                }
+                // Who reads, and who is refused, changes nothing.
+                if action.only_reads() || matches!(reply, Reply::Error(_)) {
+                    assert_eq!(after, live, "{action:?} of {stored:?}");
+                }
+                // What is past its deadline is as if it weren't there.
+                assert_eq!(action.apply(live, NOW), (after, reply), "{action:?} of {stored:?}");
+            }
+        }
+    }
+
+    #[test]
+    fn tokens_rise_and_holders_are_alone() {
+        let take = |owner: &str, deadline| Action::Lock { owner: owner.into(), deadline };
+        let (first, reply) = take("a", 2_000).apply(None, NOW);
+        assert_eq!(reply, Reply::Integer(1));
+        assert_eq!(take("b", 3_000).apply(first.clone(), 1_999), (first.clone(), Reply::Nil));
+        // Who has it already has it for no less long.
+        assert_eq!(take("a", 1_500).apply(first.clone(), NOW), (first.clone(), Reply::Integer(1)));
+        let (second, reply) = take("b", 3_000).apply(first, 2_000);
+        assert_eq!(reply, Reply::Integer(2));
+        let unlock = Action::Unlock { owner: b"a".to_vec() };
+        assert_eq!(unlock.apply(second.clone(), 2_500), (second.clone(), Reply::Integer(0)));
+        let renew = Action::Renew { owner: b"b".to_vec(), deadline: 4_000 };
+        assert_eq!(renew.apply(second.clone(), 3_000), (second.clone(), Reply::Nil));
+        let (_, reply) = renew.apply(second, 2_999);
+        assert_eq!(reply, Reply::Integer(2));
+        // There is no token beyond those that a client's integers hold.
+        let last = Some(Stored::Lock(Lock { token: i64::MAX as u64, holder: None }));
+        assert_eq!(take("a", 2_000).apply(last.clone(), NOW), (last, Reply::Error(CommandFault::Overflow)));
+    }
 }
