@@ -46,7 +46,9 @@ ROWS = (
     "audit-of-another-entry",
     "audit-caller-order",
     "upgrade-of-one-proposal",
-    "docs/FORMATS.md, script for a run ",
+    "examples/two_sections.run",
+    "examples/weather.run",
+    "examples/lock.run",
 )
 # what is run on devices that fail, all but audits and upgrades: the words, and the script
 DEVICES = (("replay",), ("replay", "--emit", "bundle"), ("run",), ("run", "--host", "ring"), ("run", "--emit", "bundle"))

@@ -12,7 +12,7 @@ A row is a folder .ci/rows/NAME with files, each of which may lack:
   stdout stderr status     what is wanted: nothing, nothing and 0 where there is no such file; stdout.gz: packed
 PROGRAM is ep_main as it was built; what begins with `node`, `collect` or `contents` is run by ep_server, and what begins with `show`, `explain`,
 `draw` or `trace-events`, and traces, by ep_viewer, which were built as it was. Runs of `epaxos node`, and of `collect` on its logs, are in .ci/nodes.py.
-More rows are made of the scripts and reports in docs/FORMATS.md, examples/ and .ci/scripts/ (NAME.script is played, NAME.run is run
+More rows are made of the scripts and reports in examples/ and .ci/scripts/ (NAME.script is played, NAME.run is run
 by both hosts, and where there is a NAME.trace or a NAME.svg, NAME.script is traced
 or drawn), and by .ci/made.py, .ci/words.py, .ci/cases.py, .ci/odd.py, .ci/faults.py, .ci/generations.py, .ci/collected.py and .ci/looks.py. What .ci/drawn.py draws by
 chance is looked at too.
@@ -197,13 +197,7 @@ def hosted(name, words, script, reports):
 
 
 def written():
-    """The rows of scripts and reports that stand as files, or in the page on formats."""
-    with open(f"{TOP}/docs/FORMATS.md", "rb") as it:
-        page = it.read()
-    for place, (script, report) in enumerate(re.findall(rb"\n```script\n(.*?)```\n```report\n(.*?)```\n", page, re.S)):
-        yield from played(f"docs/FORMATS.md, script {place + 1}", script, report)
-    for place, (script, report) in enumerate(re.findall(rb"\n```script-run\n(.*?)```\n```report\n(.*?)```\n", page, re.S)):
-        yield from hosted(f"docs/FORMATS.md, script for a run {place + 1}", [], script, [report])
+    """The rows of scripts and reports that stand as files."""
     for folder in ("examples", ".ci/scripts"):
         for name in sorted(os.listdir(f"{TOP}/{folder}")):
             stem, kind = os.path.splitext(name)

@@ -38,6 +38,8 @@ pub enum Event {
     Came { from: u8, bytes: Vec<u8> },
     /// A connection to this peer was opened.
     PeerReached(u8),
+    /// It has opened one to this replica.
+    PeerCame(u8),
     /// The core answers nothing any more, in the run of this number.
     NodeEnded(u64),
     /// A client asks.
@@ -414,6 +416,7 @@ impl<C: Core> Driver<C> {
             Event::Came { from, bytes } if Message::is_one(&bytes) => self.hear(from, &bytes)?,
             Event::Came { from, bytes } => self.take_frame(from, bytes, batch),
             Event::PeerReached(peer) => self.greet(peer),
+            Event::PeerCame(peer) => self.peers.hurry(peer),
             Event::NodeEnded(run) if run == self.node.run() => return Err(Stop::Node(self.node.ended())),
             Event::NodeEnded(_) => {}
             Event::End => self.end(),

@@ -53,6 +53,10 @@ impl Joining<'_> {
                     continue;
                 }
                 Event::End => return Err(Stop::Asked),
+                Event::PeerCame(peer) => {
+                    self.peers.hurry(peer);
+                    continue;
+                }
                 Event::NodeEnded(_) => continue,
             };
             match message {

@@ -25,6 +25,8 @@ const TICK: Duration = Duration::from_secs(1);
 const MOST_WAIT_FOR_PEERS: Duration = Duration::from_millis(100);
 /// A replica that lags closes by itself in this time, or takes the opening of another one.
 const BEHIND: Duration = Duration::from_millis(150);
+/// Who asked for something is told no once so many generations have begun without it.
+const MOST_GENERATIONS: u32 = 3;
 /// Who was told to end waits so long for what is under way.
 const MOST_WAIT_FOR_END: Duration = Duration::from_secs(5);
 
@@ -339,6 +341,8 @@ impl<C: Core> Driver<C> {
             };
             if is_so {
                 wish.reply.send(Told::Managed(Ok(format!("generation {now}"))));
+            } else if now >= wish.generation + MOST_GENERATIONS {
+                wish.reply.send(Told::Managed(Err("others asked for something else".into())));
             } else {
                 self.generation.is_asked = true;
                 self.wishes.push(wish);

@@ -4,7 +4,7 @@
 //! by which both ends know each other. Then come frames; the other way goes a message each second, so that a peer whose
 //! machine or network is gone is noticed. A frame that can't be sent is lost: the protocol allows for it.
 use crate::driver::Event;
-use crate::identities::Identities;
+use crate::identities::{Identities, Identity};
 use crate::say::say;
 use crate::sealed::{self, Channel, Direction, Hello, Key};
 use crate::timed::Timed;
@@ -100,6 +100,15 @@ impl Peers {
         }
     }
 
+    /// A peer has connected: the connection to it is tried at once, where it is lost.
+    pub fn hurry(&self, to: u8) {
+        if let Some(Some(link)) = self.links.get(usize::from(to))
+            && !self.is_reached(to)
+        {
+            link.hurry();
+        }
+    }
+
     /// Sends a frame or a message of this host, or loses it.
     pub fn send(&self, to: u8, frame: Vec<u8>) {
         if let Some(Some(link)) = self.links.get(usize::from(to)) {
@@ -124,6 +133,8 @@ struct Queue {
     bytes: usize,
     /// Why the connection is over, if the other end has told or is silent.
     over: Option<&'static str>,
+    /// Whether the peer was seen to be there since the last try to connect.
+    has_come: bool,
 }
 
 struct Link {
@@ -132,6 +143,7 @@ struct Link {
     membership: Arc<Membership>,
     queue: Mutex<Queue>,
     changed: Condvar,
+    came: Condvar,
     is_reached: AtomicBool,
     lost: AtomicU64,
 }
@@ -144,6 +156,7 @@ impl Link {
             membership,
             queue: Mutex::default(),
             changed: Condvar::new(),
+            came: Condvar::new(),
             is_reached: AtomicBool::new(false),
             lost: AtomicU64::new(0),
         }
@@ -209,9 +222,23 @@ impl Link {
                 was_lost = true;
                 say(&format!("peer {} at {} lost: {cause}", self.to, self.address()));
             }
-            thread::sleep(pause);
+            self.rest(pause);
             pause = (pause * 2).min(GREATEST_PAUSE);
         }
+    }
+
+    /// Waits until the next try to connect, or until the peer was seen to be there.
+    fn rest(&self, pause: Duration) {
+        let queue = self.queue();
+        let waited = self.came.wait_timeout_while(queue, pause, |queue| !queue.has_come);
+        let (mut queue, _) = waited.unwrap_or_else(|poisoned| poisoned.into_inner());
+        queue.has_come = false;
+    }
+
+    /// The peer is there: its connection is tried at once.
+    fn hurry(&self) {
+        self.queue().has_come = true;
+        self.came.notify_one();
     }
 
     fn connect(&self) -> Result<(TcpStream, Channel), Refused> {
@@ -400,8 +427,8 @@ pub fn listen(listener: TcpListener, receiving: &Arc<Receiving>) {
         let started = thread::Builder::new().name("from a peer".into()).spawn(move || {
             let greeted = served.greet(&stream);
             served.greeted(number);
-            if let Ok(Some((from, channel))) = greeted {
-                let _ = served.receive(from, &stream, channel);
+            if let Ok(Some((from, identity, channel))) = greeted {
+                let _ = served.receive((from, identity), &stream, channel);
             }
             // There may be other handles of the connection, so it doesn't end with this one.
             let _ = stream.shutdown(Shutdown::Both);
@@ -418,7 +445,7 @@ const REFUSED: u8 = 0;
 impl Receiving {
     /// Reads a greeting and answers it: the replica that greets, if it has the key and is known under its number. Whoever
     /// hasn't the key is told nothing about this replica.
-    fn greet(&self, stream: &TcpStream) -> io::Result<Option<(u8, Channel)>> {
+    fn greet(&self, stream: &TcpStream) -> io::Result<Option<(u8, Identity, Channel)>> {
         stream.set_nodelay(true)?;
         stream.set_write_timeout(Some(WRITE_PATIENCE))?;
         let mut timed = Timed::new(stream, GREETING_PATIENCE);
@@ -438,7 +465,7 @@ impl Receiving {
         let mut answer = vec![if is_known { ACCEPTED } else { REFUSED }];
         answer.extend(self.membership.identities.own());
         channel.sending.write(&mut timed, GREETING, &answer)?;
-        Ok(is_known.then_some((from, channel)))
+        Ok(is_known.then_some((from, identity, channel)))
     }
 
     /// Tells of a stranger, once.
@@ -453,20 +480,31 @@ impl Receiving {
     }
 
     /// Takes a replica's frames until its connection is over.
-    fn receive(&self, from: u8, stream: &TcpStream, channel: Channel) -> io::Result<()> {
+    fn receive(&self, whose: (u8, Identity), stream: &TcpStream, channel: Channel) -> io::Result<()> {
         let Channel { sending, receiving } = channel;
         stream.set_read_timeout(None)?;
-        self.replace(from, stream.try_clone()?);
+        self.replace(whose.0, stream.try_clone()?);
+        // It is there, so that the connection to it needn't wait for its next try.
+        if self.events.send(Event::PeerCame(whose.0)).is_err() {
+            return Ok(());
+        }
         let beating = stream.try_clone()?;
         thread::Builder::new().name("beats".into()).stack_size(64 << 10).spawn(move || beat(beating, sending))?;
-        self.take_frames(from, stream, receiving)
+        self.take_frames(whose, stream, receiving)
     }
 
-    fn take_frames(&self, from: u8, stream: &TcpStream, mut receiving: Direction) -> io::Result<()> {
+    fn take_frames(
+        &self,
+        (from, identity): (u8, Identity),
+        stream: &TcpStream,
+        mut receiving: Direction,
+    ) -> io::Result<()> {
         let mut reader = BufReader::with_capacity(1 << 16, stream);
         loop {
             let (kind, bytes) = receiving.read(&mut reader, LONGEST_FRAME)?;
-            if kind != FRAME || bytes.len() < SHORTEST_FRAME {
+            // (a seal may have named another machine since)
+            let is_known = self.membership.identities.of(from) == Some(identity);
+            if kind != FRAME || bytes.len() < SHORTEST_FRAME || !is_known {
                 return Err(io::ErrorKind::InvalidData.into());
             }
             if self.events.send(Event::Came { from, bytes }).is_err() {
@@ -535,6 +573,7 @@ mod tests {
         link.push(vec![8; LONGEST_FRAME]);
         thread::scope(|scope| {
             scope.spawn(|| link.send_all(stream.try_clone().unwrap(), channel));
+            assert!(matches!(events.recv().unwrap(), Event::PeerCame(0)));
             let taken = [events.recv().unwrap(), events.recv().unwrap()];
             assert!(
                 matches!(&taken, [Event::Came { from: 0, bytes: a }, Event::Came { from: 0, bytes: b }] if *a == [7; SHORTEST_FRAME] && b.len() == LONGEST_FRAME)

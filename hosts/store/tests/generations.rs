@@ -69,14 +69,17 @@ fn who_lags_takes_an_opening() {
     set(&stores.each_ref(), 0..10);
     let [zero, one, two] = stores;
     drop(two);
-    set(&[&zero, &one], 10..150);
-    assert!(generation(&zero) >= 3);
+    for place in 0..3 {
+        set(&[&zero, &one], 10 + 50 * place..60 + 50 * place);
+        assert!(matches!(zero.ask("EPAXOS SEAL"), Reply::Bulk(Some(_))));
+    }
+    assert!(generation(&zero) >= 4);
     let two = places.start_with(2, &node, &SHORT);
     wait("the newest generation", || generation(&two) == generation(&zero));
     assert!(two.told().contains("is taken from a peer"));
-    has_all(&two, 0..150);
-    set(&[&two], 150..160);
-    has_all(&zero, 0..160);
+    has_all(&two, 0..160);
+    set(&[&two], 160..170);
+    has_all(&zero, 0..170);
 }
 
 #[test]

@@ -172,14 +172,20 @@ impl Cluster {
     pub fn kill(&self, replica: usize, target: Target) -> Result<(), String> {
         let Some(mut child) = self.running[replica].lock().unwrap().take() else { return Ok(()) };
         let group = format!("-{}", child.id());
-        let node = self.node_process(replica);
+        let node = node_process(child.id());
         match (target, node) {
             (Target::Store, _) => signal("KILL", &child.id().to_string()),
             (Target::Node, Some(node)) => signal("KILL", &node),
             _ => signal("KILL", &group),
         }
         signal("CONT", &group);
-        let Some(status) = end_within(&mut child, Duration::from_secs(10)) else {
+        let mut status = end_within(&mut child, Duration::from_secs(10));
+        if status.is_none() && node_process(child.id()).is_some() {
+            // (it was just between two generations, and has another node by now)
+            signal("KILL", &group);
+            status = end_within(&mut child, Duration::from_secs(10));
+        }
+        let Some(status) = status else {
             signal("KILL", &group);
             return Err(format!("the store of replica {replica} hasn't ended though its node was killed"));
         };
@@ -250,12 +256,6 @@ impl Cluster {
         }
     }
 
-    /// The node's process, by the last line of the store that names it.
-    fn node_process(&self, replica: usize) -> Option<String> {
-        let told = std::fs::read_to_string(self.told(replica)).ok()?;
-        Some(told.rsplit_once("node process ")?.1.lines().next()?.to_string())
-    }
-
     /// Stops or continues both processes of a replica.
     pub fn pause(&self, replica: usize, is_paused: bool) {
         if let Some(child) = &*self.running[replica].lock().unwrap() {
@@ -302,6 +302,13 @@ impl Drop for Cluster {
             let _ = self.kill(replica, Target::Both);
         }
     }
+}
+
+/// The node's process, which is the store's only child.
+fn node_process(store: u32) -> Option<String> {
+    let tasks = std::fs::read_dir(format!("/proc/{store}/task")).ok()?.flatten();
+    let children = tasks.filter_map(|task| std::fs::read_to_string(task.path().join("children")).ok());
+    children.flat_map(|all| all.split_whitespace().map(str::to_string).collect::<Vec<_>>()).next()
 }
 
 /// The newest generation that a store's folder has.
