@@ -159,7 +159,8 @@ impl Cluster {
             Some(Plant::Early) => _ = command.args(["--plant", "early"]),
             Some(Plant::Changed) => _ = command.args(["--plant", "changed"]),
             // A store that isn't told to wouldn't start over a log that lacks what clients were told.
-            Some(Plant::Emptied | Plant::Unsynced) => _ = command.args(["--plant", "forgetful"]),
+            Some(Plant::Again) => _ = command.args(["--plant", "again"]),
+            Some(Plant::Emptied | Plant::Unsynced | Plant::Older) => _ = command.args(["--plant", "forgetful"]),
             None => {}
         }
         let child = command.stdin(Stdio::null()).stderr(told).process_group(0).spawn()?;
@@ -229,6 +230,16 @@ impl Cluster {
         }
         wait_for(|| said()?.contains(COMES_IN).then_some(()))
             .ok_or(format!("the new machine of replica {replica} doesn't come in: {:?}", said()))
+    }
+
+    /// Keeps a copy of a replica's folder, where there is none; else has it come back.
+    pub fn turn_back(&self, replica: usize) -> Result<(), String> {
+        let (folder, older) = (self.folder(replica), self.directory.join(format!("{replica}-older")));
+        wait_for(|| is_free(&folder).then_some(())).ok_or(format!("the node of replica {replica} doesn't end"))?;
+        let (from, to) = if older.exists() { (&older, &folder) } else { (&folder, &older) };
+        let _ = std::fs::remove_dir_all(to);
+        let copied = Command::new("cp").arg("-r").args([from, to]).status().map_err(|error| error.to_string())?;
+        if copied.success() { Ok(()) } else { Err(format!("{} can't be copied", from.display())) }
     }
 
     /// Asks a replica to end its generation, without waiting.
