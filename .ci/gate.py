@@ -25,6 +25,7 @@ import disks
 import generations
 import lanes
 import launcher
+import moved
 import page
 import rows
 import store
@@ -169,6 +170,18 @@ def refused_memory():
                 file.write(it.bundle())
         for chain in (names, names[::-1]):
             yield swept("refused-memory", ["ep_main", "--", "audit", "--chain", *chain], b"")
+        print("logs of version 2 whose opening is made, and logs that are refused, with each allocation refused:", flush=True)
+        for name, it in (("both", moved.Apart(True)), ("waits", moved.Apart(False))):
+            for log, held in moved.kept(it).items():
+                with open(f"{folder}/{name}-{log}", "wb") as file:
+                    file.write(held)
+            yield swept("refused-memory", ["ep_server", MOST, "--", "upgrade", "--log", *(f"{folder}/{name}-{log}" for log in moved.kept(it))], b"")
+
+
+def refused_starts():
+    """Refuses allocations in starts of a node in a folder, and says whether they passed."""
+    print("a node's starts in a folder, with each allocation refused:", flush=True)
+    yield swept("refused-memory", ["--dir", MOST])
 
 
 def refused_views():
@@ -258,7 +271,7 @@ PARTS = (
     Part("help", lambda: counted("tools/help-texts", "check")),
     Part("disks", disks.tried),
     Part("page", lambda: page.tried(PROGRAM)),
-    Part("refused memory", lambda: sweeps(refused_memory, refused_views)),
+    Part("refused memory", lambda: sweeps(refused_memory, refused_starts, refused_views)),
     Part("failing devices", lambda: sweeps(failing_devices)),
     Part("turned bundles", lambda: sweeps(lambda: [swept("turned-bundles", [])])),
     Part("lives", lives),

@@ -30,6 +30,10 @@ NONE = bytes(4)
 FRAME = "45500201 0001 000000000001 0000000000000001 000001 0000000000000000000001 03 01 0001 0000 7831"
 TAKEN = bytes.fromhex(f"00000047 01 00000001 00000001 0000000000000001 000001 0001 01 0000002a {FRAME} 0000")
 SYNCED, LEADING = bytes.fromhex("00000005 06 00000001"), bytes.fromhex("00000004 05 01 01 00")
+# What there is to tell of that entry: one frame, and 0.1 is open since entry 1 and led; and of entries behind it nothing.
+READY, REST = asked(13, "00000000 01"), asked(13, "00000001 00")
+TOLD = bytes.fromhex(f"0000004f 09 00000001 00 00000001 01 0000002a {FRAME} 00000000 00000000 00000000 01 000001 00000001 01 00")
+TOLD_NOTHING = bytes.fromhex("00000017 09 00000001 00 00000000 00000000 00000000 00000000 00")
 NO_VALUE, NOTHING = bytes.fromhex("00000002 03 00"), bytes.fromhex("00000005 06 00000000")
 # The bundle of that log and of two without entries.
 ENTRY = f"01 0000000000000001 00000001 00000001 0000000000000000 03 01 0001 78 31 0001 0000002a {FRAME} 0000"
@@ -49,7 +53,10 @@ def refused(fault):
 # Requests that are whole and malformed, and how they are answered; the node goes on behind each.
 MALFORMED = (
     ("kind 0", asked(0), malformed(1, 4)),
-    ("kind 13 with a body", asked(13, "0102"), malformed(1, 4)),
+    ("kind 14 with a body", asked(14, "0102"), malformed(1, 4)),
+    ("a cut count of told entries", asked(13, "000000"), malformed(19, 5)),
+    ("no count of open instances", asked(13, "00000000"), malformed(20, 9)),
+    ("a byte behind both counts", asked(13, "000000000000"), malformed(12, 10)),
     ("client 0", put(0, 1, b"x", b"1"), malformed(2, 5)),
     ("request 0", put(1, 0, b"x", b"1"), malformed(3, 9)),
     ("a cut seen stamp", asked(1, "00000001 00000001 000000"), malformed(4, 13)),
@@ -100,6 +107,7 @@ def first_starts(program, folder):
     yield "node, --new and a log", differs(run(node(program, log, "--new"), SYNC), (2, b"", there))
     yield "node, the log after that", differs(open(log, "rb").read(), held)
     yield "node, come back", differs(run(node(program, log), SYNC + LEADS), (0, SYNCED + LEADING, b""))
+    yield "node, what there is to tell", differs(run(node(program, log), READY + REST), (0, TOLD + TOLD_NOTHING, b""))
     yield "node, no request", differs(run(node(program, log), SYNC + NONE), (2, SYNCED, b"request refused at byte 5\n"))
     another = b"log refused: a log of another cluster or replica\n"
     yield "node, the log of another", differs(run(node(program, log, replica=1), SYNC), (2, b"", another))

@@ -1,27 +1,25 @@
 -- Generations, one after the other, are a chain of the rule book.
-use Rattle.std.proofs.Common.{◌≡◌, ◌≢◌, ℕ, zero, suc, ◌+◌, ◌<◌, ◌≤◌, ◌⊎◌, inl, inr, true, IfOk, Result, Ok, Err, Option, Some, None, List, [], ◌∷◌, ◌++◌, length, slice_get, refl, sym, ap, ap₂, subst, ◌∙◌, arith}
+use Rattle.std.proofs.Common.{◌≡◌, ◌≢◌, ℕ, zero, suc, ◌+◌, ◌<◌, ◌≤◌, ◌⊎◌, inl, inr, IfOk, Result, Ok, Err, Option, Some, None, List, [], ◌∷◌, ◌++◌, length, slice_get, refl, sym, ap, subst, ◌∙◌, arith}
 use Rattle.std.proofs.lemmas.Bool.{cases_lt}
 use Rattle.std.specs.Prelude.{IfErr, MatchOption}
-use Rattle.ep_base.specs.Commands.{Command, Seal}
-use Rattle.ep_base.specs.Interference.{is_seal}
 use Rattle.ep_base.specs.Quorums.{size}
-use Rattle.ep_journal.specs.Entries.{AreJournals, Collected, IsAbove, entries_at, entries_of, entry_of, journals_of}
+use Rattle.ep_journal.specs.Entries.{AreJournals, Collected, IsAbove, entries_at, entries_of, journals_of}
 use Rattle.ep_journal.specs.Openings.{opens}
 use Rattle.ep_journal.specs.declared.entry.Entry.{Entry as Written}
-use Rattle.ep_report.specs.declared.chain_fault.ChainFault.{ChainFault}
-use Rattle.ep_report.specs.declared.closing.Closing.{Closing}
-use Rattle.ep_rules.specs.Chains.{Closing as Closes, IsChain, ClocksGoOn, Explains, histories, history_from, store_left}
+use Rattle.ep_audit.specs.declared.chain_fault.ChainFault.{ChainFault}
+use Rattle.ep_audit.specs.declared.closing.Closing.{Closing}
+use Rattle.ep_rules.specs.Chains.{Closing as Closes, IsChain, ClocksGoOn, histories, history_from, store_left}
 use Rattle.ep_rules.specs.Generations.{joined, place_in, HasIn}
-use Rattle.ep_rules.specs.Journals.{AreNumbered, Entry, Journals, Scheduled}
+use Rattle.ep_rules.specs.Journals.{AreNumbered, Entry, Scheduled}
 use Rattle.ep_rules.specs.Merging.{Merges}
-use Rattle.ep_rules.specs.OneMap.{Contents, opened}
+use Rattle.ep_rules.specs.OneMap.{opened}
 use Rattle.ep_rules.specs.Worlds.{In}
-use Rattle.ep_rules.specs.Verdicts.{Agrees, command_at}
+use Rattle.ep_rules.specs.Verdicts.{Agrees}
 use Rattle.ep_rules.specs.declared.receipt.Receipt.{Receipt}
 use Rattle.ep_rules.proofs.ChainsExplained.{chains_explain_lem, chains_keep_callers_lem}
-use Rattle.ep_verdict.specs.Closings.{operations_in}
-use Rattle.ep_verdict.specs.Verdicts.{places_of}
-use Rattle.ep_verdict.specs.declared.verdict.Verdict.{Verdict}
+use Rattle.ep_audit.specs.Closings.{operations_in}
+use Rattle.ep_audit.specs.Verdicts.{places_of}
+use Rattle.ep_audit.specs.declared.verdict.Verdict.{Verdict}
 use Rattle.ep_audit.specs.Audited.{IsOneClosing}
 use Rattle.ep_audit.specs.Chained.{AreLinked, GoesOn, IsChainFault, IsChainRefused, IsChained, IsGood, IsJudged, IsParted, IsReached, parted, refused, unclosed, faults_at, faults_in, journals_at, journals_in, map_after, map_in, maps_at, number_of, receipts_at, receipts_in}
 use Rattle.ep_audit.specs.Following.{IsOwnFault, IsUnfollowed, IsUnfollowedBy, IsUnjudged, left_open, refused_by, parted_by}

@@ -1,23 +1,20 @@
 -- Journals that are accepted have one closing.
-use Rattle.std.proofs.Common.{◌≡◌, ℕ, zero, suc, ◌<◌, ◌≤◌, Bool, true, false, cond, ◌||◌, not, inl, inr, Option, Some, None, List, [], ◌∷◌, ◌++◌, map, refl, sym, ap, ap₂, subst, ◌∙◌, arith}
+use Rattle.std.proofs.Common.{◌≡◌, ℕ, zero, suc, Bool, true, false, cond, ◌||◌, inl, inr, Option, Some, None, List, [], ◌∷◌, ◌++◌, map, refl, sym, ap, ap₂, subst, ◌∙◌, arith}
 use Rattle.std.proofs.lemmas.Bool.{false≢true, cases_Bool}
 use Rattle.std.specs.Option.{option_map}
-use Rattle.std.specs.Prelude.{is_none}
 use Rattle.ep_base.specs.Commands.{Command, Seal}
 use Rattle.ep_base.specs.Interference.{is_seal}
 use Rattle.ep_base.specs.Places.{Has}
 use Rattle.ep_base.specs.Quorums.{size}
-use Rattle.ep_base.specs.declared.decree.Decree.{Decree}
 use Rattle.ep_rules.specs.Chains.{Closing as Closes, store_left, history_from}
 use Rattle.ep_rules.specs.Closing.{has_seal, up_to_seal, first_seal, written_by}
 use Rattle.ep_rules.specs.Journals.{Entry, left, Journals, Scheduled, acts_of}
 use Rattle.ep_rules.specs.Merging.{Merges}
 use Rattle.ep_rules.specs.OneMap.{Contents, Store, opened, is_closed, sealed_by, written, after_all, after_commands}
-use Rattle.ep_rules.specs.Operations.{Operation, instances_of, commands_of, history_of}
+use Rattle.ep_rules.specs.Operations.{Operation, instances_of, commands_of}
 use Rattle.ep_rules.specs.States.{State, fresh_state, committed_in, command_of}
 use Rattle.ep_rules.specs.Steps.{order_of, leaves}
 use Rattle.ep_rules.specs.History.{nothing, done_after}
-use Rattle.ep_rules.specs.Verdicts as verdicts
 use Rattle.ep_rules.specs.Verdicts.{agreed_below, command_at, or_else}
 use Rattle.ep_rules.specs.Worlds.{World, In, Act, IsRun, ends, opening}
 use Rattle.ep_rules.proofs.ChainsExplained.{same_history, closes_left}
@@ -29,11 +26,11 @@ use Rattle.ep_rules.proofs.Places.{has_cons, has_left, has_right}
 use Rattle.ep_rules.proofs.RunCommits.{committed_below, told_in}
 use Rattle.ep_rules.proofs.RunHistories.{AreOf, command_is}
 use Rattle.ep_rules.proofs.Sealing.{closed_stays, not_seal, sealed_here, stays_open}
-use Rattle.ep_report.specs.declared.closing.Closing.{Closing}
-use Rattle.ep_report.specs.declared.happening.Happening.{Happening}
-use Rattle.ep_verdict.specs.Closings.{operations_in, IsExecuted, IsFirstSeal, IsClosing}
-use Rattle.ep_verdict.specs.Verdicts.{commands_in, instances_in, left_after, IsVerdict}
-use Rattle.ep_verdict.specs.declared.verdict.Verdict.{Verdict}
+use Rattle.ep_audit.specs.declared.closing.Closing.{Closing}
+use Rattle.ep_audit.specs.declared.happening.Happening.{Happening}
+use Rattle.ep_audit.specs.Closings.{operations_in, IsExecuted, IsFirstSeal, IsClosing}
+use Rattle.ep_audit.specs.Verdicts.{commands_in, instances_in, left_after, IsVerdict}
+use Rattle.ep_audit.specs.declared.verdict.Verdict.{Verdict}
 use Rattle.ep_audit.specs.Audited.{IsOneClosing}
 
 -- The first seal.

@@ -13,8 +13,8 @@ use Rattle.ep_rules.proofs.JournalsKeep.{journals_keep_lem}
 use Rattle.ep_rules.proofs.JournalsOrders.{journals_order_lem}
 use Rattle.ep_rules.proofs.JournalsReplies.{each_reply_lem}
 use Rattle.ep_rules.proofs.Merged.{merged_is_a_run_lem}
-use Rattle.ep_verdict.specs.Verdicts.{IsVerdict}
-use Rattle.ep_verdict.specs.declared.verdict.Verdict.{Verdict}
+use Rattle.ep_audit.specs.Verdicts.{IsVerdict}
+use Rattle.ep_audit.specs.declared.verdict.Verdict.{Verdict}
 use Rattle.ep_audit.specs.Audited.{IsOneHistory, IsAudited}
 use Rattle.ep_audit.proofs.OneClosings.{closing_of_verdict}
 use Rattle.ep_rules.specs.OneMap.{Store}

@@ -7,7 +7,7 @@ use Rattle.ep_rules.specs.Audits.{IsAccepted, IsFault}
 use Rattle.ep_rules.specs.Journals.{Journals, IsSchedule}
 use Rattle.ep_rules.specs.OneMap.{Store}
 use Rattle.ep_rules.specs.Verdicts.{agreed, command_at, IsReply}
-use Rattle.ep_verdict.specs.Verdicts.{IsVerdict}
+use Rattle.ep_audit.specs.Verdicts.{IsVerdict}
 use Rattle.ep_audit.specs.Audited.{IsOneHistory}
 use Rattle.ep_audit.specs.Upgraded.{SaysTheSame, UpgradedSaysTheSame}
 

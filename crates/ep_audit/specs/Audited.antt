@@ -14,10 +14,10 @@ use Rattle.ep_rules.specs.States.{fresh_state, committed_in}
 use Rattle.ep_rules.specs.Verdicts.{committed_by, command_at, history_of, IsReply, Proposes}
 use Rattle.ep_rules.specs.Worlds.{In, IsRun, opening}
 use Rattle.ep_rules.specs.declared.receipt.Receipt.{Receipt}
-use Rattle.ep_report.specs.Refusals.{fault_of}
-use Rattle.ep_report.specs.declared.closing.Closing.{Closing}
-use Rattle.ep_verdict.specs.Verdicts.{instances_in, left_after, IsVerdict}
-use Rattle.ep_verdict.specs.declared.verdict.Verdict.{Verdict}
+use Rattle.ep_audit.specs.Faults.{fault_of}
+use Rattle.ep_audit.specs.declared.closing.Closing.{Closing}
+use Rattle.ep_audit.specs.Verdicts.{instances_in, left_after, IsVerdict}
+use Rattle.ep_audit.specs.declared.verdict.Verdict.{Verdict}
 use Rattle.ep_audit.specs.declared.refusal.Refusal.{Refusal}
 use Rattle.ep_audit.specs.declared.refusal.Refusal.TheVariants.{Memory, Fault}
 use Rattle.ep_rules.specs.OneMap.{Contents, Store, opened, is_closed}

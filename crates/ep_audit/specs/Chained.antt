@@ -3,11 +3,11 @@ use Rattle.std.specs.Prelude.{◌≡◌, ◌≢◌, ℕ, suc, ◌<◌, ◌≤◌
 use Rattle.ep_base.specs.Versions.{generation_of}
 use Rattle.ep_journal.specs.Entries.{journals_of}
 use Rattle.ep_journal.specs.Openings.{opens}
-use Rattle.ep_report.specs.Refusals.{fault_of}
-use Rattle.ep_report.specs.declared.audit_fault.AuditFault.{AuditFault}
-use Rattle.ep_report.specs.declared.chain_fault.ChainFault.{ChainFault}
-use Rattle.ep_report.specs.declared.chain_fault.ChainFault.TheVariants.{Audit, NotConsecutive, OpeningDiffers, StampsGoBack, NotClosed}
-use Rattle.ep_report.specs.declared.closing.Closing.{Closing}
+use Rattle.ep_audit.specs.Faults.{fault_of}
+use Rattle.ep_audit.specs.declared.audit_fault.AuditFault.{AuditFault}
+use Rattle.ep_audit.specs.declared.chain_fault.ChainFault.{ChainFault}
+use Rattle.ep_audit.specs.declared.chain_fault.ChainFault.TheVariants.{Audit, NotConsecutive, OpeningDiffers, StampsGoBack, NotClosed}
+use Rattle.ep_audit.specs.declared.closing.Closing.{Closing}
 use Rattle.ep_rules.specs.Audits.{IsAccepted, IsFault}
 use Rattle.ep_rules.specs.Chains.{IsChain, histories, Explains, ClocksGoOn}
 use Rattle.ep_rules.specs.Generations.{joined, place_in, HasIn}
@@ -15,9 +15,9 @@ use Rattle.ep_rules.specs.Journals.{Entry, Journals, Scheduled}
 use Rattle.ep_rules.specs.OneMap.{Contents, empty}
 use Rattle.ep_rules.specs.Worlds.{In}
 use Rattle.ep_rules.specs.declared.receipt.Receipt.{Receipt}
-use Rattle.ep_verdict.specs.Closings.{operations_in}
-use Rattle.ep_verdict.specs.Verdicts.{left_after, places_of}
-use Rattle.ep_verdict.specs.declared.verdict.Verdict.{Verdict}
+use Rattle.ep_audit.specs.Closings.{operations_in}
+use Rattle.ep_audit.specs.Verdicts.{left_after, places_of}
+use Rattle.ep_audit.specs.declared.verdict.Verdict.{Verdict}
 use Rattle.ep_audit.specs.Audited.{IsAudited}
 use Rattle.ep_audit.specs.Differences.{IsLeastDifference}
 use Rattle.ep_audit.specs.declared.chain_refusal.ChainRefusal.{ChainRefusal}

@@ -2,13 +2,13 @@
 use Rattle.std.specs.Prelude.{◌≡◌, ℕ, suc, Some, None}
 use Rattle.ep_journal.specs.Entries.{journals_of}
 use Rattle.ep_journal.specs.Openings.{opens}
-use Rattle.ep_report.specs.Refusals.{fault_of}
-use Rattle.ep_report.specs.declared.audit_fault.AuditFault.{AuditFault}
-use Rattle.ep_report.specs.declared.chain_fault.ChainFault.{ChainFault}
-use Rattle.ep_report.specs.declared.chain_fault.ChainFault.TheVariants.{Audit, NotClosed}
-use Rattle.ep_report.specs.declared.closing.Closing.{Closing}
+use Rattle.ep_audit.specs.Faults.{fault_of}
+use Rattle.ep_audit.specs.declared.audit_fault.AuditFault.{AuditFault}
+use Rattle.ep_audit.specs.declared.chain_fault.ChainFault.{ChainFault}
+use Rattle.ep_audit.specs.declared.chain_fault.ChainFault.TheVariants.{Audit, NotClosed}
+use Rattle.ep_audit.specs.declared.closing.Closing.{Closing}
 use Rattle.ep_rules.specs.Audits.{IsFault}
-use Rattle.ep_verdict.specs.declared.verdict.Verdict.{Verdict}
+use Rattle.ep_audit.specs.declared.verdict.Verdict.{Verdict}
 use Rattle.ep_audit.specs.Chained.{IsGood, IsParted}
 use Rattle.ep_audit.specs.declared.chain_refusal.ChainRefusal.{ChainRefusal}
 use Rattle.ep_audit.specs.declared.chain_refusal.ChainRefusal.TheVariants.{Memory, Fault}

@@ -1,3 +1,15 @@
+pub mod Faults
+pub mod Lookups
+pub mod Handlings
+pub mod Claims
+pub mod Proposing
+pub mod Listed
+pub mod Turns
+pub mod Tables
+pub mod Lines
+pub mod Closings
+pub mod Sealed
+pub mod Verdicts
 pub mod Audited
 pub mod Chained
 pub mod Differences

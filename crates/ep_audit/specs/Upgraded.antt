@@ -8,8 +8,8 @@ use Rattle.ep_rules.specs.Audits.{Fault, IsAccepted, IsFault}
 use Rattle.ep_rules.specs.Journals.{Scheduled, IsSchedule}
 use Rattle.ep_rules.specs.Verdicts.{agreed, command_at, IsReply}
 use Rattle.ep_rules.specs.declared.receipt.Receipt.{Receipt}
-use Rattle.ep_verdict.specs.Verdicts.{IsVerdict}
-use Rattle.ep_verdict.specs.declared.verdict.Verdict.{Verdict}
+use Rattle.ep_audit.specs.Verdicts.{IsVerdict}
+use Rattle.ep_audit.specs.declared.verdict.Verdict.{Verdict}
 use Rattle.ep_audit.specs.Audited.{IsOneHistory}
 
 -- Of both journals the audit says the same, with any receipts.

@@ -5,11 +5,11 @@ ghost use Rattle.ep_journal.specs.Entries.{journals_of};
 ghost use Rattle.ep_journal.specs.Openings.{opens};
 ghost use Rattle.ep_audit.specs.Audited.{IsAudited, IsRefused};
 
+use crate::matching::first_fault;
 use crate::refusal::Refusal;
+use crate::verdict::Verdict;
 use ep_journal::Journals;
-use ep_matching::first_fault;
 use ep_rules::Receipt;
-use ep_verdict::Verdict;
 use std::alloc::Global;
 
 /// Audits the journals of a cluster, with receipts.

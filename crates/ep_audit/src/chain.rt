@@ -6,13 +6,14 @@ ghost use Rattle.ep_audit.specs.Differences.{IsLeastDifference};
 ghost use Rattle.ep_audit.specs.Following.{IsUnfollowed, IsUnjudged};
 
 use crate::auditing::audit;
+use crate::chain_fault::ChainFault;
 use crate::chain_refusal::ChainRefusal;
+use crate::closing::Closing;
 use crate::difference::first_difference;
 use crate::link::Link;
 use crate::refusal::Refusal;
+use crate::verdict::Verdict;
 use ep_base::Key;
-use ep_report::{ChainFault, Closing};
-use ep_verdict::Verdict;
 use std::alloc::{AllocError, Global};
 
 /// The least key that the generation opens with another value of than the history of the one before leaves; none where it opens with just

@@ -3,7 +3,7 @@
 ghost use Rattle.std.specs.Prelude.{◌≡◌};
 ghost use Rattle.ep_audit.specs.declared.chain_refusal.ChainRefusal.TheVariants.{Memory};
 
-use ep_report::ChainFault;
+use crate::chain_fault::ChainFault;
 use std::alloc::AllocError;
 
 /// Why an audit of a chain answers no verdicts.

@@ -7,23 +7,53 @@
 //!
 //! Start with `auditing.rt` and specs/Audited.antt: `IsAudited`, `IsOneHistory`, `IsOneClosing`, `IsRefused`; then `chain.rt` and specs/Chained.antt.
 //!
-//! The work is in `ep_matching` (the fault) and `ep_verdict` (the rest); this crate puts the two together and proves what then
-//! holds, from the laws of `ep_rules`.
+//! The work is in two halves. `matching.rt` finds the first fault (`listing.rt` all of them): it goes through the handled frames by replica and entry, and then through the
+//! receipts, and answers the first one that isn't as `IsAccepted` of `ep_rules`, specs/Audits.antt, asks. Frames and proposals are found by
+//! their places, so that an audit is one pass. `verdict.rt` tells what the journals say (specs/Verdicts.antt): it merges the entries by stamp and replica,
+//! collects what is committed, and takes each command at its first execution. That the replies told are one map's is a law of `ep_rules` on journals
+//! that match, and not work done here.
+//!
+//! The order of the checks is part of the contract: which fault is told first. How things are found, merged and looked up isn't.
+//!
+//! It knows nothing of scripts and reports: `ep_report` prints verdicts and faults.
 #![tactic(auto)]
 
+mod audit_fault;
 mod auditing;
 mod chain;
+mod chain_fault;
 mod chain_refusal;
+mod claims;
+mod closing;
+mod contents;
 mod difference;
+mod handlings;
+mod happening;
+mod history;
+mod in_order;
 mod link;
+mod listing;
+mod lookups;
+mod matching;
+mod proposals;
 mod refusal;
+mod seals;
+mod table;
+mod turn;
 mod upgrade_law;
+mod verdict;
 
+pub use audit_fault::AuditFault;
 pub use auditing::audit;
 pub use chain::audit_chain;
+pub use chain_fault::ChainFault;
 pub use chain_refusal::ChainRefusal;
-pub use ep_report::{AuditFault, ChainFault, Closing, Happening};
-pub use ep_verdict::Verdict;
+pub use closing::Closing;
+pub use happening::Happening;
 pub use link::Link;
+pub use listing::faults;
+pub use lookups::{entries_of, entry_at, is_request, proposed, sent_there};
+pub use matching::first_fault;
 pub use refusal::Refusal;
 pub use upgrade_law::upgraded_says_the_same;
+pub use verdict::Verdict;

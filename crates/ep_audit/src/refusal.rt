@@ -3,7 +3,7 @@
 ghost use Rattle.std.specs.Prelude.{◌≡◌};
 ghost use Rattle.ep_audit.specs.declared.refusal.Refusal.TheVariants.{Memory};
 
-use ep_report::AuditFault;
+use crate::audit_fault::AuditFault;
 use std::alloc::AllocError;
 use thiserror::Error;
 

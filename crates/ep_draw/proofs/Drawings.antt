@@ -3,7 +3,7 @@ use Rattle.std.proofs.Common.{◌≡◌, ◌≤◌, ◌<◌, ℕ, List, ◌++◌
 use Rattle.ep_rules.specs.Journals.{AreLocalRuns}
 use Rattle.ep_journal.specs.Openings.{opens}
 use Rattle.ep_journal.specs.Entries.{Collected, journals_of}
-use Rattle.ep_words.specs.declared.part.Part.{Part}
+use Rattle.ep_view.specs.declared.part.Part.{Part}
 use Rattle.ep_view.specs.Shown.{IsInOrder}
 use Rattle.ep_draw.specs.Drawn.{kept, file_text, IsFile, AreKept, IsDrawn, IsTooMany}
 use Rattle.ep_draw.specs.Ranges.{ranges_text}

@@ -8,10 +8,10 @@ use Rattle.ep_rules.proofs.Merged.{in_at, in_of}
 use Rattle.ep_journal.specs.Entries.{Collected, entries_at, entries_of, entry_of, journals_of}
 use Rattle.ep_journal.specs.Openings.{opens}
 use Rattle.ep_journal.specs.declared.entry.Entry.{Entry as Written}
-use Rattle.ep_verdict.specs.Verdicts.{places_of}
-use Rattle.ep_words.specs.Kept.{is_of_replica, is_of_instance, is_of_some, keeps}
-use Rattle.ep_words.specs.declared.part.Part.{Part}
-use Rattle.ep_view.specs.Lookups.{entry_at}
+use Rattle.ep_audit.specs.Verdicts.{places_of}
+use Rattle.ep_view.specs.Kept.{is_of_replica, is_of_instance, is_of_some, keeps}
+use Rattle.ep_view.specs.declared.part.Part.{Part}
+use Rattle.ep_audit.specs.Lookups.{entry_at}
 use Rattle.ep_draw.specs.Ranges.{stamp_of, stamp_at, first_left}
 use Rattle.ep_draw.specs.Drawn.{keeps_some, kept, up_to, AreKept}
 

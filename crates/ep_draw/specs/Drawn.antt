@@ -5,10 +5,10 @@ use Rattle.ep_journal.specs.declared.entry.Entry.{Entry}
 use Rattle.ep_journal.specs.declared.event.Event.{Event}
 use Rattle.ep_journal.specs.declared.event.Event.TheVariants.{Propose, Handle, GiveUp, Recover, Execute}
 use Rattle.ep_view.specs.Lines.{taken_text, done_text}
-use Rattle.ep_view.specs.Lookups.{entry_at}
+use Rattle.ep_audit.specs.Lookups.{entry_at}
 use Rattle.ep_view.specs.Shown.{IsInOrder}
-use Rattle.ep_words.specs.Kept.{keeps}
-use Rattle.ep_words.specs.declared.part.Part.{Part}
+use Rattle.ep_view.specs.Kept.{keeps}
+use Rattle.ep_view.specs.declared.part.Part.{Part}
 use Rattle.ep_svg.specs.Escaping.{escaped}
 use Rattle.ep_draw.specs.Layout.{column, row}
 use Rattle.ep_draw.specs.Ranges.{first_left, ranges_text}

@@ -7,7 +7,7 @@ use Rattle.ep_journal.specs.declared.entry.Entry.{Entry}
 use Rattle.ep_journal.specs.declared.event.Event.{Event}
 use Rattle.ep_journal.specs.declared.event.Event.TheVariants.{Propose, Handle, GiveUp, Recover, Execute}
 use Rattle.ep_report.specs.Parts.{instance_text}
-use Rattle.ep_view.specs.Lookups.{entry_at}
+use Rattle.ep_audit.specs.Lookups.{entry_at}
 
 -- the stamp of the last entry, or this one where there is none
 abbrev pub last_stamp : ℕ → List Entry → ℕ

@@ -1,11 +1,11 @@
 //! Where instances are committed, and on which path.
 
 use crate::scene::Scene;
+use ep_audit::entries_of;
 use ep_base::{InstanceId, ReplicaId};
 use ep_frame::Frame;
 use ep_journal::{Entry, Event};
 use ep_svg::{Look, Point, Shape};
-use ep_view::entries_of;
 use std::alloc::AllocError;
 
 /// How far the mark of a commit reaches from its dot.

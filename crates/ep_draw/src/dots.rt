@@ -2,7 +2,7 @@
 
 ghost use Rattle.std.specs.Prelude.{◌≡◌, ◌≤◌, ◌<◌, ◌^◌, ◌++◌, OnOk, length};
 ghost use Rattle.ep_journal.specs.Entries.{entries_at};
-ghost use Rattle.ep_view.specs.Lookups.{entry_at};
+ghost use Rattle.ep_audit.specs.Lookups.{entry_at};
 ghost use Rattle.ep_draw.specs.Drawn.{class_of, classed, spot, titled, circle_text, dot_text, dots_from};
 
 use crate::scene::Scene;

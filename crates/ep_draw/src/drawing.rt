@@ -2,7 +2,7 @@
 
 ghost use Rattle.std.specs.Prelude.{◌≡◌, ◌≤◌, ◌<◌, ◌++◌, IfOk, IfErr, OnOk, length};
 ghost use Rattle.ep_journal.specs.Entries.{AreJournals, entries_at};
-ghost use Rattle.ep_view.specs.Lookups.{entry_at};
+ghost use Rattle.ep_audit.specs.Lookups.{entry_at};
 ghost use Rattle.ep_draw.specs.Drawn.{keeps_some, kept, measured, viewed, front, opening, body, file_text, IsFile, AreKept, IsDrawn, IsRefused};
 
 use crate::dots::push_dots;
@@ -11,13 +11,12 @@ use crate::picture::Picture;
 use crate::ranges::ranges;
 use crate::scene::Scene;
 use crate::style::{KEY, STYLE};
+use ep_audit::{AuditFault, entry_at, first_fault};
 use ep_base::ReplicaId;
 use ep_journal::Journals;
-use ep_matching::first_fault;
-use ep_report::{AuditFault, push_number};
+use ep_report::push_number;
 use ep_svg::{push_arrows, push_attribute, push_shapes};
-use ep_view::{Handled, entry_at, schedule};
-use ep_words::Part;
+use ep_view::{Handled, Part, schedule};
 use std::alloc::{AllocError, Global};
 
 /// How many events a diagram shows.

@@ -7,7 +7,7 @@ use ep_frame::Frame;
 use ep_journal::{Entry, Event};
 use ep_report::{push_instance, push_number};
 use ep_svg::{Arrow, Fate, Kind, Point};
-use ep_words::{push_message, push_origin};
+use ep_view::{push_message, push_origin};
 use std::alloc::{AllocError, Global};
 
 // How far beside a replica's line a frame ends, or begins, that isn't handled, or sent, in the picture.

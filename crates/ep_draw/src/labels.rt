@@ -6,11 +6,12 @@ use crate::layout::row_y;
 use crate::scene::Scene;
 use crate::seals::{add_marks, add_meanings};
 use crate::words::told;
+use ep_audit::AuditFault;
 use ep_base::{ReplicaId, VersionKind};
 use ep_journal::Entry;
-use ep_report::{AuditFault, push_number};
+use ep_report::push_number;
 use ep_svg::{Look, Point, Shape};
-use ep_words::push_generation;
+use ep_view::push_generation;
 use std::alloc::{AllocError, Global};
 
 /// How many bytes of a row's words are shown; the title of its dot has all.

@@ -5,7 +5,7 @@ use crate::labels::{add_labels, width_of};
 use crate::layout::row_y;
 use crate::scene::Scene;
 use crate::style::WIDTH;
-use ep_report::AuditFault;
+use ep_audit::AuditFault;
 use ep_svg::{Arrow, Shape};
 use std::alloc::{AllocError, Global};
 

@@ -3,14 +3,14 @@
 ghost use Rattle.std.specs.Prelude.{◌≡◌, ◌≤◌, ◌++◌, None, IfOk, OnOk, length, slice_get};
 ghost use Rattle.ep_base.specs.Quorums.{size};
 ghost use Rattle.ep_journal.specs.Entries.{AreJournals, entries_at};
-ghost use Rattle.ep_view.specs.Lookups.{entry_at};
+ghost use Rattle.ep_audit.specs.Lookups.{entry_at};
 ghost use Rattle.ep_draw.specs.Ranges.{last_stamp, first_of, taken, last_taken, count_text, stamps_text, instances_text, range_text, replica_text, replicas_text, stamp_of, stamp_at, example_text, ranges_text};
 
+use ep_audit::{entries_of, entry_at};
 use ep_base::{InstanceId, ReplicaId};
 use ep_frame::Frame;
 use ep_journal::{Entry, Event, Journals};
 use ep_report::{push_instance, push_number};
-use ep_view::{entries_of, entry_at};
 use std::alloc::{AllocError, Global};
 
 // The stamp of the last entry, or this one where there is none.

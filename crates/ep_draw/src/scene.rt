@@ -2,14 +2,15 @@
 
 ghost use Rattle.std.specs.Prelude.{◌≡◌, option_copied};
 ghost use Rattle.ep_journal.specs.Entries.{entries_at};
-ghost use Rattle.ep_view.specs.Lookups.{entry_at};
+ghost use Rattle.ep_audit.specs.Lookups.{entry_at};
 
 use crate::layout::Layout;
+use ep_audit::entry_at;
 use ep_base::ReplicaId;
 use ep_frame::Frame;
 use ep_journal::{Entry, Event, Journals};
 use ep_svg::Point;
-use ep_view::{Handled, entry_at};
+use ep_view::Handled;
 
 /// What is drawn: entries in rows, each as its replica with its number.
 #[derive(Drop)]

@@ -13,7 +13,7 @@ use Rattle.ep_bundle.specs.declared.bundle.Bundle.{Bundle}
 use Rattle.ep_bundle.specs.declared.bundle_fault.BundleFault.{BundleFault}
 use Rattle.ep_bundle.specs.declared.bundle_fault.BundleFault.TheVariants.{Memory, ReadFailed, BadBundle, NotARun}
 use Rattle.ep_report.specs.Reports.{text_of}
-use Rattle.ep_report.specs.declared.audit_fault.AuditFault.{AuditFault}
+use Rattle.ep_audit.specs.declared.audit_fault.AuditFault.{AuditFault}
 use Rattle.ep_explain.specs.Explained.{IsNoBundle, IsRefusalTold, IsJudged, IsExplained, unreadable, read, unread}
 use Rattle.ep_explain.specs.Sections.{AreTold, none, more, fault_section}
 use Rattle.ep_explain.specs.declared.explained.Explained.{Explained}

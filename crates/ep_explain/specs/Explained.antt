@@ -8,10 +8,10 @@ use Rattle.ep_bundle.specs.declared.bundle_fault.BundleFault.TheVariants.{Memory
 use Rattle.ep_journal.specs.Entries.{Collected, journals_of}
 use Rattle.ep_journal.specs.Openings.{opens}
 use Rattle.ep_report.specs.Reports.{text_of}
-use Rattle.ep_report.specs.declared.audit_fault.AuditFault.{AuditFault}
+use Rattle.ep_audit.specs.declared.audit_fault.AuditFault.{AuditFault}
 use Rattle.ep_rules.specs.declared.receipt.Receipt.{Receipt}
-use Rattle.ep_words.specs.Editions.{edition_line}
-use Rattle.ep_explain.specs.Faults.{all_faults, IsFirst}
+use Rattle.ep_view.specs.Editions.{edition_line}
+use Rattle.ep_audit.specs.Listed.{all_faults, IsFirst}
 use Rattle.ep_advice.specs.Advice.{IsAdvice, refused_at}
 use Rattle.ep_advice.specs.Sections.{section}
 use Rattle.ep_advice.specs.declared.subcommand.Subcommand.{Subcommand}

@@ -1,9 +1,9 @@
 -- Faults, and the reasons under them.
 use Rattle.std.specs.Prelude.{ℕ, List, [], ◌∷◌, ◌++◌}
 use Rattle.ep_advice.specs.Sections.{section}
-use Rattle.ep_report.specs.Refusals.{fault_of, fault_text}
+use Rattle.ep_audit.specs.Faults.{fault_of, fault_text}
 use Rattle.ep_report.specs.Reports.{text_of}
-use Rattle.ep_report.specs.declared.audit_fault.AuditFault.{AuditFault}
+use Rattle.ep_audit.specs.declared.audit_fault.AuditFault.{AuditFault}
 
 -- the audit's line of a fault, and its reasons
 abbrev pub fault_section : AuditFault → List (List ℕ) → List (List ℕ)

@@ -1,15 +1,17 @@
 //! Why a receipt doesn't agree with the journals.
 
+ghost use Rattle.std.specs.Prelude.{◌≡◌, option_copied};
 ghost use Rattle.ep_journal.specs.Entries.{AreJournals};
+ghost use Rattle.ep_audit.specs.Lookups.{proposal_in};
 
 use crate::handled::{add_clock, push_entry};
-use crate::lookups::{entries_of, entry_at, is_request, proposal_in};
 use ep_advice::Reasons;
+use ep_audit::{entries_of, entry_at, is_request, proposed};
 use ep_base::{Answer, InstanceId, ReplicaId};
 use ep_journal::{Entry, Event, Journals};
 use ep_report::{push_answer, push_instance, push_number};
 use ep_rules::Receipt;
-use ep_words::push_event;
+use ep_view::push_event;
 use std::alloc::{AllocError, Global};
 
 /// Why nobody proposed or executed what the receipt at this place, counted from 1, says.
@@ -72,6 +74,18 @@ fn add_claim(alloc: Global, receipt: &Receipt, reasons: &mut Reasons) -> Result<
     line.extend_from_slice(b", proposed after seen stamp ")?;
     push_number(&mut line, receipt.seen)?;
     reasons.add(line)
+}
+
+/// The first entry that proposes the instance.
+fn proposal_in(entries: &[Entry], instance: InstanceId) -> Option<&Entry>
+    ensures { option_copied result ≡ proposal_in entries.now instance }
+{
+    for entry in entries {
+        if proposed(entry) == Some(instance) {
+            return Some(entry);
+        }
+    }
+    None
 }
 
 /// What proposes the instance, in its leader's journal.
@@ -143,9 +157,11 @@ fn add_execution(
 ) -> Result<(), AllocError>
     requires { AreJournals journals.now }
 {
-    let entries = entries_of(journals, receipt.replica);
-    match entry_at(entries, receipt.entry) {
-        None => add_no_execution(alloc, receipt, entries.len(), reasons),
+    match entry_at(journals, receipt.replica, receipt.entry) {
+        None => {
+            let count = entries_of(journals, receipt.replica).len();
+            add_no_execution(alloc, receipt, count, reasons)
+        }
         Some(entry) => add_found_execution(alloc, receipt, entry, reasons),
     }
 }

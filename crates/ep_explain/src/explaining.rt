@@ -8,22 +8,21 @@ ghost use Rattle.ep_advice.specs.declared.explain_fault.ExplainFault.TheVariants
 ghost use Rattle.ep_explain.specs.Explained.{IsExplained, IsJudged, IsNoBundle, IsRefusalTold, IsVerdictTold, script_finding};
 ghost use Rattle.ep_explain.specs.Sections.{AreTold, fault_section};
 ghost use Rattle.ep_report.specs.Reports.{text_of};
-ghost use Rattle.ep_words.specs.Editions.{edition_line};
+ghost use Rattle.ep_view.specs.Editions.{edition_line};
 
 use crate::claims::{order_reasons, unknown_reasons};
 use crate::explained::Explained;
 use crate::finding::Finding;
 use crate::grammar::field_reasons;
 use crate::handled::handling_reasons;
-use crate::listing::faults;
 use crate::stepping::step_reasons;
 use ep_advice::{
     Advice, ExplainFault, Kept, Reasons, Subcommand, explain_script, push_section, subcommand_of,
 };
+use ep_audit::{AuditFault, faults};
 use ep_base::Source;
 use ep_bundle::{Bundle, BundleFault, read_bundle};
-use ep_report::AuditFault;
-use ep_words::push_edition;
+use ep_view::push_edition;
 use std::alloc::{AllocError, Global};
 
 /// How many bytes are looked at before it is known what they are.

@@ -5,7 +5,7 @@ use crate::side::Side;
 use bytes::Bytes;
 use ep_frame::{Frame, FrameFault};
 use ep_report::push_number;
-use ep_words::{push_message, push_origin};
+use ep_view::{push_message, push_origin};
 use std::alloc::AllocError;
 
 /// Appends a frame: which one it is, to whom it goes, its stamp and its message.

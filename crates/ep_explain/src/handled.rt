@@ -3,14 +3,14 @@
 ghost use Rattle.ep_journal.specs.Entries.{AreJournals};
 
 use crate::frames::{push_difference, push_frame};
-use crate::lookups::{entries_of, entry_at, sent_there};
 use crate::side::Side;
 use ep_advice::Reasons;
+use ep_audit::{entries_of, entry_at, sent_there};
 use ep_base::ReplicaId;
 use ep_frame::Frame;
 use ep_journal::{Entry, Event, Journals};
 use ep_report::push_number;
-use ep_words::push_event;
+use ep_view::push_event;
 use std::alloc::{AllocError, Global};
 
 /// An entry that handles a frame.
@@ -40,7 +40,7 @@ pub(crate) fn handling_reasons(
 fn handling_at(journals: &Journals, replica: ReplicaId, number: u32) -> Option<Handling<'_>>
     requires { AreJournals journals.now }
 {
-    let entry = entry_at(entries_of(journals, replica), number)?;
+    let entry = entry_at(journals, replica, number)?;
     match &entry.event {
         Event::Handle(frame) => Some(Handling {
             replica,
@@ -81,10 +81,10 @@ fn add_unsent(
     requires { AreJournals journals.now }
 {
     let frame = handling.frame;
-    let entries = entries_of(journals, frame.from());
-    let Some(entry) = entry_at(entries, frame.origin().entry) else {
+    let Some(entry) = entry_at(journals, frame.from(), frame.origin().entry) else {
         add_behind(alloc, handling, reasons)?;
-        return add_no_entry(alloc, frame, entries.len(), reasons);
+        let count = entries_of(journals, frame.from()).len();
+        return add_no_entry(alloc, frame, count, reasons);
     };
     add_forgot(alloc, handling, reasons)?;
     add_no_place(alloc, frame, entry, reasons)?;
@@ -207,7 +207,7 @@ fn add_sender(
 ) -> Result<(), AllocError>
     requires { AreJournals journals.now }
 {
-    let Some(entry) = entry_at(entries_of(journals, frame.from()), frame.origin().entry) else {
+    let Some(entry) = entry_at(journals, frame.from(), frame.origin().entry) else {
         return Ok(());
     };
     let mut line = Vec::new(alloc);

@@ -13,7 +13,7 @@ use ep_bundle::Draft;
 use ep_frame::{Frame, FrameFault};
 use ep_journal::{Entry, Event, Journal, Mark, StepFault};
 use ep_report::{push_answer, push_instance};
-use ep_words::push_event;
+use ep_view::push_event;
 use std::alloc::{AllocError, Global};
 
 /// The most entries that a journal has.

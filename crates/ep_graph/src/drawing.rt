@@ -10,10 +10,10 @@ use crate::plan::{Plan, closed_in, sealed_in};
 use crate::reach::Reach;
 use crate::rects::{EDGE, FIRST, GAP, LANE, LINE, Place, place_boxes};
 use crate::style::STYLE;
+use ep_audit::Verdict;
 use ep_journal::Journals;
 use ep_report::push_number;
 use ep_svg::{Look, Point, Shape, push_attribute, push_shapes};
-use ep_verdict::Verdict;
 use std::alloc::{AllocError, Global};
 
 /// How many instances a graph shows.

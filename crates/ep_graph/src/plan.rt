@@ -3,8 +3,9 @@
 use crate::layers::Layers;
 use crate::marks::Marks;
 use crate::reach::{Reach, decree_of};
+use ep_audit::Happening;
 use ep_base::{Decree, InstanceId, Reply};
-use ep_report::{Happening, push_command, push_deps, push_instance, push_number};
+use ep_report::{push_command, push_deps, push_instance, push_number};
 use std::alloc::{AllocError, Global};
 
 /// How many bytes of a line in a box are shown.

@@ -28,7 +28,7 @@ use Rattle.ep_journal.specs.Openings.{Opening, OpensIn, opens}
 use Rattle.ep_replica.specs.Kept.{Kept, begun, start_of, first_version}
 use Rattle.ep_replica.specs.Receipts.{receipts_after}
 use Rattle.ep_replica.proofs.Own.{receipts_are_own}
-use Rattle.ep_verdict.specs.declared.verdict.Verdict.{Verdict}
+use Rattle.ep_audit.specs.declared.verdict.Verdict.{Verdict}
 use Rattle.ep_host.specs.Host.{IsHost, Looked, Knows, AllBegin, AllSent, AllHandledFrom, AllFrom}
 use Rattle.ep_host.specs.Node.{Node, fresh_node}
 use Rattle.ep_host.specs.Pointwise.{Each}

@@ -5,7 +5,7 @@ use Rattle.ep_base.specs.declared.version.Version.{Version}
 use Rattle.ep_journal.specs.Entries.{Log, journals_of}
 use Rattle.ep_journal.specs.Openings.{Opening, opens}
 use Rattle.ep_replica.specs.Kept.{start_of}
-use Rattle.ep_report.specs.Refusals.{fault_of}
+use Rattle.ep_audit.specs.Faults.{fault_of}
 use Rattle.ep_rules.specs.Audits.{IsFault}
 use Rattle.ep_rules.specs.declared.receipt.Receipt.{Receipt}
 use Rattle.ep_host.specs.declared.finished.Finished.{Finished}

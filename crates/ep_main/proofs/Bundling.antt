@@ -7,7 +7,7 @@ use Rattle.ep_rules.specs.Audits.{IsAccepted}
 use Rattle.ep_rules.specs.declared.receipt.Receipt.{Receipt}
 use Rattle.ep_replay.specs.declared.replayed.Replayed.{Replayed}
 use Rattle.ep_main.specs.Bundled.{IsPlayed, IsBundled}
-use Rattle.ep_main.specs.Outputs.{Output, Wrote}
+use Rattle.ep_cli.specs.Outputs.{Output, Wrote}
 
 pub bundled :
     (played : Replayed) (bytes : List ℕ) (zs : List ℕ) (out : Output) → bytes ≡ bundle_bytes played.journals played.receipts.items → IsPlayed zs played →

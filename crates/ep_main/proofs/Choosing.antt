@@ -5,7 +5,7 @@ use Rattle.ep_script.specs.Grammar.{number_in}
 use Rattle.ep_main.specs.Options.{Options}
 use Rattle.ep_main.specs.Words.{Chooses, NamesHost, RunWords, limit_in}
 use Rattle.ep_main.specs.declared.asked.Emit.{Emit}
-use Rattle.ep_main.specs.declared.declined.Declined.{Declined}
+use Rattle.ep_cli.specs.declared.declined.Declined.{Declined}
 use Rattle.ep_main.specs.declared.host.Host.{Host}
 use Rattle.ep_main.specs.declared.host.Host.TheVariants.{Lock, Ring}
 

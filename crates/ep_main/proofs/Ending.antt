@@ -5,7 +5,7 @@ use Rattle.ep_base.specs.Versions.{version_number}
 use Rattle.std.specs.Prelude.{IfOk, IsErrAnd}
 use Rattle.ep_base.specs.Devices.{FailsAsTold}
 use Rattle.ep_main.specs.Faults.{of_bundle, is_read, is_write}
-use Rattle.ep_main.specs.Outputs.{Input, Output, WroteNothing}
+use Rattle.ep_cli.specs.Outputs.{Input, Output, WroteNothing}
 use Rattle.ep_bundle.specs.Journals.{Contents, Finds}
 use Rattle.ep_bundle.specs.Reading.{Left, Reading}
 use Rattle.ep_journal.specs.Entries.{Collected}
@@ -24,15 +24,15 @@ use Rattle.ep_main.specs.declared.task.Task.{Task}
 use Rattle.ep_main.specs.declared.task.Task.TheVariants.{Streams, Chain}
 use Rattle.ep_main.specs.declared.asked.Asked.{Asked}
 use Rattle.ep_main.specs.declared.asked.Asked.TheVariants.{Replay, Run, Audit, Upgrade, Version, Help}
-use Rattle.ep_main.specs.declared.declined.Declined.{Declined}
-use Rattle.ep_main.specs.declared.declined.Declined.TheVariants as declined
+use Rattle.ep_cli.specs.declared.declined.Declined.{Declined}
+use Rattle.ep_cli.specs.declared.declined.Declined.TheVariants as declined
 use Rattle.ep_main.specs.declared.asked.Emit.{Emit}
 use Rattle.ep_main.specs.declared.asked.Emit.TheVariants.{Report, Bundle}
 use Rattle.ep_main.specs.Options.{Options}
 use Rattle.ep_main.specs.declared.fault.Fault.{Fault}
 use Rattle.ep_main.specs.declared.fault.Fault.TheVariants.{Script, BadBundle, NotARun, Memory, Read, Write}
-use Rattle.ep_main.specs.declared.status.Status.{Status}
-use Rattle.ep_main.specs.declared.status.Status.TheVariants.{Accepted, AuditRefused, Refused, OutOfMemory, Failed}
+use Rattle.ep_cli.specs.declared.status.Status.{Status}
+use Rattle.ep_cli.specs.declared.status.Status.TheVariants.{Done, AuditRefused, Refused, OutOfMemory, Failed}
 
 -- the reader and the output fail as the outcome tells
 pub record IsTold (outcome : Result Status Fault) (reader : Input) (out : Output) : Type 0 where
@@ -62,7 +62,7 @@ emits (Err Write) status zs reader out fault p t c = subst (λ s. Emits s zs rea
 runs :
     (options : Options) (outcome : Result Status Fault) (status : Status) (zs : List ℕ) (reader : Input) (out fault : Output) → Runs options outcome zs out → IsTold outcome reader out →
     Concludes outcome status fault → RunsInThreads options status zs reader out fault
-runs options (Ok Accepted) status zs reader out fault p t c = subst (λ s. RunsInThreads options s zs reader out fault) (sym c.0) (p, c.1)
+runs options (Ok Done) status zs reader out fault p t c = subst (λ s. RunsInThreads options s zs reader out fault) (sym c.0) (p, c.1)
 runs options (Ok AuditRefused) status zs reader out fault p t c = subst (λ s. RunsInThreads options s zs reader out fault) (sym c.0) (p, c.1)
 runs options (Ok Refused) status zs reader out fault p t c = absurd p
 runs options (Ok OutOfMemory) status zs reader out fault p t c = absurd p
@@ -76,7 +76,7 @@ runs options (Err Read) status zs reader out fault p t c = subst (λ s. RunsInTh
 runs options (Err Write) status zs reader out fault p t c = subst (λ s. RunsInThreads options s zs reader out fault) (sym c.0) (inr ((t.read, t.written), c.1))
 
 audits : (outcome : Result Status Fault) (status : Status) (zs : List ℕ) (reader : Input) (out fault : Output) → Finishes outcome zs out → IsTold outcome reader out → Concludes outcome status fault → Audits status zs reader out fault
-audits (Ok Accepted) status zs reader out fault p t c = subst (λ s. Audits s zs reader out fault) (sym c.0) (p, c.1)
+audits (Ok Done) status zs reader out fault p t c = subst (λ s. Audits s zs reader out fault) (sym c.0) (p, c.1)
 audits (Ok AuditRefused) status zs reader out fault p t c = subst (λ s. Audits s zs reader out fault) (sym c.0) (p, c.1)
 audits (Ok Refused) status zs reader out fault p t c = absurd p.says
 audits (Ok OutOfMemory) status zs reader out fault p t c = absurd p.says
@@ -137,7 +137,7 @@ is_helped (Run options) status zs reader out fault help p = absurd help
 is_helped Audit status zs reader out fault help p = absurd help
 is_helped (Upgrade target) status zs reader out fault help p = absurd help
 is_helped Version status zs reader out fault help p = absurd help
-is_helped (Help text) Accepted zs reader out fault help p = ((string_bytes text, p.0), p.1)
+is_helped (Help text) Done zs reader out fault help p = ((string_bytes text, p.0), p.1)
 is_helped (Help text) AuditRefused zs reader out fault help p = absurd p
 is_helped (Help text) Refused zs reader out fault help p = absurd p
 is_helped (Help text) OutOfMemory zs reader out fault help p = absurd p
@@ -223,7 +223,7 @@ third_refused e (Err x) zs c rs end out is read early late silent = subst (λ y.
 
 pub ends :
     (outcome : Result Status Fault) (status : Status) (reader : Input) (out fault : Output) → IfOk outcome IsVerdict → IsTold outcome reader out → Concludes outcome status fault → Ends status reader out fault
-ends (Ok Accepted) status reader out fault d t c = subst (λ s. Ends s reader out fault) (sym c.0) ((t.read, t.written), c.2)
+ends (Ok Done) status reader out fault d t c = subst (λ s. Ends s reader out fault) (sym c.0) ((t.read, t.written), c.2)
 ends (Ok AuditRefused) status reader out fault d t c = subst (λ s. Ends s reader out fault) (sym c.0) ((t.read, t.written), c.2)
 ends (Ok Refused) status reader out fault d t c = absurd d
 ends (Ok OutOfMemory) status reader out fault d t c = absurd d

@@ -17,8 +17,8 @@ use Rattle.ep_run.specs.declared.ran.Ran.{Ran}
 use Rattle.ep_main.specs.declared.asked.Emit.{Emit}
 use Rattle.ep_main.specs.declared.asked.Emit.TheVariants.{Report, Bundle}
 use Rattle.ep_main.specs.declared.fault.Fault.{Fault}
-use Rattle.ep_main.specs.declared.status.Status.{Status}
-use Rattle.ep_main.specs.declared.status.Status.TheVariants.{Accepted, AuditRefused, Refused, OutOfMemory, Failed}
+use Rattle.ep_cli.specs.declared.status.Status.{Status}
+use Rattle.ep_cli.specs.declared.status.Status.TheVariants.{Done, AuditRefused, Refused, OutOfMemory, Failed}
 
 read_of_script : (s : ScriptFault) → is_read (of_script s) ≡ is_script_read s
 read_of_script script.Memory = refl
@@ -61,19 +61,19 @@ bundle_not_written b r had is = as_told is_write (of_bundle b) false had had r i
 
 -- what an audit says is a verdict
 pub says_verdict : (journals : Collected) (receipts : List Receipt) (status : Status) (text : List ℕ) → Says journals receipts status text → IsVerdict status
-says_verdict journals receipts Accepted text says = tt
+says_verdict journals receipts Done text says = tt
 says_verdict journals receipts AuditRefused text says = tt
 says_verdict journals receipts Refused text says = absurd says
 says_verdict journals receipts OutOfMemory text says = absurd says
 says_verdict journals receipts Failed text says = absurd says
 
 pub run_verdict : (emit : Emit) (ran : Ran) (status : Status) (text : List ℕ) → SaysOfRun emit ran status text → IsVerdict status
-run_verdict Report ran Accepted text says = tt
+run_verdict Report ran Done text says = tt
 run_verdict Report ran AuditRefused text says = tt
 run_verdict Report ran Refused text says = absurd says
 run_verdict Report ran OutOfMemory text says = absurd says
 run_verdict Report ran Failed text says = absurd says
-run_verdict Bundle ran Accepted text says = tt
+run_verdict Bundle ran Done text says = tt
 run_verdict Bundle ran AuditRefused text says = tt
 run_verdict Bundle ran Refused text says = absurd says
 run_verdict Bundle ran OutOfMemory text says = absurd says

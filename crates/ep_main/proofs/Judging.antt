@@ -1,7 +1,7 @@
 -- What the audit says of what a script's run left.
 use Rattle.std.proofs.Common.{◌≡◌, ℕ, List, subst}
-use Rattle.ep_report.specs.Refusals.{fault_of}
-use Rattle.ep_report.specs.declared.audit_fault.AuditFault.{AuditFault}
+use Rattle.ep_audit.specs.Faults.{fault_of}
+use Rattle.ep_audit.specs.declared.audit_fault.AuditFault.{AuditFault}
 use Rattle.ep_rules.specs.Audits.{IsAccepted}
 use Rattle.ep_rules.specs.Journals.{Journals}
 use Rattle.ep_rules.specs.declared.receipt.Receipt.{Receipt}

@@ -4,7 +4,6 @@ mod Choosing
 pub mod Ending
 mod Flags
 mod Judging
-mod Puts
 mod Ranges
 mod Rewriting
 mod Verdicts

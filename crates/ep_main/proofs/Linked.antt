@@ -13,17 +13,17 @@ use Rattle.ep_bundle.specs.Journals.{Contents, Finds}
 use Rattle.ep_bundle.specs.declared.bundle_fault.BundleFault.{BundleFault}
 use Rattle.ep_bundle.specs.declared.bundle_fault.BundleFault.TheVariants as bundle
 use Rattle.ep_report.specs.Lives.{Life, link_line}
-use Rattle.ep_report.specs.declared.chain_fault.ChainFault.{ChainFault}
-use Rattle.ep_verdict.specs.declared.verdict.Verdict.{Verdict}
+use Rattle.ep_audit.specs.declared.chain_fault.ChainFault.{ChainFault}
+use Rattle.ep_audit.specs.declared.verdict.Verdict.{Verdict}
 use Rattle.ep_main.specs.ChainLines.{IsRefusal, IsUnreadLate}
 use Rattle.ep_main.specs.Chains.{AreRead, Chains, EndsOfFiles, IsBadFile, IsOfBytes, IsLinkOf, IsNoFile, IsNoLink, IsStopped, IsToldChain, IsWritten, ReadsLate, SaysOfChain, TurnsAway, chain_text, file_line, life_text, link_text, links_text}
 use Rattle.ep_main.specs.Lives.{life_in}
-use Rattle.ep_main.specs.Outputs.{Output, Told, WroteNothing}
+use Rattle.ep_cli.specs.Outputs.{Output, Told, WroteNothing}
 use Rattle.ep_main.specs.Runs.{Concludes}
 use Rattle.ep_main.specs.declared.fault.Fault.{Fault}
 use Rattle.ep_main.specs.declared.fault.Fault.TheVariants.{Memory}
-use Rattle.ep_main.specs.declared.status.Status.{Status}
-use Rattle.ep_main.specs.declared.status.Status.TheVariants.{Accepted, AuditRefused, Refused, OutOfMemory, Failed}
+use Rattle.ep_cli.specs.declared.status.Status.{Status}
+use Rattle.ep_cli.specs.declared.status.Status.TheVariants.{Done, AuditRefused, Refused, OutOfMemory, Failed}
 
 -- A file that is no bundle.
 
@@ -98,7 +98,7 @@ links_more (suc k) (x ∷ ls) (y ∷ vs) l dl v dv less same at_l at_v =
 
 pub chains_written :
     (links : List Link) (status result : Status) (text : List ℕ) (out fault : Output) → SaysOfChain links status text → IsWritten status text result out fault → Chains links result out fault
-chains_written links Accepted result text out fault says (inl (is, wrote, kept, silent, same)) =
+chains_written links Done result text out fault says (inl (is, wrote, kept, silent, same)) =
     subst (λ s. Chains links s out fault) (sym is) (record { text = text; says = says; wrote = wrote; silent = silent })
 chains_written links AuditRefused result text out fault says (inl (is, wrote, kept, silent, same)) =
     subst (λ s. Chains links s out fault) (sym is) (record { text = text; says = says; wrote = wrote; silent = silent })
@@ -121,7 +121,7 @@ fault_less ls k (unclosed verdicts v count linked there none more) = omega arith
 
 pub ends_written :
     (links : List Link) (status result : Status) (text : List ℕ) (out fault : Output) → SaysOfChain links status text → IsWritten status text result out fault → EndsOfFiles result out fault
-ends_written links Accepted result text out fault says (inl (is, wrote, kept, silent, same)) = subst (λ s. EndsOfFiles s out fault) (sym is) (kept, same)
+ends_written links Done result text out fault says (inl (is, wrote, kept, silent, same)) = subst (λ s. EndsOfFiles s out fault) (sym is) (kept, same)
 ends_written links AuditRefused result text out fault says (inl (is, wrote, kept, silent, same)) = subst (λ s. EndsOfFiles s out fault) (sym is) (kept, same)
 ends_written links Refused result text out fault says (inl h) = absurd says
 ends_written links OutOfMemory result text out fault says (inl h) = absurd says

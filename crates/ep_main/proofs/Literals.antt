@@ -26,8 +26,8 @@ use Rattle.ep_main.specs.declared.target.Target.{Target}
 use Rattle.ep_main.specs.declared.target.Target.TheVariants.{Second, Third}
 use Rattle.ep_main.specs.declared.task.Task.{Task}
 use Rattle.ep_main.specs.declared.task.Task.TheVariants.{Streams, Chain}
-use Rattle.ep_main.specs.declared.declined.Declined.{Declined}
-use Rattle.ep_main.specs.declared.declined.Declined.TheVariants.{Memory}
+use Rattle.ep_cli.specs.declared.declined.Declined.{Declined}
+use Rattle.ep_cli.specs.declared.declined.Declined.TheVariants.{Memory}
 
 pub simple : is_simple epaxos ≡ true
 unfolding clap_on_literals

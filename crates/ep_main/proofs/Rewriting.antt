@@ -15,7 +15,7 @@ use Rattle.ep_frame.specs.Spelling.{AreBytes}
 use Rattle.ep_journal.specs.Entries.{Collected}
 use Rattle.ep_journal.specs.Upgrading.{IsUpgraded}
 use Rattle.ep_rules.specs.declared.receipt.Receipt.{Receipt}
-use Rattle.ep_main.specs.Outputs.{Output, Wrote}
+use Rattle.ep_cli.specs.Outputs.{Output, Wrote}
 use Rattle.ep_main.specs.Faults.{of_bundle, is_read, is_write}
 use Rattle.ep_main.specs.Upgrades.{IsSecond, IsEarlyInThird, IsLateAsItIs, IsThirdFault, Reads, ReadsEarly}
 use Rattle.ep_main.specs.declared.fault.Fault.{Fault}

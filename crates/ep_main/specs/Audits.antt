@@ -9,18 +9,18 @@ use Rattle.ep_rules.specs.Audits.{Fault, IsFault}
 use Rattle.ep_rules.specs.declared.receipt.Receipt.{Receipt}
 use Rattle.ep_report.specs.Reports.{text_of, accepted_lines, run_lines, refusal_lines}
 use Rattle.ep_run.specs.declared.ran.Ran.{Ran}
-use Rattle.ep_verdict.specs.declared.verdict.Verdict.{Verdict}
+use Rattle.ep_audit.specs.declared.verdict.Verdict.{Verdict}
 use Rattle.ep_audit.specs.Audited.{IsAudited}
 use Rattle.ep_main.specs.Lives.{life_in}
-use Rattle.ep_main.specs.Outputs.{Output, Wrote}
+use Rattle.ep_cli.specs.Outputs.{Output, Wrote}
 use Rattle.ep_main.specs.declared.asked.Emit.{Emit}
 use Rattle.ep_main.specs.declared.asked.Emit.TheVariants.{Report, Bundle}
-use Rattle.ep_main.specs.declared.status.Status.{Status}
-use Rattle.ep_main.specs.declared.status.Status.TheVariants.{Accepted, AuditRefused, Refused, OutOfMemory, Failed}
+use Rattle.ep_cli.specs.declared.status.Status.{Status}
+use Rattle.ep_cli.specs.declared.status.Status.TheVariants.{Done, AuditRefused, Refused, OutOfMemory, Failed}
 
 -- the audit accepts, and the text is this of its verdict; or it refuses, and the text is that of the first fault
 abbrev pub Judges : Collected → List Receipt → (Verdict → List ℕ) → (Fault → List ℕ) → Status → List ℕ → Type 0
-Judges journals receipts accepted refused Accepted text =
+Judges journals receipts accepted refused Done text =
     (verdict : Verdict) × IsAudited (opens journals.opening) journals.faults (journals_of journals) receipts verdict × (text ≡ accepted verdict)
 Judges journals receipts accepted refused AuditRefused text =
     (fault : Fault) × IsFault (opens journals.opening) journals.faults (journals_of journals) receipts fault × (text ≡ refused fault)

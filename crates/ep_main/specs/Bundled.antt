@@ -7,7 +7,7 @@ use Rattle.ep_rules.specs.Audits.{IsAccepted}
 use Rattle.ep_script.specs.Plan.{Plan, script_of}
 use Rattle.ep_replay.specs.Outcome.{IsReplay}
 use Rattle.ep_replay.specs.declared.replayed.Replayed.{Replayed}
-use Rattle.ep_main.specs.Outputs.{Output, Wrote}
+use Rattle.ep_cli.specs.Outputs.{Output, Wrote}
 
 -- The bytes are a script, and this is what the protocol plays of it.
 pub record IsPlayed (zs : List ℕ) (played : Replayed) : Type 0 where

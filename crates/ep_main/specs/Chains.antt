@@ -13,13 +13,13 @@ use Rattle.ep_bundle.specs.declared.bundle_fault.BundleFault.{BundleFault}
 use Rattle.ep_bundle.specs.declared.bundle_fault.BundleFault.TheVariants as bundle
 use Rattle.ep_report.specs.Lives.{Life, link_line}
 use Rattle.ep_report.specs.Reports.{text_of, chain_refusal_lines}
-use Rattle.ep_report.specs.declared.chain_fault.ChainFault.{ChainFault}
-use Rattle.ep_verdict.specs.declared.verdict.Verdict.{Verdict}
-use Rattle.ep_main.specs.Faults.{out_of_memory, writing_failed}
+use Rattle.ep_audit.specs.declared.chain_fault.ChainFault.{ChainFault}
+use Rattle.ep_audit.specs.declared.verdict.Verdict.{Verdict}
+use Rattle.ep_cli.specs.Lines.{out_of_memory, writing_failed}
 use Rattle.ep_main.specs.Lives.{life_in}
-use Rattle.ep_main.specs.Outputs.{Output, Told, Wrote, WroteNothing}
-use Rattle.ep_main.specs.declared.status.Status.{Status}
-use Rattle.ep_main.specs.declared.status.Status.TheVariants.{Accepted, AuditRefused, Refused, OutOfMemory, Failed}
+use Rattle.ep_cli.specs.Outputs.{Output, Told, Wrote, WroteNothing}
+use Rattle.ep_cli.specs.declared.status.Status.{Status}
+use Rattle.ep_cli.specs.declared.status.Status.TheVariants.{Done, AuditRefused, Refused, OutOfMemory, Failed}
 
 -- Bundles of version 3.
 
@@ -100,7 +100,7 @@ pub record IsFaultText (links : List Link) (text : List ℕ) : Type 0 where
 
 -- the audit accepts, and the text has a line for each; or it refuses, and the text is that of the first fault
 abbrev pub SaysOfChain : List Link → Status → List ℕ → Type 0
-SaysOfChain links Accepted text = (verdicts : List Verdict) × IsChained links verdicts × (text ≡ chain_text links verdicts)
+SaysOfChain links Done text = (verdicts : List Verdict) × IsChained links verdicts × (text ≡ chain_text links verdicts)
 SaysOfChain links AuditRefused text = IsFaultText links text
 SaysOfChain links Refused text = ⊥
 SaysOfChain links OutOfMemory text = ⊥
@@ -120,7 +120,7 @@ pub record IsOutOfMemory (out fault : Output) : Type 0 where
 
 -- of these bundles, by the status
 abbrev pub Chains : List Link → Status → Output → Output → Type 0
-Chains links Accepted out fault = IsToldChain links Accepted out fault
+Chains links Done out fault = IsToldChain links Done out fault
 Chains links AuditRefused out fault = IsToldChain links AuditRefused out fault
 Chains links Refused out fault = ⊥
 Chains links OutOfMemory out fault = IsOutOfMemory out fault
@@ -158,7 +158,7 @@ ChainsFiles names status out fault = AreChained names status out fault ⊎ AreSt
 
 -- whatever the files hold: the status is that of a failure exactly where the output failed in this run, or a file isn't read, and the line tells which
 abbrev pub EndsOfFiles : Status → Output → Output → Type 0
-EndsOfFiles Accepted out fault = (out.failed ≡ out.had_failed) × (fault.failed ≡ fault.had_failed)
+EndsOfFiles Done out fault = (out.failed ≡ out.had_failed) × (fault.failed ≡ fault.had_failed)
 EndsOfFiles AuditRefused out fault = (out.failed ≡ out.had_failed) × (fault.failed ≡ fault.had_failed)
 EndsOfFiles Refused out fault = out.failed ≡ out.had_failed
 EndsOfFiles OutOfMemory out fault = out.failed ≡ out.had_failed

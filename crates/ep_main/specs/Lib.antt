@@ -6,7 +6,6 @@ pub mod Faults
 pub mod Hosts
 pub mod Lives
 pub mod Options
-pub mod Outputs
 pub mod Reported
 pub mod Runs
 pub mod Tasks

@@ -6,8 +6,8 @@ use Rattle.ep_journal.specs.Entries.{Collected}
 use Rattle.ep_journal.specs.Openings.{opens}
 use Rattle.ep_report.specs.Lives.{Life}
 use Rattle.ep_rules.specs.OneMap.{Contents}
-use Rattle.ep_verdict.specs.Verdicts.{left_after}
-use Rattle.ep_verdict.specs.declared.verdict.Verdict.{Verdict}
+use Rattle.ep_audit.specs.Verdicts.{left_after}
+use Rattle.ep_audit.specs.declared.verdict.Verdict.{Verdict}
 
 -- of the generation g, whose clocks went on from the stamp since, what the verdict says, and the map that its history leaves
 abbrev pub life_with : ℕ → ℕ → Verdict → Contents → Life

@@ -4,7 +4,7 @@ use Rattle.ep_journal.specs.Entries.{journals_of}
 use Rattle.ep_journal.specs.Openings.{opens}
 use Rattle.ep_report.specs.Reports.{text_of, accepted_lines, refused_lines}
 use Rattle.ep_script.specs.Plan.{Plan}
-use Rattle.ep_verdict.specs.declared.verdict.Verdict.{Verdict}
+use Rattle.ep_audit.specs.declared.verdict.Verdict.{Verdict}
 use Rattle.ep_audit.specs.Audited.{IsAudited}
 use Rattle.ep_main.specs.Lives.{life_in}
 use Rattle.ep_replay.specs.Outcome.{IsReplay}

@@ -5,16 +5,17 @@ use Rattle.ep_bundle.specs.declared.bundle_fault.BundleFault.TheVariants as bund
 use Rattle.ep_script.specs.Plan.{Plan, RunPlan, script_of, run_of}
 use Rattle.ep_main.specs.Audits.{IsAudit, SaysOfRun}
 use Rattle.ep_main.specs.Bundled.{IsBundled}
-use Rattle.ep_main.specs.Faults.{command_line_refused, script_refused, bad_bundle, not_a_run, out_of_memory, reading_failed, writing_failed, line_of, status_of}
+use Rattle.ep_cli.specs.Lines.{command_line_refused, script_refused, bad_bundle, not_a_run, out_of_memory, reading_failed, writing_failed}
+use Rattle.ep_main.specs.Faults.{line_of, status_of}
 use Rattle.ep_main.specs.Hosts.{Promises}
 use Rattle.ep_main.specs.Options.{Options}
-use Rattle.ep_main.specs.Outputs.{Input, Output, Wrote, WroteNothing, Told, NoneFailed, InputFailed, OutputFailed}
+use Rattle.ep_cli.specs.Outputs.{Input, Output, Wrote, WroteNothing, Told, NoneFailed, InputFailed, OutputFailed}
 use Rattle.ep_main.specs.Reported.{IsReport}
 use Rattle.ep_main.specs.Upgrades.{IsUnread, IsRewritten, IsUnupgraded}
 use Rattle.ep_main.specs.declared.asked.Asked.{Asked}
 use Rattle.ep_main.specs.declared.asked.Asked.TheVariants.{Replay, Run, Audit, Upgrade, Version, Help}
-use Rattle.ep_main.specs.declared.declined.Declined.{Declined}
-use Rattle.ep_main.specs.declared.declined.Declined.TheVariants as declined
+use Rattle.ep_cli.specs.declared.declined.Declined.{Declined}
+use Rattle.ep_cli.specs.declared.declined.Declined.TheVariants as declined
 use Rattle.ep_main.specs.declared.asked.Emit.TheVariants.{Report, Bundle}
 use Rattle.ep_main.specs.declared.host.Host.{Host}
 use Rattle.ep_main.specs.declared.target.Target.{Target}
@@ -23,8 +24,8 @@ use Rattle.ep_run.specs.Rings.{IsBegun, begun_of}
 use Rattle.ep_run.specs.declared.ran.Ran.{Ran}
 use Rattle.ep_main.specs.declared.fault.Fault.{Fault}
 use Rattle.ep_main.specs.declared.fault.Fault.TheVariants.{Script, BadBundle, NotARun, Memory, Read, Write}
-use Rattle.ep_main.specs.declared.status.Status.{Status}
-use Rattle.ep_main.specs.declared.status.Status.TheVariants.{Accepted, AuditRefused, Refused, OutOfMemory, Failed}
+use Rattle.ep_cli.specs.declared.status.Status.{Status}
+use Rattle.ep_cli.specs.declared.status.Status.TheVariants.{Done, AuditRefused, Refused, OutOfMemory, Failed}
 
 -- The bytes are a script, and what was written is its report.
 pub record IsReplayed (zs : List ℕ) (out : Output) : Type 0 where
@@ -85,7 +86,7 @@ HasFailed reader out fault = (InputFailed reader out × WroteNothing out × Told
 
 -- a replay, of which a report is asked for: the audit refuses none
 abbrev pub Replays : Status → List ℕ → Input → Output → Output → Type 0
-Replays Accepted zs reader out fault = IsReplayed zs out × WroteNothing fault
+Replays Done zs reader out fault = IsReplayed zs out × WroteNothing fault
 Replays AuditRefused zs reader out fault = ⊥
 Replays Refused zs reader out fault = IsScriptRefused (script_of zs) out fault
 Replays OutOfMemory zs reader out fault = IsOutOfMemory out fault
@@ -93,7 +94,7 @@ Replays Failed zs reader out fault = HasFailed reader out fault
 
 -- a replay, of which the bundle is asked for: the audit refuses none
 abbrev pub Emits : Status → List ℕ → Input → Output → Output → Type 0
-Emits Accepted zs reader out fault = IsBundled zs out × WroteNothing fault
+Emits Done zs reader out fault = IsBundled zs out × WroteNothing fault
 Emits AuditRefused zs reader out fault = ⊥
 Emits Refused zs reader out fault = IsScriptRefused (script_of zs) out fault
 Emits OutOfMemory zs reader out fault = IsOutOfMemory out fault
@@ -101,7 +102,7 @@ Emits Failed zs reader out fault = HasFailed reader out fault
 
 -- a run in threads, as it is asked for
 abbrev pub RunsInThreads : Options → Status → List ℕ → Input → Output → Output → Type 0
-RunsInThreads options Accepted zs reader out fault = IsRan options Accepted zs out × WroteNothing fault
+RunsInThreads options Done zs reader out fault = IsRan options Done zs out × WroteNothing fault
 RunsInThreads options AuditRefused zs reader out fault = IsRefusedRun options.host options zs out × WroteNothing fault
 RunsInThreads options Refused zs reader out fault = IsScriptRefused (run_of zs) out fault
 RunsInThreads options OutOfMemory zs reader out fault = IsOutOfMemory out fault
@@ -109,7 +110,7 @@ RunsInThreads options Failed zs reader out fault = HasFailed reader out fault
 
 -- an audit of a bundle
 abbrev pub Audits : Status → List ℕ → Input → Output → Output → Type 0
-Audits Accepted zs reader out fault = IsAudit Accepted zs out × WroteNothing fault
+Audits Done zs reader out fault = IsAudit Done zs out × WroteNothing fault
 Audits AuditRefused zs reader out fault = IsAudit AuditRefused zs out × WroteNothing fault
 Audits Refused zs reader out fault = IsBadBundle (IsUnread zs) out fault ⊎ IsNotARun (IsUnread zs) out fault
 Audits OutOfMemory zs reader out fault = IsOutOfMemory out fault
@@ -117,7 +118,7 @@ Audits Failed zs reader out fault = HasFailed reader out fault
 
 -- an upgrade of a bundle to this version: it doesn't audit
 abbrev pub Upgrades : Target → Status → List ℕ → Input → Output → Output → Type 0
-Upgrades target Accepted zs reader out fault = IsRewritten target zs out × WroteNothing fault
+Upgrades target Done zs reader out fault = IsRewritten target zs out × WroteNothing fault
 Upgrades target AuditRefused zs reader out fault = ⊥
 Upgrades target Refused zs reader out fault = IsBadBundle (IsUnupgraded target zs) out fault ⊎ IsNotARun (IsUnupgraded target zs) out fault
 Upgrades target OutOfMemory zs reader out fault = IsOutOfMemory out fault
@@ -129,7 +130,7 @@ version_line = codes "epaxos 0.1.0\n"
 
 -- the version
 abbrev pub Versions : Status → Output → Output → Type 0
-Versions Accepted out fault = Wrote out version_line × WroteNothing fault
+Versions Done out fault = Wrote out version_line × WroteNothing fault
 Versions AuditRefused out fault = ⊥
 Versions Refused out fault = ⊥
 Versions OutOfMemory out fault = IsOutOfMemory out fault
@@ -137,7 +138,7 @@ Versions Failed out fault = (out.failed ≡ true) × Told fault writing_failed
 
 -- help, with this text
 abbrev pub Helps : Status → List ℕ → Output → Output → Type 0
-Helps Accepted text out fault = Wrote out text × WroteNothing fault
+Helps Done text out fault = Wrote out text × WroteNothing fault
 Helps AuditRefused text out fault = ⊥
 Helps Refused text out fault = ⊥
 Helps OutOfMemory text out fault = ⊥
@@ -145,7 +146,7 @@ Helps Failed text out fault = (out.failed ≡ true) × Told fault writing_failed
 
 -- help, with some text
 abbrev pub IsHelped : Status → Output → Output → Type 0
-IsHelped Accepted out fault = ((text : List ℕ) × Wrote out text) × WroteNothing fault
+IsHelped Done out fault = ((text : List ℕ) × Wrote out text) × WroteNothing fault
 IsHelped AuditRefused out fault = ⊥
 IsHelped Refused out fault = ⊥
 IsHelped OutOfMemory out fault = IsOutOfMemory out fault
@@ -164,14 +165,14 @@ Performs (Help text) status zs reader out fault = Helps status (string_bytes tex
 abbrev pub Declines : Status → Output → Output → Type 0
 Declines Refused out fault = WroteNothing out × ((why : List ℕ) × Told fault (command_line_refused ++ why))
 Declines OutOfMemory out fault = IsOutOfMemory out fault
-Declines Accepted out fault = ⊥
+Declines Done out fault = ⊥
 Declines AuditRefused out fault = ⊥
 Declines Failed out fault = ⊥
 
 -- Whatever is asked for and is read: the status is that of a failure exactly where the reader or the output failed in this run, and the line
 -- tells which of them; and the fault output fails only where a line is told on it.
 abbrev pub Ends : Status → Input → Output → Output → Type 0
-Ends Accepted reader out fault = NoneFailed reader out × (fault.failed ≡ fault.had_failed)
+Ends Done reader out fault = NoneFailed reader out × (fault.failed ≡ fault.had_failed)
 Ends AuditRefused reader out fault = NoneFailed reader out × (fault.failed ≡ fault.had_failed)
 Ends Refused reader out fault = NoneFailed reader out
 Ends OutOfMemory reader out fault = NoneFailed reader out
@@ -179,7 +180,7 @@ Ends Failed reader out fault = (InputFailed reader out × Told fault reading_fai
 
 -- a status that tells no fault
 abbrev pub IsVerdict : Status → Type 0
-IsVerdict Accepted = Unit {0}
+IsVerdict Done = Unit {0}
 IsVerdict AuditRefused = Unit {0}
 IsVerdict Refused = ⊥
 IsVerdict OutOfMemory = ⊥
@@ -188,7 +189,7 @@ IsVerdict Failed = ⊥
 -- Before a fault is told: what was written. Which device failed, the fault says itself.
 
 abbrev pub Plays : Result Status Fault → List ℕ → Output → Type 0
-Plays (Ok status) zs out = (status ≡ Accepted) × IsReplayed zs out
+Plays (Ok status) zs out = (status ≡ Done) × IsReplayed zs out
 Plays (Err (Script line)) zs out = (script_of zs ≡ Err line) × WroteNothing out
 Plays (Err (BadBundle offset)) zs out = ⊥
 Plays (Err (NotARun replica entry)) zs out = ⊥
@@ -197,7 +198,7 @@ Plays (Err Read) zs out = WroteNothing out
 Plays (Err Write) zs out = Unit {0}
 
 abbrev pub Leaves : Result Status Fault → List ℕ → Output → Type 0
-Leaves (Ok status) zs out = (status ≡ Accepted) × IsBundled zs out
+Leaves (Ok status) zs out = (status ≡ Done) × IsBundled zs out
 Leaves (Err (Script line)) zs out = (script_of zs ≡ Err line) × WroteNothing out
 Leaves (Err (BadBundle offset)) zs out = ⊥
 Leaves (Err (NotARun replica entry)) zs out = ⊥
@@ -206,7 +207,7 @@ Leaves (Err Read) zs out = WroteNothing out
 Leaves (Err Write) zs out = Unit {0}
 
 abbrev pub Runs : Options → Result Status Fault → List ℕ → Output → Type 0
-Runs options (Ok Accepted) zs out = IsRan options Accepted zs out
+Runs options (Ok Done) zs out = IsRan options Done zs out
 Runs options (Ok AuditRefused) zs out = IsRefusedRun options.host options zs out
 Runs options (Ok Refused) zs out = ⊥
 Runs options (Ok OutOfMemory) zs out = ⊥
@@ -232,11 +233,11 @@ Finishes (Ok status) zs out = IsAudit status zs out
 Finishes (Err e) zs out = StopsBy (IsUnread zs) e out
 
 abbrev pub Rewrites : Target → Result Status Fault → List ℕ → Output → Type 0
-Rewrites target (Ok status) zs out = (status ≡ Accepted) × IsRewritten target zs out
+Rewrites target (Ok status) zs out = (status ≡ Done) × IsRewritten target zs out
 Rewrites target (Err e) zs out = StopsBy (IsUnupgraded target zs) e out
 
 abbrev pub Prints : Result Status Fault → List ℕ → Output → Type 0
-Prints (Ok status) text out = (status ≡ Accepted) × Wrote out text
+Prints (Ok status) text out = (status ≡ Done) × Wrote out text
 Prints (Err (Script line)) text out = ⊥
 Prints (Err (BadBundle offset)) text out = ⊥
 Prints (Err (NotARun replica entry)) text out = ⊥

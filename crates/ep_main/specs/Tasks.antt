@@ -1,11 +1,11 @@
 -- What the program does of what it has to do, by the status that it answers.
 use Rattle.std.specs.Prelude.{◌≡◌, ◌⊎◌, ℕ, List, map, string_bytes}
 use Rattle.ep_main.specs.Chains.{ChainsFiles, EndsOfFiles}
-use Rattle.ep_main.specs.Outputs.{Input, Output}
+use Rattle.ep_cli.specs.Outputs.{Input, Output}
 use Rattle.ep_main.specs.Runs.{Ends, Performs}
 use Rattle.ep_main.specs.Words.{IsAsked, IsChainAsked}
 use Rattle.ep_main.specs.declared.asked.Asked.{Asked}
-use Rattle.ep_main.specs.declared.status.Status.{Status}
+use Rattle.ep_cli.specs.declared.status.Status.{Status}
 use Rattle.ep_main.specs.declared.task.Task.{Task}
 use Rattle.ep_main.specs.declared.task.Task.TheVariants.{Streams, Chain}
 

@@ -12,7 +12,7 @@ use Rattle.ep_journal.specs.Entries.{Collected}
 use Rattle.ep_journal.specs.Upgrading.{IsUpgraded}
 use Rattle.ep_rules.specs.declared.receipt.Receipt.{Receipt}
 use Rattle.ep_upgrade.specs.Respelled.{IsThird, respelled_bytes}
-use Rattle.ep_main.specs.Outputs.{Output, Wrote}
+use Rattle.ep_cli.specs.Outputs.{Output, Wrote}
 use Rattle.ep_main.specs.declared.fault.Fault.{Fault}
 use Rattle.ep_main.specs.declared.fault.Fault.TheVariants.{Script, BadBundle, NotARun, Memory, Read, Write}
 use Rattle.ep_main.specs.declared.target.Target.{Target}

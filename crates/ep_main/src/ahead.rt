@@ -2,10 +2,10 @@
 
 ghost use Rattle.std.specs.Prelude.{◌≡◌, false, IfOk, IfErr};
 ghost use Rattle.std.specs.Io.Buffered.{reader_capacity};
-ghost use Rattle.ep_main.specs.declared.declined.Declined.TheVariants.{Memory};
+ghost use Rattle.ep_cli.specs.declared.declined.Declined.TheVariants.{Memory};
 
-use crate::declined::Declined;
 use ep_base::{ReadFailed, Source};
+use ep_cli::Declined;
 use std::alloc::Global;
 use std::io::{BufRead, BufReader, Read};
 

@@ -4,17 +4,17 @@ ghost use Rattle.std.specs.Prelude.{◌≡◌, ℕ, List, Some, IfOk, IfErr};
 ghost use Rattle.ep_base.specs.Devices.{FailsAsTold};
 ghost use Rattle.ep_main.specs.Audits.{Says};
 ghost use Rattle.ep_main.specs.Faults.{is_read, is_write};
-ghost use Rattle.ep_main.specs.Outputs.{output};
+ghost use Rattle.ep_cli.specs.Outputs.{output};
 ghost use Rattle.ep_main.specs.Runs.{Finishes, IsVerdict};
 ghost use Rattle.ep_main.specs.declared.fault.Fault.TheVariants.{Memory};
 
 use crate::fault::Fault;
 use crate::judged::Judged;
 use crate::life::{life_of, told_contents};
-use crate::status::Status;
 use ep_audit::{Refusal, audit};
 use ep_base::{Sink, Source};
 use ep_bundle::{Bundle, read_bundle};
+use ep_cli::Status;
 use ep_report::{Findings, accepted, refusal};
 use std::alloc::Global;
 use std::mem::forget;
@@ -57,7 +57,7 @@ fn judge_bundle(alloc: Global, bundle: &Bundle) -> Result<Judged, Fault>
             let text = accepted(alloc, &found)?;
             forget(verdict);
             Ok(Judged {
-                status: Status::Accepted,
+                status: Status::Done,
                 text,
             })
         }

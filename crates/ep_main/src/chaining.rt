@@ -3,7 +3,7 @@
 ghost use Rattle.std.specs.Prelude.{◌≡◌, ◌<◌, ◌++◌, codes, length, map, string_bytes, IfOk, IfErr, OnOk};
 ghost use Rattle.ep_audit.specs.Chained.{IsChained, IsChainFault};
 ghost use Rattle.ep_main.specs.Chains.{Chains, ChainsFiles, EndsOfFiles, IsFaultText, IsWritten, SaysOfChain, TurnsAway, chain_text, link_text};
-ghost use Rattle.ep_main.specs.Outputs.{Told, output};
+ghost use Rattle.ep_cli.specs.Outputs.{Told, output};
 ghost use Rattle.ep_main.specs.declared.fault.Fault.TheVariants.{Memory};
 
 use crate::chain_files::read_links;
@@ -11,10 +11,10 @@ use crate::fault::Fault;
 use crate::judged::Judged;
 use crate::life::{life_of, told_contents};
 use crate::program::concluded;
-use crate::status::Status;
 use ep_assemble::FilesFault;
 use ep_audit::{ChainFault, ChainRefusal, Link, Verdict, audit_chain};
 use ep_base::Sink;
+use ep_cli::Status;
 use ep_report::{chain_refusal, push_link_line};
 use std::alloc::{AllocError, Global};
 use std::mem::forget;
@@ -86,7 +86,7 @@ fn judge_chain(alloc: Global, links: &[Link]) -> Result<Judged, Fault>
             let text = accepted_chain(alloc, links, &verdicts)?;
             forget(verdicts);
             Ok(Judged {
-                status: Status::Accepted,
+                status: Status::Done,
                 text,
             })
         }

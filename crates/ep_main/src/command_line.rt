@@ -11,7 +11,7 @@ ghost use Rattle.ep_main.specs.Options.{Options};
 ghost use Rattle.ep_main.specs.Words.{AskFor, AskForHelp, Chooses, IsAuditTask, IsBundleAudit, IsChainAudit, IsChainFound, IsChainOf, IsHelp, IsHelpTask, IsMet, IsMetTask, IsShown, IsShownTask, IsTask, MetReplay, MetRun, MetAudit, MetChain, MetUpgrade, Names, NamesHost, NamesTarget, audit as audit_app, audit_words, auditing, bounded, chained, emit as emit_rule, hosted, limit_in, replay as replay_app, replaying, run as run_app, run_words, epaxos, turned, upgrade as upgrade_app};
 ghost use Rattle.ep_main.specs.declared.asked.Asked.{Asked};
 ghost use Rattle.ep_main.specs.declared.asked.Asked.TheVariants.{Replay, Run, Audit, Upgrade, Version};
-ghost use Rattle.ep_main.specs.declared.declined.Declined.TheVariants.{Memory};
+ghost use Rattle.ep_cli.specs.declared.declined.Declined.TheVariants.{Memory};
 ghost use Rattle.ep_main.specs.declared.asked.Emit.{Emit};
 ghost use Rattle.ep_main.specs.declared.asked.Emit.TheVariants.{Report, Bundle};
 ghost use Rattle.ep_main.specs.declared.host.Host.{Host};
@@ -22,13 +22,13 @@ ghost use Rattle.ep_main.specs.declared.task.Task.TheVariants.{Streams};
 ghost use Rattle.ep_script.specs.Grammar.{number_in as number_between};
 
 use crate::asked::{Asked, Emit};
-use crate::declined::Declined;
 use crate::host::Host;
 use crate::run_options::RunOptions;
 use crate::target::Target;
 use crate::task::Task;
 use clap::error::ErrorKind;
 use clap::{Arg, ArgAction, ArgMatches, Command, Error};
+use ep_cli::Declined;
 use ep_script::number_in;
 use std::alloc::{AllocError, Global};
 use std::convert::AsStr;
@@ -91,6 +91,7 @@ const AFTER_UPGRADE: &str = "\
 Standard input, to its end, is a bundle of version 1 or 2. Standard output is the bundle of version 2 that says the same: each
 frame is spelled in version 2, and an audit of it says what an audit of the old one says. A bundle of version 2 stays as it is.
 With --to 3 it is the bundle of version 3 of generation 1, which opens with nothing; a bundle of version 3 stays as it is.
+(With --log it is the opening of generation 2, made of the logs of a cluster of version 2: `epaxos upgrade --log --help`.)
 Nothing is audited: journals and receipts that don't fit together are written as they are.
 Nothing is printed before the end is read.
 

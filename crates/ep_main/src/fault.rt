@@ -4,9 +4,9 @@ ghost use Rattle.std.specs.Prelude.{◌≡◌};
 ghost use Rattle.ep_main.specs.Faults.{of_bundle, of_script, status_of};
 ghost use Rattle.ep_main.specs.declared.fault.Fault.TheVariants.{Memory, Write};
 
-use crate::status::Status;
 use ep_base::{ReplicaId, WriteFailed};
 use ep_bundle::BundleFault;
+use ep_cli::Status;
 use ep_run::RunFault;
 use ep_script::ScriptFault;
 use std::alloc::AllocError;

@@ -1,6 +1,6 @@
 //! What an audit says.
 
-use crate::status::Status;
+use ep_cli::Status;
 
 /// What an audit says, as it is printed.
 #[derive(Drop)]

@@ -6,8 +6,8 @@
 //! Start with `program.rt`, `command_line.rt` (the words, by `clap`) and specs/Runs.antt (what is done, by status).
 //!
 //! It does no more than call `ep_replay`, `ep_run`, `ep_audit`, `ep_bundle` and `ep_upgrade`, and `Journals::into_upgraded`. A fault has one
-//! line on the fault output and one status (`fault.rt`, `declined.rt`, `telling.rt`, `status.rt`), as docs/FORMATS.md, section 6,
-//! lists them.
+//! line on the fault output and one status (`fault.rt`, `telling.rt`, and `ep_cli`, which `ep_viewer` shares), as docs/FORMATS.md,
+//! section 6, lists them.
 #![tactic(auto)]
 
 mod ahead;
@@ -16,7 +16,6 @@ mod auditing;
 mod chain_files;
 mod chaining;
 mod command_line;
-mod declined;
 mod fault;
 mod gathering;
 mod host;
@@ -26,18 +25,16 @@ mod program;
 mod replaying;
 mod run_options;
 mod running;
-mod status;
 mod target;
 mod task;
 mod telling;
 mod upgrading;
 
 use crate::ahead::read_ahead;
-use crate::declined::Declined;
 use crate::program::{decline, engine};
-use crate::status::Status;
 use ep_base::{Noted, Sink};
-use std::io::{ErrorKind, Read};
+use ep_cli::{Declined, Status, words};
+use std::io::Read;
 use std::marker::Sync;
 use std::process::ExitCode;
 use std::rt::{Env, Files};
@@ -72,16 +69,4 @@ fn run<R: Env + Files + AllocGlobal + Threads + Wait + Sync, I: Read + Drop, W: 
         writer,
         fault_writer,
     ))
-}
-
-/// The words of the command line, of which the first is the program's own name.
-fn words<R: Env + AllocGlobal>(rt: &R) -> Result<Vec<String>, Declined> {
-    match std::env::args(rt) {
-        Ok(words) => Ok(words.collect(rt.alloc())?),
-        Err(error) if error.kind() == ErrorKind::OutOfMemory => Err(Declined::Memory),
-        Err(_) => Err(Declined::Words(String::from_str(
-            rt.alloc(),
-            "error: a word is not text in UTF-8\n\nFor more information, try '--help'.\n",
-        )?)),
-    }
 }

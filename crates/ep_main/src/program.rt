@@ -3,7 +3,7 @@
 ghost use Rattle.std.specs.Prelude.{◌≡◌, ◌⊎◌, ℕ, List, Some, IfOk, map};
 ghost use Rattle.ep_base.specs.Devices.{FailsAsTold};
 ghost use Rattle.ep_main.specs.Faults.{is_read, is_write};
-ghost use Rattle.ep_main.specs.Outputs.{input, output};
+ghost use Rattle.ep_cli.specs.Outputs.{input, output};
 ghost use Rattle.ep_main.specs.Runs.{Performs, IsHelped, Declines, Ends, Does as Attempts, Concludes, IsVerdict, TellsWhy};
 ghost use Rattle.ep_main.specs.Tasks.{Does, EndsBy, EndsSo, Works};
 ghost use Rattle.ep_main.specs.Words.{AskFor, AskForHelp};
@@ -13,15 +13,14 @@ use crate::asked::{Asked, Emit};
 use crate::auditing::print_audit;
 use crate::chaining::print_chain;
 use crate::command_line::read_words;
-use crate::declined::Declined;
 use crate::fault::Fault;
 use crate::replaying::{emit_bundle, print_replay};
 use crate::running::print_run;
-use crate::status::Status;
 use crate::task::Task;
-use crate::telling::{tell, tell_words};
+use crate::telling::tell;
 use crate::upgrading::print_upgraded;
 use ep_base::{Sink, Source};
+use ep_cli::{Declined, Status, tell_words};
 use std::alloc::Global;
 use std::convert::AsStr;
 use std::marker::Sync;
@@ -159,11 +158,11 @@ fn attempt<R: Threads + Wait + Sync, S: Source, W: Sink>(
         Asked::Upgrade(target) => print_upgraded(alloc, target, reader, writer),
         Asked::Version => {
             writer.put(b"epaxos 0.1.0\n")?;
-            Ok(Status::Accepted)
+            Ok(Status::Done)
         }
         Asked::Help(text) => {
             writer.put(text.as_bytes())?;
-            Ok(Status::Accepted)
+            Ok(Status::Done)
         }
     }
 }

@@ -4,7 +4,7 @@ ghost use Rattle.std.specs.Prelude.{◌≡◌, ◌<◌, ◌^◌, ℕ, List, Some
 ghost use Rattle.ep_base.specs.Devices.{FailsAsTold};
 ghost use Rattle.ep_bundle.specs.Bytes.{bundle_bytes};
 ghost use Rattle.ep_main.specs.Faults.{is_read, is_write};
-ghost use Rattle.ep_main.specs.Outputs.{output};
+ghost use Rattle.ep_cli.specs.Outputs.{output};
 ghost use Rattle.ep_main.specs.Reported.{IsReportOf};
 ghost use Rattle.ep_journal.specs.Entries.{journals_of};
 ghost use Rattle.ep_journal.specs.Openings.{opens};
@@ -15,9 +15,9 @@ ghost use Rattle.ep_main.specs.declared.fault.Fault.TheVariants.{Memory};
 use crate::fault::Fault;
 use crate::gathering::gather_bundle;
 use crate::life::{life_of, told_contents};
-use crate::status::Status;
 use ep_audit::{Refusal, audit};
 use ep_base::{Sink, Source};
+use ep_cli::Status;
 use ep_replay::{Replayed, replay};
 use ep_report::{Findings, report};
 use ep_script::read_script;
@@ -42,7 +42,7 @@ pub(crate) fn print_replay<S: Source, W: Sink>(
     writer.put(text.as_slice())?;
     // The system takes memory back at the process's end, all at once.
     forget((script, played));
-    Ok(Status::Accepted)
+    Ok(Status::Done)
 }
 
 /// Reads a script to its end, plays it, and writes the bundle of what it leaves, which an audit accepts.
@@ -63,7 +63,7 @@ pub(crate) fn emit_bundle<S: Source, W: Sink>(
     writer.put(bundle.as_slice())?;
     // The system takes memory back at the process's end, all at once.
     forget((script, played));
-    Ok(Status::Accepted)
+    Ok(Status::Done)
 }
 
 /// The bytes of the bundle of what a script's run left.

@@ -7,12 +7,12 @@ ghost use Rattle.ep_host.specs.Finishing.{IsFinished};
 ghost use Rattle.ep_main.specs.Audits.{SaysOfRun};
 ghost use Rattle.ep_main.specs.Faults.{is_read, is_write};
 ghost use Rattle.ep_main.specs.Hosts.{Promises};
-ghost use Rattle.ep_main.specs.Outputs.{output};
+ghost use Rattle.ep_cli.specs.Outputs.{output};
 ghost use Rattle.ep_main.specs.Runs.{IsVerdict, Runs};
 ghost use Rattle.ep_run.specs.Rings.{IsBegun, begun_of};
 ghost use Rattle.ep_main.specs.declared.asked.Emit.TheVariants.{Report, Bundle};
 ghost use Rattle.ep_main.specs.declared.fault.Fault.TheVariants.{Memory};
-ghost use Rattle.ep_main.specs.declared.status.Status.TheVariants.{Accepted};
+ghost use Rattle.ep_cli.specs.declared.status.Status.TheVariants.{Done};
 
 use crate::asked::Emit;
 use crate::fault::Fault;
@@ -21,8 +21,8 @@ use crate::host::Host;
 use crate::judged::Judged;
 use crate::life::{life_of, told_contents};
 use crate::run_options::RunOptions;
-use crate::status::Status;
 use ep_base::{Sink, Source};
+use ep_cli::Status;
 use ep_report::{Findings, Losses, refusal, run_report};
 use ep_run::{Ran, RunFault, run, run_rings};
 use ep_script::{RunScript, read_run};
@@ -77,7 +77,7 @@ fn run_on_host<R: Threads + Wait + Sync>(
 fn judge_run(alloc: Global, emit: Emit, ran: &Ran) -> Result<Judged, Fault>
     requires finished { IsFinished ran.now.receipts.items ran.now.finished }
     ensures value { IfOk result (λ j. SaysOfRun emit ran.now j.status j.text.items) }
-    ensures accepted { IsOk ran.now.finished.verdict → IfOk result (λ j. j.status ≡ Accepted) }
+    ensures accepted { IsOk ran.now.finished.verdict → IfOk result (λ j. j.status ≡ Done) }
     ensures memory { IfErr result (λ e. e ≡ Memory) }
 {
     match emit {
@@ -90,7 +90,7 @@ fn judge_run(alloc: Global, emit: Emit, ran: &Ran) -> Result<Judged, Fault>
 fn judge_reported(alloc: Global, ran: &Ran) -> Result<Judged, Fault>
     requires { IsFinished ran.now.receipts.items ran.now.finished }
     ensures value { IfOk result (λ j. SaysOfRun Report ran.now j.status j.text.items) }
-    ensures accepted { IsOk ran.now.finished.verdict → IfOk result (λ j. j.status ≡ Accepted) }
+    ensures accepted { IsOk ran.now.finished.verdict → IfOk result (λ j. j.status ≡ Done) }
     ensures memory { IfErr result (λ e. e ≡ Memory) }
 {
     match &ran.finished.verdict {
@@ -109,7 +109,7 @@ fn judge_reported(alloc: Global, ran: &Ran) -> Result<Judged, Fault>
             };
             let text = run_report(alloc, &found, losses)?;
             Ok(Judged {
-                status: Status::Accepted,
+                status: Status::Done,
                 text,
             })
         }
@@ -124,13 +124,13 @@ fn judge_reported(alloc: Global, ran: &Ran) -> Result<Judged, Fault>
 fn judge_bundled(alloc: Global, ran: &Ran) -> Result<Judged, Fault>
     requires finished { IsFinished ran.now.receipts.items ran.now.finished }
     ensures value { IfOk result (λ j. SaysOfRun Bundle ran.now j.status j.text.items) }
-    ensures accepted { IsOk ran.now.finished.verdict → IfOk result (λ j. j.status ≡ Accepted) }
+    ensures accepted { IsOk ran.now.finished.verdict → IfOk result (λ j. j.status ≡ Done) }
     ensures memory { IfErr result (λ e. e ≡ Memory) }
 {
     let text = bundle_of(alloc, ran)?;
     match &ran.finished.verdict {
         Ok(_) => Ok(Judged {
-            status: Status::Accepted,
+            status: Status::Done,
             text,
         }),
         Err(_) => Ok(Judged {

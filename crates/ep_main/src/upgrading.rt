@@ -7,7 +7,7 @@ ghost use Rattle.ep_base.specs.declared.version_kind.VersionKind.TheVariants.{V2
 ghost use Rattle.ep_bundle.specs.Bytes.{bundle_bytes};
 ghost use Rattle.ep_journal.specs.Upgrading.{IsUpgraded};
 ghost use Rattle.ep_main.specs.Faults.{is_read, is_write};
-ghost use Rattle.ep_main.specs.Outputs.{output};
+ghost use Rattle.ep_cli.specs.Outputs.{output};
 ghost use Rattle.ep_main.specs.Runs.{Rewrites, IsVerdict};
 ghost use Rattle.ep_main.specs.Upgrades.{IsThirdFault};
 ghost use Rattle.ep_main.specs.declared.fault.Fault.TheVariants.{Memory};
@@ -16,10 +16,10 @@ ghost use Rattle.ep_upgrade.specs.Respelled.{IsThird};
 
 use crate::fault::Fault;
 use crate::gathering::gather_bundle;
-use crate::status::Status;
 use crate::target::Target;
 use ep_base::{Sink, Source};
 use ep_bundle::{Bundle, bundles_are_canonical, read_bundle, read_bundle_of};
+use ep_cli::Status;
 use ep_upgrade::in_third;
 use std::alloc::Global;
 use std::mem::forget;
@@ -63,7 +63,7 @@ fn print_second<S: Source, W: Sink>(
     writer.put(text.as_slice())?;
     // The system takes memory back at the process's end, all at once.
     forget(upgraded);
-    Ok(Status::Accepted)
+    Ok(Status::Done)
 }
 
 /// The same to version 3.
@@ -83,7 +83,7 @@ fn print_third<S: Source, W: Sink>(
     writer.put(text.as_slice())?;
     // The system takes memory back at the process's end, all at once.
     forget(bundle);
-    Ok(Status::Accepted)
+    Ok(Status::Done)
 }
 
 /// The bundle with its journals in version 2.

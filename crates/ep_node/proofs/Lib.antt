@@ -17,3 +17,7 @@ mod Moments
 mod Syncing
 mod Opened
 mod EachTaken
+mod Noting
+mod OpenTold
+mod Decided
+mod Learnt

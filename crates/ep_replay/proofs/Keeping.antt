@@ -11,20 +11,21 @@ use Rattle.ep_world.specs.Played.{Played}
 use Rattle.ep_world.specs.declared.world_event.WorldEvent.{WorldEvent}
 use Rattle.ep_world.specs.declared.world_event.WorldEvent.TheVariants as event
 use Rattle.ep_replay.specs.Heads.{opening_of}
-use Rattle.ep_replay.specs.Outcome.{IsReplay}
+use Rattle.ep_replay.specs.Outcome.{EndsAt, HasEnded, IsReplay}
 use Rattle.ep_replay.specs.Replays.{Replay, Takes, Tries, Gives, Plays, PlayAll, with_given, with_proposer}
+use Rattle.ep_replay.specs.declared.ended.Ended.{Ended}
 use Rattle.ep_replay.specs.declared.replayed.Replayed.{Replayed}
 
 -- it keeps P of the world and the receipts
 abbrev pub KeepsOf : (Played → List Receipt → Type 0) → Type 0
-KeepsOf P = (p q : Replay) (event : WorldEvent) → Takes p event q → P p.world p.receipts → P q.world q.receipts
+KeepsOf P = (p q : Replay) (line : ℕ) (event : WorldEvent) → Takes p line event q → P p.world p.receipts → P q.world q.receipts
 
 module _ (P : Played → List Receipt → Type 0) (keeps : KeepsOf P) where
   abbrev At : Replay → Type 0
   At p = P p.world p.receipts
 
   tries_keep : (p q : Replay) (line : ℕ) (event : WorldEvent) → Tries p line event q → At p → At q
-  tries_keep p q line event (inl t) s = keeps p q event t s
+  tries_keep p q line event (inl t) s = keeps p q line event t s
   tries_keep p q line event (inr t) s = subst At (sym t.becomes) s
 
   gives_keep : (p q : Replay) (line : ℕ) (ms : List ℕ) → Gives p line ms q → At p → At q
@@ -49,15 +50,21 @@ abbrev Is : Version → Opening → Played → List Receipt → Type 0
 Is v o w ts = (w.version ≡ v) × (w.opening ≡ o)
 
 takes_stay : (v : Version) (o : Opening) → KeepsOf (Is v o)
-takes_stay v o p q event t s =
+takes_stay v o p q line event t s =
     subst (λ (r : Replay). Is v o r.world r.receipts) (sym t.becomes)
     (subst (λ (w : Played). Is v o w p.receipts) (sym t.happens.becomes) s)
 
-stays : (plan : Plan) (d : Replayed) (h : IsReplay plan d) → (h.last.world.version ≡ plan.head.version) × (h.last.world.opening ≡ opening_of plan.head.opening)
-stays plan d h = all_keep (Is plan.head.version (opening_of plan.head.opening)) (takes_stay plan.head.version (opening_of plan.head.opening)) h.first h.last plan.lines h.played (h.opening.version, h.opening.opening)
+stays : (plan : Plan) (last : Replay) → EndsAt plan last → (last.world.version ≡ plan.head.version) × (last.world.opening ≡ opening_of plan.head.opening)
+stays plan last h = all_keep (Is plan.head.version (opening_of plan.head.opening)) (takes_stay plan.head.version (opening_of plan.head.opening)) h.first last plan.lines h.played (h.opening.version, h.opening.opening)
+
+pub ended_version : (plan : Plan) (d : Ended) → HasEnded plan d → d.world.version ≡ plan.head.version
+ended_version plan d h = ap (λ (w : Played). w.version) h.world ∙ (stays plan h.last h.at_end).0
+
+pub ended_opening : (plan : Plan) (d : Ended) → HasEnded plan d → d.world.opening ≡ opening_of plan.head.opening
+ended_opening plan d h = ap (λ (w : Played). w.opening) h.world ∙ (stays plan h.last h.at_end).1
 
 pub replay_version : (plan : Plan) (d : Replayed) → IsReplay plan d → d.journals.version ≡ plan.head.version
-replay_version plan d h = ap (λ (j : Collected). j.version) h.journals ∙ (stays plan d h).0
+replay_version plan d h = ap (λ (j : Collected). j.version) h.journals ∙ (stays plan h.last h.at_end).0
 
 pub replay_opening : (plan : Plan) (d : Replayed) → IsReplay plan d → d.journals.opening ≡ opening_of plan.head.opening
-replay_opening plan d h = ap (λ (j : Collected). j.opening) h.journals ∙ (stays plan d h).1
+replay_opening plan d h = ap (λ (j : Collected). j.opening) h.journals ∙ (stays plan h.last h.at_end).1

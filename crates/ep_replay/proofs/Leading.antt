@@ -1,5 +1,6 @@
 -- From one player to the next.
-use Rattle.std.proofs.Common.{◌≡◌, ◌≢◌, inl, inr, ℕ, suc, ◌+◌, ◌<◌, ◌≤◌, Bool, true, false, cond, List, [], ◌∷◌, ◌++◌, length, get_or, drop, refl, sym, ap, subst, ◌∙◌, arith}
+use Rattle.std.proofs.Common.{◌≡◌, ◌≢◌, inl, inr, ℕ, suc, ◌+◌, ◌<◌, ◌≤◌, Bool, true, false, cond, List, [], ◌∷◌, ◌++◌, length, get_or, drop, refl, sym, ap, subst, ◌∙◌, arith, append-nil, append_assoc}
+use Rattle.std.proofs.lemmas.Bool.{false≢true}
 use Rattle.std.proofs.Math.Seq.{drop-cons}
 use Rattle.std.proofs.lemmas.List.{drop_all}
 use Rattle.ep_base.specs.Commands.{Command}
@@ -7,6 +8,8 @@ use Rattle.ep_rules.specs.declared.receipt.Receipt.{Receipt}
 use Rattle.ep_journal.specs.Entries.{entry_of}
 use Rattle.ep_journal.specs.declared.step_fault.StepFault.TheVariants.{Memory}
 use Rattle.ep_replica.specs.Receipts.{receipts_of}
+use Rattle.ep_report.specs.declared.cause.Cause.{Cause}
+use Rattle.ep_script.specs.Heads.{Head}
 use Rattle.ep_script.specs.Plan.{Plan}
 use Rattle.ep_script.specs.declared.line.Line.{Line}
 use Rattle.ep_script.specs.declared.line.Line.TheVariants as asked
@@ -18,51 +21,86 @@ use Rattle.ep_world.specs.declared.world_event.WorldEvent.{WorldEvent}
 use Rattle.ep_world.specs.declared.world_event.WorldEvent.TheVariants as event
 use Rattle.ep_replay.specs.Causes.{cause_of}
 use Rattle.ep_replay.specs.Clients.{times, greatest}
-use Rattle.ep_replay.specs.Outcome.{IsReplay}
-use Rattle.ep_replay.specs.Replays.{Replay, IsOpening, Tries, Gives, Plays, PlayAll, AreUngiven, with_given, was_sent, with_proposer, proposal}
-use Rattle.ep_replay.specs.Tables.{AreCounted, AreFlagged, AreOwn, Tells, told, Leads}
+use Rattle.ep_replay.specs.Outcome.{HasEnded, IsReplay}
+use Rattle.ep_replay.specs.Replays.{Replay, one_tried, refusal, refusals, IsOpening, Tries, Gives, Plays, PlayAll, AreUngiven, with_given, was_sent, with_proposer, proposal}
+use Rattle.ep_replay.specs.Tables.{AreCounted, AreFlagged, AreOwn, Behind, Tells, nothing, told, Leads, HasPlayed}
 use Rattle.ep_replay.specs.declared.clients.Client.{Client}
 use Rattle.ep_replay.specs.declared.clients.Clients.{Clients}
+use Rattle.ep_replay.specs.declared.ended.Ended.{Ended}
 use Rattle.ep_replay.specs.declared.given.Given.{Given}
+use Rattle.ep_replay.specs.declared.outcome.Outcome.{Outcome}
+use Rattle.ep_replay.specs.declared.outcome.Outcome.TheVariants.{Took, Refused}
 use Rattle.ep_replay.specs.declared.player.Player.{Player}
 use Rattle.ep_replay.specs.declared.replayed.Replayed.{Replayed}
+use Rattle.ep_replay.specs.declared.tried.Tried.{Tried}
 use Rattle.ep_replay.proofs.Receiving.{own_still}
 
 -- One event.
 
+refusals_more : (ts : List Tried) (t : Tried) → refusals (ts ++ t ∷ []) ≡ refusals ts ++ refusal t.line t.outcome
+refusals_more [] t = append-nil (refusal t.line t.outcome)
+refusals_more (x ∷ ts) t = ap (λ (rs : List (ℕ × Cause)). refusal x.line x.outcome ++ rs) (refusals_more ts t) ∙ sym (append_assoc (refusal x.line x.outcome) (refusals ts) (refusal t.line t.outcome))
+
 -- the event happened
 pub took : (s s' : Player) (line : ℕ) (event : WorldEvent) (h : Happens s.world event s'.world)
     → s'.receipts.items ≡ s.receipts.items ++ receipts_of h.replica (journals_in s'.world h.replica) (entry_of h.entry)
-    → s'.refused.items ≡ s.refused.items → s'.given ≡ s.given
+    → s'.refused.items ≡ s.refused.items → s'.given ≡ s.given → s'.keeps ≡ s.keeps
+    → (s.keeps ≡ true → s'.tried.items ≡ s.tried.items ++ one_tried line event (Took h.replica h.entry.number (length s.world.messages + 1)) ∷ [])
     → ((ps : List ℕ) → AreCounted s.clients ps s.receipts.items → AreCounted s'.clients ps s'.receipts.items)
     → (AreOwn s'.world s.receipts.items → AreOwn s'.world s'.receipts.items)
     → Leads (λ p q. Tries p line event q) s s'
-took s s' line event h receipts refused given counted own ps gs t = record {
-  proposers = ps;
-  given = gs;
-  related = inl (record { next = s'.world; happens = h; becomes = (λ i. record { world = s'.world; proposers = ps; given = gs; receipts = receipts i; refused = refused i }) });
-  tells = record {
-    clients = counted ps t.clients;
-    flags = subst (λ (g : Given). AreFlagged g gs) (sym given) t.flags;
-    own = own (own_still s.world s'.world event s.receipts.items h t.own);
-  };
-}
+took s s' line event h receipts refused given keeps kept counted own b t =
+    let one : Tried = one_tried line event (Took h.replica h.entry.number (length s.world.messages + 1)) in
+    let more : refusals (b.tried ++ one ∷ []) ≡ refusals b.tried = refusals_more b.tried one ∙ append-nil (refusals b.tried) in
+    record {
+      behind = record { proposers = b.proposers; given = b.given; tried = b.tried ++ one ∷ [] };
+      related = inl (record { next = s'.world; happens = h; becomes = (λ i. record { world = s'.world; proposers = b.proposers; given = b.given; receipts = receipts i; tried = b.tried ++ one ∷ [] }) });
+      tells = record {
+        clients = counted b.proposers t.clients;
+        flags = subst (λ (g : Given). AreFlagged g b.given) (sym given) t.flags;
+        own = own (own_still s.world s'.world event s.receipts.items h t.own);
+        refused = refused ∙ t.refused ∙ sym more;
+        log = (λ k. kept (sym keeps ∙ k) ∙ ap (λ (ts : List Tried). ts ++ one ∷ []) (t.log (sym keeps ∙ k)));
+      };
+      keeps = keeps;
+    }
+
+-- nothing is kept of it
+pub unkept : {A : Type 0} (k : Bool) → k ≡ false → k ≡ true → A
+unkept k isnt is = absurd (false≢true (sym isnt ∙ is))
+
+-- what is kept of an event that happened
+pub took_so : (line first k : ℕ) (event copied : WorldEvent) (o : Outcome) (w v : Played) (h : Happens w event v) (old new : List Tried) → copied ≡ event → first ≡ k → o ≡ Took h.replica h.entry.number first → new ≡ old ++ one_tried line copied o ∷ []
+    → new ≡ old ++ one_tried line event (Took h.replica h.entry.number k) ∷ []
+took_so line first k event copied o w v h old new same at is kept =
+    let outcome : o ≡ Took h.replica h.entry.number k = is ∙ ap (λ n. Took h.replica h.entry.number n) at in
+    kept ∙ (λ i. old ++ one_tried line (same i) (outcome i) ∷ [])
+
+-- and of one that was refused
+pub refused_so : (line : ℕ) (event copied : WorldEvent) (cause : Refusal) (named : Cause) (old new : List Tried) → copied ≡ event → named ≡ cause_of cause → new ≡ old ++ one_tried line copied (Refused named) ∷ []
+    → new ≡ old ++ one_tried line event (Refused (cause_of cause)) ∷ []
+refused_so line event copied cause named old new same is kept = kept ∙ (λ i. old ++ one_tried line (same i) (Refused (is i)) ∷ [])
 
 -- the event was listed
 pub listed : (s s' : Player) (line : ℕ) (event : WorldEvent) (cause : Refusal) → IsNotEnabled s.world event cause → cause ≢ Step Memory
     → s'.refused.items ≡ s.refused.items ++ (line, cause_of cause) ∷ []
-    → s'.world ≡ s.world → s'.clients ≡ s.clients → s'.receipts.items ≡ s.receipts.items → s'.given ≡ s.given
+    → s'.world ≡ s.world → s'.clients ≡ s.clients → s'.receipts.items ≡ s.receipts.items → s'.given ≡ s.given → s'.keeps ≡ s.keeps
+    → (s.keeps ≡ true → s'.tried.items ≡ s.tried.items ++ one_tried line event (Refused (cause_of cause)) ∷ [])
     → Leads (λ p q. Tries p line event q) s s'
-listed s s' line event cause why is refused world clients receipts given ps gs t = record {
-  proposers = ps;
-  given = gs;
-  related = inr (record { cause = cause; refused = why; told = is; becomes = (λ i. record { world = world i; proposers = ps; given = gs; receipts = receipts i; refused = refused i }) });
-  tells = record {
-    clients = subst (λ (ts : List Receipt). AreCounted s'.clients ps ts) (sym receipts) (subst (λ (cs : Clients). AreCounted cs ps s.receipts.items) (sym clients) t.clients);
-    flags = subst (λ (g : Given). AreFlagged g gs) (sym given) t.flags;
-    own = subst (λ (ts : List Receipt). AreOwn s'.world ts) (sym receipts) (subst (λ (w : Played). AreOwn w s.receipts.items) (sym world) t.own);
-  };
-}
+listed s s' line event cause why is refused world clients receipts given keeps kept b t =
+    let one : Tried = one_tried line event (Refused (cause_of cause)) in
+    record {
+      behind = record { proposers = b.proposers; given = b.given; tried = b.tried ++ one ∷ [] };
+      related = inr (record { cause = cause; refused = why; told = is; becomes = (λ i. record { world = world i; proposers = b.proposers; given = b.given; receipts = receipts i; tried = b.tried ++ one ∷ [] }) });
+      tells = record {
+        clients = subst (λ (ts : List Receipt). AreCounted s'.clients b.proposers ts) (sym receipts) (subst (λ (cs : Clients). AreCounted cs b.proposers s.receipts.items) (sym clients) t.clients);
+        flags = subst (λ (g : Given). AreFlagged g b.given) (sym given) t.flags;
+        own = subst (λ (ts : List Receipt). AreOwn s'.world ts) (sym receipts) (subst (λ (w : Played). AreOwn w s.receipts.items) (sym world) t.own);
+        refused = refused ∙ ap (λ (rs : List (ℕ × Cause)). rs ++ (line, cause_of cause) ∷ []) t.refused ∙ sym (refusals_more b.tried one);
+        log = (λ k. kept (sym keeps ∙ k) ∙ ap (λ (ts : List Tried). ts ++ one ∷ []) (t.log (sym keeps ∙ k)));
+      };
+      keeps = keeps;
+    }
 
 -- One proposal.
 
@@ -74,59 +112,59 @@ pub proposed : (s s' : Player) (cs : Clients) (k : Client) (line replica client 
     → copied ≡ command
     → Leads (λ p q. Tries p line (event.Propose replica client k.requests copied k.seen) q) (record s { clients = cs }) s'
     → Leads (λ p q. Tries (with_proposer p client) line (proposal p replica client command) q) s s'
-proposed s s' cs k line replica client command copied requests seen counted same leads ps gs t =
-    let r = leads (ps ++ client ∷ []) gs (record { clients = counted ps s.receipts.items t.clients; flags = t.flags; own = t.own }) in
-    let is : event.Propose replica client k.requests copied k.seen ≡ event.Propose replica client (times client ps + 1) command (greatest client s.receipts.items) =
-    λ i. event.Propose replica client (requests ps s.receipts.items t.clients i) (same i) (seen ps s.receipts.items t.clients i) in
+proposed s s' cs k line replica client command copied requests seen counted same leads b t =
+    let r = leads (record { proposers = b.proposers ++ client ∷ []; given = b.given; tried = b.tried }) (record { clients = counted b.proposers s.receipts.items t.clients; flags = t.flags; own = t.own; refused = t.refused; log = t.log }) in
+    let is : event.Propose replica client k.requests copied k.seen ≡ event.Propose replica client (times client b.proposers + 1) command (greatest client s.receipts.items) =
+    λ i. event.Propose replica client (requests b.proposers s.receipts.items t.clients i) (same i) (seen b.proposers s.receipts.items t.clients i) in
     record {
-      proposers = r.proposers;
-      given = r.given;
-      related = subst (λ (e : WorldEvent). Tries (with_proposer (told s ps gs) client) line e (told s' r.proposers r.given)) is r.related;
+      behind = r.behind;
+      related = subst (λ (e : WorldEvent). Tries (with_proposer (told s b) client) line e (told s' r.behind)) is r.related;
       tells = r.tells;
+      keeps = r.keeps;
     }
 
 -- Messages.
 
 -- there is such a message, and it was noted
 pub sent_noted : (s : Player) (g : Given) (m : ℕ) → was_sent s.world m ≡ true → ((gs : List ℕ) → AreFlagged s.given gs → AreFlagged g (gs ++ m ∷ [])) → Leads (λ p q. q ≡ with_given p m) s (record s { given = g })
-sent_noted s g m sent flags ps gs t = record {
-  proposers = ps;
-  given = gs ++ m ∷ [];
-  related = ap (λ (b : Bool). record { world = s.world; proposers = ps; given = cond b (gs ++ m ∷ []) gs; receipts = s.receipts.items; refused = s.refused.items }) (sym sent);
-  tells = record { clients = t.clients; flags = flags gs t.flags; own = t.own };
+sent_noted s g m sent flags b t = record {
+  behind = record { proposers = b.proposers; given = b.given ++ m ∷ []; tried = b.tried };
+  related = ap (λ (x : Bool). record { world = s.world; proposers = b.proposers; given = cond x (b.given ++ m ∷ []) b.given; receipts = s.receipts.items; tried = b.tried }) (sym sent);
+  tells = record { clients = t.clients; flags = flags b.given t.flags; own = t.own; refused = t.refused; log = t.log };
+  keeps = refl;
 }
 
 -- there is no such message
 pub unsent_noted : (s : Player) (m : ℕ) → was_sent s.world m ≡ false → Leads (λ p q. q ≡ with_given p m) s s
-unsent_noted s m unsent ps gs t = record {
-  proposers = ps;
-  given = gs;
-  related = ap (λ (b : Bool). record { world = s.world; proposers = ps; given = cond b (gs ++ m ∷ []) gs; receipts = s.receipts.items; refused = s.refused.items }) (sym unsent);
+unsent_noted s m unsent b t = record {
+  behind = b;
+  related = ap (λ (x : Bool). record { world = s.world; proposers = b.proposers; given = cond x (b.given ++ m ∷ []) b.given; receipts = s.receipts.items; tried = b.tried }) (sym unsent);
   tells = t;
+  keeps = refl;
 }
 
 -- a message was noted, and then its delivery tried
 pub gave : (s next s' : Player) (line m : ℕ) → Leads (λ p q. q ≡ with_given p m) s next → Leads (λ p q. Tries p line (event.Deliver m) q) next s' → Leads (λ p q. Tries (with_given p m) line (event.Deliver m) q) s s'
-gave s next s' line m noted tried ps gs t =
-    let a = noted ps gs t in
-    let b = tried a.proposers a.given a.tells in
+gave s next s' line m noted tried b t =
+    let a = noted b t in
+    let c = tried a.behind a.tells in
     record {
-      proposers = b.proposers;
-      given = b.given;
-      related = subst (λ (p : Replay). Tries p line (event.Deliver m) (told s' b.proposers b.given)) a.related b.related;
-      tells = b.tells;
+      behind = c.behind;
+      related = subst (λ (p : Replay). Tries p line (event.Deliver m) (told s' c.behind)) a.related c.related;
+      tells = c.tells;
+      keeps = c.keeps ∙ a.keeps;
     }
 
 -- what was never given was given
 pub flushed : (s s' : Player) (g : Given) (line sent : ℕ) (ms : List ℕ) → sent ≡ length s.world.messages → ((gs : List ℕ) → AreFlagged s.given gs → AreFlagged g gs) → ((gs : List ℕ) → AreFlagged s.given gs → AreUngiven gs sent ms)
     → Leads (λ p q. Gives p line ms q) (record s { given = g }) s' → Leads (λ p q. Plays p line asked.Flush q) s s'
-flushed s s' g line sent ms all flags these leads ps gs t =
-    let r = leads ps gs (record { clients = t.clients; flags = flags gs t.flags; own = t.own }) in
+flushed s s' g line sent ms all flags these leads b t =
+    let r = leads b (record { clients = t.clients; flags = flags b.given t.flags; own = t.own; refused = t.refused; log = t.log }) in
     record {
-      proposers = r.proposers;
-      given = r.given;
-      related = (ms, subst (λ n. AreUngiven gs n ms) all (these gs t.flags), r.related);
+      behind = r.behind;
+      related = (ms, subst (λ n. AreUngiven b.given n ms) all (these b.given t.flags), r.related);
       tells = r.tells;
+      keeps = r.keeps;
     }
 
 -- One after another.
@@ -136,31 +174,31 @@ abbrev pub Completes : {X : Type 0} → (Replay → List X → Replay → Type 0
 Completes G xs i s s' = Leads (λ p q. (end : Replay) → G q (drop i xs) end → G p xs end) s s'
 
 pub starts : {X : Type 0} (G : Replay → List X → Replay → Type 0) (xs : List X) (s : Player) → Completes G xs 0 s s
-starts G xs s ps gs t = record { proposers = ps; given = gs; related = (λ end h. h); tells = t }
+starts G xs s b t = record { behind = b; related = (λ end h. h); tells = t; keeps = refl }
 
 goes_on : {X : Type 0} (G : Replay → List X → Replay → Type 0) (Each : Replay → X → Replay → Type 0) → ((p q end : Replay) (x : X) (xs : List X) → Each p x q → G q xs end → G p (x ∷ xs) end)
     → (xs : List X) (i : ℕ) (x d : X) (s next s' : Player) → i < length xs → x ≡ get_or xs i d → Completes G xs i s next → Leads (λ p q. Each p x q) next s' → Completes G xs (i + 1) s s'
-goes_on {X} G Each more xs i x d s next s' lt is done leads ps gs t =
-    let a = done ps gs t in
-    let b = leads a.proposers a.given a.tells in
+goes_on {X} G Each more xs i x d s next s' lt is done leads b t =
+    let a = done b t in
+    let c = leads a.behind a.tells in
     let rest : drop i xs ≡ x ∷ drop (suc i) xs = drop-cons xs i d lt ∙ ap (λ (y : X). y ∷ drop (suc i) xs) (sym is) in
     let one : i + 1 ≡ suc i = omega arith in
     record {
-      proposers = b.proposers;
-      given = b.given;
-      related = (λ end h. a.related end (subst (λ (ys : List X). G (told next a.proposers a.given) ys end) (sym rest)
-          (more (told next a.proposers a.given) (told s' b.proposers b.given) end x (drop (suc i) xs) b.related (subst (λ n. G (told s' b.proposers b.given) (drop n xs) end) one h))));
-      tells = b.tells;
+      behind = c.behind;
+      related = (λ end h. a.related end (subst (λ (ys : List X). G (told next a.behind) ys end) (sym rest)
+          (more (told next a.behind) (told s' c.behind) end x (drop (suc i) xs) c.related (subst (λ n. G (told s' c.behind) (drop n xs) end) one h))));
+      tells = c.tells;
+      keeps = c.keeps ∙ a.keeps;
     }
 
 ends : {X : Type 0} (G : Replay → List X → Replay → Type 0) → ((p : Replay) → G p [] p) → (xs : List X) (i : ℕ) (s s' : Player) → length xs ≤ i → Completes G xs i s s' → Leads (λ p q. G p xs q) s s'
-ends {X} G none xs i s s' over done ps gs t =
-    let a = done ps gs t in
+ends {X} G none xs i s s' over done b t =
+    let a = done b t in
     record {
-      proposers = a.proposers;
-      given = a.given;
-      related = a.related (told s' a.proposers a.given) (subst (λ (ys : List X). G (told s' a.proposers a.given) ys (told s' a.proposers a.given)) (sym (drop_all i xs over)) (none (told s' a.proposers a.given)));
+      behind = a.behind;
+      related = a.related (told s' a.behind) (subst (λ (ys : List X). G (told s' a.behind) ys (told s' a.behind)) (sym (drop_all i xs over)) (none (told s' a.behind)));
       tells = a.tells;
+      keeps = a.keeps;
     }
 
 abbrev pub gives : ℕ → Replay → List ℕ → Replay → Type 0
@@ -180,11 +218,31 @@ played_all ls i s s' over done = ends PlayAll (λ p. refl) ls i s s' over done
 
 -- All lines.
 
-pub replayed : (plan : Plan) (s s' : Player) (d : Replayed) → IsOpening plan.head (told s [] []) → Tells s [] [] → Leads (λ p q. PlayAll p plan.lines q) s s'
-    → d.journals ≡ collected s'.world → d.receipts.items ≡ s'.receipts.items → d.refused.items ≡ s'.refused.items → IsReplay plan d
-replayed plan s s' d opening t leads journals receipts refused =
-    let r = leads [] [] t in
-    record { first = told s [] []; last = told s' r.proposers r.given; opening = opening; played = r.related; journals = journals; receipts = receipts; refused = refused }
+pub have_played : (plan : Plan) (s s' : Player) (keeps : Bool) (head : Head) (lines : List (ℕ × Line)) → head ≡ plan.head → lines ≡ plan.lines → IsOpening head (told s nothing) → Tells s nothing → s.keeps ≡ keeps → Leads (λ p q. PlayAll p lines q) s s' → HasPlayed plan keeps s'
+have_played plan s s' keeps head lines same_head same_lines opening t kept leads =
+    let r = leads nothing t in
+    record {
+      behind = r.behind;
+      at_end = record { first = told s nothing; opening = subst (λ (h : Head). IsOpening h (told s nothing)) same_head opening; played = subst (λ (ls : List (ℕ × Line)). PlayAll (told s nothing) ls (told s' r.behind)) same_lines r.related };
+      tells = r.tells;
+      keeps = r.keeps ∙ kept;
+    }
 
-pub own_at_end : (ls : List (ℕ × Line)) (s s' : Player) → Tells s [] [] → Leads (λ p q. PlayAll p ls q) s s' → AreOwn s'.world s'.receipts.items
-own_at_end ls s s' t leads = (leads [] [] t).tells.own
+pub ended : (plan : Plan) (s : Player) (d : Ended) → HasPlayed plan true s → d.world ≡ s.world → d.receipts.items ≡ s.receipts.items → d.tried.items ≡ s.tried.items → ((gs : List ℕ) → AreFlagged s.given gs → AreUngiven gs (length s.world.messages) d.ungiven.items) → HasEnded plan d
+ended plan s d h world receipts tried ungiven = record {
+  last = told s h.behind;
+  at_end = h.at_end;
+  world = world;
+  receipts = receipts;
+  tried = tried ∙ h.tells.log h.keeps;
+  ungiven = ungiven h.behind.given h.tells.flags;
+}
+
+pub replayed : (plan : Plan) (keeps : Bool) (s : Player) (d : Replayed) → HasPlayed plan keeps s → d.journals ≡ collected s.world → d.receipts.items ≡ s.receipts.items → d.refused.items ≡ s.refused.items → IsReplay plan d
+replayed plan keeps s d h journals receipts refused = record {
+  last = told s h.behind;
+  at_end = h.at_end;
+  journals = journals;
+  receipts = receipts;
+  refused = refused ∙ h.tells.refused;
+}

@@ -27,7 +27,7 @@ SoleIn w ts = Sole (opens w.opening) w.faults (journals_in w) ts
 -- One event.
 
 takes_sole : KeepsOf SoleIn
-takes_sole p q event t s =
+takes_sole p q line event t s =
     let h : Happens p.world event t.next = t.happens in
     let w : Played = p.world in
     let v : Played = t.next in
@@ -50,5 +50,5 @@ opening_sole head p o =
 
 pub replay_once : (plan : Plan) (d : Replayed) → IsReplay plan d → Once (instances_of d.receipts.items)
 replay_once plan d h =
-    let s : SoleIn h.last.world h.last.receipts = all_keep SoleIn takes_sole h.first h.last plan.lines h.played (opening_sole plan.head h.first h.opening) in
+    let s : SoleIn h.last.world h.last.receipts = all_keep SoleIn takes_sole h.at_end.first h.last plan.lines h.at_end.played (opening_sole plan.head h.at_end.first h.at_end.opening) in
     subst (λ (ts : List Receipt). Once (instances_of ts)) (sym h.receipts) s.once

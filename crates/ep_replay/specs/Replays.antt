@@ -7,7 +7,6 @@ use Rattle.ep_rules.specs.declared.receipt.Receipt.{Receipt}
 use Rattle.ep_journal.specs.Entries.{entry_of}
 use Rattle.ep_journal.specs.declared.step_fault.StepFault.TheVariants.{Memory}
 use Rattle.ep_replica.specs.Receipts.{receipts_of}
-use Rattle.ep_report.specs.declared.cause.Cause.{Cause}
 use Rattle.ep_script.specs.Heads.{Head}
 use Rattle.ep_script.specs.declared.line.Line.{Line}
 use Rattle.ep_script.specs.declared.line.Line.TheVariants.{Propose, GiveUp, Recover, Execute, Deliver, Flush}
@@ -19,7 +18,15 @@ use Rattle.ep_world.specs.declared.world_event.WorldEvent.{WorldEvent}
 use Rattle.ep_world.specs.declared.world_event.WorldEvent.TheVariants as event
 use Rattle.ep_replay.specs.Causes.{cause_of}
 use Rattle.ep_replay.specs.Clients.{times, greatest}
+use Rattle.ep_report.specs.declared.cause.Cause.{Cause}
 use Rattle.ep_replay.specs.Heads.{opening_of}
+use Rattle.ep_replay.specs.declared.outcome.Outcome.{Outcome}
+use Rattle.ep_replay.specs.declared.outcome.Outcome.TheVariants.{Took, Refused}
+use Rattle.ep_replay.specs.declared.tried.Tried.{Tried}
+
+-- an event of this line was tried, and this came of it
+abbrev pub one_tried : ℕ → WorldEvent → Outcome → Tried
+one_tried line event outcome = record { line = line; event = event; outcome = outcome }
 
 -- how far a script has been replayed
 pub record Replay : Type 0 where
@@ -29,8 +36,18 @@ pub record Replay : Type 0 where
   -- the messages that were given
   pub given : List ℕ
   pub receipts : List Receipt
-  -- the refused events, each with the number of its line
-  pub refused : List (ℕ × Cause)
+  -- the events that were tried, in order
+  pub tried : List Tried
+
+-- the event of this line, where it was refused
+abbrev pub refusal : ℕ → Outcome → List (ℕ × Cause)
+refusal line (Took replica entry first) = []
+refusal line (Refused cause) = (line, cause) ∷ []
+
+-- the events that were refused, each by its line and the cause
+abbrev pub refusals : List Tried → List (ℕ × Cause)
+refusals [] = []
+refusals (t ∷ ts) = refusal t.line t.outcome ++ refusals ts
 
 -- nothing was replayed yet: the world is as the script's head says
 pub record IsOpening (head : Head) (p : Replay) : Type 0 where
@@ -43,25 +60,29 @@ pub record IsOpening (head : Head) (p : Replay) : Type 0 where
   pub proposers : p.proposers ≡ []
   pub given : p.given ≡ []
   pub receipts : p.receipts ≡ []
-  pub refused : p.refused ≡ []
+  pub tried : p.tried ≡ []
 
 -- One event.
 
--- the event happens; a receipt is given for each execution by its entry of what its replica proposed
-pub record Takes (p : Replay) (event : WorldEvent) (p' : Replay) : Type 0 where
+-- the event of this line happens; a receipt is given for each execution by its entry of what its replica proposed
+pub record Takes (p : Replay) (line : ℕ) (event : WorldEvent) (p' : Replay) : Type 0 where
   pub next : Played
   pub happens : Happens p.world event next
-  pub becomes : p' ≡ record p { world = next; receipts = p.receipts ++ receipts_of happens.replica (journals_in next happens.replica) (entry_of happens.entry) }
+  pub becomes : p' ≡ record p {
+    world = next;
+    receipts = p.receipts ++ receipts_of happens.replica (journals_in next happens.replica) (entry_of happens.entry);
+    tried = p.tried ++ one_tried line event (Took happens.replica happens.entry.number (length p.world.messages + 1)) ∷ [];
+  }
 
--- the event isn't enabled, and is listed by its line and the cause; want of memory is no cause
+-- the event isn't enabled, for this cause; want of memory is no cause
 pub record IsListed (p : Replay) (line : ℕ) (event : WorldEvent) (p' : Replay) : Type 0 where
   pub cause : Refusal
   pub refused : IsNotEnabled p.world event cause
   pub told : cause ≢ Step Memory
-  pub becomes : p' ≡ record p { refused = p.refused ++ (line, cause_of cause) ∷ [] }
+  pub becomes : p' ≡ record p { tried = p.tried ++ one_tried line event (Refused (cause_of cause)) ∷ [] }
 
 abbrev pub Tries : Replay → ℕ → WorldEvent → Replay → Type 0
-Tries p line event p' = Takes p event p' ⊎ IsListed p line event p'
+Tries p line event p' = Takes p line event p' ⊎ IsListed p line event p'
 
 -- Proposals.
 

@@ -1,5 +1,5 @@
 -- What a player's tables tell of a replay.
-use Rattle.std.specs.Prelude.{◌≡◌, ◌↔◌, ℕ, suc, ◌≤◌, nat_eq, true, false, Option, Some, None, List, slice_index_or as get_or}
+use Rattle.std.specs.Prelude.{◌≡◌, ◌↔◌, ℕ, suc, ◌≤◌, nat_eq, Bool, true, false, Option, Some, None, List, [], slice_index_or as get_or}
 use Rattle.indexmap.specs.IndexMap.{get}
 use Rattle.ep_journal.specs.Openings.{opens}
 use Rattle.ep_rules.specs.Verdicts.{IsOwn}
@@ -7,11 +7,14 @@ use Rattle.ep_rules.specs.Worlds.{In}
 use Rattle.ep_rules.specs.declared.receipt.Receipt.{Receipt}
 use Rattle.ep_world.specs.Played.{Played, journals_in}
 use Rattle.ep_replay.specs.Clients.{times, greatest}
-use Rattle.ep_replay.specs.Replays.{Replay}
+use Rattle.ep_replay.specs.Outcome.{EndsAt}
+use Rattle.ep_replay.specs.Replays.{Replay, refusals}
 use Rattle.ep_replay.specs.declared.clients.Client.{Client}
 use Rattle.ep_replay.specs.declared.clients.Clients.{Clients}
 use Rattle.ep_replay.specs.declared.given.Given.{Given}
 use Rattle.ep_replay.specs.declared.player.Player.{Player}
+use Rattle.ep_replay.specs.declared.tried.Tried.{Tried}
+use Rattle.ep_script.specs.Plan.{Plan}
 
 -- Clients.
 
@@ -42,22 +45,40 @@ AreOwn w receipts = (t : Receipt) → In t receipts → (r : ℕ) × IsOwn (open
 
 -- Players.
 
--- how far the player has replayed, where these have proposed and these messages were given
-abbrev pub told : Player → List ℕ → List ℕ → Replay
-told s proposers given = record { world = s.world; proposers = proposers; given = given; receipts = s.receipts.items; refused = s.refused.items }
-
-pub record Tells (s : Player) (proposers given : List ℕ) : Type 0 where
-  pub clients : AreCounted s.clients proposers s.receipts.items
-  pub flags : AreFlagged s.given given
-  pub own : AreOwn s.world s.receipts.items
-
--- the player tells of a replay that R holds of
-pub record Led (R : Replay → Type 0) (s : Player) : Type 0 where
+-- what a player doesn't keep of a replay, or not always
+pub record Behind : Type 0 where
   pub proposers : List ℕ
   pub given : List ℕ
-  pub related : R (told s proposers given)
-  pub tells : Tells s proposers given
+  pub tried : List Tried
+
+abbrev pub nothing : Behind
+nothing = record { proposers = []; given = []; tried = [] }
+
+-- how far the player has replayed
+abbrev pub told : Player → Behind → Replay
+told s b = record { world = s.world; proposers = b.proposers; given = b.given; receipts = s.receipts.items; tried = b.tried }
+
+pub record Tells (s : Player) (b : Behind) : Type 0 where
+  pub clients : AreCounted s.clients b.proposers s.receipts.items
+  pub flags : AreFlagged s.given b.given
+  pub own : AreOwn s.world s.receipts.items
+  pub refused : s.refused.items ≡ refusals b.tried
+  pub log : s.keeps ≡ true → s.tried.items ≡ b.tried
+
+-- the player tells of a replay that R holds of, and keeps each event, or not, as the one before
+pub record Led (R : Replay → Type 0) (s s' : Player) : Type 0 where
+  pub behind : Behind
+  pub related : R (told s' behind)
+  pub tells : Tells s' behind
+  pub keeps : s'.keeps ≡ s.keeps
 
 -- whatever replay the one player tells of, the other tells of one to which R leads
 abbrev pub Leads : (Replay → Replay → Type 0) → Player → Player → Type 0
-Leads R s s' = (proposers given : List ℕ) → Tells s proposers given → Led (R (told s proposers given)) s'
+Leads R s s' = (b : Behind) → Tells s b → Led (R (told s b)) s s'
+
+-- the player has played all lines of the script
+pub record HasPlayed (script : Plan) (kept : Bool) (s : Player) : Type 0 where
+  pub behind : Behind
+  pub at_end : EndsAt script (told s behind)
+  pub tells : Tells s behind
+  pub keeps : s.keeps ≡ kept

@@ -43,16 +43,17 @@ fn cause(refusal: Refusal) -> Result<Cause, AllocError>
     }
 }
 
-/// Lists a refusal with the number of its line.
+/// Lists a refusal with the number of its line, and gives its cause.
 pub(crate) fn list(
     refused: &mut Vec<(u32, Cause)>,
     line: u32,
     refusal: Refusal,
-) -> Result<(), AllocError>
+) -> Result<Cause, AllocError>
+    ensures value { IfOk result (λ cause. cause ≡ cause_of refusal) }
     ensures listed { OnOk result (refused.new.items ≡ refused.old.items ++ (line, cause_of refusal) ∷ []) }
     ensures told { OnOk result (refusal ≢ Step Memory) }
 {
     let cause = cause(refusal)?;
     refused.push((line, cause))?;
-    Ok(())
+    Ok(cause)
 }

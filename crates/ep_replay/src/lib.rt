@@ -2,6 +2,7 @@
 //!
 //! `ep_main` calls `replay`. It numbers each client's requests, hands in the greatest stamp that the client was told, gives
 //! messages by their numbers, and lists what was refused. What it leaves, the audit accepts: that is in its contract.
+//! `ep_trace` calls `play`, which leaves the world, and each event that was tried with what came of it.
 //!
 //! Start with `player.rt`, then specs/Replays.antt (what each line plays), specs/Clients.antt, and `heads.rt` (what a script's
 //! head makes of a world before any line).
@@ -12,13 +13,19 @@
 
 mod causes;
 mod clients;
+mod ended;
 mod given;
 mod heads;
+mod outcome;
 mod player;
 mod replayed;
+mod tried;
 
 pub use causes::step_cause;
 pub use clients::{Client, Clients};
+pub use ended::Ended;
 pub use heads::{begun, opening_of};
-pub use player::replay;
+pub use outcome::Outcome;
+pub use player::{play, replay};
 pub use replayed::Replayed;
+pub use tried::Tried;

@@ -1,26 +1,30 @@
 //! Replays of scripts.
 
-ghost use Rattle.std.specs.Prelude.{◌≡◌, ℕ, ◌≤◌, ◌++◌, List, [], false, length, OnOk, IfOk};
+ghost use Rattle.std.specs.Prelude.{◌≡◌, ℕ, ◌+◌, ◌≤◌, ◌++◌, ◌∷◌, List, [], false, length, OnOk, IfOk};
 ghost use Rattle.ep_rules.specs.Audits.{IsAccepted};
 ghost use Rattle.ep_rules.specs.Counts.{AreOnce};
 ghost use Rattle.ep_rules.specs.declared.receipt.Receipt.{Receipt as Told};
 ghost use Rattle.ep_journal.specs.Entries.{entry_of, journals_of};
 ghost use Rattle.ep_journal.specs.Openings.{opens};
 ghost use Rattle.ep_replica.specs.Receipts.{receipts_of};
-ghost use Rattle.ep_world.specs.Played.{Played, collected, journals_in};
+ghost use Rattle.ep_world.specs.Played.{Played, journals_in};
 ghost use Rattle.ep_world.specs.Playing.{Happens};
 ghost use Rattle.ep_world.specs.declared.world_event.WorldEvent.{WorldEvent as Event};
 ghost use Rattle.ep_replay.specs.Heads.{opening_of};
-ghost use Rattle.ep_replay.specs.Outcome.{IsReplay};
-ghost use Rattle.ep_replay.specs.Replays.{was_sent};
-ghost use Rattle.ep_replay.specs.Tables.{AreCounted, AreOwn};
+ghost use Rattle.ep_replay.specs.Outcome.{HasEnded, IsReplay};
+ghost use Rattle.ep_replay.specs.Replays.{one_tried, was_sent};
+ghost use Rattle.ep_replay.specs.Tables.{AreCounted, AreOwn, HasPlayed};
 ghost use Rattle.ep_replay.specs.Told.{instances_of};
+ghost use Rattle.ep_replay.specs.declared.outcome.Outcome.TheVariants.{Took};
 
 use crate::causes::list;
 use crate::clients::Clients;
+use crate::ended::Ended;
 use crate::given::Given;
 use crate::heads::begun;
+use crate::outcome::Outcome;
 use crate::replayed::Replayed;
+use crate::tried::Tried;
 use ep_base::{Command, ReplicaId};
 use ep_report::Cause;
 use ep_rules::Receipt;
@@ -86,6 +90,44 @@ fn was_sent(world: &World, message: u64) -> bool
     message >= 1 && message <= world.messages().len() as u64
 }
 
+/// The number that the next message has which is sent.
+fn next_message(world: &World) -> u64
+    ensures { result ≡ length world.now.messages + 1 }
+{
+    world.messages().len() as u64 + 1
+}
+
+/// The world's last step, whose messages are numbered from `first` on.
+fn last_step(world: &World, first: u64) -> Outcome
+    ensures { (w : Played) (event : Event) (h : Happens w event world.now) → result ≡ Took h.replica h.entry.number first }
+{
+    match world.steps().last() {
+        Some((replica, entry)) => Outcome::Took {
+            replica: *replica,
+            entry: *entry,
+            first,
+        },
+        None => Outcome::Refused(Cause::OutOfRange),
+    }
+}
+
+/// Keeps an event of this line, and what came of it.
+fn keep(
+    tried: &mut Vec<Tried>,
+    line: u32,
+    event: WorldEvent,
+    outcome: Outcome,
+) -> Result<(), AllocError>
+    ensures { OnOk result (tried.new.items ≡ tried.old.items ++ one_tried line event outcome ∷ []) }
+{
+    tried.push(Tried {
+        line,
+        event,
+        outcome,
+    })?;
+    Ok(())
+}
+
 /// Plays the lines of a script in a world.
 #[derive(Drop)]
 pub(crate) struct Player {
@@ -94,23 +136,28 @@ pub(crate) struct Player {
     given: Given,
     receipts: Vec<Receipt>,
     refused: Vec<(u32, Cause)>,
+    /// Whether each event that is tried is kept.
+    keeps: bool,
+    tried: Vec<Tried>,
     alloc: Global,
 }
 
 impl Player {
-    ghost use Rattle.std.specs.Prelude.{◌≡◌, [], OnOk, IfOk};
+    ghost use Rattle.std.specs.Prelude.{◌≡◌, ℕ, List, false, length, OnOk, IfOk};
     ghost use Rattle.ep_rules.specs.Audits.{IsAccepted};
     ghost use Rattle.ep_journal.specs.Entries.{journals_of};
+    ghost use Rattle.ep_journal.specs.Openings.{opens};
     ghost use Rattle.ep_world.specs.Played.{collected};
     ghost use Rattle.ep_script.specs.declared.line.Line.TheVariants as asked;
     ghost use Rattle.ep_world.specs.declared.world_event.WorldEvent.TheVariants as event;
-    ghost use Rattle.ep_replay.specs.Replays.{IsOpening, Tries, Gives, Plays, PlayAll, proposal, with_proposer, with_given};
-    ghost use Rattle.ep_replay.specs.Tables.{AreOwn, Tells, told, Leads};
+    ghost use Rattle.ep_replay.specs.Replays.{IsOpening, Tries, Gives, Plays, PlayAll, AreUngiven, proposal, with_proposer, with_given};
+    ghost use Rattle.ep_replay.specs.Tables.{AreFlagged, AreOwn, Tells, nothing, told, Leads};
 
-    /// A player before any line, with the world of this head.
-    fn new(alloc: Global, head: &Head) -> Result<Player, AllocError>
-        ensures opening { IfOk result (λ s. IsOpening head.now (told s [] [])) }
-        ensures tells { IfOk result (λ s. Tells s [] []) }
+    /// A player before any line, with the world of this head, that keeps each event that it tries, or doesn't.
+    fn new(alloc: Global, head: &Head, keeps: bool) -> Result<Player, AllocError>
+        ensures opening { IfOk result (λ s. IsOpening head.now (told s nothing)) }
+        ensures tells { IfOk result (λ s. Tells s nothing) }
+        ensures keeps { IfOk result (λ s. s.keeps ≡ keeps) }
     {
         let world = begun(alloc, head)?;
         Ok(Player {
@@ -119,12 +166,41 @@ impl Player {
             given: Given::new(alloc),
             receipts: Vec::new(alloc),
             refused: Vec::new(alloc),
+            keeps,
+            tried: Vec::new(alloc),
             alloc,
         })
     }
 
-    /// Plays an event, or lists it with the number of its line where it is refused.
-    fn attempt(&mut self, line: u32, event: WorldEvent) -> Result<(), AllocError>
+    /// Tries an event of this line, and keeps it with what comes of it.
+    fn attempt_kept(&mut self, line: u32, event: WorldEvent) -> Result<(), AllocError>
+        ensures { OnOk result (Leads (λ p q. Tries p line event q) self.old self.new) }
+    {
+        let first = next_message(&self.world);
+        let copy = event.copy(self.alloc)?;
+        match self.world.step(event) {
+            Ok(()) => {
+                collect(
+                    self.alloc,
+                    &self.world,
+                    &mut self.clients,
+                    &mut self.receipts,
+                )?;
+                let outcome = last_step(&self.world, first);
+                keep(&mut self.tried, line, copy, outcome)?;
+                Ok(())
+            }
+            Err(refusal) => {
+                let cause = list(&mut self.refused, line, refusal)?;
+                keep(&mut self.tried, line, copy, Outcome::Refused(cause))?;
+                Ok(())
+            }
+        }
+    }
+
+    /// Tries an event of this line, and keeps nothing of it but its refusal.
+    fn attempt_alone(&mut self, line: u32, event: WorldEvent) -> Result<(), AllocError>
+        requires { self.old.keeps ≡ false }
         ensures { OnOk result (Leads (λ p q. Tries p line event q) self.old self.new) }
     {
         match self.world.step(event) {
@@ -138,9 +214,20 @@ impl Player {
                 Ok(())
             }
             Err(refusal) => {
-                list(&mut self.refused, line, refusal)?;
+                let _cause = list(&mut self.refused, line, refusal)?;
                 Ok(())
             }
+        }
+    }
+
+    /// Tries an event of this line.
+    fn attempt(&mut self, line: u32, event: WorldEvent) -> Result<(), AllocError>
+        ensures { OnOk result (Leads (λ p q. Tries p line event q) self.old self.new) }
+    {
+        if self.keeps {
+            self.attempt_kept(line, event)
+        } else {
+            self.attempt_alone(line, event)
         }
     }
 
@@ -187,8 +274,20 @@ impl Player {
         Ok(())
     }
 
-    /// Gives the message of this number to its receiver, or lists it with the number of its line where it is refused.
+    /// Tries to give the message of this number to its receiver.
     fn hand_over(&mut self, line: u32, message: u64) -> Result<(), AllocError>
+        ensures { OnOk result (Leads (λ p q. Tries p line (event.Deliver message) q) self.old self.new) }
+    {
+        if self.keeps {
+            self.attempt_kept(line, WorldEvent::Deliver(message))
+        } else {
+            self.hand_over_alone(line, message)
+        }
+    }
+
+    /// Tries to give the message of this number to its receiver, and keeps nothing of it but its refusal. (An event of it would be moved from call to call.)
+    fn hand_over_alone(&mut self, line: u32, message: u64) -> Result<(), AllocError>
+        requires { self.old.keeps ≡ false }
         ensures { OnOk result (Leads (λ p q. Tries p line (event.Deliver message) q) self.old self.new) }
     {
         match self.world.deliver(message) {
@@ -202,7 +301,7 @@ impl Player {
                 Ok(())
             }
             Err(refusal) => {
-                list(&mut self.refused, line, refusal)?;
+                let _cause = list(&mut self.refused, line, refusal)?;
                 Ok(())
             }
         }
@@ -284,8 +383,34 @@ impl Player {
         Ok(())
     }
 
+    /// Where the lines have led.
+    fn into_ended(self) -> Result<Ended, AllocError>
+        ensures world { IfOk result (λ d. d.world ≡ self.world) }
+        ensures receipts { IfOk result (λ d. d.receipts.items ≡ self.receipts.items) }
+        ensures tried { IfOk result (λ d. d.tried.items ≡ self.tried.items) }
+        ensures ungiven { IfOk result (λ d. (given : List ℕ) → AreFlagged self.given given → AreUngiven given (length self.world.messages) d.ungiven.items) }
+    {
+        let Player {
+            world,
+            clients: _,
+            mut given,
+            receipts,
+            refused: _,
+            keeps: _,
+            tried,
+            alloc,
+        } = self;
+        let ungiven = given.ungiven(alloc, world.messages().len())?;
+        Ok(Ended {
+            world,
+            receipts,
+            tried,
+            ungiven,
+        })
+    }
+
     /// What the replay leaves.
-    fn end(self, alloc: Global) -> Result<Replayed, AllocError>
+    fn into_replayed(self, alloc: Global) -> Result<Replayed, AllocError>
         ensures journals { IfOk result (λ d. d.journals ≡ collected self.world) }
         ensures receipts { IfOk result (λ d. d.receipts.items ≡ self.receipts.items) }
         ensures refused { IfOk result (λ d. d.refused.items ≡ self.refused.items) }
@@ -298,6 +423,8 @@ impl Player {
             given: _,
             receipts,
             refused,
+            keeps: _,
+            tried: _,
             alloc: _,
         } = self;
         let journals = world.into_journals(alloc)?;
@@ -309,12 +436,34 @@ impl Player {
     }
 }
 
-/// Plays the script in a world of its size and version, which opens as its head says. An event that is refused is listed, and the
+/// A player that has played all lines of the script.
+fn played(alloc: Global, script: &Script, keeps: bool) -> Result<Player, AllocError>
+    ensures { IfOk result (λ s. HasPlayed script.now keeps s) }
+{
+    let mut player = Player::new(alloc, script.head(), keeps)?;
+    player.play_all(script.lines())?;
+    Ok(player)
+}
+
+/// Plays the script in a world of its size and version, which opens as its head says. An event that is refused changes nothing, and the
 /// script goes on; want of memory ends the replay.
 ///
 /// A client's requests are numbered from 1 in the script's order, refused ones included. What it has seen is the
-/// greatest stamp of its receipts so far. After each event the replica that took it gives its receipts: one at most for
-/// each instance, so at most 14,000 in all. The audit accepts what a replay leaves.
+/// greatest stamp of its receipts so far. After each event the replica that took it gives its receipts.
+pub fn play(alloc: Global, script: &Script) -> Result<Ended, AllocError>
+    ensures value { IfOk result (λ d. HasEnded script.now d) }
+    ensures version { IfOk result (λ d. d.world.version ≡ script.now.head.version) }
+    ensures opening { IfOk result (λ d. d.world.opening ≡ opening_of script.now.head.opening) }
+    ensures own { IfOk result (λ d. AreOwn d.world d.receipts.items) }
+{
+    let player = played(alloc, script, true)?;
+    let ended = player.into_ended()?;
+    Ok(ended)
+}
+
+/// Plays the script as `play` does, and keeps the journals, the receipts, and the events that were refused, each with its line.
+///
+/// There is one receipt at most for each instance, so there are at most 14,000 in all. The audit accepts what a replay leaves.
 pub fn replay(alloc: Global, script: &Script) -> Result<Replayed, AllocError>
     ensures value { IfOk result (λ d. IsReplay script.now d) }
     ensures version { IfOk result (λ d. d.journals.version ≡ script.now.head.version) }
@@ -323,9 +472,8 @@ pub fn replay(alloc: Global, script: &Script) -> Result<Replayed, AllocError>
     ensures once { IfOk result (λ d. AreOnce (instances_of d.receipts.items)) }
     ensures few { IfOk result (λ d. length d.receipts.items ≤ 14000) }
 {
-    let mut player = Player::new(alloc, script.head())?;
-    player.play_all(script.lines())?;
-    let left = player.end(alloc)?;
+    let player = played(alloc, script, false)?;
+    let left = player.into_replayed(alloc)?;
     left.journals.are_local_runs();
     let _faults = left.journals.size().faults();
     Ok(left)

@@ -2,7 +2,7 @@
 use Rattle.std.proofs.Common.{◌≡◌, ℕ, suc, ◌+◌, List, [], ◌∷◌, ◌++◌, length, refl, sym, ap, ◌∙◌, append_assoc}
 use Rattle.std.specs.Prelude.{codes, decimal}
 use Rattle.std.proofs.lemmas.List.{append-nil}
-use Rattle.ep_report.specs.declared.happening.Happening.{Happening}
+use Rattle.ep_audit.specs.declared.happening.Happening.{Happening}
 use Rattle.ep_report.specs.Reports.{text_of, counted, history_lines}
 
 length_history_lines : (place : ℕ) (hs : List Happening) → length (history_lines place hs) ≡ length hs

@@ -4,8 +4,8 @@ use Rattle.std.specs.Coded.{Coded, code_by, coded×, coded_option, coded_ℕ}
 use Rattle.ep_exec.specs.Table.{contents_code}
 use Rattle.ep_report.specs.Contents.{contents_line}
 use Rattle.ep_report.specs.Parts.{instance_text}
-use Rattle.ep_report.specs.contracts.closing.Closing as closing_facts
-use Rattle.ep_report.specs.declared.closing.Closing.{Closing}
+use Rattle.ep_audit.specs.contracts.closing.Closing as closing_facts
+use Rattle.ep_audit.specs.declared.closing.Closing.{Closing}
 use Rattle.ep_rules.specs.OneMap.{Contents}
 use Rattle.ep_script.specs.Word.{word_of}
 

@@ -3,11 +3,10 @@ use Rattle.std.specs.Prelude.{ℕ, List, ◌++◌, codes, decimal}
 use Rattle.ep_report.specs.Parts.{instance_text}
 use Rattle.ep_report.specs.declared.cause.Cause.{Cause}
 use Rattle.ep_report.specs.declared.cause.Cause.TheVariants.{Memory, OutOfRange, SpaceFull, SeqExhausted, NotLeading, TooFewAnswers, AlreadyCommitted, BallotsExhausted, NotCommitted, NotMine, BadFrame, StampFull, NoSuchMessage}
-use Rattle.ep_report.specs.declared.audit_fault.AuditFault.{AuditFault}
-use Rattle.ep_report.specs.declared.chain_fault.ChainFault.{ChainFault}
-use Rattle.ep_report.specs.declared.chain_fault.ChainFault.TheVariants as chain
+use Rattle.ep_audit.specs.Faults.{fault_of, fault_text}
+use Rattle.ep_audit.specs.declared.chain_fault.ChainFault.{ChainFault}
+use Rattle.ep_audit.specs.declared.chain_fault.ChainFault.TheVariants as chain
 use Rattle.ep_script.specs.Word.{word_of}
-use Rattle.ep_rules.specs.Audits.{Fault, UnsentFrame, ChangedFrame, StampOrder, UnknownReceipt, CallerOrder}
 
 -- why an event was refused
 abbrev pub cause_text : Cause → List ℕ
@@ -24,26 +23,6 @@ cause_text NotMine = codes "E13 not mine"
 cause_text BadFrame = codes "E14 bad frame"
 cause_text StampFull = codes "E15 stamp full"
 cause_text (NoSuchMessage message) = codes "E18 no such message " ++ decimal message
-
--- an entry of a replica
-abbrev pub entry_text : ℕ → ℕ → List ℕ
-entry_text replica entry = codes "replica " ++ decimal replica ++ codes " entry " ++ decimal entry
-
--- why the audit refuses
-abbrev pub fault_text : Fault → List ℕ
-fault_text (UnsentFrame replica entry) = codes "A1 unsent frame at " ++ entry_text replica entry
-fault_text (ChangedFrame replica entry) = codes "A2 changed frame at " ++ entry_text replica entry
-fault_text (StampOrder replica entry) = codes "A3 stamp order at " ++ entry_text replica entry
-fault_text (UnknownReceipt place) = codes "A4 unknown receipt " ++ decimal place
-fault_text (CallerOrder place) = codes "A5 caller order at receipt " ++ decimal place
-
--- the rule book's fault
-abbrev pub fault_of : AuditFault → Fault
-fault_of (AuditFault.UnsentFrame replica entry) = UnsentFrame replica entry
-fault_of (AuditFault.ChangedFrame replica entry) = ChangedFrame replica entry
-fault_of (AuditFault.StampOrder replica entry) = StampOrder replica entry
-fault_of (AuditFault.UnknownReceipt place) = UnknownReceipt place
-fault_of (AuditFault.CallerOrder place) = CallerOrder place
 
 -- why the audit refuses a generation of a chain
 abbrev pub chain_fault_text : ChainFault → List ℕ

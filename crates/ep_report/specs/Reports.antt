@@ -5,10 +5,11 @@ use Rattle.ep_rules.specs.Audits.{Fault}
 use Rattle.ep_rules.specs.declared.receipt.Receipt.{Receipt}
 use Rattle.ep_report.specs.Lives.{Life, generation_lines, closing_lines}
 use Rattle.ep_report.specs.Parts.{instance_text, deps_text, command_text, reply_text, answer_text}
-use Rattle.ep_report.specs.Refusals.{cause_text, fault_text, chain_fault_text}
+use Rattle.ep_audit.specs.Faults.{fault_text}
+use Rattle.ep_report.specs.Refusals.{cause_text, chain_fault_text}
 use Rattle.ep_report.specs.declared.cause.Cause.{Cause}
-use Rattle.ep_report.specs.declared.chain_fault.ChainFault.{ChainFault}
-use Rattle.ep_report.specs.declared.happening.Happening.{Happening}
+use Rattle.ep_audit.specs.declared.chain_fault.ChainFault.{ChainFault}
+use Rattle.ep_audit.specs.declared.happening.Happening.{Happening}
 
 -- each line ends by a line feed
 abbrev pub text_of : List (List ℕ) → List ℕ

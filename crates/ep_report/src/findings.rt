@@ -1,7 +1,7 @@
 //! What an audit that accepts found.
 
-use crate::happening::Happening;
 use crate::life::Life;
+use ep_audit::Happening;
 use ep_base::{Decree, InstanceId};
 use ep_rules::Receipt;
 

@@ -4,7 +4,7 @@ ghost use Rattle.std.specs.Prelude.{◌≡◌, ◌<◌, ◌^◌, length};
 ghost use Rattle.std.specs.FinMap.{entries};
 ghost use Rattle.std.specs.Option.{option_copied};
 
-use crate::closing::Closing;
+use ep_audit::Closing;
 use ep_base::Generation;
 use ep_exec::Contents;
 use std::marker::Model;

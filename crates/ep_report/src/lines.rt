@@ -8,11 +8,10 @@ ghost use Rattle.ep_report.specs.Lives.{generation_line, closed_line, closing_li
 ghost use Rattle.ep_report.specs.Reports.{text_of, committed_line, history_line, receipt_line, refused_line, lost_line};
 
 use crate::cause::Cause;
-use crate::closing::Closing;
 use crate::digest::digest_of;
-use crate::happening::Happening;
 use crate::life::Life;
 use crate::parts::{push_answer, push_command, push_deps, push_instance, push_number, push_reply};
+use ep_audit::{Closing, Happening};
 use ep_base::{Decree, InstanceId};
 use ep_exec::Contents;
 use ep_rules::Receipt;

@@ -3,14 +3,12 @@
 ghost use Rattle.std.specs.Prelude.{◌≡◌, ◌++◌, OnOk, IfOk, codes, map};
 ghost use Rattle.std.specs.Option.{option_copied};
 ghost use Rattle.ep_report.specs.Lives.{generation_lines, closing_lines};
-ghost use Rattle.ep_report.specs.Refusals.{fault_of};
+ghost use Rattle.ep_audit.specs.Faults.{fault_of};
 ghost use Rattle.ep_report.specs.Reports.{text_of, counted, committed_line, history_lines, receipt_line, accepted_lines, refused_lines, replay_lines, run_lines, refusal_lines, chain_refusal_lines};
 
-use crate::audit_fault::AuditFault;
 use crate::cause::Cause;
-use crate::chain_fault::{ChainFault, push_chain_fault};
+use crate::faults::push_chain_fault;
 use crate::findings::Findings;
-use crate::happening::Happening;
 use crate::life::Life;
 use crate::lines::{
     push_closing, push_committed_line, push_contents_line, push_generation, push_heading,
@@ -18,6 +16,7 @@ use crate::lines::{
 };
 use crate::losses::Losses;
 use crate::parts::push_number;
+use ep_audit::{AuditFault, ChainFault, Happening};
 use ep_base::{Decree, InstanceId};
 use ep_rules::Receipt;
 use std::alloc::{AllocError, Global};

@@ -13,7 +13,7 @@ use Rattle.ep_serve.specs.Acting.{Acts, Executes, ExecutesEach, TakesOrRefuses}
 use Rattle.ep_serve.specs.Serving.{AllWait, AreServed, IsBatch, Waiting}
 use Rattle.ep_serve.specs.Lasting.{Crashes}
 use Rattle.ep_serve.specs.declared.due.Due.{Due}
-use Rattle.ep_serve.specs.declared.due.Due.TheVariants.{Taken, Refused, Value, Open, Leads, Synced, State, Malformed}
+use Rattle.ep_serve.specs.declared.due.Due.TheVariants.{Taken, Refused, Value, Open, Leads, Synced, State, Ready, Malformed}
 use Rattle.ep_serve.specs.declared.mode.Mode.{Mode}
 use Rattle.ep_wire.specs.declared.dialect.Dialect.{Dialect}
 use Rattle.ep_wire.specs.declared.request.Request.{Request}
@@ -41,6 +41,7 @@ takes_or_not k k' e (Open after) h = absurd h
 takes_or_not k k' e (Leads i) h = absurd h
 takes_or_not k k' e Synced h = absurd h
 takes_or_not k k' e State h = absurd h
+takes_or_not k k' e (Ready after most) h = absurd h
 takes_or_not k k' e (Malformed m) h = absurd h
 
 handles : {A B : Type 0} (r : Result A B) (k k' : Kept) (e : Happening) (d d' : Due) → MatchResult r (λ _. TakesOrRefuses k e d k') (λ _. (d ≡ d') × (k' ≡ k)) → Extends k k'
@@ -71,6 +72,7 @@ acts_more k k' (request.Leads i) d h = extends_same k k' h.1
 acts_more k k' request.Sync d h = extends_same k k' h.1
 acts_more k k' request.State d h = extends_same k k' h.1
 acts_more k k' request.ExecuteAll d h = executes_each k k' h.0 h.1
+acts_more k k' (request.Ready after most) d h = extends_same k k' h.1
 acts_more k k' (request.Malformed m) d h = extends_same k k' h.1
 
 wait_more : (mode : Mode) (n : ℕ) (k k' : Kept) (rs : List Request) (ds : List Due) → AllWait mode n k rs ds k' → Extends k k'

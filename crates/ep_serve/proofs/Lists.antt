@@ -29,3 +29,12 @@ more {A = A} f first k es old mid new lt p next = elim ((slice_get_cases es (fir
       subst (λ (bs : List ℕ). Appends old new bs) (sym b) (Appends-trans old mid new (flat_map f (take k (drop first es))) (f c.0) p (next c.0 c.2))
   | inr c ↦ absurd (let past : length es ≤ first + k = c.0 in omega arith)
 ]
+
+-- the same of a whole list
+pub next : {A : Type 0} (f : A → List ℕ) (k : ℕ) (xs : List A) (x : A) (old mid new : Option (List ℕ)) → k < length xs → x ≡ get_or xs k x → Appends old mid (flat_map f (take k xs)) → Appends mid new (f x)
+    → Appends old new (flat_map f (take (k + 1) xs))
+next {A = A} f k xs x old mid new lt is p one =
+    let t : take (k + 1) xs ≡ take k xs ++ x ∷ [] = take_more k xs x lt is in
+    let b : flat_map f (take (k + 1) xs) ≡ flat_map f (take k xs) ++ f x =
+    ap (λ (ys : List A). flat_map f ys) t ∙ flat_map-append f (take k xs) (x ∷ []) ∙ ap (λ (ys : List ℕ). flat_map f (take k xs) ++ ys) (append-nil (f x)) in
+    subst (λ (bs : List ℕ). Appends old new bs) (sym b) (Appends-trans old mid new (flat_map f (take k xs)) (f x) p one)

@@ -13,7 +13,7 @@ use Rattle.ep_replica.specs.Kept.{Kept}
 use Rattle.ep_replica.specs.Pending.{ExecutesNext, IsWaiting}
 use Rattle.ep_rules.specs.Journals.{stamp_after}
 use Rattle.ep_serve.specs.declared.due.Due.{Due}
-use Rattle.ep_serve.specs.declared.due.Due.TheVariants.{Taken, Refused, Value, Open, Leads, Synced, State, Malformed}
+use Rattle.ep_serve.specs.declared.due.Due.TheVariants.{Taken, Refused, Value, Open, Leads, Synced, State, Ready, Malformed}
 use Rattle.ep_wire.specs.declared.refusal.Refusal.{Refusal}
 use Rattle.ep_wire.specs.declared.refusal.Refusal.TheVariants.{BadFrame, Step}
 use Rattle.ep_wire.specs.declared.request.Request.{Request}
@@ -33,6 +33,7 @@ TakesOrRefuses k happening (Open after) k' = ⊥
 TakesOrRefuses k happening (Leads i) k' = ⊥
 TakesOrRefuses k happening Synced k' = ⊥
 TakesOrRefuses k happening State k' = ⊥
+TakesOrRefuses k happening (Ready after most) k' = ⊥
 TakesOrRefuses k happening (Malformed m) k' = ⊥
 
 -- the stamp that a client has seen is more than 2^40 above that of the replica's last entry
@@ -102,4 +103,5 @@ Acts k (request.Leads i) due k' = Asks k (Leads i) due k'
 Acts k request.Sync due k' = Asks k Synced due k'
 Acts k request.State due k' = Asks k State due k'
 Acts k request.ExecuteAll due k' = ExecutesAll k due k'
+Acts k (request.Ready after most) due k' = Asks k (Ready after most) due k'
 Acts k (request.Malformed m) due k' = Asks k (Malformed m) due k'

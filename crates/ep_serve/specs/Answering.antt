@@ -1,11 +1,12 @@
 -- What an answer tells, of a replica k whose entries are all on the disk.
-use Rattle.std.specs.Prelude.{◌≡◌, ℕ, zero, suc, ◌+◌, max, is_some, List, [], ◌∷◌, ◌++◌, length, take, drop, Option, Some, None}
+use Rattle.std.specs.Prelude.{◌≡◌, ℕ, zero, suc, ◌+◌, max, is_some, List, [], ◌∷◌, ◌++◌, Bool, length, take, drop, Option, Some, None}
 use Rattle.std.specs.List.{flat_map}
 use Rattle.std.specs.Option.{option_map}
 use Rattle.std.specs.Io.KnownBytes.{Appends}
 use Rattle.ep_base.specs.Instances.{instance_of, number_of}
 use Rattle.ep_base.specs.Versions.{generation_of}
 use Rattle.ep_base.specs.declared.decree.Decree.{Decree}
+use Rattle.ep_base.specs.declared.version.Version.{Version}
 use Rattle.ep_frame.specs.Fields.{number_bytes}
 use Rattle.ep_journal.specs.Entries.{entry_of, entries_of}
 use Rattle.ep_journal.specs.declared.entry.Entry.{Entry}
@@ -14,16 +15,19 @@ use Rattle.ep_phase.specs.declared.progress.LeadPhase.{LeadPhase}
 use Rattle.ep_phase.specs.declared.progress.LeadPhase.TheVariants as phase
 use Rattle.ep_replica.specs.Kept.{Kept}
 use Rattle.ep_replica.specs.Pending.{state_of}
-use Rattle.ep_replica.specs.Receipts.{receipts_of}
+use Rattle.ep_node.specs.Telling.{commits_by, executed_by, frames_of, AreOpen}
+use Rattle.ep_node.specs.declared.open_instance.OpenInstance.{OpenInstance}
+use Rattle.ep_replica.specs.Receipts.{receipts_after, receipts_of}
 use Rattle.ep_rules.specs.Journals.{stamp_after}
 use Rattle.ep_rules.specs.Maps.{Map, get}
 use Rattle.ep_rules.specs.OneMap.{value_at}
 use Rattle.ep_rules.specs.States.{committed_in}
+use Rattle.ep_rules.specs.declared.receipt.Receipt.{Receipt}
 use Rattle.ep_rules.specs.declared.record.Record.{Record}
 use Rattle.ep_space.specs.Open.{IsNextOpen}
 use Rattle.ep_serve.specs.declared.due.Due.{Due}
-use Rattle.ep_serve.specs.declared.due.Due.TheVariants.{Taken, Refused, Value, Open, Leads, Synced, State, Malformed}
-use Rattle.ep_wire.specs.Answers.{entry_bytes, instance_bytes, leading_bytes, malformed_bytes, refused_bytes, state_bytes, synced_bytes, taken_as, taken_bytes, value_bytes}
+use Rattle.ep_serve.specs.declared.due.Due.TheVariants.{Taken, Refused, Value, Open, Leads, Synced, State, Ready, Malformed}
+use Rattle.ep_wire.specs.Answers.{entry_bytes, instance_bytes, instances_bytes, leading_bytes, malformed_bytes, open_bytes, ready_bytes, refused_bytes, sealed_code, sent_bytes, state_bytes, synced_bytes, taken_as, taken_bytes, told_receipts_bytes, value_bytes}
 use Rattle.ep_wire.specs.declared.leading.Leading.{Leading}
 use Rattle.ep_wire.specs.declared.leading.Leading.TheVariants.{Proposing, Accepting, Preparing}
 use Rattle.ep_wire.specs.declared.node_state.NodeState.{NodeState}
@@ -73,6 +77,37 @@ told_state k = record {
   stamp = stamp_after k.opening.since (entries_of k.entries);
 }
 
+-- What there is to tell.
+
+-- how many entries there are, and whether a seal was executed
+abbrev pub summary_bytes : ℕ → Bool → List ℕ
+summary_bytes entries is_sealed = number_bytes 4 entries ++ number_bytes 1 (sealed_code is_sealed)
+
+-- frames, counted, each with its receiver before it
+abbrev pub sent_frames_bytes : List (List ℕ) → List ℕ
+sent_frames_bytes bs = number_bytes 4 (length bs) ++ flat_map sent_bytes bs
+
+-- what goes out: to other replicas, and to clients
+abbrev pub outgoing_bytes : Version → List (List ℕ) → List Receipt → List ℕ
+outgoing_bytes v bs rs = sent_frames_bytes bs ++ told_receipts_bytes v rs
+
+-- what happened: the commits and the executions
+abbrev pub happened_bytes : List ℕ → List ℕ → List ℕ
+happened_bytes committed executed = instances_bytes committed ++ instances_bytes executed
+
+abbrev pub open_instance_bytes : OpenInstance → List ℕ
+open_instance_bytes x = open_bytes x.instance x.since (option_map leading_of x.leads)
+
+-- open instances, counted
+abbrev pub open_instances_bytes : List OpenInstance → List ℕ
+open_instances_bytes xs = number_bytes 1 (length xs) ++ flat_map open_instance_bytes xs
+
+-- what there is to tell of the entries after the first ones, so many, and of these open instances
+abbrev pub told_ready : Kept → ℕ → List OpenInstance → List ℕ
+told_ready k after xs =
+    (summary_bytes (length k.entries) (is_some (state_of k).store.seal) ++ outgoing_bytes k.version (frames_of (drop after k.entries)) (receipts_after k.me after (entries_of k.entries)))
+    ++ (happened_bytes (commits_by k.entries (drop after k.entries)) (executed_by (drop after k.entries)) ++ open_instances_bytes xs)
+
 -- the answer's bytes
 abbrev pub IsTold : Kept → Due → List ℕ → Type 0
 IsTold k (Taken from count) bytes = bytes ≡ taken_bytes (number_bytes 4 count ++ told_from k from count)
@@ -82,6 +117,7 @@ IsTold k (Open after) bytes = (found : Option ℕ) × IsNextOpen (state_of k).re
 IsTold k (Leads i) bytes = bytes ≡ leading_bytes (option_map leading_of (progress_in k.faults k.me (get (state_of k).leads i)))
 IsTold k Synced bytes = bytes ≡ synced_bytes (length k.entries)
 IsTold k State bytes = bytes ≡ state_bytes (told_state k)
+IsTold k (Ready after most) bytes = (xs : List OpenInstance) × AreOpen k most None xs × (bytes ≡ ready_bytes (told_ready k after xs))
 IsTold k (Malformed m) bytes = bytes ≡ malformed_bytes m
 
 -- each of the answers, one after the other

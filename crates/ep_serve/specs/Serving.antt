@@ -43,6 +43,7 @@ is_sync (request.Leads i) = false
 is_sync request.Sync = true
 is_sync request.State = false
 is_sync request.ExecuteAll = false
+is_sync (request.Ready after most) = false
 is_sync (request.Malformed m) = false
 
 -- At a node with so many entries on the disk, which the request leaves so: its answer may wait. It isn't that of each request that is wanted, no sync is

@@ -115,6 +115,7 @@ pub(crate) fn act<D: Device>(node: &mut Node<D>, request: Request) -> Result<Due
         Request::Sync => Ok(Due::Synced),
         Request::State => Ok(Due::State),
         Request::ExecuteAll => execute_all(node),
+        Request::Ready { after, most } => Ok(Due::Ready { after, most }),
         Request::Malformed(malformed) => Ok(Due::Malformed(malformed)),
     }
 }

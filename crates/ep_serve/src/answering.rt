@@ -9,8 +9,11 @@ ghost use Rattle.ep_serve.specs.declared.due.Due.TheVariants.{Synced, Taken};
 use crate::asked::{put_asked_lead, put_asked_open, put_asked_state, put_asked_value};
 use crate::due::Due;
 use crate::no_room::NoRoom;
+use crate::readying::put_ready;
 use ep_base::{Noted, Sink};
 use ep_bundle::{learn_entry, put_u32};
+use ep_device::Device;
+use ep_node::Node;
 use ep_replica::Replica;
 use ep_wire::{put_entry, write_malformed, write_refused, write_synced, write_taken};
 use std::alloc::Global;
@@ -105,8 +108,13 @@ fn put_synced<K: Sink>(sink: &mut K, replica: &Replica) -> Result<(), NoRoom>
     Ok(())
 }
 
-/// Appends the answer that waits, as the replica tells it.
-fn put_due<K: Sink>(alloc: Global, sink: &mut K, replica: &Replica, due: &Due) -> Result<(), NoRoom>
+/// Appends the answer that waits, as the replica tells it; none of what there is to tell.
+fn put_asked<K: Sink>(
+    alloc: Global,
+    sink: &mut K,
+    replica: &Replica,
+    due: &Due,
+) -> Result<(), NoRoom>
     ensures { OnOk result (Tells replica.now due.now (K.held sink.old) (K.held sink.new)) }
 {
     match due {
@@ -117,29 +125,56 @@ fn put_due<K: Sink>(alloc: Global, sink: &mut K, replica: &Replica, due: &Due) -
         Due::Leads(instance) => put_asked_lead(sink, replica, *instance),
         Due::Synced => put_synced(sink, replica),
         Due::State => put_asked_state(sink, replica),
+        // What there is to tell the node tells.
+        Due::Ready { .. } => Err(NoRoom),
         Due::Malformed(malformed) => Ok(write_malformed(sink, *malformed)?),
     }
 }
 
-fn put_dues<K: Sink>(
+/// Appends the answer that waits, as the node's replica tells it, where all that it took is on the disk.
+fn put_due<D: Device, K: Sink>(
     alloc: Global,
     sink: &mut K,
-    replica: &Replica,
+    node: &mut Node<D>,
+    due: &Due,
+) -> Result<(), NoRoom>
+    ensures same { node.new ≡ node.old }
+    ensures told { OnOk result (Tells node.old.replica due.now (K.held sink.old) (K.held sink.new)) }
+{
+    if let Due::Ready { after, most } = due {
+        return put_ready(alloc, sink, node, *after, *most);
+    }
+    let Some(replica) = node.replica() else {
+        return Err(NoRoom);
+    };
+    put_asked(alloc, sink, replica, due)
+}
+
+fn put_dues<D: Device, K: Sink>(
+    alloc: Global,
+    sink: &mut K,
+    node: &mut Node<D>,
     dues: &[Due],
 ) -> Result<(), NoRoom>
-    ensures { OnOk result (Tell replica.now dues.now (K.held sink.old) (K.held sink.new)) }
+    ensures same { node.new ≡ node.old }
+    ensures told { OnOk result (Tell node.old.replica dues.now (K.held sink.old) (K.held sink.new)) }
 {
     for due in dues {
-        put_due(alloc, sink, replica, due)?;
+        put_due(alloc, sink, node, due)?;
     }
     Ok(())
 }
 
-/// The answers that wait, one after the other, as the replica tells them.
-pub(crate) fn answers_of(alloc: Global, replica: &Replica, dues: &[Due]) -> Result<Vec<u8>, NoRoom>
-    ensures { IfOk result (λ out. AllTold replica.now dues.now out.items) }
+/// The answers that wait, one after the other, as the node's replica tells them, where all that it took is on the disk.
+pub(crate) fn answers_of<D: Device>(
+    alloc: Global,
+    node: &mut Node<D>,
+    dues: &[Due],
+) -> Result<Vec<u8>, NoRoom>
+    ensures same { node.new ≡ node.old }
+    ensures told { IfOk result (λ out. AllTold node.old.replica dues.now out.items) }
 {
     let mut sink = Noted::new(Vec::with_capacity(alloc, ROOM)?);
-    put_dues(alloc, &mut sink, replica, dues)?;
+    put_dues(alloc, &mut sink, node, dues)?;
     Ok(sink.into_inner())
 }

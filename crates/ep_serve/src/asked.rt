@@ -40,7 +40,7 @@ pub(crate) fn put_asked_open<K: Sink>(
 }
 
 /// What the replica leads, as it is written.
-fn leading_of(phase: LeadPhase, answers: u8) -> Leading
+pub(crate) fn leading_of(phase: LeadPhase, answers: u8) -> Leading
     ensures { result ≡ leading_of (phase, answers) }
 {
     match phase {

@@ -20,6 +20,9 @@ pub enum Due {
     Synced,
     /// What the node is is asked.
     State,
+    /// What there is to tell is asked, of the entries after the first ones, of which so many were told before, and of at most so many
+    /// open instances.
+    Ready { after: u32, most: u8 },
     /// The request is malformed.
     Malformed(Malformed),
 }

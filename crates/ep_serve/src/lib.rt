@@ -18,6 +18,7 @@ mod executing;
 mod mode;
 mod no_room;
 mod queue;
+mod readying;
 mod serve_fault;
 mod serving;
 mod telling;

@@ -95,10 +95,7 @@ impl Queue {
         ensures log_why { IfErr result (λ fault. Names fault (D.why node.new.device)) }
     {
         put_on_disk(node)?;
-        let Some(replica) = node.replica() else {
-            return Err(ServeFault::Memory);
-        };
-        let answers = answers_of(self.alloc, replica, &self.dues)?;
+        let answers = answers_of(self.alloc, node, &self.dues)?;
         sink.put(&answers)?;
         self.dues.clear();
         Ok(())

@@ -1,5 +1,3 @@
-mod Flagging
-mod Stepping
-mod Leading
 mod Opening
 mod Telling
+mod Tracing

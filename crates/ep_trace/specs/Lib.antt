@@ -1,4 +1,3 @@
 pub mod Lines
 pub mod Traced
 pub mod Left
-pub mod Tables

@@ -5,13 +5,11 @@ use Rattle.ep_frame.specs.Meaning.{sender_at, origin_at}
 use Rattle.ep_journal.specs.declared.entry.Entry.{Entry}
 use Rattle.ep_journal.specs.declared.event.Event.{Event as Happening}
 use Rattle.ep_journal.specs.declared.event.Event.TheVariants as taken
-use Rattle.ep_replay.specs.Causes.{cause_of}
 use Rattle.ep_report.specs.Parts.{instance_text, command_text}
 use Rattle.ep_report.specs.Refusals.{cause_text}
 use Rattle.ep_report.specs.declared.cause.Cause.{Cause}
 use Rattle.ep_trace.specs.declared.numbers.Numbers.{Numbers}
 use Rattle.ep_view.specs.Lines.{words_at, between, done_text, taken_text}
-use Rattle.ep_world.specs.declared.cause.Cause.{Cause as Refusal}
 use Rattle.ep_world.specs.declared.world_event.WorldEvent.{WorldEvent}
 use Rattle.ep_world.specs.declared.world_event.WorldEvent.TheVariants.{Propose, GiveUp, Recover, Execute, Deliver}
 
@@ -73,9 +71,6 @@ asked_text (Recover replica i) = codes "recover " ++ decimal replica ++ codes " 
 asked_text (Execute replica i) = codes "execute " ++ decimal replica ++ codes " " ++ instance_text i
 asked_text (Deliver message) = codes "deliver " ++ decimal message
 
--- an event that a script has so, and why it is refused
-abbrev pub refusal_line : ℕ → List ℕ → Cause → List ℕ
-refusal_line line asked cause = codes "line " ++ decimal line ++ codes "  refused " ++ cause_text cause ++ codes ": " ++ asked ++ codes "\n"
-
-abbrev pub refused_line : ℕ → WorldEvent → Refusal → List ℕ
-refused_line line event cause = refusal_line line (asked_text event) (cause_of cause)
+-- the event, and why it is refused
+abbrev pub refused_line : ℕ → WorldEvent → Cause → List ℕ
+refused_line line event cause = codes "line " ++ decimal line ++ codes "  refused " ++ cause_text cause ++ codes ": " ++ asked_text event ++ codes "\n"

@@ -10,7 +10,7 @@ use ep_frame::Frame;
 use ep_phase::LeadPhase;
 use ep_replica::Replica;
 use ep_report::{push_instance, push_number};
-use ep_words::push_message;
+use ep_view::push_message;
 use ep_world::World;
 use std::alloc::AllocError;
 

@@ -4,15 +4,13 @@
 //! that it handles and sends, or why it is refused; then each message that was never given, and each instance that a replica
 //! knows of and hasn't committed.
 //!
-//! Start with `tracer.rt`, then specs/Traced.antt (which events are told, in which order) and specs/Lines.antt (each line). It
-//! plays the lines as specs/Replays.antt of `ep_replay` says, which is what `epaxos replay` plays.
+//! Start with `traced.rt`, then specs/Traced.antt (which events are told, in which order) and specs/Lines.antt (each line).
+//! `ep_replay` plays the script, and keeps each event that it tries: what is told here is what `epaxos replay` plays.
 #![tactic(auto)]
 
-mod given;
 mod left;
 mod lines;
 mod numbers;
-mod steps;
-mod tracer;
+mod traced;
 
-pub use tracer::trace;
+pub use traced::trace;

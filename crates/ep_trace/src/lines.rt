@@ -1,7 +1,7 @@
 //! The lines of events.
 
-ghost use Rattle.std.specs.Prelude.{◌≡◌, ◌+◌, ◌++◌, IfOk, OnOk, codes, decimal};
-ghost use Rattle.ep_trace.specs.Lines.{number_text, handled_text, happening_text, receiver_text, more_sent, sent_text, place_text, happened_text, made_line, proposal_text, asked_text, refusal_line};
+ghost use Rattle.std.specs.Prelude.{◌≡◌, ◌+◌, ◌++◌, OnOk, codes, decimal};
+ghost use Rattle.ep_trace.specs.Lines.{number_text, handled_text, happening_text, receiver_text, more_sent, sent_text, place_text, happened_text, made_line, proposal_text, asked_text, refused_line};
 ghost use Rattle.ep_view.specs.Lines.{words_at};
 ghost use Rattle.ep_report.specs.Parts.{instance_text};
 
@@ -10,10 +10,9 @@ use ep_base::{Command, InstanceId, ReplicaId};
 use ep_frame::Frame;
 use ep_journal::{Entry, Event};
 use ep_report::{Cause, push_command, push_instance, push_number};
-use ep_view::{push_between, push_done, push_taken, words_of};
-use ep_words::push_message;
+use ep_view::{push_between, push_done, push_message, push_taken, words_of};
 use ep_world::WorldEvent;
-use std::alloc::{AllocError, Global};
+use std::alloc::AllocError;
 
 // Appends the number of a message, where it is known.
 fn push_given(text: &mut Vec<u8>, number: Option<u64>) -> Result<(), AllocError>
@@ -219,23 +218,14 @@ fn push_asked(text: &mut Vec<u8>, event: &WorldEvent) -> Result<(), AllocError>
     }
 }
 
-/// An event as a script has it.
-pub(crate) fn asked(alloc: Global, event: &WorldEvent) -> Result<Vec<u8>, AllocError>
-    ensures { IfOk result (λ text. text.items ≡ asked_text event.now) }
-{
-    let mut text = Vec::new(alloc);
-    push_asked(&mut text, event)?;
-    Ok(text)
-}
-
-/// Appends the line of an event, which a script has so, that was refused.
+/// Appends the line of an event that was refused.
 pub(crate) fn push_refused(
     text: &mut Vec<u8>,
     line: u32,
-    asked: &[u8],
+    event: &WorldEvent,
     cause: Cause,
 ) -> Result<(), AllocError>
-    ensures { OnOk result (text.new.items ≡ text.old.items ++ refusal_line line asked.now cause) }
+    ensures { OnOk result (text.new.items ≡ text.old.items ++ refused_line line event.now cause) }
 {
     text.extend_from_slice(b"line ")?;
     push_number(text, u64::from(line))?;
@@ -243,7 +233,7 @@ pub(crate) fn push_refused(
     let words = cause.to_string(*text.allocator())?;
     text.extend_from_slice(words.as_bytes())?;
     text.extend_from_slice(b": ")?;
-    text.extend_from_slice(asked)?;
+    push_asked(text, event)?;
     text.push(b'\n')?;
     Ok(())
 }

@@ -1,8 +1,8 @@
 -- What is shown, where the frames that are handled were found out.
 use Rattle.std.proofs.Common.{◌≡◌, ◌<◌, ◌≤◌, ◌+◌, ◌++◌, ℕ, Bool, length, length-append, append-nil, List, [], ◌∷◌, ap, ◌∙◌, arith}
 use Rattle.ep_journal.specs.Entries.{Collected}
-use Rattle.ep_words.specs.Editions.{edition_line}
-use Rattle.ep_words.specs.declared.part.Part.{Part}
+use Rattle.ep_view.specs.Editions.{edition_line}
+use Rattle.ep_view.specs.declared.part.Part.{Part}
 use Rattle.ep_view.specs.Handled.{is_in, is_handled, AreHandled}
 use Rattle.ep_view.specs.Shown.{lines_at, none_kept, or_none, IsInOrder, IsShown}
 use Rattle.ep_view.specs.declared.handled.Handled.{Handled}

@@ -1,3 +1,4 @@
 pub mod Inserting
 pub mod AsShown
 pub mod Sending
+pub mod Joining

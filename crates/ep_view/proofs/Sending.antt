@@ -3,7 +3,7 @@ use Rattle.std.proofs.Common.{◌≡◌, ℕ, ◌-◌, ◌≤◌, Bool, List, []
 use Rattle.std.specs.Prelude.{OnOk}
 use Rattle.ep_view.specs.Lines.{words_at, receiver_text, more_sent, sent_text}
 
-joined : (t c r m e n : List ℕ) → e ≡ t ++ c → n ≡ e ++ r ++ m → n ≡ t ++ (c ++ r ++ m)
+pub joined : (t c r m e n : List ℕ) → e ≡ t ++ c → n ≡ e ++ r ++ m → n ≡ t ++ (c ++ r ++ m)
 joined t c r m e n is told =
     told ∙ ap (λ (z : List ℕ). z ++ r ++ m) is ∙ ap (λ (z : List ℕ). z ++ m) (append_assoc t c r) ∙ append_assoc t (c ++ r) m
 

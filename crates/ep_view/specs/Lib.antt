@@ -1,5 +1,7 @@
 pub mod Handled
 pub mod Wanted
-pub mod Lookups
 pub mod Lines
 pub mod Shown
+pub mod Kept
+pub mod Words
+pub mod Editions

@@ -7,7 +7,7 @@ use Rattle.ep_journal.specs.declared.entry.Entry.{Entry}
 use Rattle.ep_journal.specs.declared.event.Event.{Event}
 use Rattle.ep_journal.specs.declared.event.Event.TheVariants.{Propose, Handle, GiveUp, Recover, Execute}
 use Rattle.ep_report.specs.Parts.{instance_text, answer_text}
-use Rattle.ep_words.specs.Words.{event_text, message_text}
+use Rattle.ep_view.specs.Words.{event_text, message_text}
 
 -- the words of a frame's message
 abbrev pub words_at : List ℕ → List ℕ

@@ -3,13 +3,13 @@ use Rattle.std.specs.Prelude.{◌≡◌, ℕ, Bool, cond, eqb, length, List, [],
 use Rattle.ep_journal.specs.Entries.{Collected, entries_at, journals_of}
 use Rattle.ep_journal.specs.declared.entry.Entry.{Entry}
 use Rattle.ep_rules.specs.Journals.{Scheduled, IsSchedule}
-use Rattle.ep_verdict.specs.Verdicts.{places_of}
-use Rattle.ep_words.specs.Editions.{edition_line}
-use Rattle.ep_words.specs.Kept.{keeps}
-use Rattle.ep_words.specs.declared.part.Part.{Part}
+use Rattle.ep_audit.specs.Verdicts.{places_of}
+use Rattle.ep_view.specs.Editions.{edition_line}
+use Rattle.ep_view.specs.Kept.{keeps}
+use Rattle.ep_view.specs.declared.part.Part.{Part}
 use Rattle.ep_view.specs.Handled.{is_handled}
 use Rattle.ep_view.specs.Lines.{entry_text}
-use Rattle.ep_view.specs.Lookups.{entry_at}
+use Rattle.ep_audit.specs.Lookups.{entry_at}
 
 module _ (handled : List ℕ → Bool) (part : Part) where
   -- the line of an entry, if it is asked for

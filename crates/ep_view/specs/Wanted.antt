@@ -9,7 +9,7 @@ use Rattle.ep_journal.specs.Entries.{Collected, entries_at}
 use Rattle.ep_journal.specs.declared.entry.Entry.{Entry}
 use Rattle.ep_journal.specs.declared.event.Event.{Event}
 use Rattle.ep_journal.specs.declared.event.Event.TheVariants.{Propose, Handle, GiveUp, Recover, Execute}
-use Rattle.ep_words.specs.declared.part.Part.{Part}
+use Rattle.ep_view.specs.declared.part.Part.{Part}
 use Rattle.ep_view.specs.declared.wanted.Wanted.{Wanted}
 
 -- any client, or this one

@@ -6,7 +6,7 @@ ghost use Rattle.ep_base.specs.Quorums.{size};
 ghost use Rattle.ep_journal.specs.Entries.{AreJournals, entries_at};
 ghost use Rattle.ep_view.specs.Handled.{handles, handled_in, handled_below, is_in, AreHandled};
 
-use crate::lookups::entries_of;
+use ep_audit::entries_of;
 use ep_base::ReplicaId;
 use ep_frame::Frame;
 use ep_journal::{Entry, Event, Journals};

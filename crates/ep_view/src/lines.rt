@@ -4,12 +4,13 @@ ghost use Rattle.std.specs.Prelude.{◌≡◌, ◌++◌, [], cond, IfOk, OnOk, c
 ghost use Rattle.ep_view.specs.Handled.{is_in};
 ghost use Rattle.ep_view.specs.Lines.{words_at, answered_text, more_done, done_text, took_text, taken_text, between, receiver_text, more_sent, sent_text, happened_text, entry_text};
 
+use crate::events::push_event;
 use crate::handled::Handled;
+use crate::messages::push_message;
 use ep_base::{Answer, InstanceId, ReplicaId};
 use ep_frame::Frame;
 use ep_journal::{Entry, Event};
 use ep_report::{push_answer, push_instance, push_number};
-use ep_words::{push_event, push_message};
 use std::alloc::{AllocError, Global};
 
 // Appends an instance that was executed, with its answer.

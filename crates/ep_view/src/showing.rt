@@ -3,17 +3,17 @@
 ghost use Rattle.std.specs.Prelude.{◌≡◌, ◌++◌, [], cond, eqb, length, codes, decimal, Some, IfOk, OnOk};
 ghost use Rattle.ep_journal.specs.Entries.{AreJournals, entries_at};
 ghost use Rattle.ep_view.specs.Handled.{is_in};
-ghost use Rattle.ep_view.specs.Lookups.{entry_at};
+ghost use Rattle.ep_audit.specs.Lookups.{entry_at};
 ghost use Rattle.ep_view.specs.Shown.{line_of, lines_at, none_kept, or_none, IsInOrder, IsShown};
 
+use crate::editions::push_edition;
 use crate::handled::Handled;
 use crate::lines::push_entry;
-use crate::lookups::entry_at;
+use crate::part::Part;
+use ep_audit::{Verdict, entry_at};
 use ep_base::ReplicaId;
 use ep_journal::{Entry, Journals};
 use ep_report::push_number;
-use ep_verdict::Verdict;
-use ep_words::{Part, push_edition};
 use std::alloc::{AllocError, Global};
 
 /// All entries of the journals, by stamp and replica: each as its replica with its number.

@@ -1,13 +1,14 @@
 //! The entries of journals side by side, in a column a replica.
 
+use crate::editions::push_edition;
 use crate::handled::Handled;
 use crate::lines::push_happened;
-use crate::lookups::entry_at;
+use crate::part::Part;
 use crate::showing::{push_none_kept, schedule};
+use ep_audit::entry_at;
 use ep_base::ReplicaId;
 use ep_journal::{Entry, Journals};
 use ep_report::push_number;
-use ep_words::{Part, push_edition};
 use std::alloc::{AllocError, Global};
 
 /// How many bytes wide a column is. There are two spaces between columns, so that three of them take 100.

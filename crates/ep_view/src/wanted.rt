@@ -5,11 +5,11 @@ ghost use Rattle.ep_base.specs.Quorums.{size};
 ghost use Rattle.ep_journal.specs.Entries.{AreJournals, entries_at};
 ghost use Rattle.ep_view.specs.Wanted.{is_of_client, is_on_key, is_wanted, with_taken, with_entries, taken_below, about_of, part_of};
 
-use crate::lookups::entries_of;
+use crate::part::Part;
+use ep_audit::entries_of;
 use ep_base::{Command, Deps, InstanceId, Key, ReplicaId};
 use ep_frame::Frame;
 use ep_journal::{Entry, Event, Journals};
-use ep_words::Part;
 use std::alloc::{AllocError, Global};
 
 /// Which entries of journals are asked for, as words of a command line tell it.

@@ -15,23 +15,23 @@ use Rattle.ep_script.specs.declared.script_fault.ScriptFault.{ScriptFault}
 use Rattle.ep_script.specs.declared.script_fault.ScriptFault.TheVariants as script
 use Rattle.ep_viewer.specs.Faults.{of_bundle, of_diagram, of_explained, of_graph, of_script, is_read, is_write}
 use Rattle.ep_rules.specs.declared.receipt.Receipt.{Receipt}
-use Rattle.ep_viewer.specs.Outputs.{Output, output, Wrote, WroteNothing}
+use Rattle.ep_cli.specs.Outputs.{Output, output, Wrote, WroteNothing}
 use Rattle.ep_viewer.specs.Views.{Does, IsCrowded, IsMany, IsNever, IsView, Views, Explains}
 use Rattle.ep_view.specs.Shown.{IsShown}
 use Rattle.ep_view.specs.Wanted.{part_of}
 use Rattle.ep_view.specs.declared.wanted.Wanted.{Wanted}
-use Rattle.ep_words.specs.declared.part.Part.{Part}
+use Rattle.ep_view.specs.declared.part.Part.{Part}
 use Rattle.ep_viewer.specs.declared.asked.Asked.{Asked}
 use Rattle.ep_viewer.specs.declared.asked.Asked.TheVariants.{Show, Draw, Page, Events}
-use Rattle.ep_events.specs.Files.{IsTraceFile}
-use Rattle.ep_page.specs.Pages.{IsPage}
+use Rattle.ep_browser.specs.Files.{IsTraceFile}
+use Rattle.ep_browser.specs.Pages.{IsPage}
 use Rattle.ep_draw.specs.Drawn.{IsDrawn, IsTooMany, IsRefused}
 use Rattle.ep_draw.specs.declared.draw_fault.DrawFault.{DrawFault}
 use Rattle.ep_draw.specs.declared.draw_fault.DrawFault.TheVariants as draw
 use Rattle.ep_graph.specs.Graphs.{IsMore}
 use Rattle.ep_graph.specs.declared.graph_fault.GraphFault.{GraphFault}
 use Rattle.ep_graph.specs.declared.graph_fault.GraphFault.TheVariants as graph
-use Rattle.ep_viewer.specs.declared.status.Status.{Status}
+use Rattle.ep_cli.specs.declared.status.Status.{Status}
 use Rattle.ep_viewer.specs.declared.fault.Fault.{Fault}
 use Rattle.ep_viewer.specs.declared.fault.Fault.TheVariants.{Script, BadBundle, NotARun, TooMany, TooManyEvents, Memory, Read, Write}
 

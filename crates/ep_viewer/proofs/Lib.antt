@@ -1,2 +1,1 @@
-mod Puts
 mod Ending

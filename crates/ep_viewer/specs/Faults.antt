@@ -1,5 +1,6 @@
 -- How the program ends at a fault, and the line that it then tells.
 use Rattle.std.specs.Prelude.{ℕ, Bool, true, false, List, ◌++◌, codes, decimal}
+use Rattle.ep_cli.specs.Lines.{script_refused, bad_bundle, not_a_run, out_of_memory, reading_failed, writing_failed}
 use Rattle.ep_bundle.specs.declared.bundle_fault.BundleFault.{BundleFault}
 use Rattle.ep_bundle.specs.declared.bundle_fault.BundleFault.TheVariants as bundle
 use Rattle.ep_advice.specs.declared.explain_fault.ExplainFault.{ExplainFault}
@@ -14,45 +15,12 @@ use Rattle.ep_script.specs.declared.script_fault.ScriptFault.{ScriptFault}
 use Rattle.ep_script.specs.declared.script_fault.ScriptFault.TheVariants as script
 use Rattle.ep_viewer.specs.declared.fault.Fault.{Fault}
 use Rattle.ep_viewer.specs.declared.fault.Fault.TheVariants.{Script, BadBundle, NotARun, TooMany, TooManyEvents, Memory, Read, Write}
-use Rattle.ep_viewer.specs.declared.status.Status.{Status}
-use Rattle.ep_viewer.specs.declared.status.Status.TheVariants.{Done, AuditRefused, Refused, OutOfMemory, Failed}
-
--- the exit status
-abbrev pub code_of : Status → ℕ
-code_of Done = 0
-code_of AuditRefused = 1
-code_of Refused = 2
-code_of OutOfMemory = 3
-code_of Failed = 4
-
--- the first line; what is wrong with the words follows
-abbrev pub command_line_refused : List ℕ
-command_line_refused = codes "command line refused\n"
-
--- this line is the first at fault
-abbrev pub script_refused : ℕ → List ℕ
-script_refused line = codes "script refused at line " ++ decimal line ++ codes "\n"
-
--- the field that begins at this byte is at fault
-abbrev pub bad_bundle : ℕ → List ℕ
-bad_bundle offset = codes "bundle refused E12 at byte " ++ decimal offset ++ codes "\n"
-
--- this entry of this replica isn't its next step
-abbrev pub not_a_run : ℕ → ℕ → List ℕ
-not_a_run replica entry = codes "bundle refused E11 at replica " ++ decimal replica ++ codes " entry " ++ decimal entry ++ codes "\n"
+use Rattle.ep_cli.specs.declared.status.Status.{Status}
+use Rattle.ep_cli.specs.declared.status.Status.TheVariants.{Done, AuditRefused, Refused, OutOfMemory, Failed}
 
 -- so many entries are asked for, or so many instances are there, more than a picture shows
 abbrev pub too_many : ℕ → List ℕ
 too_many count = codes "too many to draw: " ++ decimal count ++ codes ", and 2000 at most; --from, --to, --replica, --instance, --key and --client keep a part of a diagram, and --page shows all\n"
-
-abbrev pub out_of_memory : List ℕ
-out_of_memory = codes "out of memory\n"
-
-abbrev pub reading_failed : List ℕ
-reading_failed = codes "reading failed\n"
-
-abbrev pub writing_failed : List ℕ
-writing_failed = codes "writing failed\n"
 
 abbrev pub line_of : Fault → List ℕ
 line_of (Script line) = script_refused line

@@ -4,28 +4,29 @@ use Rattle.ep_bundle.specs.Journals.{ReadsBundle}
 use Rattle.ep_bundle.specs.Reading.{Left}
 use Rattle.ep_bundle.specs.declared.bundle_fault.BundleFault.TheVariants as bundle
 use Rattle.ep_draw.specs.Drawn.{IsDrawn, IsTooMany}
-use Rattle.ep_events.specs.Files.{IsTraceFile}
+use Rattle.ep_browser.specs.Files.{IsTraceFile}
 use Rattle.ep_explain.specs.Explained.{IsExplained}
 use Rattle.ep_explain.specs.declared.finding.Finding.{Finding}
 use Rattle.ep_graph.specs.Graphs.{IsGraphFile}
 use Rattle.ep_journal.specs.Entries.{Collected}
-use Rattle.ep_page.specs.Pages.{IsPage}
+use Rattle.ep_browser.specs.Pages.{IsPage}
 use Rattle.ep_rules.specs.declared.receipt.Receipt.{Receipt}
 use Rattle.ep_script.specs.Plan.{Plan, script_of}
 use Rattle.ep_trace.specs.Traced.{IsTraced}
 use Rattle.ep_view.specs.Shown.{IsShown}
 use Rattle.ep_view.specs.Wanted.{part_of}
 use Rattle.ep_base.specs.Devices.{FailsAsTold}
-use Rattle.ep_viewer.specs.Faults.{command_line_refused, out_of_memory, line_of, status_of, status_found, is_read, is_write}
-use Rattle.ep_viewer.specs.Outputs.{Input, Output, Wrote, WroteNothing, Told}
+use Rattle.ep_cli.specs.Lines.{command_line_refused, out_of_memory}
+use Rattle.ep_viewer.specs.Faults.{line_of, status_of, status_found, is_read, is_write}
+use Rattle.ep_cli.specs.Outputs.{Input, Output, Wrote, WroteNothing, Told}
 use Rattle.ep_viewer.specs.declared.asked.Asked.{Asked}
 use Rattle.ep_viewer.specs.declared.asked.Asked.TheVariants.{Show, Columns, Trace, Explain, Draw, Graph, Page, Events, Version, Help}
-use Rattle.ep_viewer.specs.declared.declined.Declined.{Declined}
-use Rattle.ep_viewer.specs.declared.declined.Declined.TheVariants as declined
+use Rattle.ep_cli.specs.declared.declined.Declined.{Declined}
+use Rattle.ep_cli.specs.declared.declined.Declined.TheVariants as declined
 use Rattle.ep_viewer.specs.declared.fault.Fault.{Fault}
 use Rattle.ep_viewer.specs.declared.fault.Fault.TheVariants.{Script, BadBundle, NotARun, TooMany, TooManyEvents, Memory, Read, Write}
-use Rattle.ep_viewer.specs.declared.status.Status.{Status}
-use Rattle.ep_viewer.specs.declared.status.Status.TheVariants.{Done, Refused, OutOfMemory}
+use Rattle.ep_cli.specs.declared.status.Status.{Status}
+use Rattle.ep_cli.specs.declared.status.Status.TheVariants.{Done, Refused, OutOfMemory}
 
 -- The bytes are one bundle, and this was written of its journals.
 pub record IsView (Tells : Collected → List ℕ → Type 0) (zs : List ℕ) (out : Output) : Type 0 where

@@ -1,10 +1,10 @@
 //! The words of the command line.
 
 use crate::asked::Asked;
-use crate::declined::Declined;
 use clap::error::ErrorKind;
 use clap::{Arg, ArgAction, ArgMatches, Command, Error};
 use ep_base::{CommandFault, InstanceId, Key, ReplicaId};
+use ep_cli::Declined;
 use ep_script::{number_in, read_word};
 use ep_view::Wanted;
 use std::alloc::{AllocError, Global};

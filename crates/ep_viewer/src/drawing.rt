@@ -6,13 +6,13 @@ ghost use Rattle.ep_draw.specs.Drawn.{IsDrawn, IsTooMany};
 ghost use Rattle.ep_graph.specs.Graphs.{IsGraphFile};
 ghost use Rattle.ep_view.specs.Wanted.{part_of};
 ghost use Rattle.ep_viewer.specs.Faults.{is_read, is_write};
-ghost use Rattle.ep_viewer.specs.Outputs.{output};
+ghost use Rattle.ep_cli.specs.Outputs.{output};
 ghost use Rattle.ep_viewer.specs.Views.{IsMany, Views};
 
 use crate::fault::Fault;
-use crate::status::Status;
 use ep_base::{Sink, Source};
 use ep_bundle::read_bundle;
+use ep_cli::Status;
 use ep_draw::diagram;
 use ep_graph::graph;
 use ep_view::Wanted;

@@ -4,13 +4,13 @@ ghost use Rattle.std.specs.Prelude.{◌≡◌, ℕ, List, Some};
 ghost use Rattle.ep_advice.specs.Kept.{known_left};
 ghost use Rattle.ep_base.specs.Devices.{FailsAsTold};
 ghost use Rattle.ep_viewer.specs.Faults.{is_read, is_write, status_found};
-ghost use Rattle.ep_viewer.specs.Outputs.{output};
+ghost use Rattle.ep_cli.specs.Outputs.{output};
 ghost use Rattle.ep_viewer.specs.Views.{Explains};
 
 use crate::fault::Fault;
-use crate::status::Status;
 use ep_advice::Kept;
 use ep_base::{Sink, Source};
+use ep_cli::Status;
 use ep_explain::{Finding, explain};
 use std::alloc::Global;
 

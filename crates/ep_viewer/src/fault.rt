@@ -4,10 +4,10 @@ ghost use Rattle.std.specs.Prelude.{◌≡◌};
 ghost use Rattle.ep_viewer.specs.Faults.{of_bundle, of_diagram, of_explained, of_graph, of_script, status_of};
 ghost use Rattle.ep_viewer.specs.declared.fault.Fault.TheVariants.{Memory, Read, Write};
 
-use crate::status::Status;
 use ep_advice::ExplainFault;
 use ep_base::{ReadFailed, ReplicaId, WriteFailed};
 use ep_bundle::BundleFault;
+use ep_cli::Status;
 use ep_draw::DrawFault;
 use ep_graph::GraphFault;
 use ep_script::ScriptFault;

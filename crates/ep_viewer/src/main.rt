@@ -3,34 +3,31 @@
 //! `main` hands the words to `read_words`, in `command_line.rt`, and what they ask for with the standard streams to `perform`, in
 //! `program.rt`, which is all of the program: over any source and sinks, so that its contract can say what the bytes and the
 //! status mean. It does no more than read a bundle and call `ep_view`,
-//! `ep_explain`, `ep_draw`, `ep_graph`, `ep_page` or `ep_events`, or read a script and call `ep_trace`.
+//! `ep_explain`, `ep_draw`, `ep_graph` or `ep_browser`, or read a script and call `ep_trace`.
 //!
 //! Start with `program.rt` and specs/Views.antt. A fault has one line on the fault output and one status (`fault.rt`,
-//! `telling.rt`, `status.rt`), as docs/FORMATS.md, section 6, lists them.
+//! `telling.rt`, and `ep_cli`), as docs/FORMATS.md, section 6, lists them.
 #![tactic(auto)]
 
 mod ahead;
 mod asked;
 mod command_line;
-mod declined;
 mod drawing;
 mod explaining;
 mod fault;
 mod paging;
 mod program;
 mod showing;
-mod status;
 mod telling;
 mod tracing;
 
 use crate::ahead::read_ahead;
 use crate::command_line::read_words;
-use crate::declined::Declined;
 use crate::program::{decline, perform};
-use crate::status::Status;
 use ep_advice::Kept;
 use ep_base::{Noted, Sink};
-use std::io::{ErrorKind, Read};
+use ep_cli::{Declined, Status, words};
+use std::io::Read;
 use std::process::ExitCode;
 use std::rt::Env;
 
@@ -56,16 +53,4 @@ fn run<R: Env + AllocGlobal, I: Read + Drop, W: Sink, F: Sink>(
     let asked = read_words(alloc, words.as_slice())?;
     let mut reader = Kept::new(alloc, read_ahead(alloc, input)?);
     Ok(perform(alloc, &asked, &mut reader, writer, fault_writer))
-}
-
-/// The words of the command line, of which the first is the program's own name.
-fn words<R: Env + AllocGlobal>(rt: &R) -> Result<Vec<String>, Declined> {
-    match std::env::args(rt) {
-        Ok(words) => Ok(words.collect(rt.alloc())?),
-        Err(error) if error.kind() == ErrorKind::OutOfMemory => Err(Declined::Memory),
-        Err(_) => Err(Declined::Words(String::from_str(
-            rt.alloc(),
-            "error: a word is not text in UTF-8\n\nFor more information, try '--help'.\n",
-        )?)),
-    }
 }

@@ -2,19 +2,18 @@
 
 ghost use Rattle.std.specs.Prelude.{◌≡◌, ℕ, List, Some};
 ghost use Rattle.ep_base.specs.Devices.{FailsAsTold};
-ghost use Rattle.ep_events.specs.Files.{IsTraceFile};
-ghost use Rattle.ep_page.specs.Pages.{IsPage};
+ghost use Rattle.ep_browser.specs.Files.{IsTraceFile};
+ghost use Rattle.ep_browser.specs.Pages.{IsPage};
 ghost use Rattle.ep_view.specs.Wanted.{part_of};
 ghost use Rattle.ep_viewer.specs.Faults.{is_read, is_write};
-ghost use Rattle.ep_viewer.specs.Outputs.{output};
+ghost use Rattle.ep_cli.specs.Outputs.{output};
 ghost use Rattle.ep_viewer.specs.Views.{IsNever, Views};
 
 use crate::fault::Fault;
-use crate::status::Status;
 use ep_base::{Sink, Source};
+use ep_browser::{page, trace_events};
 use ep_bundle::read_bundle;
-use ep_events::trace_events;
-use ep_page::page;
+use ep_cli::Status;
 use ep_view::Wanted;
 use std::alloc::Global;
 use std::mem::forget;

@@ -4,21 +4,20 @@ ghost use Rattle.std.specs.Prelude.{◌≡◌, ℕ, List, Some};
 ghost use Rattle.ep_advice.specs.Kept.{known_left};
 ghost use Rattle.ep_base.specs.Devices.{FailsAsTold};
 ghost use Rattle.ep_viewer.specs.Faults.{is_read, is_write};
-ghost use Rattle.ep_viewer.specs.Outputs.{input, output};
+ghost use Rattle.ep_cli.specs.Outputs.{input, output};
 ghost use Rattle.ep_viewer.specs.Views.{Concludes, Does, Performs, TellsWhy};
 
 use crate::asked::Asked;
-use crate::declined::Declined;
 use crate::drawing::{print_drawn, print_graph};
 use crate::explaining::print_explained;
 use crate::fault::Fault;
 use crate::paging::{print_events, print_page};
 use crate::showing::{print_columns, print_shown};
-use crate::status::Status;
-use crate::telling::{tell, tell_words};
+use crate::telling::tell;
 use crate::tracing::print_trace;
 use ep_advice::Kept;
 use ep_base::{Sink, Source};
+use ep_cli::{Declined, Status, tell_words};
 use std::alloc::Global;
 
 /// Does what is asked, and answers how the program ends. What stops it is told by one line on the fault output; where telling

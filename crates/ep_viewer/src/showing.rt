@@ -5,13 +5,13 @@ ghost use Rattle.ep_view.specs.Shown.{IsShown};
 ghost use Rattle.ep_view.specs.Wanted.{part_of};
 ghost use Rattle.ep_base.specs.Devices.{FailsAsTold};
 ghost use Rattle.ep_viewer.specs.Faults.{is_read, is_write};
-ghost use Rattle.ep_viewer.specs.Outputs.{output};
+ghost use Rattle.ep_cli.specs.Outputs.{output};
 ghost use Rattle.ep_viewer.specs.Views.{IsAnyText, IsNever, Views};
 
 use crate::fault::Fault;
-use crate::status::Status;
 use ep_base::{Sink, Source};
 use ep_bundle::read_bundle;
+use ep_cli::Status;
 use ep_view::{Wanted, columns, show};
 use std::alloc::Global;
 use std::mem::forget;

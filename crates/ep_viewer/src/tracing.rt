@@ -3,12 +3,12 @@
 ghost use Rattle.std.specs.Prelude.{◌≡◌, ℕ, List, Some};
 ghost use Rattle.ep_base.specs.Devices.{FailsAsTold};
 ghost use Rattle.ep_viewer.specs.Faults.{is_read, is_write};
-ghost use Rattle.ep_viewer.specs.Outputs.{output};
+ghost use Rattle.ep_cli.specs.Outputs.{output};
 ghost use Rattle.ep_viewer.specs.Views.{Traces};
 
 use crate::fault::Fault;
-use crate::status::Status;
 use ep_base::{Sink, Source};
+use ep_cli::Status;
 use ep_script::read_script;
 use ep_trace::trace;
 use std::alloc::Global;

@@ -13,7 +13,7 @@ use Rattle.ep_journal.specs.declared.step_fault.StepFault.{StepFault}
 use Rattle.ep_journal.specs.declared.step_fault.StepFault.TheVariants.{Memory, OtherVersion, OtherGeneration, OutOfRange, NotMine, StampFull, SpaceFull, SeqExhausted, NotLeading, TooFewAnswers, AlreadyCommitted, BallotsExhausted, NotCommitted}
 use Rattle.ep_rules.specs.declared.receipt.Receipt.{Receipt}
 use Rattle.ep_wire.specs.declared.field.Field.{Field}
-use Rattle.ep_wire.specs.declared.field.Field.TheVariants.{Kind, Client, ClientRequest, Seen, Op, KeyLength, ValueLength, Key, Value, Replica, Number, Rest, FirstLength, SecondLength, BodyLength, FirstKey, SecondKey, Body}
+use Rattle.ep_wire.specs.declared.field.Field.TheVariants.{Kind, Client, ClientRequest, Seen, Op, KeyLength, ValueLength, Key, Value, Replica, Number, Rest, FirstLength, SecondLength, BodyLength, FirstKey, SecondKey, Body, After, Most}
 use Rattle.ep_wire.specs.declared.leading.Leading.{Leading}
 use Rattle.ep_wire.specs.declared.leading.Leading.TheVariants.{Proposing, Accepting, Preparing}
 use Rattle.ep_wire.specs.declared.malformed.Malformed.{Malformed}
@@ -153,6 +153,8 @@ field_code BodyLength = 15
 field_code FirstKey = 16
 field_code SecondKey = 17
 field_code Body = 18
+field_code After = 19
+field_code Most = 20
 
 abbrev pub malformed_bytes : Malformed → List ℕ
 malformed_bytes m = number_bytes 4 10 ++ number_bytes 1 7 ++ number_bytes 1 (field_code m.field) ++ number_bytes 8 m.at
@@ -170,3 +172,29 @@ space_bytes s = number_bytes 2 s.used ++ number_bytes 2 s.deps ++ number_bytes 1
 
 abbrev pub state_bytes : NodeState → List ℕ
 state_bytes s = number_bytes 4 22 ++ number_bytes 1 8 ++ (counts_bytes s ++ space_bytes s)
+
+-- What there is to tell.
+
+-- instances, counted
+abbrev pub instances_bytes : List ℕ → List ℕ
+instances_bytes is = number_bytes 4 (length is) ++ flat_map dep_bytes is
+
+-- receipts, counted, each as it stands in a bundle of the version
+abbrev pub told_receipts_bytes : Version → List Receipt → List ℕ
+told_receipts_bytes v rs = number_bytes 4 (length rs) ++ flat_map (receipt_bytes v) rs
+
+abbrev pub number_or_zero : Option ℕ → ℕ
+number_or_zero None = 0
+number_or_zero (Some n) = n
+
+-- what is led, or two zero bytes
+abbrev pub led_bytes : Option Leading → List ℕ
+led_bytes None = 0 ∷ 0 ∷ []
+led_bytes (Some l) = number_bytes 1 (phase_code l) ++ number_bytes 1 (answer_count l)
+
+-- an open instance, the number of the first entry about it, and what is led there
+abbrev pub open_bytes : ℕ → Option ℕ → Option Leading → List ℕ
+open_bytes i since leading = dep_bytes i ++ number_bytes 4 (number_or_zero since) ++ led_bytes leading
+
+abbrev pub ready_bytes : List ℕ → List ℕ
+ready_bytes body = number_bytes 4 (1 + length body) ++ number_bytes 1 9 ++ body

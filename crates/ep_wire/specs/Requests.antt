@@ -13,9 +13,9 @@ use Rattle.ep_bundle.specs.declared.bundle_fault.BundleFault.TheVariants as bund
 use Rattle.ep_bundle.specs.declared.bundle_fault.BundleFault.TheVariants.{BadBundle, NotARun}
 use Rattle.ep_wire.specs.declared.dialect.Dialect.{Dialect}
 use Rattle.ep_wire.specs.declared.field.Field.{Field}
-use Rattle.ep_wire.specs.declared.field.Field.TheVariants.{Kind, Client, ClientRequest, Seen, Op, KeyLength, ValueLength, Key, Value, Replica, Number, Rest, FirstLength, SecondLength, BodyLength, FirstKey, SecondKey, Body}
+use Rattle.ep_wire.specs.declared.field.Field.TheVariants.{Kind, Client, ClientRequest, Seen, Op, KeyLength, ValueLength, Key, Value, Replica, Number, Rest, FirstLength, SecondLength, BodyLength, FirstKey, SecondKey, Body, After, Most}
 use Rattle.ep_wire.specs.declared.request.Request.{Request}
-use Rattle.ep_wire.specs.declared.request.Request.TheVariants.{Propose, Frame, GiveUp, Recover, Execute, Advance, Get, NextOpen, Leads, Sync, State, ExecuteAll, Malformed}
+use Rattle.ep_wire.specs.declared.request.Request.TheVariants.{Propose, Frame, GiveUp, Recover, Execute, Advance, Get, NextOpen, Leads, Sync, State, ExecuteAll, Ready, Malformed}
 use Rattle.ep_wire.specs.declared.request_fault.RequestFault.{RequestFault}
 use Rattle.ep_wire.specs.declared.request_fault.RequestFault.TheVariants.{Memory, ReadFailed, BadRequest}
 
@@ -63,7 +63,11 @@ key bs = cond (eqb (length bs) 0 || ltb 255 (length bs)) (Err 5) (Ok (Get bs))
 abbrev pub next_open : Dialect → List ℕ → Result Request ℕ
 next_open how bs = cond (same_list bs (0 ∷ 0 ∷ 0 ∷ [])) (Ok (NextOpen None)) (map_ok (λ i. NextOpen (Some i)) (named how bs))
 
--- the request of this kind, 1 to 12, with this body, or where the first field begins that is at fault
+-- how many entries were told before, and how many open instances are asked for at most
+abbrev pub ready : Left → Reading Request
+ready l = and_then (field 4 0 4294967295 l) (λ after l. and_then (field 1 0 255 l) (λ most l. Ok (Ready after most, l)))
+
+-- the request of this kind, 1 to 13, with this body, or where the first field begins that is at fault
 abbrev pub body_of : Dialect → ℕ → List ℕ → Result Request ℕ
 body_of how kind bs =
     cond (eqb kind 1) (given (alone (proposal how.version (whole bs))))
@@ -74,7 +78,8 @@ body_of how kind bs =
     (cond (eqb kind 10) (bare Sync bs)
     (cond (eqb kind 11) (bare State bs)
     (cond (eqb kind 12) (bare ExecuteAll bs)
-    (map_ok (about kind) (named how bs)))))))))
+    (cond (eqb kind 13) (given (alone (ready (whole bs))))
+    (map_ok (about kind) (named how bs))))))))))
 
 -- Fields, each with the place behind it: the one in which this place is, or what stands behind them.
 abbrev pub field_in : List (Field × ℕ) → ℕ → Field
@@ -109,6 +114,9 @@ proposal_fields V1 bs = early_fields (byte_at bs 17) (two_at bs 18)
 proposal_fields V2 bs = early_fields (byte_at bs 17) (two_at bs 18)
 proposal_fields (V3 g) bs = late_fields (byte_at bs 17) (byte_at bs 18) (four_at bs 19)
 
+abbrev pub ready_fields : List (Field × ℕ)
+ready_fields = (After, 9) ∷ (Most, 10) ∷ []
+
 -- the kinds that have no body, of 1 to 12
 abbrev pub is_bare : ℕ → Bool
 is_bare kind = eqb kind 6 || leb 10 kind
@@ -118,8 +126,9 @@ abbrev pub fields_of : Version → ℕ → List ℕ → List (Field × ℕ)
 fields_of v kind bs =
     cond (eqb kind 1) (proposal_fields v bs)
     (cond (eqb kind 7) ((Key, 260) ∷ [])
+    (cond (eqb kind 13) ready_fields
     (cond (is_bare kind) []
-    instance_fields))
+    instance_fields)))
 
 -- what it is, or that it is malformed, with the field that begins there
 abbrev pub or_malformed : Version → ℕ → List ℕ → Result Request ℕ → Request
@@ -128,7 +137,7 @@ or_malformed v kind bs (Err at) = Malformed (record { field = field_in (fields_o
 
 -- the request of this kind with this body
 abbrev pub request_of : Dialect → ℕ → List ℕ → Request
-request_of how kind bs = cond (ltb kind 1 || ltb 12 kind) (Malformed (record { field = Kind; at = 4 })) (or_malformed how.version kind bs (body_of how kind bs))
+request_of how kind bs = cond (ltb kind 1 || ltb 13 kind) (Malformed (record { field = Kind; at = 4 })) (or_malformed how.version kind bs (body_of how kind bs))
 
 -- the kind and the body, in so many bytes
 abbrev pub sized : Dialect → ℕ → Left → Reading Request

@@ -54,8 +54,8 @@ pub fn taken_as(entry: &Entry) -> Option<InstanceId>
     }
 }
 
-/// A frame, with its receiver before it.
-fn put_sent<K: Sink>(sink: &mut K, frame: &Frame) -> Result<(), WriteFailed>
+/// Writes a frame, with its receiver before it.
+pub fn put_sent<K: Sink>(sink: &mut K, frame: &Frame) -> Result<(), WriteFailed>
     requires { FrameFits frame.now }
     ensures { Puts (K.held sink.old) (K.held sink.new) (K.has_failed sink.old) (K.has_failed sink.new) result (sent_bytes frame.now) }
 {
@@ -234,7 +234,7 @@ pub fn write_instance<K: Sink>(
 }
 
 /// The number of the phase.
-fn phase_code(leading: &Leading) -> u8
+pub(crate) fn phase_code(leading: &Leading) -> u8
     ensures { result ≡ phase_code leading.now }
 {
     match leading {
@@ -245,7 +245,7 @@ fn phase_code(leading: &Leading) -> u8
 }
 
 /// How many have answered.
-fn answer_count(leading: &Leading) -> u8
+pub(crate) fn answer_count(leading: &Leading) -> u8
     ensures { result ≡ answer_count leading.now }
 {
     match leading {
@@ -299,6 +299,8 @@ fn field_code(field: Field) -> u8
         Field::FirstKey => 16,
         Field::SecondKey => 17,
         Field::Body => 18,
+        Field::After => 19,
+        Field::Most => 20,
     }
 }
 
@@ -312,8 +314,8 @@ pub fn write_malformed<K: Sink>(sink: &mut K, malformed: Malformed) -> Result<()
     put_u64(sink, malformed.at)
 }
 
-/// 1 where a seal was executed.
-fn sealed_code(is_sealed: bool) -> u8
+/// The byte that tells whether a seal was executed: 1 where one was, else 0.
+pub fn sealed_code(is_sealed: bool) -> u8
     ensures { result ≡ sealed_code is_sealed }
 {
     if is_sealed { 1 } else { 0 }

@@ -39,4 +39,8 @@ pub enum Field {
     SecondKey,
     /// Its body.
     Body,
+    /// How many entries were told before.
+    After,
+    /// How many open instances are asked for at most.
+    Most,
 }

@@ -22,10 +22,11 @@ mod reading;
 mod refusal;
 mod request;
 mod request_fault;
+mod telling;
 
 pub use answers::{
-    put_entry, taken_as, write_instance, write_leading, write_malformed, write_no_value,
-    write_refused, write_state, write_synced, write_taken, write_value,
+    put_entry, put_sent, sealed_code, taken_as, write_instance, write_leading, write_malformed,
+    write_no_value, write_refused, write_state, write_synced, write_taken, write_value,
 };
 pub use dialect::Dialect;
 pub use field::Field;
@@ -36,3 +37,4 @@ pub use reading::read_request;
 pub use refusal::Refusal;
 pub use request::Request;
 pub use request_fault::RequestFault;
+pub use telling::{put_instances, put_open, put_told_receipts, write_ready};

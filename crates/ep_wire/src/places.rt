@@ -1,7 +1,7 @@
 //! Which field of a request stands at a place.
 
 ghost use Rattle.std.specs.Prelude.{◌≡◌, ◌<◌, ◌+◌, ◌^◌, ◌∷◌, []};
-ghost use Rattle.ep_wire.specs.Requests.{byte_at, early_fields, field_in, fields_of, four_at, instance_fields, is_bare, late_fields, proposal_fields, two_at};
+ghost use Rattle.ep_wire.specs.Requests.{byte_at, early_fields, field_in, fields_of, four_at, instance_fields, is_bare, late_fields, proposal_fields, ready_fields, two_at};
 ghost use Rattle.ep_wire.specs.declared.field.Field.TheVariants.{Key};
 
 use crate::field::Field;
@@ -141,6 +141,19 @@ fn key_field(at: u64) -> Field
     if at < 260 { Field::Key } else { Field::Rest }
 }
 
+/// The field at this place of a request for what there is to tell.
+fn ready_field(at: u64) -> Field
+    ensures { result ≡ field_in ready_fields at }
+{
+    if at < 9 {
+        Field::After
+    } else if at < 10 {
+        Field::Most
+    } else {
+        Field::Rest
+    }
+}
+
 /// Whether a request of this kind, 1 to 12, has no body.
 fn is_bare(kind: u8) -> bool
     ensures { result ≡ is_bare kind }
@@ -157,6 +170,9 @@ fn field_at(version: Version, kind: u8, body: &[u8], at: u64) -> Field
     }
     if kind == 7 {
         return key_field(at);
+    }
+    if kind == 13 {
+        return ready_field(at);
     }
     if is_bare(kind) {
         Field::Rest

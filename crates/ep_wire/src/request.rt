@@ -37,6 +37,12 @@ pub enum Request {
     State,
     /// All that is committed and waits for nothing that isn't is executed, own or not.
     ExecuteAll,
+    /// What there is to tell of the node's entries after the first ones, of which so many were told before, and of the least instances
+    /// that are open, at most so many.
+    Ready {
+        after: u32,
+        most: u8,
+    },
     /// None of these: a request whose bytes all came, but of no such kind, or with a body that isn't one of its kind.
     Malformed(Malformed),
 }

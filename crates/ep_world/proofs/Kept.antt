@@ -73,13 +73,14 @@ no_entry : (n : ℕ) → numbered {X = Entry} [] n ≡ None
 no_entry zero = refl
 no_entry (suc n) = refl
 
-pub no_frame : (ks : List Kept) (r n out : ℕ) → slice_get ks r ≡ None → frame_of (numbered (get_or (all_entries ks) r []) n) out ≡ None
-no_frame ks r n out is = ap (λ (es : List Entry). frame_of (numbered es n) out) (none_there ks r is) ∙ ap (λ (o : Option Entry). frame_of o out) (no_entry n)
+pub no_entry_there : (ks : List Kept) (r n : ℕ) → slice_get ks r ≡ None → numbered (get_or (all_entries ks) r []) n ≡ None
+no_entry_there ks r n is = ap (λ (es : List Entry). numbered es n) (none_there ks r is) ∙ no_entry n
 
-pub frame_there : (ks : List Kept) (r n out : ℕ) (k : Kept) (es : List Entry) (e : Entry) (fs : List (List ℕ)) → slice_get ks r ≡ Some k → es ≡ k.entries → numbered es n ≡ Some e → fs ≡ e.frames →
-    slice_get fs out ≡ frame_of (numbered (get_or (all_entries ks) r []) n) out
-frame_there ks r n out k es e fs there same entry frames =
-    ap (λ (bs : List (List ℕ)). slice_get bs out) frames ∙ sym (ap (λ (o : Option Entry). frame_of o out) (ap (λ (xs : List Entry). numbered xs n) (entries_there ks r k there ∙ sym same) ∙ entry))
+pub entry_there : (ks : List Kept) (r n : ℕ) (k : Kept) (es : List Entry) → slice_get ks r ≡ Some k → es ≡ k.entries → numbered es n ≡ numbered (get_or (all_entries ks) r []) n
+entry_there ks r n k es there same = ap (λ (xs : List Entry). numbered xs n) (same ∙ sym (entries_there ks r k there))
+
+pub frame_there : (o : Option Entry) (out : ℕ) (e : Entry) (fs : List (List ℕ)) → o ≡ Some e → fs ≡ e.frames → slice_get fs out ≡ frame_of o out
+frame_there o out e fs entry frames = ap (λ (bs : List (List ℕ)). slice_get bs out) frames ∙ sym (ap (λ (q : Option Entry). frame_of q out) entry)
 
 -- Replicas before any event.
 

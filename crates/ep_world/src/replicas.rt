@@ -123,15 +123,26 @@ fn nth_frame(frames: &[Frame], out: u16) -> Option<&Frame>
     frames.get(out as usize)
 }
 
+/// The entry of this number, from 1, of the replica.
+#[tactic(auto, using(crate::proofs::Kept::entries_there, crate::proofs::Kept::no_entry_there))]
+pub(crate) fn entry_at<'a>(
+    replicas: &'a [Replica],
+    replica: ReplicaId,
+    number: u32,
+) -> Option<&'a Entry>
+    ensures { option_copied result ≡ numbered (slice_index_or (all_entries replicas.now) replica []) number }
+{
+    let Some(replica) = find(replicas, replica) else {
+        return None;
+    };
+    numbered_entry(replica.journal().entries(), number)
+}
+
 /// The frame at this place.
-#[tactic(auto, using(crate::proofs::Kept::entries_there, crate::proofs::Kept::no_frame))]
 pub(crate) fn frame_at<'a>(replicas: &'a [Replica], place: Place) -> Option<&'a Frame>
     ensures { option_copied result ≡ frame_of (numbered (slice_index_or (all_entries replicas.now) place.replica []) place.entry) place.out }
 {
-    let Some(replica) = find(replicas, place.replica) else {
-        return None;
-    };
-    let Some(entry) = numbered_entry(replica.journal().entries(), place.entry) else {
+    let Some(entry) = entry_at(replicas, place.replica, place.entry) else {
         return None;
     };
     nth_frame(entry.frames.as_slice(), place.out)

@@ -7,12 +7,12 @@ use crate::cause::Cause;
 use crate::place::Place;
 use crate::refused::Refused;
 use crate::replicas::{
-    all_fresh, all_opened, find, frame_at, into_journals, numbered_place, receiver,
+    all_fresh, all_opened, entry_at, find, frame_at, into_journals, numbered_place, receiver,
 };
 use crate::world_event::WorldEvent;
 use ep_base::{Generation, ReplicaId, Size, Version};
 use ep_frame::Frame;
-use ep_journal::{Event, Journals, Opening};
+use ep_journal::{Entry, Event, Journals, Opening};
 use ep_replica::Replica;
 use std::alloc::{AllocError, Global};
 use std::marker::Model;
@@ -49,7 +49,7 @@ impl World {
     ghost use Rattle.ep_rules.specs.Verdicts.{AreOwn};
     ghost use Rattle.ep_rules.specs.declared.receipt.Receipt.{Receipt};
     ghost use Rattle.ep_frame.specs.Spelling.{IsFrame};
-    ghost use Rattle.ep_world.specs.Played.{collected, entries_in, replica_in, journals_in, message_in, IsPlayed};
+    ghost use Rattle.ep_world.specs.Played.{collected, entries_in, replica_in, journals_in, message_in, numbered, IsPlayed};
     ghost use Rattle.ep_world.specs.Playing.{asked, Happens, IsNotEnabled, Happen, Ends};
     ghost use Rattle.ep_journal.specs.declared.event.Event.TheVariants.{Handle};
     ghost use Rattle.ep_world.specs.declared.world_event.WorldEvent.{WorldEvent as Asked};
@@ -280,6 +280,13 @@ impl World {
             return None;
         };
         frame_at(self.replicas.as_slice(), place)
+    }
+
+    /// The entry of this number, from 1, of the replica.
+    pub fn entry(&self, replica: ReplicaId, number: u32) -> Option<&Entry>
+        ensures { option_copied result ≡ numbered (entries_in self.now replica) number }
+    {
+        entry_at(self.replicas.as_slice(), replica, number)
     }
 
     /// A replica of the world.

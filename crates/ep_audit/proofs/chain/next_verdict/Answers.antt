@@ -1,6 +1,6 @@
 use Rattle.std.proofs.Common.{◌≡◌, ◌<◌, ◌-◌, ℕ, List, Some, length, slice_get, suc, arith}
 use Rattle.ep_audit.specs.declared.link.Link.{Link}
-use Rattle.ep_verdict.specs.declared.verdict.Verdict.{Verdict}
+use Rattle.ep_audit.specs.declared.verdict.Verdict.{Verdict}
 use Rattle.ep_audit.proofs.Differing.{at_place}
 use Rattle.ep_audit.proofs.Linking.{first_judged, first_unjudged, next_judged, next_unfollowed}
 use Rattle.ep_audit.proofs.chain.next_verdict.Goals as goal

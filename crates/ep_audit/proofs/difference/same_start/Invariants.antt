@@ -1,4 +1,4 @@
-use Rattle.std.proofs.Common.{◌≡◌, ◌-◌, ℕ, drop, length}
+use Rattle.std.proofs.Common.{◌≡◌, ◌-◌, drop, length}
 use Rattle.ep_audit.specs.Differences.{difference}
 use Rattle.ep_audit.proofs.difference.same_start.Given as goal
 

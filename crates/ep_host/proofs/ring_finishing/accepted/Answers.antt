@@ -2,7 +2,7 @@ use Rattle.std.proofs.Common.{subst}
 use Rattle.ep_audit.specs.Audited.{IsRefused}
 use Rattle.ep_audit.specs.declared.refusal.Refusal.{Refusal}
 use Rattle.ep_journal.specs.Entries.{journals_of}
-use Rattle.ep_report.specs.Refusals.{fault_of}
+use Rattle.ep_audit.specs.Faults.{fault_of}
 use Rattle.ep_rules.specs.Audits.{IsFault}
 use Rattle.ep_rules.proofs.OneFault.{faults_are_first_lem}
 use Rattle.ep_host.proofs.ring_finishing.accepted.Goals as goal

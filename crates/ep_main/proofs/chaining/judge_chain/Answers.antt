@@ -1,6 +1,6 @@
 use Rattle.std.proofs.Common.{rules, ◌≡◌, List, length, sym, subst}
 use Rattle.ep_audit.specs.Chained.{IsChainRefused}
-use Rattle.ep_verdict.specs.declared.verdict.Verdict.{Verdict}
+use Rattle.ep_audit.specs.declared.verdict.Verdict.{Verdict}
 use Rattle.ep_main.proofs.Linked.{fault_less}
 use Rattle.ep_main.proofs.chaining.judge_chain.Goals as goal
 

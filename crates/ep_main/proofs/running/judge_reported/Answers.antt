@@ -1,5 +1,5 @@
 use Rattle.std.proofs.Common.{rules}
-use Rattle.ep_report.specs.Refusals.{fault_of}
+use Rattle.ep_audit.specs.Faults.{fault_of}
 use Rattle.ep_main.proofs.Verdicts.{accepted_in, refused_in}
 use Rattle.ep_main.proofs.running.judge_reported.Goals as goal
 

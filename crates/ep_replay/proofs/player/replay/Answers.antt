@@ -1,23 +1,16 @@
-use Rattle.std.proofs.Common.{◌≤◌, ◌∙◌, ℕ, List, [], subst}
+use Rattle.std.proofs.Common.{◌≤◌, ◌∙◌, ℕ, false, subst}
 use Rattle.ep_journal.specs.Entries.{journals_of}
 use Rattle.ep_journal.specs.Openings.{opens}
 use Rattle.ep_rules.proofs.OnceDone.{as_once}
-use Rattle.ep_script.specs.Heads.{Head}
-use Rattle.ep_script.specs.declared.line.Line.{Line}
-use Rattle.ep_replay.specs.Replays.{IsOpening, PlayAll}
-use Rattle.ep_replay.specs.Tables.{told, Leads}
 use Rattle.ep_replay.specs.Told.{instances_of}
 use Rattle.ep_replay.proofs.Keeping.{replay_version, replay_opening}
-use Rattle.ep_replay.proofs.Leading.{replayed, own_at_end}
+use Rattle.ep_replay.proofs.Leading.{replayed}
 use Rattle.ep_replay.proofs.OneReceipt.{few_receipts}
 use Rattle.ep_replay.proofs.ReceiptsOnce.{replay_once}
 use Rattle.ep_replay.proofs.player.replay.Goals as goal
 
 pub returns-clause-value : goal.returns-clause-value
-returns-clause-value c =
-    replayed c.args.script.now c.in_ok-player.player c.play_all.new.self c.in_ok-left.left (subst (λ (h : Head). IsOpening h (told c.in_ok-player.player [] [])) c.head.ensures c.in_ok-player.ensures.opening) c.in_ok-player.ensures.tells
-    (subst (λ (ls : List (ℕ × Line)). Leads (λ p q. PlayAll p ls q) c.in_ok-player.player c.play_all.new.self) c.lines.ensures c.in_ok-play_all.ensures) c.in_ok-left.ensures.journals c.in_ok-left.ensures.receipts
-    c.in_ok-left.ensures.refused
+returns-clause-value c = replayed c.args.script.now false c.in_ok-player.player c.in_ok-left.left c.in_ok-player.ensures c.in_ok-left.ensures.journals c.in_ok-left.ensures.receipts c.in_ok-left.ensures.refused
 
 pub returns-clause-version : goal.returns-clause-version
 returns-clause-version c = replay_version c.args.script.now c.in_ok-left.left (returns-clause-value c)
@@ -26,7 +19,7 @@ pub returns-clause-opening : goal.returns-clause-opening
 returns-clause-opening c = replay_opening c.args.script.now c.in_ok-left.left (returns-clause-value c)
 
 pub returns-clause-accepted : goal.returns-clause-accepted
-returns-clause-accepted c = c.in_ok-left.ensures.accepted (own_at_end c.lines.result.now c.in_ok-player.player c.play_all.new.self c.in_ok-player.ensures.tells c.in_ok-play_all.ensures)
+returns-clause-accepted c = c.in_ok-left.ensures.accepted c.in_ok-player.ensures.tells.own
 
 pub returns-clause-once : goal.returns-clause-once
 returns-clause-once c = as_once (instances_of c.in_ok-left.left.receipts.items) (replay_once c.args.script.now c.in_ok-left.left (returns-clause-value c))

@@ -1,7 +1,7 @@
 use Rattle.std.proofs.Common.{◌≡◌, ◌++◌, codes, decimal, subst}
 use Rattle.std.specs.Prelude.{OnOk}
 use Rattle.ep_trace.specs.Left.{phase_text}
-use Rattle.ep_trace.proofs.Telling.{three}
+use Rattle.ep_view.proofs.Joining.{three}
 use Rattle.ep_trace.proofs.left.push_leading.Goals as goal
 
 pub returns : goal.returns

@@ -1,8 +1,8 @@
 use Rattle.std.proofs.Common.{refl, rules, subst}
 use Rattle.ep_draw.specs.Drawn.{IsDrawn, IsTooMany}
 use Rattle.ep_view.specs.Wanted.{part_of}
-use Rattle.ep_words.specs.declared.part.Part.{Part}
-use Rattle.ep_viewer.specs.Outputs.{output}
+use Rattle.ep_view.specs.declared.part.Part.{Part}
+use Rattle.ep_cli.specs.Outputs.{output}
 use Rattle.ep_viewer.proofs.Ending.{not_read, stopped, viewed, bundle_read, bundle_not_written, crowded, diagram_not_read, diagram_not_written, nothing_put}
 use Rattle.ep_viewer.proofs.drawing.print_drawn.Goals as goal
 

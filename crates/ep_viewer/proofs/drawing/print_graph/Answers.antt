@@ -1,7 +1,7 @@
 use Rattle.std.proofs.Common.{refl, rules}
 use Rattle.ep_graph.specs.Graphs.{IsGraphFile}
 use Rattle.ep_viewer.specs.Views.{IsMany}
-use Rattle.ep_viewer.specs.Outputs.{output}
+use Rattle.ep_cli.specs.Outputs.{output}
 use Rattle.ep_viewer.proofs.Ending.{not_read, viewed, bundle_read, bundle_not_written, graph_crowded, graph_not_read, graph_not_written, nothing_put}
 use Rattle.ep_viewer.proofs.drawing.print_graph.Goals as goal
 

@@ -1,7 +1,7 @@
 use Rattle.std.proofs.Common.{refl, rules, subst}
-use Rattle.ep_events.specs.Files.{IsTraceFile}
+use Rattle.ep_browser.specs.Files.{IsTraceFile}
 use Rattle.ep_view.specs.Wanted.{part_of}
-use Rattle.ep_words.specs.declared.part.Part.{Part}
+use Rattle.ep_view.specs.declared.part.Part.{Part}
 use Rattle.ep_viewer.specs.Views.{IsNever}
 use Rattle.ep_viewer.proofs.Ending.{not_read, stopped, viewed, bundle_read, bundle_not_written}
 use Rattle.ep_viewer.proofs.paging.print_events.Goals as goal

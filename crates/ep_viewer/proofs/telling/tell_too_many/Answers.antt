@@ -1,5 +1,5 @@
 use Rattle.std.proofs.Common.{rules, ◌≡◌, decimal}
-use Rattle.ep_viewer.proofs.Puts.{puts_in_three}
+use Rattle.ep_cli.proofs.Puts.{puts_in_three}
 use Rattle.ep_viewer.proofs.telling.tell_too_many.Goals as goal
 
 pub returns : goal.returns

@@ -1,0 +1,63 @@
+-- What journals say, as the code tells it.
+use Rattle.std.specs.Prelude.{◌≡◌, ℕ, List, [], ◌∷◌, ◌++◌, map}
+use Rattle.ep_base.specs.Places.{Has}
+use Rattle.ep_base.specs.Commands.{Command}
+use Rattle.ep_base.specs.declared.reply.Answer.{Answer}
+use Rattle.ep_base.specs.declared.reply.Reply.{Reply}
+use Rattle.ep_rules.specs.Journals.{Journals, Scheduled, IsSchedule}
+use Rattle.ep_rules.specs.Merging.{Merges}
+use Rattle.ep_rules.specs.OneMap.{Contents, Store, replies, after_commands}
+use Rattle.ep_rules.specs.Steps.{order_of}
+use Rattle.ep_rules.specs.Verdicts.{command_at, history_of, IsTable}
+use Rattle.ep_rules.specs.Worlds.{In}
+use Rattle.ep_audit.specs.declared.happening.Happening.{Happening}
+use Rattle.ep_audit.specs.Closings.{operations_in, IsClosing}
+use Rattle.ep_audit.specs.Lines.{told_by}
+use Rattle.ep_audit.specs.declared.verdict.Verdict.{Verdict}
+
+-- the replica of each entry, with the entry's number
+abbrev pub places_of : List Scheduled → List (ℕ × ℕ)
+places_of [] = []
+places_of (a ∷ schedule) = (a.replica, a.entry.number) ∷ places_of schedule
+
+abbrev pub instances_in : List Happening → List ℕ
+instances_in [] = []
+instances_in (h ∷ hs) = h.instance ∷ instances_in hs
+
+abbrev pub commands_in : List Happening → List Command
+commands_in [] = []
+commands_in (h ∷ hs) = h.command ∷ commands_in hs
+
+abbrev pub replies_in : List Happening → List Reply
+replies_in [] = []
+replies_in (h ∷ hs) = h.reply ∷ replies_in hs
+
+-- the first entry of a schedule that executes i answers this
+pub record AnswersFirst (schedule : List Scheduled) (i : ℕ) (answer : Answer) : Type 0 where
+  pub before : List Scheduled
+  pub first : Scheduled
+  pub rest : List Scheduled
+  pub split : before ++ (first ∷ rest) ≡ schedule
+  pub new : (a : Scheduled) → In a before → ¬ Has (order_of a.entry.done) i
+  pub done : In (i, answer) first.entry.done
+
+-- the history of a schedule: each command once, at its first execution, no-ops left out, with the reply that this told; these are the replies of one map, from
+-- base on, where the journals match
+pub record IsHistory (base : Store) (f : ℕ) (journal : Journals) (schedule : List Scheduled) (lines : List Happening) : Type 0 where
+  pub instances : instances_in lines ≡ history_of (command_at base f journal) schedule
+  pub commands : commands_in lines ≡ map (command_at base f journal) (instances_in lines)
+  pub told : (h : Happening) → In h lines → (answer : Answer) × AnswersFirst schedule h.instance answer × (told_by answer ≡ h.reply)
+  pub replies : Merges base f journal schedule → replies_in lines ≡ replies base (commands_in lines)
+
+-- the schedule of the journals of replicas that open with the map base, all that they commit, their history, and its first seal
+pub record IsVerdict (base : Store) (f : ℕ) (journal : Journals) (verdict : Verdict) : Type 0 where
+  pub order : List Scheduled
+  pub scheduled : IsSchedule journal order
+  pub schedule : verdict.schedule.items ≡ places_of order
+  pub committed : IsTable base f journal verdict.committed.items
+  pub history : IsHistory base f journal order verdict.history.items
+  pub closing : IsClosing journal (operations_in verdict.history.items) verdict.closing
+
+-- what the keys have after all of the verdict's history, from base on: a seal closes the map, so what comes after it changes nothing
+abbrev pub left_after : Store → Verdict → Contents
+left_after base verdict = (after_commands base (commands_in verdict.history.items)).contents

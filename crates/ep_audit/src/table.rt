@@ -1,0 +1,73 @@
+//! The table of what is committed.
+
+ghost use Rattle.std.specs.Prelude.{◌≡◌, OnOk, IfOk, option_copied};
+ghost use Rattle.ep_base.specs.Instances.{instance_of};
+ghost use Rattle.ep_rules.specs.Verdicts.{IsTable};
+ghost use Rattle.ep_journal.specs.Entries.{journals_of};
+ghost use Rattle.ep_audit.specs.Tables.{agreed_in, and_row, Covers};
+ghost use Rattle.ep_journal.specs.Openings.{opens};
+
+use ep_base::{Decree, InstanceId, ReplicaId};
+use ep_journal::Journals;
+use std::alloc::{AllocError, Global};
+
+/// What the journals commit in the instance, the least replica's where several do.
+pub(crate) fn agreed(journals: &Journals, instance: InstanceId) -> Option<&Decree>
+    ensures { option_copied result ≡ agreed_in journals.now instance }
+{
+    for replica in 0..journals.size().count() {
+        let id = ReplicaId::new(replica).unwrap();
+        if let Some(decree) = journals.get(id).unwrap().committed(instance) {
+            return Some(decree);
+        }
+    }
+    None
+}
+
+/// Adds what is agreed on in the instance, if something is.
+fn add_agreed(
+    alloc: Global,
+    journals: &Journals,
+    instance: InstanceId,
+    table: &mut Vec<(InstanceId, Decree)>,
+) -> Result<(), AllocError>
+    ensures { OnOk result (table.new.items ≡ and_row table.old.items instance (agreed_in journals.now instance)) }
+{
+    if let Some(decree) = agreed(journals, instance) {
+        let decree = decree.copy(alloc)?;
+        table.push((instance, decree))?;
+    }
+    Ok(())
+}
+
+/// Adds what is agreed on in the instances that the replica leads.
+fn add_led(
+    alloc: Global,
+    journals: &Journals,
+    leader: ReplicaId,
+    table: &mut Vec<(InstanceId, Decree)>,
+) -> Result<(), AllocError>
+    ensures { OnOk result (Covers (agreed_in journals.now) (instance_of leader 1) table.old.items → Covers (agreed_in journals.now) (instance_of leader 2001) table.new.items) }
+{
+    for place in 0..2000 {
+        let instance = InstanceId::new(leader, place + 1).unwrap();
+        add_agreed(alloc, journals, instance, table)?;
+    }
+    Ok(())
+}
+
+/// All that the journals commit, in rising order of instances.
+pub(crate) fn table_of(
+    alloc: Global,
+    journals: &Journals,
+) -> Result<Vec<(InstanceId, Decree)>, AllocError>
+    ensures { IfOk result (λ v. IsTable (opens journals.now.opening) journals.now.faults (journals_of journals.now) v.items) }
+{
+    journals.commit_in_range();
+    let mut table = Vec::new(alloc);
+    for leader in 0..journals.size().count() {
+        let leader = ReplicaId::new(leader).unwrap();
+        add_led(alloc, journals, leader, &mut table)?;
+    }
+    Ok(table)
+}

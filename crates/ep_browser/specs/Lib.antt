@@ -1,0 +1,4 @@
+pub mod Strings
+pub mod Pages
+pub mod Events
+pub mod Files

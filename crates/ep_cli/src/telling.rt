@@ -1,0 +1,62 @@
+//! Faults on the fault output.
+
+ghost use Rattle.std.specs.Prelude.{◌++◌, decimal};
+ghost use Rattle.ep_base.specs.Devices.{Puts};
+ghost use Rattle.ep_cli.specs.Lines.{command_line_refused, script_refused, bad_bundle, not_a_run};
+
+use ep_base::{ReplicaId, Sink, WriteFailed};
+use itoa::Buffer;
+
+/// Writes that the words of the command line are refused, and why. It takes no memory.
+pub fn tell_words<F: Sink>(why: &str, sink: &mut F) -> Result<(), WriteFailed>
+    ensures { Puts (F.held sink.old) (F.held sink.new) (F.has_failed sink.old) (F.has_failed sink.new) result (command_line_refused ++ why.now) }
+{
+    sink.put(b"command line refused\n")?;
+    sink.put(why.as_bytes())
+}
+
+/// Writes that a script is refused at this line, its first at fault. It takes no memory.
+pub fn tell_script<F: Sink>(line: u32, sink: &mut F) -> Result<(), WriteFailed>
+    ensures { Puts (F.held sink.old) (F.held sink.new) (F.has_failed sink.old) (F.has_failed sink.new) result (script_refused line) }
+{
+    let mut digits = Buffer::new();
+    sink.put(b"script refused at line ")?;
+    sink.put(digits.format(line).as_bytes())?;
+    sink.put(b"\n")
+}
+
+/// Writes that a bundle is refused, whose field at this byte is its first at fault. It takes no memory.
+pub fn tell_bad_bundle<F: Sink>(offset: u64, sink: &mut F) -> Result<(), WriteFailed>
+    ensures { Puts (F.held sink.old) (F.held sink.new) (F.has_failed sink.old) (F.has_failed sink.new) result (bad_bundle offset) }
+{
+    let mut digits = Buffer::new();
+    sink.put(b"bundle refused E12 at byte ")?;
+    sink.put(digits.format(offset).as_bytes())?;
+    sink.put(b"\n")
+}
+
+/// Writes that a bundle is refused, of which this entry of the replica is the first that isn't its next step. It takes no memory.
+pub fn tell_not_a_run<F: Sink>(
+    replica: ReplicaId,
+    entry: u32,
+    sink: &mut F,
+) -> Result<(), WriteFailed>
+    ensures { Puts (F.held sink.old) (F.held sink.new) (F.has_failed sink.old) (F.has_failed sink.new) result (not_a_run replica entry) }
+{
+    tell_place(
+        b"bundle refused E11 at replica ",
+        u32::from(replica.index()),
+        sink,
+    )?;
+    tell_place(b" entry ", entry, sink)?;
+    sink.put(b"\n")
+}
+
+/// Writes a name and the number after it.
+fn tell_place<F: Sink>(name: &[u8], place: u32, sink: &mut F) -> Result<(), WriteFailed>
+    ensures { Puts (F.held sink.old) (F.held sink.new) (F.has_failed sink.old) (F.has_failed sink.new) result (name.now ++ decimal place) }
+{
+    let mut digits = Buffer::new();
+    sink.put(name)?;
+    sink.put(digits.format(place).as_bytes())
+}

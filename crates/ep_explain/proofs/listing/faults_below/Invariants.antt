@@ -1,6 +1,0 @@
-use Rattle.std.proofs.Common.{◌≡◌}
-use Rattle.ep_explain.specs.Faults.{faults_below}
-use Rattle.ep_explain.proofs.listing.faults_below.Given as goal
-
-abbrev pub invariant-loop-replica : goal.invariant-loop-replica
-invariant-loop-replica l = l.found.items ≡ faults_below l.journals l.replica

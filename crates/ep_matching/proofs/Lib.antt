@@ -1,6 +1,0 @@
-pub mod Shown
-pub mod Spelled
-pub mod Sending
-pub mod Handled
-pub mod Claimed
-pub mod Rows

@@ -1,4 +1,0 @@
-pub mod Lookups
-pub mod Handlings
-pub mod Claims
-pub mod Proposing

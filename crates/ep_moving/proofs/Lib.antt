@@ -1,0 +1,3 @@
+mod After
+mod Commands
+mod Going

@@ -1,7 +1,0 @@
-use Rattle.ep_trace.proofs.Leading.{proposed}
-use Rattle.ep_trace.proofs.tracer.Tracer.propose.Goals as goal
-
-pub returns : goal.returns
-returns c =
-    proposed c.args.self.now c.attempt.new.self c.count.new.self c.in_ok-known.known c.args.line c.args.replica c.args.client c.args.command.now c.in_ok-command.command c.in_ok-known.ensures.requests c.in_ok-known.ensures.seen c.in_ok-known.ensures.counted
-    c.in_ok-command.ensures c.in_ok-attempt.ensures

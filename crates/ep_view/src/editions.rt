@@ -1,0 +1,75 @@
+//! What journals are of, and what they begin with, in words.
+
+ghost use Rattle.std.specs.Prelude.{◌≡◌, ◌++◌, OnOk, codes, decimal};
+ghost use Rattle.ep_report.specs.Contents.{contents_text};
+ghost use Rattle.ep_view.specs.Editions.{generation_text, opening_text, edition_text, edition_line};
+
+use ep_base::{Version, VersionKind};
+use ep_journal::Opening;
+use ep_report::{push_contents, push_number};
+use std::alloc::AllocError;
+
+// Appends version 3 with this generation.
+#[tactic(auto, unfolding(crate::specs::Editions::generation_text))]
+fn push_numbered(text: &mut Vec<u8>, generation: u32) -> Result<(), AllocError>
+    ensures { OnOk result (text.new.items ≡ text.old.items ++ generation_text generation) }
+{
+    text.extend_from_slice(b"version 3 generation ")?;
+    push_number(text, u64::from(generation))
+}
+
+// Appends the stamp that the clocks go on from.
+fn push_since(text: &mut Vec<u8>, opening: &Opening) -> Result<(), AllocError>
+    ensures { OnOk result (text.new.items ≡ text.old.items ++ decimal opening.now.since) }
+{
+    push_number(text, opening.since())
+}
+
+// Appends how many keys there are, and the digest of what they have.
+fn push_opened(text: &mut Vec<u8>, opening: &Opening) -> Result<(), AllocError>
+    ensures { OnOk result (text.new.items ≡ text.old.items ++ contents_text opening.now.contents) }
+{
+    push_contents(text, opening.contents())
+}
+
+// Appends what a generation begins with.
+fn push_opening(text: &mut Vec<u8>, opening: &Opening) -> Result<(), AllocError>
+    ensures { OnOk result (text.new.items ≡ text.old.items ++ opening_text opening.now) }
+{
+    text.extend_from_slice(b" since ")?;
+    push_since(text, opening)?;
+    text.extend_from_slice(b" opening ")?;
+    push_opened(text, opening)
+}
+
+/// Appends version 3 with this generation, the stamp that its clocks went on from, and how many keys its opening has, with the digest
+/// that a report of the generation before tells of its contents.
+pub fn push_generation(
+    text: &mut Vec<u8>,
+    generation: u32,
+    opening: &Opening,
+) -> Result<(), AllocError>
+    ensures { OnOk result (text.new.items ≡ text.old.items ++ edition_text generation opening.now) }
+{
+    push_numbered(text, generation)?;
+    push_opening(text, opening)
+}
+
+/// Appends the line that begins what is told of journals: of version 3 their generation and what they begin with. Of versions 1 and 2 there
+/// is none, and nothing is appended.
+pub fn push_edition(
+    text: &mut Vec<u8>,
+    version: Version,
+    opening: &Opening,
+) -> Result<(), AllocError>
+    ensures { OnOk result (text.new.items ≡ text.old.items ++ edition_line version opening.now) }
+{
+    match version.kind() {
+        VersionKind::V1 | VersionKind::V2 => Ok(()),
+        VersionKind::V3(generation) => {
+            push_generation(text, generation, opening)?;
+            text.push(b'\n')?;
+            Ok(())
+        }
+    }
+}

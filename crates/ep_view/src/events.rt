@@ -1,0 +1,70 @@
+//! Events in words.
+
+ghost use Rattle.std.specs.Prelude.{◌≡◌, ◌++◌, OnOk};
+ghost use Rattle.ep_journal.specs.declared.event.Event.TheVariants as event;
+ghost use Rattle.ep_report.specs.Parts.{instance_text};
+ghost use Rattle.ep_view.specs.Words.{event_text};
+
+use crate::messages::{push_message, push_origin};
+use ep_base::{Command, InstanceId};
+use ep_frame::Frame;
+use ep_journal::Event;
+use ep_report::{push_command, push_instance, push_number};
+use std::alloc::AllocError;
+
+fn push_proposal(
+    text: &mut Vec<u8>,
+    client: u32,
+    request: u32,
+    command: &Command,
+    seen: u64,
+) -> Result<(), AllocError>
+    ensures { OnOk result (text.new.items ≡ text.old.items ++ event_text (event.Propose client request command.now seen)) }
+{
+    text.extend_from_slice(b"propose ")?;
+    push_command(text, command)?;
+    text.extend_from_slice(b" (client ")?;
+    push_number(text, u64::from(client))?;
+    text.extend_from_slice(b" request ")?;
+    push_number(text, u64::from(request))?;
+    text.extend_from_slice(b" seen ")?;
+    push_number(text, seen)?;
+    text.push(b')')?;
+    Ok(())
+}
+
+fn push_handling(text: &mut Vec<u8>, frame: &Frame) -> Result<(), AllocError>
+    ensures { OnOk result (text.new.items ≡ text.old.items ++ event_text (event.Handle frame.now)) }
+{
+    text.extend_from_slice(b"handle ")?;
+    push_origin(text, frame)?;
+    text.push(b' ')?;
+    push_message(text, frame)
+}
+
+// Appends a word or two, and then an instance.
+fn push_named(text: &mut Vec<u8>, name: &[u8], instance: InstanceId) -> Result<(), AllocError>
+    ensures { OnOk result (text.new.items ≡ text.old.items ++ name.now ++ instance_text instance) }
+{
+    text.extend_from_slice(name)?;
+    push_instance(text, instance)
+}
+
+/// Appends an event: a proposal with its command and its client's request, a handled frame with its origin and its message,
+/// or the instance that is given up, recovered or executed.
+pub fn push_event(text: &mut Vec<u8>, event: &Event) -> Result<(), AllocError>
+    ensures { OnOk result (text.new.items ≡ text.old.items ++ event_text event.now) }
+{
+    match event {
+        Event::Propose {
+            client,
+            request,
+            command,
+            seen,
+        } => push_proposal(text, *client, *request, command, *seen),
+        Event::Handle(frame) => push_handling(text, frame),
+        Event::GiveUp(instance) => push_named(text, b"give up ", *instance),
+        Event::Recover(instance) => push_named(text, b"recover ", *instance),
+        Event::Execute(instance) => push_named(text, b"execute ", *instance),
+    }
+}

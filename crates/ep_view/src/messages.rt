@@ -1,0 +1,227 @@
+//! Messages in words.
+
+ghost use Rattle.std.specs.Prelude.{◌≡◌, ◌++◌, OnOk, Some};
+ghost use Rattle.ep_base.specs.declared.message.Message.TheVariants as message;
+ghost use Rattle.ep_frame.specs.Meaning.{message_at};
+ghost use Rattle.ep_view.specs.Words.{ballot_text, attrs_text, decree_text, status_text, vote_text, about_text, message_text, origin_text};
+
+use ep_base::{Attrs, Ballot, Decree, InstanceId, Message, Status, Vote};
+use ep_frame::Frame;
+use ep_report::{push_command, push_deps, push_instance, push_number};
+use std::alloc::AllocError;
+
+/// Appends a ballot: its counter and the replica that leads it.
+pub fn push_ballot(text: &mut Vec<u8>, ballot: Ballot) -> Result<(), AllocError>
+    ensures { OnOk result (text.new.items ≡ text.old.items ++ ballot_text ballot) }
+{
+    text.push(b'(')?;
+    push_number(text, u64::from(ballot.counter()))?;
+    text.extend_from_slice(b", ")?;
+    push_number(text, u64::from(ballot.replica().index()))?;
+    text.push(b')')?;
+    Ok(())
+}
+
+fn push_attrs(text: &mut Vec<u8>, attrs: &Attrs) -> Result<(), AllocError>
+    ensures { OnOk result (text.new.items ≡ text.old.items ++ attrs_text attrs.now) }
+{
+    text.extend_from_slice(b" seq ")?;
+    push_number(text, u64::from(attrs.seq.number()))?;
+    text.extend_from_slice(b" deps ")?;
+    push_deps(text, &attrs.deps)
+}
+
+// Appends a command with its attributes.
+fn push_decree(text: &mut Vec<u8>, decree: &Decree) -> Result<(), AllocError>
+    ensures { OnOk result (text.new.items ≡ text.old.items ++ decree_text decree.now) }
+{
+    text.push(b' ')?;
+    push_command(text, &decree.command)?;
+    push_attrs(text, &decree.attrs)
+}
+
+fn push_status(text: &mut Vec<u8>, status: Status) -> Result<(), AllocError>
+    ensures { OnOk result (text.new.items ≡ text.old.items ++ status_text status) }
+{
+    match status {
+        Status::PreAccepted => text.extend_from_slice(b"pre-accepted"),
+        Status::Accepted => text.extend_from_slice(b"accepted"),
+        Status::Committed => text.extend_from_slice(b"committed"),
+    }
+}
+
+fn push_given_vote(text: &mut Vec<u8>, vote: &Vote) -> Result<(), AllocError>
+    ensures { OnOk result (text.new.items ≡ text.old.items ++ vote_text (Some vote.now)) }
+{
+    text.extend_from_slice(b" vote ")?;
+    push_status(text, vote.status)?;
+    text.extend_from_slice(b" at ")?;
+    push_ballot(text, vote.ballot)?;
+    push_decree(text, &vote.decree)
+}
+
+fn push_vote(text: &mut Vec<u8>, vote: &Option<Vote>) -> Result<(), AllocError>
+    ensures { OnOk result (text.new.items ≡ text.old.items ++ vote_text vote.now) }
+{
+    match vote {
+        None => text.extend_from_slice(b" without a vote"),
+        Some(vote) => push_given_vote(text, vote),
+    }
+}
+
+// Appends a message's name, the instance that it is about, and its ballot.
+fn push_about(
+    text: &mut Vec<u8>,
+    name: &[u8],
+    instance: InstanceId,
+    ballot: Ballot,
+) -> Result<(), AllocError>
+    ensures { OnOk result (text.new.items ≡ text.old.items ++ name.now ++ about_text instance ballot) }
+{
+    text.extend_from_slice(name)?;
+    push_instance(text, instance)?;
+    text.extend_from_slice(b" ballot ")?;
+    push_ballot(text, ballot)
+}
+
+fn push_pre_accept(
+    text: &mut Vec<u8>,
+    instance: InstanceId,
+    ballot: Ballot,
+    decree: &Decree,
+) -> Result<(), AllocError>
+    ensures { OnOk result (text.new.items ≡ text.old.items ++ message_text (message.PreAccept instance ballot decree.now)) }
+{
+    push_about(text, b"PreAccept ", instance, ballot)?;
+    push_decree(text, decree)
+}
+
+// Appends a message's name, the instance that it is about, its ballot, and attributes.
+fn push_voted(
+    text: &mut Vec<u8>,
+    name: &[u8],
+    instance: InstanceId,
+    ballot: Ballot,
+    attrs: &Attrs,
+) -> Result<(), AllocError>
+    ensures { OnOk result (text.new.items ≡ text.old.items ++ (name.now ++ about_text instance ballot ++ attrs_text attrs.now)) }
+{
+    push_about(text, name, instance, ballot)?;
+    push_attrs(text, attrs)
+}
+
+fn push_pre_accept_ok(
+    text: &mut Vec<u8>,
+    instance: InstanceId,
+    ballot: Ballot,
+    attrs: &Attrs,
+) -> Result<(), AllocError>
+    ensures { OnOk result (text.new.items ≡ text.old.items ++ message_text (message.PreAcceptOk instance ballot attrs.now)) }
+{
+    push_voted(text, b"PreAcceptOK ", instance, ballot, attrs)
+}
+
+fn push_accept(
+    text: &mut Vec<u8>,
+    instance: InstanceId,
+    ballot: Ballot,
+    decree: &Decree,
+) -> Result<(), AllocError>
+    ensures { OnOk result (text.new.items ≡ text.old.items ++ message_text (message.Accept instance ballot decree.now)) }
+{
+    push_about(text, b"Accept ", instance, ballot)?;
+    push_decree(text, decree)
+}
+
+fn push_commit(text: &mut Vec<u8>, instance: InstanceId, decree: &Decree) -> Result<(), AllocError>
+    ensures { OnOk result (text.new.items ≡ text.old.items ++ message_text (message.Commit instance decree.now)) }
+{
+    text.extend_from_slice(b"Commit ")?;
+    push_instance(text, instance)?;
+    push_decree(text, decree)
+}
+
+fn push_prepare_ok(
+    text: &mut Vec<u8>,
+    instance: InstanceId,
+    ballot: Ballot,
+    vote: &Option<Vote>,
+) -> Result<(), AllocError>
+    ensures { OnOk result (text.new.items ≡ text.old.items ++ message_text (message.PrepareOk instance ballot vote.now)) }
+{
+    push_about(text, b"PrepareOK ", instance, ballot)?;
+    push_vote(text, vote)
+}
+
+fn push_nack(
+    text: &mut Vec<u8>,
+    instance: InstanceId,
+    refused: Ballot,
+    promised: Ballot,
+) -> Result<(), AllocError>
+    ensures { OnOk result (text.new.items ≡ text.old.items ++ message_text (message.Nack instance refused promised)) }
+{
+    push_about(text, b"Nack ", instance, refused)?;
+    text.extend_from_slice(b" promised ")?;
+    push_ballot(text, promised)
+}
+
+fn push_told(text: &mut Vec<u8>, told: &Message) -> Result<(), AllocError>
+    ensures { OnOk result (text.new.items ≡ text.old.items ++ message_text told.now) }
+{
+    match told {
+        Message::PreAccept {
+            instance,
+            ballot,
+            decree,
+        } => push_pre_accept(text, *instance, *ballot, decree),
+        Message::PreAcceptOk {
+            instance,
+            ballot,
+            attrs,
+        } => push_pre_accept_ok(text, *instance, *ballot, attrs),
+        Message::Accept {
+            instance,
+            ballot,
+            decree,
+        } => push_accept(text, *instance, *ballot, decree),
+        Message::AcceptOk { instance, ballot } => {
+            push_about(text, b"AcceptOK ", *instance, *ballot)
+        }
+        Message::Commit { instance, decree } => push_commit(text, *instance, decree),
+        Message::Prepare { instance, ballot } => {
+            push_about(text, b"Prepare ", *instance, *ballot)
+        }
+        Message::PrepareOk {
+            instance,
+            ballot,
+            vote,
+        } => push_prepare_ok(text, *instance, *ballot, vote),
+        Message::Nack {
+            instance,
+            refused,
+            promised,
+        } => push_nack(text, *instance, *refused, *promised),
+    }
+}
+
+/// Appends the message of a frame: its kind, the instance, the ballot, and what it bears.
+pub fn push_message(text: &mut Vec<u8>, frame: &Frame) -> Result<(), AllocError>
+    ensures { OnOk result (text.new.items ≡ text.old.items ++ message_text (message_at frame.now)) }
+{
+    let told = frame.view().to_message(*text.allocator())?;
+    push_told(text, &told)
+}
+
+/// Appends which frame it is: its sender, the number of the entry that sends it, and its place among what that entry sends,
+/// from 0.
+pub fn push_origin(text: &mut Vec<u8>, frame: &Frame) -> Result<(), AllocError>
+    ensures { OnOk result (text.new.items ≡ text.old.items ++ origin_text frame.now) }
+{
+    let origin = frame.origin();
+    push_number(text, u64::from(frame.from().index()))?;
+    text.push(b':')?;
+    push_number(text, u64::from(origin.entry))?;
+    text.push(b':')?;
+    push_number(text, u64::from(origin.out))
+}
