@@ -93,11 +93,6 @@ impl Generation {
         matches!(self.stage, Stage::Sealed(_))
     }
 
-    /// Whether a seal is committed.
-    pub fn is_ending(&self) -> bool {
-        matches!(self.stage, Stage::Committed | Stage::Sealed(_))
-    }
-
     /// Whether this replica is to propose a seal.
     pub fn wants_seal(&self, limits: &Limits, now: Instant) -> bool {
         let is_free = match self.stage {

@@ -71,7 +71,7 @@ pub enum Plant {
     Forgetful,
     /// Some receipts have another reply than the node's.
     Changed,
-    /// Who asked for a command that was done just before a generation ended is told that it wasn't.
+    /// Of some commands that were done it says that they stood behind a seal, so that they are done twice.
     Again,
 }
 

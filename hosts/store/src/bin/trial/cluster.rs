@@ -119,7 +119,7 @@ impl Cluster {
     /// The log of a replica in its newest generation.
     pub fn log(&self, replica: usize) -> PathBuf {
         let folder = self.folder(replica);
-        let generation = newest(&folder).unwrap_or(1);
+        let generation = newest_with_log(&folder).unwrap_or(1);
         folder.join(format!("generations/{generation}/log"))
     }
 
@@ -152,7 +152,7 @@ impl Cluster {
         command.args(["--keep", "1000000"]);
         if self.joined[replica].load(Ordering::SeqCst) {
             command.arg("--join");
-        } else if newest(&self.folder(replica)).is_none() {
+        } else if newest_with_log(&self.folder(replica)).is_none() {
             command.arg("--new");
         }
         match self.options.plant {
@@ -324,8 +324,19 @@ fn node_process(store: u32) -> Option<String> {
 
 /// The newest generation that a store's folder has.
 fn newest(folder: &Path) -> Option<u32> {
+    generations(folder, "opening")
+}
+
+/// The newest one in which it may have promised something.
+fn newest_with_log(folder: &Path) -> Option<u32> {
+    generations(folder, "log")
+}
+
+/// The newest generation that has a file of this name.
+fn generations(folder: &Path, name: &str) -> Option<u32> {
     let found = std::fs::read_dir(folder.join("generations")).ok()?.flatten();
-    found.filter_map(|entry| entry.file_name().to_str()?.parse().ok()).max()
+    let with = found.filter(|entry| std::fs::metadata(entry.path().join(name)).is_ok_and(|file| file.len() > 0));
+    with.filter_map(|entry| entry.file_name().to_str()?.parse().ok()).max()
 }
 
 /// Whether neither a store nor its node has the folder.

@@ -20,7 +20,7 @@ trial: a cluster of stores on this machine, clients, kills and cuts; then what t
     --plant emptied  a replica is started with an emptied log
     --plant unsynced a replica that was killed has lost its last entries, as by a node that answers before its sync
     --plant older    a replica comes back with an older copy of its folder, and isn't kept from speaking
-    --plant again    stores say of commands that were done just before a generation ended that they weren't, so that they are done twice
+    --plant again    stores take some commands that were done for ones behind a seal, so that they are done twice
     --plant changed  some receipts, and what clients are told by them, have another reply than the node's
                      (plants want stores built with the feature `plants`; the trial succeeds where one is caught)
     --store PATH     the program `store`; default: beside this one
