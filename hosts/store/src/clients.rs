@@ -52,6 +52,24 @@ pub struct Shared {
     pub places: Arc<Places>,
     /// How many connections there have been.
     pub served: AtomicU64,
+    pub started: Instant,
+}
+
+impl Shared {
+    /// What INFO tells of this process and its clients.
+    fn about_clients(&self) -> String {
+        let version = env!("CARGO_PKG_VERSION");
+        let numbers = [
+            ("uptime_in_seconds", self.started.elapsed().as_secs()),
+            ("connected_clients", self.places.count() as u64),
+            ("clients_memory", self.memory.used() as u64),
+            ("commands_answered", self.metrics.answered.get()),
+            ("commands_refused", self.metrics.refused.get()),
+            ("takes_part", self.metrics.takes_part.get()),
+        ];
+        let lines: String = numbers.into_iter().map(|(name, number)| format!("{name}:{number}\r\n")).collect();
+        format!("store_version:{version}\r\n{lines}")
+    }
 }
 
 /// Takes connections, each in two threads.
@@ -284,16 +302,14 @@ impl Session {
         let metrics = &self.shared.metrics;
         let lines = [
             ("core_is_slow", 1),
-            ("takes_part", metrics.takes_part.get()),
             ("generation", metrics.generation.get()),
             ("generation_entries", metrics.entries.get()),
             ("log_bytes", metrics.log_bytes.get()),
             ("instances_open", metrics.open_instances.get()),
             ("peers_reached", metrics.peers_reached.get()),
-            ("clients", self.shared.places.count() as u64),
-            ("clients_memory", self.shared.memory.used() as u64),
         ];
-        lines.into_iter().map(|(name, value)| format!("{name}:{value}\r\n")).collect()
+        let lines: String = lines.into_iter().map(|(name, value)| format!("{name}:{value}\r\n")).collect();
+        lines + &self.shared.about_clients()
     }
 
     /// Begins a command, once there is room: its number.
@@ -370,10 +386,11 @@ impl Session {
     /// Asks the driver of what isn't of keys. Where it doesn't answer in time the reply is the other one, if there is one.
     fn ask_driver(&mut self, what: What, patience: Duration, other: Option<Reply>) -> Result<(), Over> {
         let command = self.begin_for(Combine::One, vec![Part::Wanted(other)], patience, None)?;
-        let place = self.place(command, 0);
+        let (place, shared) = (self.place(command, 0), self.shared.clone());
         let reply = Teller::new(move |told| {
             place.tell(match told {
-                Told::Info(text) | Told::Managed(Ok(text)) => Reply::Bulk(text.into_bytes()),
+                Told::Info(text) => Reply::Bulk((text + &shared.about_clients()).into_bytes()),
+                Told::Managed(Ok(text)) => Reply::Bulk(text.into_bytes()),
                 Told::Managed(Err(what)) => Reply::Error(CommandFault::Managing(what)),
                 told => Reply::Error(fault_of(told)),
             });

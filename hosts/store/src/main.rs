@@ -156,6 +156,7 @@ fn start(options: Options) -> Result<Driver<Node>, Fault> {
         metrics: metrics.clone(),
         places: Arc::default(),
         served: AtomicU64::new(0),
+        started: Instant::now(),
     };
     if let Some(address) = &options.metrics {
         let (listener, metrics) = (bind(address)?, metrics.clone());
