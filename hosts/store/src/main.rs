@@ -154,7 +154,7 @@ fn start(options: Options) -> Result<Driver<Node>, Fault> {
         password: options.auth.as_deref().map(Password::read).transpose().map_err(Fault::Key)?,
         memory: Memory::new(options.memory),
         metrics: metrics.clone(),
-        places: Arc::default(),
+        connections: Arc::default(),
         served: AtomicU64::new(0),
         started: Instant::now(),
     };

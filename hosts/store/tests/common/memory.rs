@@ -50,7 +50,7 @@ impl Memory {
             password: None,
             memory: Bytes::new(64 << 20),
             metrics,
-            places: Arc::default(),
+            connections: Arc::default(),
             served: AtomicU64::new(0),
             started: Instant::now(),
         };
