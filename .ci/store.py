@@ -18,7 +18,7 @@ BUILT = (f"{TOP}/crates/ep_server/out/ep_server", f"{TOP}/crates/ep_main/out/ep_
 PACKAGES = ("librust-hmac-dev", "librust-sha2-dev", "librust-signal-hook-dev", "librust-subtle-dev")
 REGISTRY = "/usr/share/cargo/registry"
 # clients that others have written, and Redis to compare with
-CLIENTS = ("redis-server", "redis-tools", "python3-redis")
+CLIENTS = ("redis-server", "redis-tools", "python3-redis", "stunnel4")
 CHEAP = {"CARGO_INCREMENTAL": "0", "CARGO_PROFILE_DEV_DEBUG": "0"}
 # as ./epaxos goes about it
 EPAXOS = """#!/bin/sh

@@ -7,9 +7,9 @@ use std::net::TcpStream;
 use std::sync::Arc;
 use std::time::{Duration, Instant};
 use store::client::{Client, Reply};
+use store::connections::Connections;
 use store::memory;
 use store::password::Password;
-use store::places::Places;
 
 fn error(reply: Reply) -> String {
     if let Reply::Error(text) = reply { text } else { panic!("{reply:?}") }
@@ -96,8 +96,8 @@ fn replies_that_nobody_takes_are_bounded() {
 
 #[test]
 fn places_are_kept_for_who_asks_how_it_is() {
-    let places = Arc::new(Places::new(3, Duration::from_secs(3_600)));
-    let memory = Memory::start_with("places", Duration::ZERO, |it| it.places = places);
+    let connections = Arc::new(Connections::new(3, Duration::from_secs(3_600)));
+    let memory = Memory::start_with("connections", Duration::ZERO, |it| it.connections = connections);
     let mut clients: Vec<_> = (0..3).map(|_| memory.client()).collect();
     clients.iter_mut().for_each(|client| assert_eq!(ask(client, "SET x 1"), ok()));
     let mut more = memory.client();

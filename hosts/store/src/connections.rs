@@ -1,4 +1,4 @@
-//! The places of connections. Where all are taken, the one that was silent for longest is closed, if it was for a minute; else there are a few
+//! The connections of clients. Where there are as many as may be, the one that was silent for longest is closed, if it was for a minute; else there are a few
 //! more, for who asks how the store is.
 use std::collections::HashMap;
 use std::net::{Shutdown, TcpStream};
@@ -15,15 +15,15 @@ const SILENCE: Duration = Duration::from_secs(60);
 /// And so does who asks how the store is.
 const KEPT_SILENCE: Duration = Duration::from_secs(1);
 
-/// All places.
-pub struct Places {
+/// All connections.
+pub struct Connections {
     most: usize,
     silence: Duration,
     start: Instant,
     taken: Mutex<HashMap<u64, Arc<Taken>>>,
 }
 
-/// The place of one connection.
+/// What is known of one.
 struct Taken {
     stream: Arc<TcpStream>,
     /// When it was heard last, in milliseconds since the start.
@@ -31,26 +31,26 @@ struct Taken {
     is_kept: bool,
 }
 
-/// A place, until it is dropped.
-pub struct Place {
-    places: Arc<Places>,
+/// A connection, which makes room for another one once it is dropped.
+pub struct Connection {
+    all: Arc<Connections>,
     id: u64,
     taken: Arc<Taken>,
 }
 
-impl Default for Places {
-    fn default() -> Places {
-        Places::new(MOST, SILENCE)
+impl Default for Connections {
+    fn default() -> Connections {
+        Connections::new(MOST, SILENCE)
     }
 }
 
-impl Places {
-    pub fn new(most: usize, silence: Duration) -> Places {
-        Places { most, silence, start: Instant::now(), taken: Mutex::default() }
+impl Connections {
+    pub fn new(most: usize, silence: Duration) -> Connections {
+        Connections { most, silence, start: Instant::now(), taken: Mutex::default() }
     }
 
-    /// A place for the connection of this number; None where there is none.
-    pub fn take(self: &Arc<Places>, id: u64, stream: &Arc<TcpStream>) -> Option<Place> {
+    /// Takes a connection under this number; None where there is no room.
+    pub fn take(self: &Arc<Connections>, id: u64, stream: &Arc<TcpStream>) -> Option<Connection> {
         let mut all = self.all();
         if all.len() >= self.most {
             self.make_room(&mut all, self.silence, |_| true);
@@ -64,7 +64,7 @@ impl Places {
         let is_kept = all.len() >= self.most;
         let taken = Arc::new(Taken { stream: stream.clone(), heard: AtomicU64::new(self.now()), is_kept });
         all.insert(id, taken.clone());
-        Some(Place { places: self.clone(), id, taken })
+        Some(Connection { all: self.clone(), id, taken })
     }
 
     /// Closes which of these was silent for longest, if it was for so long.
@@ -90,7 +90,7 @@ impl Places {
     }
 }
 
-impl Place {
+impl Connection {
     /// Whether it is one for who asks how the store is.
     pub fn is_kept(&self) -> bool {
         self.taken.is_kept
@@ -98,13 +98,13 @@ impl Place {
 
     /// Something has come from its client.
     pub fn hear(&self) {
-        self.taken.heard.store(self.places.now(), Ordering::Relaxed);
+        self.taken.heard.store(self.all.now(), Ordering::Relaxed);
     }
 }
 
-impl Drop for Place {
+impl Drop for Connection {
     fn drop(&mut self) {
-        self.places.all().remove(&self.id);
+        self.all.all().remove(&self.id);
     }
 }
 
@@ -125,36 +125,37 @@ mod tests {
     fn who_is_silent_makes_room() {
         let listener = TcpListener::bind("127.0.0.1:0").unwrap();
         let silence = Duration::from_millis(100);
-        let places = Arc::new(Places::new(2, silence));
+        let connections = Arc::new(Connections::new(2, silence));
         let mut ends: Vec<_> = (0..3).map(|_| connect(&listener)).collect();
-        let [first, second] = [0, 1].map(|place| places.take(place as u64, &ends[place].1).unwrap());
+        let [first, second] = [0, 1].map(|place| connections.take(place as u64, &ends[place].1).unwrap());
         thread::sleep(2 * silence);
         second.hear();
-        let third = places.take(2, &ends[2].1).unwrap();
+        let third = connections.take(2, &ends[2].1).unwrap();
         assert!(!first.is_kept() && !second.is_kept() && !third.is_kept());
-        assert_eq!(places.count(), 2);
+        assert_eq!(connections.count(), 2);
         assert_eq!(ends[0].0.read(&mut [0]).unwrap(), 0);
         // Its place is another one's by now.
         drop(first);
-        assert_eq!(places.count(), 2);
+        assert_eq!(connections.count(), 2);
         drop((second, third));
-        assert_eq!(places.count(), 0);
+        assert_eq!(connections.count(), 0);
     }
 
     #[test]
     fn who_asks_how_it_is_finds_a_place() {
         let listener = TcpListener::bind("127.0.0.1:0").unwrap();
-        let places = Arc::new(Places::new(2, Duration::from_secs(3_600)));
+        let connections = Arc::new(Connections::new(2, Duration::from_secs(3_600)));
         let mut ends: Vec<_> = (0..2 + KEPT).map(|_| connect(&listener)).collect();
-        let all: Vec<_> = ends.iter().enumerate().map(|(id, end)| places.take(id as u64, &end.1).unwrap()).collect();
+        let all: Vec<_> =
+            ends.iter().enumerate().map(|(id, end)| connections.take(id as u64, &end.1).unwrap()).collect();
         assert!(all.iter().enumerate().all(|(place, it)| it.is_kept() == (place >= 2)));
         let more = connect(&listener);
-        assert!(places.take(100, &more.1).is_none());
+        assert!(connections.take(100, &more.1).is_none());
         // The one that was silent for longest makes room, but for those that came first.
         thread::sleep(KEPT_SILENCE);
-        all[3..].iter().for_each(Place::hear);
-        assert!(places.take(101, &more.1).unwrap().is_kept());
+        all[3..].iter().for_each(Connection::hear);
+        assert!(connections.take(101, &more.1).unwrap().is_kept());
         assert_eq!(ends[2].0.read(&mut [0]).unwrap(), 0);
-        assert_eq!(places.count(), 1 + KEPT);
+        assert_eq!(connections.count(), 1 + KEPT);
     }
 }
