@@ -54,6 +54,7 @@ pub(crate) fn list(
     ensures told { OnOk result (refusal ≢ Step Memory) }
 {
     let cause = cause(refusal)?;
-    refused.push((line, cause))?;
+    let listed = cause;
+    refused.push((line, listed))?;
     Ok(cause)
 }
