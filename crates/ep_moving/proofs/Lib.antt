@@ -1,3 +1,3 @@
 mod After
-mod Commands
 mod Going
+mod Listings

@@ -18,16 +18,16 @@ pub enum MoveFault {
     #[error("{0}")]
     Assemble(AssembleFault),
     /// This entry of the replica that goes on, which is that of the last log, isn't stamped by its clock.
-    #[error("entry {1} of replica {0} is not clocked")]
+    #[error("entry {1} of replica {0:?} is not clocked")]
     NotClocked(ReplicaId, u32),
     /// The audit refuses the journals.
     #[error("{0}")]
     Audit(AuditFault),
     /// A journal commits a command in the first instance, which waits for the second one, in which none commits.
-    #[error("{0} is committed, and {1} is not")]
+    #[error("{0:?} is committed, and {1:?} is not")]
     Waits(InstanceId, InstanceId),
     /// A journal commits a command in this instance, and the replica that goes on has no stamp or number of an entry left to execute it.
-    #[error("{0} is committed and cannot be executed")]
+    #[error("{0:?} is committed and cannot be executed")]
     Unexecuted(InstanceId),
 }
 

@@ -3,14 +3,14 @@
 use crate::actions::Action;
 use crate::command_fault::CommandFault;
 use crate::commands::{self, Asked, Hello, understand};
+use crate::connections::{Connection, Connections};
 use crate::driver::{Ask, Event, Told, What};
 use crate::keys::Keys;
 use crate::listing::Listing;
 use crate::memory::{Memory, Share};
 use crate::metrics::Metrics;
 use crate::password::Password;
-use crate::places::{self, Places};
-use crate::replies::{Combine, Message, Over, Part, Place, Replies, Slot, Window};
+use crate::replies::{Combine, Message, Over, Part, Replies, ReplyTo, Slot, Window};
 use crate::resp::{Input, Reply, Version, read_command};
 use crate::say::say;
 use crate::stored::{self, Stored};
@@ -49,9 +49,27 @@ pub struct Shared {
     pub password: Option<Password>,
     pub memory: Arc<Memory>,
     pub metrics: Arc<Metrics>,
-    pub places: Arc<Places>,
+    pub connections: Arc<Connections>,
     /// How many connections there have been.
     pub served: AtomicU64,
+    pub started: Instant,
+}
+
+impl Shared {
+    /// What INFO tells of this process and its clients.
+    fn about_clients(&self) -> String {
+        let version = env!("CARGO_PKG_VERSION");
+        let numbers = [
+            ("uptime_in_seconds", self.started.elapsed().as_secs()),
+            ("connected_clients", self.connections.count() as u64),
+            ("clients_memory", self.memory.used() as u64),
+            ("commands_answered", self.metrics.answered.get()),
+            ("commands_refused", self.metrics.refused.get()),
+            ("takes_part", self.metrics.takes_part.get()),
+        ];
+        let lines: String = numbers.into_iter().map(|(name, number)| format!("{name}:{number}\r\n")).collect();
+        format!("store_version:{version}\r\n{lines}")
+    }
 }
 
 /// Takes connections, each in two threads.
@@ -63,7 +81,7 @@ pub fn listen(listener: TcpListener, shared: Arc<Shared>) {
         };
         let stream = Arc::new(stream);
         let id = shared.served.fetch_add(1, Ordering::Relaxed) + 1;
-        let Some(place) = shared.places.take(id, &stream) else {
+        let Some(connection) = shared.connections.take(id, &stream) else {
             // (who doesn't take it at once isn't waited for)
             let _ = stream.set_nonblocking(true);
             let _ = (&*stream).write_all(b"-ERR max number of clients reached\r\n");
@@ -71,9 +89,9 @@ pub fn listen(listener: TcpListener, shared: Arc<Shared>) {
         };
         let served = shared.clone();
         let started = thread::Builder::new().name("client".into()).stack_size(STACK).spawn(move || {
-            served.metrics.clients.set(served.places.count() as u64);
-            let _ = serve(&served, &stream, id, place);
-            served.metrics.clients.set(served.places.count() as u64);
+            served.metrics.clients.set(served.connections.count() as u64);
+            let _ = serve(&served, &stream, id, connection);
+            served.metrics.clients.set(served.connections.count() as u64);
         });
         if let Err(error) = started {
             say(&format!("no thread for a client: {error}"));
@@ -82,7 +100,7 @@ pub fn listen(listener: TcpListener, shared: Arc<Shared>) {
 }
 
 /// Serves a connection until its client ends it, and all that it has asked is answered.
-fn serve(shared: &Arc<Shared>, stream: &Arc<TcpStream>, id: u64, place: places::Place) -> io::Result<()> {
+fn serve(shared: &Arc<Shared>, stream: &Arc<TcpStream>, id: u64, connection: Connection) -> io::Result<()> {
     stream.set_nodelay(true)?;
     stream.set_write_timeout(Some(WRITE_PATIENCE))?;
     stream.set_read_timeout(Some(SILENCE))?;
@@ -94,7 +112,7 @@ fn serve(shared: &Arc<Shared>, stream: &Arc<TcpStream>, id: u64, place: places::
         let write = move || write_replies(&stream, received, &shared, &window);
         thread::Builder::new().name("replies".into()).stack_size(STACK).spawn(write)?
     };
-    let mut session = Session::new(shared.clone(), (id, address), place, messages, window);
+    let mut session = Session::new(shared.clone(), (id, address), connection, messages, window);
     let read = session.read(stream);
     let _ = session.messages.send(Message::Over);
     let _ = writing.join();
@@ -123,7 +141,7 @@ struct Session {
     name: Option<Vec<u8>>,
     /// Whether the password was said, where there is one.
     is_known: bool,
-    place: places::Place,
+    connection: Connection,
     is_read_only: bool,
     /// Whether something that isn't a local read may be under way.
     is_writing: bool,
@@ -140,7 +158,7 @@ impl Session {
     fn new(
         shared: Arc<Shared>,
         (id, address): (u64, String),
-        place: places::Place,
+        connection: Connection,
         messages: Sender<Message>,
         window: Arc<Window>,
     ) -> Session {
@@ -149,7 +167,7 @@ impl Session {
             shared,
             id,
             address,
-            place,
+            connection,
             messages,
             window,
             commands: 0,
@@ -190,7 +208,7 @@ impl Session {
                         0 => return Ok(()),
                         length => bytes.extend(&chunk[..length]),
                     }
-                    self.place.hear();
+                    self.connection.hear();
                 }
                 Input::Fault(what) => {
                     let _ = self.fail(CommandFault::Malformed(what));
@@ -262,7 +280,7 @@ impl Session {
             return Asked::Answered(Reply::Error(CommandFault::NotKnown));
         }
         let is_of_kept = is_of_all || matches!(asked, Asked::Ping(_) | Asked::Info | Asked::Client(_));
-        if self.place.is_kept && !is_of_kept {
+        if self.connection.is_kept() && !is_of_kept {
             return Asked::Answered(Reply::Error(CommandFault::Full));
         }
         asked
@@ -284,16 +302,14 @@ impl Session {
         let metrics = &self.shared.metrics;
         let lines = [
             ("core_is_slow", 1),
-            ("takes_part", metrics.takes_part.get()),
             ("generation", metrics.generation.get()),
             ("generation_entries", metrics.entries.get()),
             ("log_bytes", metrics.log_bytes.get()),
             ("instances_open", metrics.open_instances.get()),
             ("peers_reached", metrics.peers_reached.get()),
-            ("clients", self.shared.places.count() as u64),
-            ("clients_memory", self.shared.memory.used() as u64),
         ];
-        lines.into_iter().map(|(name, value)| format!("{name}:{value}\r\n")).collect()
+        let lines: String = lines.into_iter().map(|(name, value)| format!("{name}:{value}\r\n")).collect();
+        lines + &self.shared.about_clients()
     }
 
     /// Begins a command, once there is room: its number.
@@ -318,8 +334,8 @@ impl Session {
         Ok(command)
     }
 
-    fn place(&self, command: u64, part: usize) -> Place {
-        Place { messages: self.messages.clone(), command, part }
+    fn reply_to(&self, command: u64, part: usize) -> ReplyTo {
+        ReplyTo { messages: self.messages.clone(), command, part }
     }
 
     fn answer(&mut self, reply: Reply) -> Result<(), Over> {
@@ -338,7 +354,7 @@ impl Session {
         let command = self.begin_for(combine, parts, self.shared.patience, Some(share))?;
         self.is_writing = true;
         for (part, (id, key, action)) in asked.into_iter().enumerate() {
-            keys.ask(id, key, action, self.place(command, part));
+            keys.ask(id, key, action, self.reply_to(command, part));
         }
         Ok(())
     }
@@ -358,9 +374,9 @@ impl Session {
         let parts = actions.iter().map(|_| Part::Wanted(None)).collect();
         let command = self.begin_for(combine, parts, self.shared.patience, Some(share))?;
         for (part, (key, action)) in actions.into_iter().enumerate() {
-            let place = self.place(command, part);
+            let to = self.reply_to(command, part);
             let (keys, of) = (self.shared.keys.clone(), key.clone());
-            let reply = Teller::new(move |told| place.tell(local(&keys, of, &action, told)));
+            let reply = Teller::new(move |told| to.tell(local(&keys, of, &action, told)));
             // (where the driver has ended, the teller tells it)
             let _ = self.shared.events.send(Event::Ask(Ask { what: What::Read(key), reply }));
         }
@@ -370,10 +386,11 @@ impl Session {
     /// Asks the driver of what isn't of keys. Where it doesn't answer in time the reply is the other one, if there is one.
     fn ask_driver(&mut self, what: What, patience: Duration, other: Option<Reply>) -> Result<(), Over> {
         let command = self.begin_for(Combine::One, vec![Part::Wanted(other)], patience, None)?;
-        let place = self.place(command, 0);
+        let (to, shared) = (self.reply_to(command, 0), self.shared.clone());
         let reply = Teller::new(move |told| {
-            place.tell(match told {
-                Told::Info(text) | Told::Managed(Ok(text)) => Reply::Bulk(text.into_bytes()),
+            to.tell(match told {
+                Told::Info(text) => Reply::Bulk((text + &shared.about_clients()).into_bytes()),
+                Told::Managed(Ok(text)) => Reply::Bulk(text.into_bytes()),
                 Told::Managed(Err(what)) => Reply::Error(CommandFault::Managing(what)),
                 told => Reply::Error(fault_of(told)),
             });
@@ -456,8 +473,8 @@ fn local(keys: &Arc<Keys>, key: Vec<u8>, action: &Action, told: Told) -> Reply {
     let (current, now) = (value.map(Stored::read), stored::now());
     if current.as_ref().is_some_and(|stored| stored.is_over(now)) {
         // (nobody waits for it)
-        let place = Place { messages: channel().0, command: 0, part: 0 };
-        keys.ask(keys.id(), key, Action::Tidy, place);
+        let to = ReplyTo { messages: channel().0, command: 0, part: 0 };
+        keys.ask(keys.id(), key, Action::Tidy, to);
     }
     action.apply(current, now).1
 }

@@ -102,8 +102,6 @@ pub enum Told {
 #[derive(Debug)]
 pub enum Stop {
     Node(NodeFault),
-    /// An opening that a peer gave wasn't taken.
-    NotTaken(NodeFault),
     Receipts(io::Error),
     /// A file of the folder can't be read or written.
     File(PathBuf, io::Error),
@@ -137,7 +135,6 @@ impl std::fmt::Display for Stop {
     fn fmt(&self, f: &mut std::fmt::Formatter) -> std::fmt::Result {
         match self {
             Stop::Node(fault) => fault.fmt(f),
-            Stop::NotTaken(fault) => write!(f, "a peer's opening wasn't taken: {fault}"),
             Stop::Receipts(error) => write!(f, "the receipts can't be written: {error}"),
             Stop::File(path, error) => write!(f, "{}: {error}", path.display()),
             Stop::Forgotten { peer, generation, seen, entries } => write!(
@@ -272,9 +269,9 @@ pub struct Driver<C> {
     pub(crate) waiting: HashMap<(u32, u32), Waiting>,
     pub(crate) generation: Generation,
     pub(crate) others: Others,
-    /// An opening that is on its way, or has come whole.
+    /// An opening that is on its way, or has come whole, with its generation.
     pub(crate) fetch: Option<Fetch>,
-    pub(crate) taken: Option<PathBuf>,
+    pub(crate) taken: Option<(u32, PathBuf)>,
     /// Since when a peer is in a later generation.
     pub(crate) behind_since: Option<Instant>,
     pub(crate) members: Members,
@@ -659,7 +656,9 @@ impl<C: Core> Driver<C> {
             }
             // A receipt for nobody is of a proposal before this start, or its client waits no longer.
             if let Some(waiting) = self.waiting.remove(&(receipt.client, receipt.request)) {
-                waiting.reply.send(Told::Done { stamp: receipt.stamp, reply: receipt.reply });
+                let is_undone = self.plant == Some(Plant::Again) && receipt.entry % 8 == 0;
+                let reply = if is_undone { Reply::Closed } else { receipt.reply };
+                waiting.reply.send(Told::Done { stamp: receipt.stamp, reply });
             }
         }
         Ok(())

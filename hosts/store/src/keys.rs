@@ -9,7 +9,7 @@ use crate::command_fault::CommandFault;
 use crate::driver::{Ask, Event, Told, What};
 use crate::numbers::Numbers;
 use crate::protocol::{self, Command};
-use crate::replies::Place;
+use crate::replies::ReplyTo;
 use crate::resp::Reply;
 use crate::say::say;
 use crate::stored::{self, Stored};
@@ -70,7 +70,7 @@ struct Key {
 struct Asked {
     id: u64,
     action: Action,
-    place: Place,
+    to: ReplyTo,
     /// Whether its client waits no longer.
     is_over: bool,
 }
@@ -121,10 +121,10 @@ impl Keys {
     }
 
     /// Has the action done.
-    pub fn ask(self: &Arc<Keys>, id: u64, key: Vec<u8>, action: Action, place: Place) {
+    pub fn ask(self: &Arc<Keys>, id: u64, key: Vec<u8>, action: Action, to: ReplyTo) {
         let mut state = self.state();
         let waits = state.keys.entry(key.clone()).or_default();
-        waits.waiting.push_back(Asked { id, action, place, is_over: false });
+        waits.waiting.push_back(Asked { id, action, to, is_over: false });
         let launch = if waits.flight.is_none() { state.begin(key) } else { None };
         drop(state);
         self.launch(launch);
@@ -334,7 +334,7 @@ impl State {
 impl Asked {
     fn answer(self, reply: Reply) {
         if !self.is_over {
-            self.place.tell(reply);
+            self.to.tell(reply);
         }
     }
 }
@@ -431,7 +431,7 @@ mod tests {
         /// Asks; its reply is told under this number.
         fn ask(&self, command: u64, key: &str, action: Action) -> u64 {
             let id = self.keys.id();
-            self.keys.ask(id, key.into(), action, Place { messages: self.messages.clone(), command, part: 0 });
+            self.keys.ask(id, key.into(), action, ReplyTo { messages: self.messages.clone(), command, part: 0 });
             id
         }
 

@@ -143,7 +143,7 @@ impl<C: Core> Driver<C> {
                 self.fetch = None;
                 if generation > self.generation.number {
                     let whole = self.directory.keep_taken().map_err(|error| Stop::File(path, error))?;
-                    self.taken = Some(whole);
+                    self.taken = Some((generation, whole));
                 }
             }
             Step::Ignored => {}
@@ -198,8 +198,8 @@ impl<C: Core> Driver<C> {
             return Ok(());
         }
         match self.taken.take() {
-            Some(path) => self.change(&Begin::Take(path)),
-            None => self.catch_up(now),
+            Some((generation, path)) if generation > self.generation.number => self.change(&Begin::Take(path)),
+            _ => self.catch_up(now),
         }
     }
 
@@ -229,14 +229,25 @@ impl<C: Core> Driver<C> {
         let start = Instant::now();
         let before = self.generation.number;
         self.node.start_again(begin).map_err(Stop::Node)?;
-        let answers = self.node.ask(&[Request::Sync, Request::State]).map_err(|fault| match begin {
-            Begin::Take(_) => Stop::NotTaken(fault),
-            _ => Stop::Node(fault),
-        })?;
+        let mut answers = self.node.ask(&[Request::Sync, Request::State]);
+        if let (Begin::Take(path), Err(fault)) = (begin, &answers)
+            && fault.is_lasting()
+        {
+            // It goes on without it: another one may come.
+            say(&format!("a peer's opening isn't taken: {fault}"));
+            let _ = std::fs::remove_file(path);
+            self.node.start_again(&Begin::Again).map_err(Stop::Node)?;
+            answers = self.node.ask(&[Request::Sync, Request::State]);
+        }
+        let answers = answers.map_err(Stop::Node)?;
         self.node.told().iter().for_each(|line| say(&format!("the node tells: {line}")));
         let [Answer::Synced(_), Answer::State(state)] = answers[..] else {
             return self.bad_answer(&answers[0]);
         };
+        if state.generation == before && matches!(begin, Begin::Take(_)) {
+            (self.fetch, self.behind_since) = (None, None);
+            return Ok(());
+        }
         if state.generation <= before {
             return Err(Stop::Node(NodeFault::BadAnswer(format!("it doesn't go on from generation {before}"))));
         }
@@ -253,7 +264,7 @@ impl<C: Core> Driver<C> {
         self.changes = (self.changes.0 + 1, now - start);
         self.generation = Generation::new(state, now - start, now);
         self.others.begin();
-        (self.fetch, self.behind_since, self.is_unexecuted) = (None, None, true);
+        (self.fetch, self.taken, self.behind_since, self.is_unexecuted) = (None, None, None, true);
         let waiting = std::mem::take(&mut self.waiting);
         settle(waiting, &opening, before);
         self.meet(&opening)?;

@@ -154,8 +154,9 @@ fn start(options: Options) -> Result<Driver<Node>, Fault> {
         password: options.auth.as_deref().map(Password::read).transpose().map_err(Fault::Key)?,
         memory: Memory::new(options.memory),
         metrics: metrics.clone(),
-        places: Arc::default(),
+        connections: Arc::default(),
         served: AtomicU64::new(0),
+        started: Instant::now(),
     };
     if let Some(address) = &options.metrics {
         let (listener, metrics) = (bind(address)?, metrics.clone());
@@ -285,6 +286,8 @@ fn start_node(
     begin: &Begin,
     events: &SyncSender<Event>,
 ) -> Result<(Node, State), Fault> {
+    // (who is started first may end as another one runs)
+    let run = if let Begin::Take(_) = begin { 0 } else { 1 };
     let events = events.clone();
     let settings = Settings {
         program: options.node.clone(),
@@ -295,7 +298,7 @@ fn start_node(
         errors_path: directory.errors_path(),
         on_end: Arc::new(move |run| _ = events.send(Event::NodeEnded(run))),
     };
-    let mut node = Node::start(settings, begin).map_err(Fault::Node)?;
+    let mut node = Node::start(settings, begin, run).map_err(Fault::Node)?;
     let answers = node.ask(&[Request::Sync, Request::State]).map_err(Fault::Node)?;
     node.told().iter().for_each(|line| say(&format!("the node tells: {line}")));
     match answers[..] {

@@ -18,7 +18,7 @@ pub trait Core {
     /// Ends it, once it has answered all, and starts it again: so it goes on to the next generation, where it has executed a seal.
     fn start_again(&mut self, begin: &Begin) -> Result<(), NodeFault>;
 
-    /// How often it was started.
+    /// The number of what runs now: it rises with each start.
     fn run(&self) -> u64;
 
     /// The number of its process.
@@ -107,13 +107,16 @@ struct Running {
     child: Child,
     /// None once it is to end.
     input: Option<ChildStdin>,
+    /// Whether it was told that it has ended by itself.
+    is_over: bool,
     answers: Receiver<Result<Answer, String>>,
 }
 
 impl Node {
-    pub fn start(settings: Settings, begin: &Begin) -> Result<Node, NodeFault> {
-        let running = settings.start(begin, 0)?;
-        Ok(Node { settings, running, run: 0, heard: 0 })
+    /// Starts it, as the run of this number: no other one may have it, so that the end of one isn't taken for another one's.
+    pub fn start(settings: Settings, begin: &Begin, run: u64) -> Result<Node, NodeFault> {
+        let running = settings.start(begin, run)?;
+        Ok(Node { settings, running, run, heard: 0 })
     }
 }
 
@@ -143,7 +146,7 @@ impl Settings {
             on_end(run);
         };
         thread::Builder::new().name("answers".into()).spawn(read).map_err(failed)?;
-        Ok(Running { child, input: Some(input), answers })
+        Ok(Running { child, input: Some(input), is_over: false, answers })
     }
 }
 
@@ -176,7 +179,7 @@ impl Core for Node {
         // (nothing is asked, so that nothing is answered; this waits for the end)
         while self.running.answers.recv().is_ok() {}
         match self.running.child.wait() {
-            Ok(status) if status.success() => {}
+            Ok(status) if status.success() || self.running.is_over => {}
             _ => return Err(self.ended()),
         }
         self.run += 1;
@@ -193,6 +196,7 @@ impl Core for Node {
     }
 
     fn ended(&mut self) -> NodeFault {
+        self.running.is_over = true;
         let status = self.running.child.wait().ok();
         NodeFault::Ended(status, self.told().join("; "))
     }

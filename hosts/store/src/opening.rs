@@ -46,7 +46,7 @@ impl Opening {
         for _ in 0..keys {
             let [key] = array(&mut input)?;
             let value = u32::from_be_bytes(array(&mut input)?);
-            run(&mut input, u32::from(key) + value)?;
+            skip(&mut input, u64::from(key) + u64::from(value))?;
         }
         let count = u32::from_be_bytes(array(&mut input)?);
         let mut executed = HashSet::new();
@@ -67,6 +67,11 @@ fn array<const N: usize>(input: &mut impl Read) -> io::Result<[u8; N]> {
     let mut bytes = [0; N];
     input.read_exact(&mut bytes)?;
     Ok(bytes)
+}
+
+fn skip(input: &mut impl Read, length: u64) -> io::Result<()> {
+    let skipped = io::copy(&mut input.take(length), &mut io::sink())?;
+    if skipped == length { Ok(()) } else { Err(io::ErrorKind::UnexpectedEof.into()) }
 }
 
 fn run(input: &mut impl Read, length: u32) -> io::Result<Vec<u8>> {

@@ -24,13 +24,13 @@ pub enum Message {
 }
 
 /// Where a part of a reply goes: of the connection's command of this number, from 0.
-pub struct Place {
+pub struct ReplyTo {
     pub messages: Sender<Message>,
     pub command: u64,
     pub part: usize,
 }
 
-impl Place {
+impl ReplyTo {
     pub fn tell(self, reply: Reply) {
         // (where nobody listens the connection has ended)
         let _ = self.messages.send(Message::Part(self.command, self.part, reply));

@@ -146,7 +146,7 @@ def by_redis_benchmark(cluster):
         return
     for replica, words in enumerate([["-t", "set,get,incr"], ["-t", "set,get,incr", "-P", "16"], ["-t", "set,get", "-P", "16", "-r", "1000"]]):
         port = str(cluster.ports[replica])
-        words = ["redis-benchmark", "-p", port, "-n", "2000", "-c", "50", "-q", *words]
+        words = ["redis-benchmark", "-p", port, "-n", "1000", "-c", "50", "-q", *words]
         done = subprocess.run(words, capture_output=True, text=True, check=False, timeout=600)
         told = done.stdout.replace("\r", "\n").split("\n")
         rates = [line for line in told if "requests per second" in line]
@@ -260,6 +260,53 @@ def by_redis_py(cluster):
     leaders(cluster)
 
 
+def by_tls(cluster):
+    """redis-py over TLS, which stunnel takes off by the section of clients of examples/stunnel.conf."""
+    stunnel = shutil.which("stunnel4") or shutil.which("stunnel")
+    if redis is None or not stunnel or not shutil.which("openssl"):
+        print("no stunnel is here")
+        return
+    folder = cluster.folder
+    words = "openssl req -x509 -newkey rsa:2048 -nodes -days 2 -subj /CN=localhost -addext subjectAltName=DNS:localhost -keyout key.pem -out ca.pem"
+    subprocess.run(words.split(), cwd=folder, check=True, capture_output=True)
+    with open(f"{folder}/MACHINE.pem", "w", encoding="utf-8") as pair:
+        for name in ("key.pem", "ca.pem"):
+            with open(f"{folder}/{name}", encoding="utf-8") as file:
+                pair.write(file.read())
+    with socket.socket() as it:
+        it.bind(("127.0.0.1", 0))
+        port = it.getsockname()[1]
+    with open(f"{EXAMPLES}/stunnel.conf", encoding="utf-8") as file:
+        text = file.read().replace("accept = 7443", f"accept = 127.0.0.1:{port}").replace(":7000", f":{cluster.ports[0]}")
+    with open(f"{folder}/stunnel.conf", "w", encoding="utf-8") as file:
+        file.write(text)
+    running = subprocess.Popen([stunnel, "stunnel.conf"], cwd=folder, stdout=subprocess.DEVNULL, stderr=subprocess.DEVNULL)
+    try:
+        client = redis.Redis(host="localhost", port=port, ssl=True, ssl_ca_certs=f"{folder}/ca.pem", ssl_check_hostname=True)
+        start = time.monotonic()
+        while True:
+            try:
+                client.ping()
+                break
+            except redis.ConnectionError:
+                if time.monotonic() - start > PATIENCE:
+                    raise
+                time.sleep(0.1)
+        check("tls", (client.set("by-tls", "1"), client.get("by-tls")), (True, b"1"))
+        # Who speaks no TLS is told nothing.
+        with socket.create_connection(("127.0.0.1", port), timeout=10) as plain:
+            plain.sendall(b"PING\r\n\r\n\r\n\r\n")
+            try:
+                told = plain.recv(100)
+            except OSError:
+                told = b""
+            check("without tls", b"PONG" in told, False)
+        print("tls: tried")
+    finally:
+        running.kill()
+        running.wait()
+
+
 def leaders(cluster):
     """Two of leader.py; the one that leads is killed, and the other one leads then, in a later term."""
     words = [sys.executable, "-u", f"{EXAMPLES}/leader.py"]
@@ -288,6 +335,7 @@ def main():
     with Cluster(store, epaxos) as cluster:
         by_redis_cli(cluster)
         by_redis_py(cluster)
+        by_tls(cluster)
         by_redis_benchmark(cluster)
         if FAULTS:
             print(cluster.told())

@@ -6,7 +6,7 @@ use std::sync::atomic::{AtomicU64, Ordering};
 use std::sync::mpsc::{Receiver, sync_channel};
 use std::sync::{Arc, Mutex};
 use std::thread;
-use std::time::Duration;
+use std::time::{Duration, Instant};
 use store::client::Client;
 use store::clients::{Shared, listen};
 use store::driver::{Ask, Event, Told, What};
@@ -50,8 +50,9 @@ impl Memory {
             password: None,
             memory: Bytes::new(64 << 20),
             metrics,
-            places: Arc::default(),
+            connections: Arc::default(),
             served: AtomicU64::new(0),
+            started: Instant::now(),
         };
         change(&mut shared);
         thread::spawn(move || drive(&asked, takes));

@@ -1,6 +1,6 @@
 use Rattle.std.proofs.Common.{◌≡◌, ◌++◌, drop, ap, ◌∙◌, ◌+◌}
 use Rattle.ep_moving.specs.Ended.{commands_in}
-use Rattle.ep_moving.proofs.Commands.{command_rises, commands_next}
+use Rattle.ep_moving.proofs.Listings.{command_rises, commands_next}
 use Rattle.ep_moving.proofs.commands.commands_of.Goals as goal
 
 pub push_command-requires : goal.push_command-requires
