@@ -65,8 +65,8 @@ turns_named w faults me now old (x ∷ xs) (v ∷ vs) asked t =
     let is = instances_of xs in
     subst (λ rs. AllNamed (x.instance ∷ is) rs) (sym t.4)
     (all_append (x.instance ∷ is) (listed t.0) t.1
-      (listed_named x.instance is t.0 (turn_names w faults me now x (waiting_for old x.instance) v t.0 t.2))
-      (all_more x.instance is t.1 (turns_named w faults me now old xs vs t.1 t.3)))
+    (listed_named x.instance is t.0 (turn_names w faults me now x (waiting_for old x.instance) v t.0 t.2))
+    (all_more x.instance is t.1 (turns_named w faults me now old xs vs t.1 t.3)))
 
 -- One more of the loop.
 
