@@ -1,5 +1,5 @@
 """The host in hosts/store, where cargo is there: builds it and runs its tests, some of them over the programs that `rt ci` built, and then plays a
-trial of 20 seconds with 3 kills over these, which the audit judges too. Runs alone too: python3 .ci/store.py [NODE PROGRAM], of other builds.
+trial of 60 seconds over several generations, with 6 kills and a machine replaced, whose chain the audit judges. Runs alone too: python3 .ci/store.py [NODE PROGRAM], of other builds.
 
 It is built without optimisation and without what debuggers need: with its tests that takes half of the processor time of a release build alone.
 """

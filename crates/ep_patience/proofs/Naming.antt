@@ -1,13 +1,12 @@
 -- What is asked for names open instances alone.
-use Rattle.std.proofs.Common.{◌≡◌, ℕ, suc, ◌+◌, ◌≤◌, ◌<◌, append_assoc, append-nil, drop, get_or, Bool, true, false, cond, eqb, leb, ◌&&◌, length, List, [], ◌∷◌, ◌++◌, inl, inr, refl, sym, ap, subst, ◌∙◌}
-use Rattle.std.specs.Prelude.{◌⊎◌, Option, Some, None}
+use Rattle.std.proofs.Common.{◌≡◌, ℕ, ◌+◌, ◌≤◌, ◌<◌, append_assoc, append-nil, drop, get_or, Bool, true, false, cond, eqb, leb, ◌&&◌, length, List, [], ◌∷◌, ◌++◌, inl, inr, refl, sym, ap, subst, ◌∙◌}
+use Rattle.std.specs.Prelude.{Option, Some, None}
 use Rattle.std.proofs.lemmas.List.{drop_all, drop_more}
 use Rattle.ep_base.specs.Instances.{leader_of}
 use Rattle.ep_base.proofs.Places.{Has-head, Has-tail}
-use Rattle.ep_base.specs.Places.{Has}
 use Rattle.ep_phase.specs.declared.progress.LeadPhase.{LeadPhase}
 use Rattle.ep_phase.specs.declared.progress.LeadPhase.TheVariants.{Proposing, Accepting, Preparing}
-use Rattle.ep_patience.specs.Waiting.{first_remedy, instances_of, listed, named, remedy_of, waiting_for, AllNamed, IsLate, IsTurn, Turns}
+use Rattle.ep_patience.specs.Waiting.{first_remedy, instances_of, listed, named, remedy_of, waiting_for, AllNamed, IsTurn, Turns}
 use Rattle.ep_patience.specs.declared.remedy.Remedy.{Remedy}
 use Rattle.ep_patience.specs.declared.remedy.Remedy.TheVariants.{GiveUp, Recover}
 use Rattle.ep_patience.specs.declared.seen.Seen.{Seen}
@@ -26,7 +25,7 @@ all_append is (r ∷ rs) ss first then = (first.0, all_append is rs ss first.1 t
 
 -- One instance.
 
-Names : ℕ → Option Remedy → Type 0
+abbrev Names : ℕ → Option Remedy → Type 0
 Names i None = Unit {0}
 Names i (Some r) = named r ≡ i
 
@@ -48,9 +47,9 @@ remedy_names faults me wait x = go (eqb wait 0 && eqb (leader_of x.instance) me)
     go false = refl
 
 turn_names : (w : Waits) (faults me now : ℕ) (x : Seen) (old : Option Waiting) (v : Waiting) (r : Option Remedy) → IsTurn w faults me now x old v r → Names x.instance r
-turn_names w faults me now x None v r t = subst (λ o. Names x.instance o) (sym t.asked) tt
+turn_names w faults me now x None v r t = subst (λ o. Names x.instance o) (sym t.says) tt
 turn_names w faults me now x (Some old) v r (inl t) = subst (λ o. Names x.instance o) (sym t.2) tt
-turn_names w faults me now x (Some old) v r (inr t) = subst (λ o. Names x.instance o) (sym t.asked) (remedy_names faults me old.wait x)
+turn_names w faults me now x (Some old) v r (inr t) = subst (λ o. Names x.instance o) (sym t.says) (remedy_names faults me old.wait x)
 
 listed_named : (i : ℕ) (is : List ℕ) (r : Option Remedy) → Names i r → AllNamed (i ∷ is) (listed r)
 listed_named i is None n = tt

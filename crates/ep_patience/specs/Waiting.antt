@@ -1,5 +1,5 @@
 -- When a replica waits no longer for an instance: what is asked for then, and how long it waits again.
-use Rattle.std.specs.Prelude.{◌≡◌, ◌⊎◌, ◌≤◌, ◌<◌, ◌+◌, ◌*◌, ℕ, Bool, true, false, ◌&&◌, eqb, leb, ltb, cond, min, List, [], ◌∷◌, ◌++◌, Option, Some, None}
+use Rattle.std.specs.Prelude.{◌≡◌, ◌⊎◌, ◌≤◌, ◌<◌, ◌+◌, ◌*◌, ℕ, ◌&&◌, eqb, leb, cond, min, List, [], ◌∷◌, ◌++◌, Option, Some, None}
 use Rattle.ep_base.specs.Instances.{leader_of}
 use Rattle.ep_base.specs.Places.{Has}
 use Rattle.ep_phase.specs.declared.progress.LeadPhase.{LeadPhase}
@@ -51,7 +51,7 @@ pub record Begins (w : Waits) (me now : ℕ) (x : Seen) (new : Waiting) (asked :
   pub instance : new.instance ≡ x.instance
   pub wait : new.wait ≡ 0
   pub due : IsWithin now (begun_wait w me x.instance) new.due
-  pub asked : asked ≡ None
+  pub says : asked ≡ None
 
 -- its wait is over: something is asked for, and it is waited for again
 pub record IsLate (w : Waits) (faults me now : ℕ) (x : Seen) (old new : Waiting) (asked : Option Remedy) : Type 0 where
@@ -59,7 +59,7 @@ pub record IsLate (w : Waits) (faults me now : ℕ) (x : Seen) (old new : Waitin
   pub instance : new.instance ≡ x.instance
   pub wait : new.wait ≡ next_wait w old.wait
   pub due : IsWithin now (next_wait w old.wait) new.due
-  pub asked : asked ≡ remedy_of faults me old.wait x
+  pub says : asked ≡ remedy_of faults me old.wait x
 
 -- as it was, where its wait isn't over
 abbrev pub IsTurn : Waits → ℕ → ℕ → ℕ → Seen → Option Waiting → Waiting → Option Remedy → Type 0

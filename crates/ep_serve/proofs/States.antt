@@ -190,3 +190,12 @@ written_out P mode m old mid new r asks may before between after held held' a sa
   where
     as_before : MayWait mode old.synced r new.replica → MayWait m mid.synced r mid.replica
     as_before w = subst (λ (x : Mode). MayWait x mid.synced r mid.replica) (sym mode_is) (subst (λ (x : ℕ). MayWait mode x r mid.replica) (sym (ap (λ x. x.synced) same)) (subst (λ (x : Kept). MayWait mode old.synced r x) replica w))
+
+-- what holds in any case holds where all was answered
+pub settled_of : (r : Result Unit ServeFault) (P : Type 0) → P → IfSettled r P
+settled_of (Ok x) P p = p
+settled_of (Err Memory) P p = tt
+settled_of (Err ReadFailed) P p = p
+settled_of (Err (BadRequest at)) P p = p
+settled_of (Err WriteFailed) P p = p
+settled_of (Err (LogFailed cause)) P p = tt

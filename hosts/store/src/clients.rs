@@ -262,7 +262,7 @@ impl Session {
             return Asked::Answered(Reply::Error(CommandFault::NotKnown));
         }
         let is_of_kept = is_of_all || matches!(asked, Asked::Ping(_) | Asked::Info | Asked::Client(_));
-        if self.place.is_kept && !is_of_kept {
+        if self.place.is_kept() && !is_of_kept {
             return Asked::Answered(Reply::Error(CommandFault::Full));
         }
         asked

@@ -659,7 +659,9 @@ impl<C: Core> Driver<C> {
             }
             // A receipt for nobody is of a proposal before this start, or its client waits no longer.
             if let Some(waiting) = self.waiting.remove(&(receipt.client, receipt.request)) {
-                waiting.reply.send(Told::Done { stamp: receipt.stamp, reply: receipt.reply });
+                let is_undone = self.plant == Some(Plant::Again) && receipt.entry % 8 == 0;
+                let reply = if is_undone { Reply::Closed } else { receipt.reply };
+                waiting.reply.send(Told::Done { stamp: receipt.stamp, reply });
             }
         }
         Ok(())

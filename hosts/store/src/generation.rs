@@ -6,8 +6,10 @@ use std::time::{Duration, Instant};
 const SEAL_PATIENCE: Duration = Duration::from_millis(500);
 /// A change of generation may take at most one part in so many of the time.
 const SHARE_OF_CHANGES: u32 = 10;
-/// From so many own numbers on it is sealed whatever a change takes.
+/// From so many own numbers on it is sealed whatever a change takes,
 const URGENT: u16 = INSTANCES - 100;
+/// and from so many times the limit of dependencies on.
+const URGENT_TIMES: u16 = 3;
 
 /// When a generation is to be sealed: where one of these is reached.
 #[derive(Clone, Copy, PartialEq, Eq, Debug)]
@@ -99,7 +101,8 @@ impl Generation {
             Stage::Committed | Stage::Sealed(_) => false,
         };
         let is_full = self.used >= limits.numbers || self.dependencies >= limits.dependencies || self.log >= limits.log;
-        is_free && (self.is_asked || self.used >= URGENT || (is_full && now >= self.least))
+        let is_urgent = self.used >= URGENT || self.dependencies >= limits.dependencies.saturating_mul(URGENT_TIMES);
+        is_free && (self.is_asked || is_urgent || (is_full && now >= self.least))
     }
 
     /// A seal is under way.
@@ -160,7 +163,7 @@ mod tests {
         assert!(wants(1_000, 0, 0) && wants(0, 300, 0) && wants(0, 0, 1 << 20));
         // A change took 50 ms, so that the next one comes 500 ms later at the earliest, but where numbers run out.
         assert!(!at(1_500, 300, start).wants_seal(&LIMITS, start + Duration::from_millis(499)));
-        assert!(at(1_890, 0, start).wants_seal(&LIMITS, start));
+        assert!(at(1_890, 0, start).wants_seal(&LIMITS, start) && at(0, 900, start).wants_seal(&LIMITS, start));
         let mut asked = at(0, 0, start);
         asked.is_asked = true;
         assert!(asked.wants_seal(&LIMITS, start));

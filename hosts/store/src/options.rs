@@ -71,6 +71,8 @@ pub enum Plant {
     Forgetful,
     /// Some receipts have another reply than the node's.
     Changed,
+    /// Of some commands that were done it says that they stood behind a seal, so that they are done twice.
+    Again,
 }
 
 /// What the store was told.
@@ -198,6 +200,7 @@ fn read_plant(word: &str) -> Result<Plant, String> {
         "early" => Ok(Plant::Early),
         "forgetful" => Ok(Plant::Forgetful),
         "changed" => Ok(Plant::Changed),
+        "again" => Ok(Plant::Again),
         _ => Err(format!("--plant {word}: not known")),
     }
 }

@@ -12,6 +12,8 @@ const MOST: usize = 900;
 const KEPT: usize = 16;
 /// Who was silent for so long makes room for another one.
 const SILENCE: Duration = Duration::from_secs(60);
+/// And so does who asks how the store is.
+const KEPT_SILENCE: Duration = Duration::from_secs(1);
 
 /// All places.
 pub struct Places {
@@ -26,6 +28,7 @@ struct Taken {
     stream: Arc<TcpStream>,
     /// When it was heard last, in milliseconds since the start.
     heard: AtomicU64,
+    is_kept: bool,
 }
 
 /// A place, until it is dropped.
@@ -33,8 +36,6 @@ pub struct Place {
     places: Arc<Places>,
     id: u64,
     taken: Arc<Taken>,
-    /// Whether it is one for who asks how the store is.
-    pub is_kept: bool,
 }
 
 impl Default for Places {
@@ -50,22 +51,30 @@ impl Places {
 
     /// A place for the connection of this number; None where there is none.
     pub fn take(self: &Arc<Places>, id: u64, stream: &Arc<TcpStream>) -> Option<Place> {
-        let now = self.now();
         let mut all = self.all();
         if all.len() >= self.most {
-            let silent = all.iter().map(|(id, taken)| (taken.heard.load(Ordering::Relaxed), *id)).min();
-            let silent = silent.filter(|(heard, _)| now.saturating_sub(*heard) >= self.silence.as_millis() as u64);
-            if let Some(taken) = silent.and_then(|(_, id)| all.remove(&id)) {
-                let _ = taken.stream.shutdown(Shutdown::Both);
-            }
+            self.make_room(&mut all, self.silence, |_| true);
+        }
+        if all.len() >= self.most + KEPT {
+            self.make_room(&mut all, KEPT_SILENCE, |taken| taken.is_kept);
         }
         if all.len() >= self.most + KEPT {
             return None;
         }
         let is_kept = all.len() >= self.most;
-        let taken = Arc::new(Taken { stream: stream.clone(), heard: AtomicU64::new(now) });
+        let taken = Arc::new(Taken { stream: stream.clone(), heard: AtomicU64::new(self.now()), is_kept });
         all.insert(id, taken.clone());
-        Some(Place { places: self.clone(), id, taken, is_kept })
+        Some(Place { places: self.clone(), id, taken })
+    }
+
+    /// Closes which of these was silent for longest, if it was for so long.
+    fn make_room(&self, all: &mut HashMap<u64, Arc<Taken>>, silence: Duration, which: impl Fn(&Taken) -> bool) {
+        let heard = |(id, taken): (&u64, &Arc<Taken>)| (taken.heard.load(Ordering::Relaxed), *id);
+        let silent = all.iter().filter(|(_, taken)| which(taken)).map(heard).min();
+        let silent = silent.filter(|(heard, _)| self.now().saturating_sub(*heard) >= silence.as_millis() as u64);
+        if let Some(taken) = silent.and_then(|(_, id)| all.remove(&id)) {
+            let _ = taken.stream.shutdown(Shutdown::Both);
+        }
     }
 
     pub fn count(&self) -> usize {
@@ -82,6 +91,11 @@ impl Places {
 }
 
 impl Place {
+    /// Whether it is one for who asks how the store is.
+    pub fn is_kept(&self) -> bool {
+        self.taken.is_kept
+    }
+
     /// Something has come from its client.
     pub fn hear(&self) {
         self.taken.heard.store(self.places.now(), Ordering::Relaxed);
@@ -101,35 +115,46 @@ mod tests {
     use std::net::TcpListener;
     use std::thread;
 
+    /// A new connection: both ends.
+    fn connect(listener: &TcpListener) -> (TcpStream, Arc<TcpStream>) {
+        let client = TcpStream::connect(listener.local_addr().unwrap()).unwrap();
+        (client, Arc::new(listener.accept().unwrap().0))
+    }
+
     #[test]
     fn who_is_silent_makes_room() {
         let listener = TcpListener::bind("127.0.0.1:0").unwrap();
-        let address = listener.local_addr().unwrap();
-        let mut clients = Vec::new();
-        let mut connect = || {
-            clients.push(TcpStream::connect(address).unwrap());
-            Arc::new(listener.accept().unwrap().0)
-        };
         let silence = Duration::from_millis(100);
         let places = Arc::new(Places::new(2, silence));
-        let first = places.take(1, &connect()).unwrap();
-        let second = places.take(2, &connect()).unwrap();
-        assert!(!first.is_kept && !second.is_kept);
-        // None was silent for long.
-        let kept: Vec<_> = (0..KEPT as u64).map(|id| places.take(10 + id, &connect()).unwrap()).collect();
-        assert!(kept.iter().all(|place| place.is_kept));
-        assert!(places.take(3, &connect()).is_none());
-        drop(kept);
+        let mut ends: Vec<_> = (0..3).map(|_| connect(&listener)).collect();
+        let [first, second] = [0, 1].map(|place| places.take(place as u64, &ends[place].1).unwrap());
         thread::sleep(2 * silence);
         second.hear();
-        let third = places.take(3, &connect()).unwrap();
-        assert!(!third.is_kept);
+        let third = places.take(2, &ends[2].1).unwrap();
+        assert!(!first.is_kept() && !second.is_kept() && !third.is_kept());
         assert_eq!(places.count(), 2);
-        assert_eq!(clients[0].read(&mut [0]).unwrap(), 0);
+        assert_eq!(ends[0].0.read(&mut [0]).unwrap(), 0);
         // Its place is another one's by now.
         drop(first);
         assert_eq!(places.count(), 2);
         drop((second, third));
         assert_eq!(places.count(), 0);
+    }
+
+    #[test]
+    fn who_asks_how_it_is_finds_a_place() {
+        let listener = TcpListener::bind("127.0.0.1:0").unwrap();
+        let places = Arc::new(Places::new(2, Duration::from_secs(3_600)));
+        let mut ends: Vec<_> = (0..2 + KEPT).map(|_| connect(&listener)).collect();
+        let all: Vec<_> = ends.iter().enumerate().map(|(id, end)| places.take(id as u64, &end.1).unwrap()).collect();
+        assert!(all.iter().enumerate().all(|(place, it)| it.is_kept() == (place >= 2)));
+        let more = connect(&listener);
+        assert!(places.take(100, &more.1).is_none());
+        // The one that was silent for longest makes room, but for those that came first.
+        thread::sleep(KEPT_SILENCE);
+        all[3..].iter().for_each(Place::hear);
+        assert!(places.take(101, &more.1).unwrap().is_kept());
+        assert_eq!(ends[2].0.read(&mut [0]).unwrap(), 0);
+        assert_eq!(places.count(), 1 + KEPT);
     }
 }

@@ -46,8 +46,13 @@ fn generations_follow_one_another() {
     let start = || [0, 1, 2].map(|replica| places.start_with(replica, &node, &SHORT));
     let stores = start();
     set(&stores.each_ref(), 0..200);
+    // (after a change that cost much the next one is put off)
+    wait("generations", || {
+        set(&stores.each_ref(), 0..30);
+        generation(&stores[0]) >= 3
+    });
     for store in &stores {
-        assert!(generation(store) >= 3, "generation {}", generation(store));
+        wait("the newest generation", || generation(store) >= 3);
         has_all(store, 0..200);
     }
     let told = stores[1].ask("EPAXOS SEAL");
@@ -75,8 +80,7 @@ fn who_lags_takes_an_opening() {
     }
     assert!(generation(&zero) >= 4);
     let two = places.start_with(2, &node, &SHORT);
-    wait("the newest generation", || generation(&two) == generation(&zero));
-    assert!(two.told().contains("is taken from a peer"));
+    wait("an opening", || two.told().contains("is taken from a peer"));
     has_all(&two, 0..160);
     set(&[&two], 160..170);
     has_all(&zero, 0..170);

@@ -146,7 +146,7 @@ def by_redis_benchmark(cluster):
         return
     for replica, words in enumerate([["-t", "set,get,incr"], ["-t", "set,get,incr", "-P", "16"], ["-t", "set,get", "-P", "16", "-r", "1000"]]):
         port = str(cluster.ports[replica])
-        words = ["redis-benchmark", "-p", port, "-n", "2000", "-c", "50", "-q", *words]
+        words = ["redis-benchmark", "-p", port, "-n", "1000", "-c", "50", "-q", *words]
         done = subprocess.run(words, capture_output=True, text=True, check=False, timeout=600)
         told = done.stdout.replace("\r", "\n").split("\n")
         rates = [line for line in told if "requests per second" in line]

@@ -10,7 +10,7 @@ use std::time::{Duration, Instant};
 use store::client::{Client, Reply};
 use store::random::Random;
 
-const LOCKS: u64 = 2;
+const LOCKS: u64 = 4;
 const CLIENTS: usize = 12;
 const SECONDS: u64 = 12;
 /// A kill at each replica in turn, after so long at least.
@@ -90,7 +90,7 @@ impl Owner<'_> {
     fn once(&mut self, turn: usize) -> Option<Held> {
         let lock = self.random.below(LOCKS);
         let (key, owner) = (format!("lock-{lock}"), format!("{}-{turn}", self.number));
-        let time = 300 + self.random.below(2_000);
+        let time = 200 + self.random.below(800);
         let asked = self.start.elapsed();
         let reply = self.ask(&["EPAXOS", "LOCK", &key, &owner, &time.to_string()]);
         let Some(Reply::Integer(token)) = reply else {
@@ -114,7 +114,7 @@ impl Owner<'_> {
             }
             self.wait(60);
         }
-        if self.random.below(4) != 0 {
+        if self.random.below(8) != 0 {
             held.until = held.until.min(self.start.elapsed());
             self.ask(&["EPAXOS", "UNLOCK", &key, &owner]);
         } else {

@@ -119,7 +119,7 @@ impl Cluster {
     /// The log of a replica in its newest generation.
     pub fn log(&self, replica: usize) -> PathBuf {
         let folder = self.folder(replica);
-        let generation = newest(&folder).unwrap_or(1);
+        let generation = newest_with_log(&folder).unwrap_or(1);
         folder.join(format!("generations/{generation}/log"))
     }
 
@@ -152,14 +152,15 @@ impl Cluster {
         command.args(["--keep", "1000000"]);
         if self.joined[replica].load(Ordering::SeqCst) {
             command.arg("--join");
-        } else if newest(&self.folder(replica)).is_none() {
+        } else if newest_with_log(&self.folder(replica)).is_none() {
             command.arg("--new");
         }
         match self.options.plant {
             Some(Plant::Early) => _ = command.args(["--plant", "early"]),
             Some(Plant::Changed) => _ = command.args(["--plant", "changed"]),
             // A store that isn't told to wouldn't start over a log that lacks what clients were told.
-            Some(Plant::Emptied | Plant::Unsynced) => _ = command.args(["--plant", "forgetful"]),
+            Some(Plant::Again) => _ = command.args(["--plant", "again"]),
+            Some(Plant::Emptied | Plant::Unsynced | Plant::Older) => _ = command.args(["--plant", "forgetful"]),
             None => {}
         }
         let child = command.stdin(Stdio::null()).stderr(told).process_group(0).spawn()?;
@@ -172,14 +173,20 @@ impl Cluster {
     pub fn kill(&self, replica: usize, target: Target) -> Result<(), String> {
         let Some(mut child) = self.running[replica].lock().unwrap().take() else { return Ok(()) };
         let group = format!("-{}", child.id());
-        let node = self.node_process(replica);
+        let node = node_process(child.id());
         match (target, node) {
             (Target::Store, _) => signal("KILL", &child.id().to_string()),
             (Target::Node, Some(node)) => signal("KILL", &node),
             _ => signal("KILL", &group),
         }
         signal("CONT", &group);
-        let Some(status) = end_within(&mut child, Duration::from_secs(10)) else {
+        let mut status = end_within(&mut child, Duration::from_secs(10));
+        if status.is_none() && node_process(child.id()).is_some() {
+            // (it was just between two generations, and has another node by now)
+            signal("KILL", &group);
+            status = end_within(&mut child, Duration::from_secs(10));
+        }
+        let Some(status) = status else {
             signal("KILL", &group);
             return Err(format!("the store of replica {replica} hasn't ended though its node was killed"));
         };
@@ -225,6 +232,16 @@ impl Cluster {
             .ok_or(format!("the new machine of replica {replica} doesn't come in: {:?}", said()))
     }
 
+    /// Keeps a copy of a replica's folder, where there is none; else has it come back.
+    pub fn turn_back(&self, replica: usize) -> Result<(), String> {
+        let (folder, older) = (self.folder(replica), self.directory.join(format!("{replica}-older")));
+        wait_for(|| is_free(&folder).then_some(())).ok_or(format!("the node of replica {replica} doesn't end"))?;
+        let (from, to) = if older.exists() { (&older, &folder) } else { (&folder, &older) };
+        let _ = std::fs::remove_dir_all(to);
+        let copied = Command::new("cp").arg("-r").args([from, to]).status().map_err(|error| error.to_string())?;
+        if copied.success() { Ok(()) } else { Err(format!("{} can't be copied", from.display())) }
+    }
+
     /// Asks a replica to end its generation, without waiting.
     pub fn seal(&self, replica: usize) {
         let port = self.client_ports[replica];
@@ -248,12 +265,6 @@ impl Cluster {
             Some(start) => OpenOptions::new().write(true).open(&log)?.set_len(*start as u64),
             None => Ok(()),
         }
-    }
-
-    /// The node's process, by the last line of the store that names it.
-    fn node_process(&self, replica: usize) -> Option<String> {
-        let told = std::fs::read_to_string(self.told(replica)).ok()?;
-        Some(told.rsplit_once("node process ")?.1.lines().next()?.to_string())
     }
 
     /// Stops or continues both processes of a replica.
@@ -304,10 +315,28 @@ impl Drop for Cluster {
     }
 }
 
+/// The node's process, which is the store's only child.
+fn node_process(store: u32) -> Option<String> {
+    let tasks = std::fs::read_dir(format!("/proc/{store}/task")).ok()?.flatten();
+    let children = tasks.filter_map(|task| std::fs::read_to_string(task.path().join("children")).ok());
+    children.flat_map(|all| all.split_whitespace().map(str::to_string).collect::<Vec<_>>()).next()
+}
+
 /// The newest generation that a store's folder has.
 fn newest(folder: &Path) -> Option<u32> {
+    generations(folder, "opening")
+}
+
+/// The newest one in which it may have promised something.
+fn newest_with_log(folder: &Path) -> Option<u32> {
+    generations(folder, "log")
+}
+
+/// The newest generation that has a file of this name.
+fn generations(folder: &Path, name: &str) -> Option<u32> {
     let found = std::fs::read_dir(folder.join("generations")).ok()?.flatten();
-    found.filter_map(|entry| entry.file_name().to_str()?.parse().ok()).max()
+    let with = found.filter(|entry| std::fs::metadata(entry.path().join(name)).is_ok_and(|file| file.len() > 0));
+    with.filter_map(|entry| entry.file_name().to_str()?.parse().ok()).max()
 }
 
 /// Whether neither a store nor its node has the folder.

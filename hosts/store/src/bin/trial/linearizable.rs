@@ -10,6 +10,10 @@ pub enum Action {
     Get(Option<u32>),
     /// Whether the key was there; None: nothing was told.
     Del(Option<bool>),
+    /// Set, and told what was there before; None: nothing was told.
+    Exchange(u32, Option<Option<u32>>),
+    /// Set where nothing is there, and told whether it was set; None: nothing was told.
+    New(u32, Option<bool>),
 }
 
 /// A command of one key, with its moments. Without an end nothing was told: it may have been done at any moment since
@@ -39,6 +43,8 @@ fn apply(state: Option<u32>, action: Action) -> Option<Option<u32>> {
         Action::Set(value) => Some(Some(value)),
         Action::Get(told) => (told == state).then_some(state),
         Action::Del(told) => told.is_none_or(|told| told == state.is_some()).then_some(None),
+        Action::Exchange(value, told) => told.is_none_or(|told| told == state).then_some(Some(value)),
+        Action::New(value, told) => told.is_none_or(|told| told == state.is_none()).then_some(state.or(Some(value))),
     }
 }
 
@@ -48,13 +54,22 @@ pub fn check(operations: &[Operation]) -> Verdict {
     Search::new(&operations).run()
 }
 
-/// Without the sets that nobody was told of, neither themselves nor by a value: where nobody is told that he deleted
-/// something, an order with one of these is one without it, too.
+/// Without the sets that nobody was told of, neither themselves nor by a value: where nobody is told that something was there, an order
+/// with one of these is one without it, too.
 fn without_unseen(operations: &[Operation]) -> Vec<Operation> {
-    let is_told = |action: Action| operations.iter().any(|operation| operation.action == action);
-    let may_delete = is_told(Action::Del(Some(true)));
+    let tells_of_some = |action: Action| matches!(action, Action::Del(Some(true)) | Action::New(_, Some(false)));
+    let is_some_told = operations.iter().any(|operation| tells_of_some(operation.action));
+    let is_told = |value: u32| {
+        let tells = |action| match action {
+            Action::Get(told) | Action::Exchange(_, Some(told)) => told == Some(value),
+            _ => false,
+        };
+        operations.iter().any(|operation| tells(operation.action))
+    };
     let is_needed = |operation: &Operation| match (operation.action, operation.end) {
-        (Action::Set(value), None) => may_delete || is_told(Action::Get(Some(value))),
+        (Action::Set(value) | Action::Exchange(value, _) | Action::New(value, _), None) => {
+            is_some_told || is_told(value)
+        }
         (Action::Get(_), None) => false,
         _ => true,
     };
@@ -183,7 +198,7 @@ impl<'a> Search<'a> {
 #[cfg(test)]
 mod tests {
     use super::*;
-    use Action::{Del, Get, Set};
+    use Action::{Del, Exchange, Get, New, Set};
 
     fn at(action: Action, start: u64, end: u64) -> Operation {
         Operation { action, start, end: Some(end) }
@@ -247,9 +262,12 @@ mod tests {
                     let start = random.below(12);
                     let end = (random.below(5) > 0).then_some(start + 1 + random.below(6));
                     let told = random.below(3) as u32;
-                    let action = match random.below(3) {
+                    let value = if told == 0 { None } else { Some(told) };
+                    let action = match random.below(5) {
                         0 => Set(place + 1),
-                        1 => Get(if told == 0 { None } else { Some(told) }),
+                        1 => Get(value),
+                        2 => Exchange(place + 1, end.map(|_| value)),
+                        3 => New(place + 1, end.map(|_| told == 0)),
                         _ => Del(end.map(|_| told == 0)),
                     };
                     Operation { action, start, end }

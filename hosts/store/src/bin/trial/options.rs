@@ -6,7 +6,7 @@ pub const HELP: &str = "\
 trial: a cluster of stores on this machine, clients, kills and cuts; then what the clients were told is checked
 
     trial --node PATH [--short | --long | --smoke] [--replicas N] [--seconds S] [--kills K] [--rounds R] [--audit]
-          [--plant early|emptied|unsynced|changed] [--store PATH] [--dir DIR] [--seed S]
+          [--plant early|emptied|unsynced|older|again|changed] [--store PATH] [--dir DIR] [--seed S]
 
     --node PATH      the program `epaxos`
     --short          60 seconds, 6 kills, one machine replaced, two changes of generation or more: the default
@@ -19,6 +19,8 @@ trial: a cluster of stores on this machine, clients, kills and cuts; then what t
     --plant early    the stores answer a SET before its receipt has come
     --plant emptied  a replica is started with an emptied log
     --plant unsynced a replica that was killed has lost its last entries, as by a node that answers before its sync
+    --plant older    a replica comes back with an older copy of its folder, and isn't kept from speaking
+    --plant again    stores take some commands that were done for ones behind a seal, so that they are done twice
     --plant changed  some receipts, and what clients are told by them, have another reply than the node's
                      (plants want stores built with the feature `plants`; the trial succeeds where one is caught)
     --store PATH     the program `store`; default: beside this one
@@ -33,6 +35,8 @@ pub enum Plant {
     Early,
     Emptied,
     Unsynced,
+    Older,
+    Again,
     Changed,
 }
 
@@ -95,7 +99,11 @@ pub fn read(words: impl IntoIterator<Item = String>) -> Result<Option<Options>, 
     if options.node.as_os_str().is_empty() {
         return Err("--node is missing".into());
     }
-    if options.smoke {
+    if options.plant == Some(Plant::Older) {
+        // (in a later generation an older copy has promised nothing)
+        (options.numbers, options.dependencies, options.replaced) = (1_900, 14_000, 0);
+    }
+    if options.smoke || options.plant.is_some() {
         options.least_changes = 0;
     }
     if ![3, 5, 7].contains(&options.replicas) {
@@ -136,7 +144,9 @@ fn read_plant(word: &str) -> Result<Plant, String> {
         "early" => Ok(Plant::Early),
         "emptied" => Ok(Plant::Emptied),
         "unsynced" => Ok(Plant::Unsynced),
+        "older" => Ok(Plant::Older),
+        "again" => Ok(Plant::Again),
         "changed" => Ok(Plant::Changed),
-        _ => Err(format!("--plant {word}: early, emptied, unsynced or changed")),
+        _ => Err(format!("--plant {word}: early, emptied, unsynced, older, again or changed")),
     }
 }

@@ -79,15 +79,21 @@ impl Troubles<'_> {
         };
         // Now and then all of them, as when the current fails.
         let count = if self.random.below(8) == 0 { self.cluster.replicas } else { 1 };
-        let killed = self.some_replicas(count);
+        let mut killed = self.some_replicas(count);
+        if self.plant == Some(Plant::Older) {
+            killed = vec![0];
+        }
         // Some die while they go from one generation to the next.
-        if self.random.below(2) == 0 {
+        if self.random.below(2) == 0 && self.plant != Some(Plant::Older) {
             self.cluster.seal(self.some_replicas(1)[0]);
             self.wait(0, 80);
         }
         killed.iter().try_for_each(|replica| self.cluster.kill(*replica, target))?;
         self.wait(20, 1_500);
         let told = |error: std::io::Error| format!("a replica can't be started: {error}");
+        if self.plant == Some(Plant::Older) {
+            self.cluster.turn_back(killed[0])?;
+        }
         if empties {
             std::fs::write(self.cluster.log(killed[0]), b"").map_err(told)?;
         }

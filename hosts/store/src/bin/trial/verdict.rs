@@ -96,10 +96,10 @@ fn audit(options: &Options, cluster: &Cluster) -> Result<(), String> {
             }
             command.arg(view(options, cluster, replica, generation)?);
         }
-        run(command.stdout(file))?;
+        run(&mut command, Stdio::from(file))?;
         chain.push(bundle);
     }
-    let audited = run(Command::new(&options.node).args(["audit", "--chain"]).args(&chain))?;
+    let audited = run(Command::new(&options.node).args(["audit", "--chain"]).args(&chain), Stdio::piped())?;
     let told = String::from_utf8_lossy(&audited);
     match told.lines().next() {
         Some("verdict accepted") if told.lines().count() == chain.len() + 1 => Ok(()),
@@ -108,9 +108,10 @@ fn audit(options: &Options, cluster: &Cluster) -> Result<(), String> {
 }
 
 /// What a program told that ended well.
-fn run(command: &mut Command) -> Result<Vec<u8>, String> {
+fn run(command: &mut Command, output: Stdio) -> Result<Vec<u8>, String> {
     let words = format!("{command:?}").chars().take(300).collect::<String>();
-    let output = command.stdin(Stdio::null()).stderr(Stdio::piped()).spawn().and_then(|child| child.wait_with_output());
+    let command = command.stdin(Stdio::null()).stdout(output).stderr(Stdio::piped());
+    let output = command.spawn().and_then(|child| child.wait_with_output());
     let output = output.map_err(|error| format!("{words}: {error}"))?;
     if output.status.success() {
         return Ok(output.stdout);
@@ -144,6 +145,6 @@ fn view(options: &Options, cluster: &Cluster, replica: usize, generation: u32) -
     } else {
         command.arg("--take").arg(opening.join(format!("{generation}/opening")));
     }
-    run(&mut command)?;
+    run(&mut command, Stdio::piped())?;
     Ok(folder)
 }

@@ -130,9 +130,12 @@ impl Work<'_> {
     }
 
     fn choose_action(&self, random: &mut Random) -> Action {
+        let value = || self.values.fetch_add(1, Ordering::Relaxed) + 1;
         match random.below(20) {
-            0..9 => Action::Get(None),
-            9..17 => Action::Set(self.values.fetch_add(1, Ordering::Relaxed) + 1),
+            0..8 => Action::Get(None),
+            8..14 => Action::Set(value()),
+            14..16 => Action::Exchange(value(), None),
+            16..18 => Action::New(value(), None),
             _ => Action::Del(None),
         }
     }
@@ -194,14 +197,21 @@ fn ask(client: &mut Client, key: u64, action: Action) -> Result<Told, String> {
         Action::Get(_) => client.ask(&[b"GET", &key]),
         Action::Set(value) => client.ask(&[b"SET", &key, &value_bytes(value)]),
         Action::Del(_) => client.ask(&[b"DEL", &key]),
+        Action::Exchange(value, _) => client.ask(&[b"SET", &key, &value_bytes(value), b"GET"]),
+        Action::New(value, _) => client.ask(&[b"SET", &key, &value_bytes(value), b"NX", b"PX", b"3600000"]),
     };
     let Ok(reply) = reply else { return Ok(Told::Nothing) };
+    let value_in = |bytes: Option<Vec<u8>>| match bytes {
+        None => Ok(None),
+        Some(bytes) => value_of(&bytes).map(Some).ok_or("a value was told that nobody has set"),
+    };
     match (action, reply) {
-        (Action::Get(_), Reply::Bulk(None)) => Ok(Told::Answer(Action::Get(None))),
-        (Action::Get(_), Reply::Bulk(Some(bytes))) => {
-            let value = value_of(&bytes).ok_or("a value was told that nobody has set")?;
-            Ok(Told::Answer(Action::Get(Some(value))))
+        (Action::Get(_), Reply::Bulk(bytes)) => Ok(Told::Answer(Action::Get(value_in(bytes)?))),
+        (Action::Exchange(value, _), Reply::Bulk(bytes)) => {
+            Ok(Told::Answer(Action::Exchange(value, Some(value_in(bytes)?))))
         }
+        (Action::New(value, _), Reply::Simple(_)) => Ok(Told::Answer(Action::New(value, Some(true)))),
+        (Action::New(value, _), Reply::Bulk(None)) => Ok(Told::Answer(Action::New(value, Some(false)))),
         (Action::Set(_), Reply::Simple(text)) if text == "OK" => Ok(Told::Answer(action)),
         (Action::Del(_), Reply::Integer(count @ 0..2)) => Ok(Told::Answer(Action::Del(Some(count == 1)))),
         (_, Reply::Error(text)) if text.starts_with("FULL") => Ok(Told::Refused),

@@ -1,4 +1,4 @@
-use Rattle.std.proofs.Common.{◌≡◌, ◌++◌, List, drop}
+use Rattle.std.proofs.Common.{◌++◌, List, drop}
 use Rattle.ep_patience.specs.Waiting.{Turns}
 use Rattle.ep_patience.specs.declared.remedy.Remedy.{Remedy}
 use Rattle.ep_patience.specs.declared.waiting.Waiting.{Waiting}
