@@ -1,7 +1,6 @@
 mod FilesCollected
 mod FoldersCollected
 mod InFolders
-mod LogsUpgraded
 mod MapShown
 mod Puts
 mod Serving

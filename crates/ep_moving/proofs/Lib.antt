@@ -1,3 +1,0 @@
-mod After
-mod Going
-mod Listings
