@@ -183,7 +183,7 @@ class Clients:
 
 
 def show(what, waits, refused):
-    at = lambda share: 1000 * waits[int((len(waits) - 1) * share)]
+    at = lambda share: 1000 * waits[int((len(waits) - 1) * share)] if waits else 0.0
     print(f"{what}: {len(waits)} told, {refused} refused; waits of {at(0.5):.1f} ms (median), {at(0.99):.0f} ms (99 of 100), {at(1):.0f} ms (longest)", flush=True)
 
 
