@@ -1,6 +1,6 @@
 //! Whether what clients of one key were told is what one register would have told them, each command at some moment
 //! between its question and its answer: the search of Wing and Gong, with Lowe's memory of what was tried.
-use std::collections::HashSet;
+use std::collections::{BTreeSet, HashSet};
 
 /// What was asked of the key, and told. Values are numbers, each set at most once.
 #[derive(Clone, Copy, PartialEq, Eq, Debug)]
@@ -50,7 +50,9 @@ fn apply(state: Option<u32>, action: Action) -> Option<Option<u32>> {
 
 /// Looks for an order. `operations` are all those of one key, which has no value at first.
 pub fn check(operations: &[Operation]) -> Verdict {
-    let operations = without_unseen(operations);
+    let mut operations = without_unseen(operations);
+    // (so those that have their place are nearly a beginning of all)
+    operations.sort_by_key(|operation| operation.start);
     Search::new(&operations).run()
 }
 
@@ -59,13 +61,12 @@ pub fn check(operations: &[Operation]) -> Verdict {
 fn without_unseen(operations: &[Operation]) -> Vec<Operation> {
     let tells_of_some = |action: Action| matches!(action, Action::Del(Some(true)) | Action::New(_, Some(false)));
     let is_some_told = operations.iter().any(|operation| tells_of_some(operation.action));
-    let is_told = |value: u32| {
-        let tells = |action| match action {
-            Action::Get(told) | Action::Exchange(_, Some(told)) => told == Some(value),
-            _ => false,
-        };
-        operations.iter().any(|operation| tells(operation.action))
+    let tells = |operation: &Operation| match operation.action {
+        Action::Get(told) | Action::Exchange(_, Some(told)) => told,
+        _ => None,
     };
+    let told: HashSet<u32> = operations.iter().filter_map(tells).collect();
+    let is_told = |value: u32| told.contains(&value);
     let is_needed = |operation: &Operation| match (operation.action, operation.end) {
         (Action::Set(value) | Action::Exchange(value, _) | Action::New(value, _), None) => {
             is_some_told || is_told(value)
@@ -104,8 +105,10 @@ struct Search<'a> {
     starts: Vec<Option<usize>>,
     /// Each operation's nodes.
     nodes: Vec<(usize, Option<usize>)>,
-    /// Those that have their place in the order.
-    placed: Vec<u64>,
+    /// Those that have no place in the order yet.
+    unplaced: BTreeSet<usize>,
+    /// The greatest that had its place before each one got its own, and at last now.
+    greatest: Vec<usize>,
     /// How many that were told have none yet.
     left: usize,
 }
@@ -134,12 +137,25 @@ impl<'a> Search<'a> {
         let next = (0..count).map(|node| (node + 1) % count).collect();
         let before = (0..count).map(|node| (node + count - 1) % count).collect();
         let left = operations.iter().filter(|operation| operation.end.is_some()).count();
-        let placed = vec![0; operations.len().div_ceil(64)];
-        Search { operations, moments: Moments { next, before }, starts, nodes, placed, left }
+        let unplaced = (0..operations.len()).collect();
+        Search { operations, moments: Moments { next, before }, starts, nodes, unplaced, greatest: vec![0], left }
     }
 
-    fn flip(&mut self, operation: usize) {
-        self.placed[operation / 64] ^= 1 << (operation % 64);
+    /// Which have their place: all up to the greatest, but for these.
+    fn placed(&self) -> (usize, Vec<usize>) {
+        let greatest = self.greatest.last().copied().unwrap_or_default();
+        (greatest, self.unplaced.range(..=greatest).copied().collect())
+    }
+
+    fn put_in(&mut self, operation: usize) {
+        self.unplaced.remove(&operation);
+        let greatest = self.greatest.last().copied().unwrap_or_default().max(operation);
+        self.greatest.push(greatest);
+    }
+
+    fn put_out(&mut self, operation: usize) {
+        self.unplaced.insert(operation);
+        self.greatest.pop();
     }
 
     fn place(&mut self, operation: usize) {
@@ -158,7 +174,7 @@ impl<'a> Search<'a> {
             self.left += 1;
         }
         self.moments.restore(start);
-        self.flip(operation);
+        self.put_out(operation);
     }
 
     fn run(mut self) -> Verdict {
@@ -172,15 +188,15 @@ impl<'a> Search<'a> {
             }
             if let Some(operation) = self.starts[node] {
                 if let Some(after) = apply(state, self.operations[operation].action) {
-                    self.flip(operation);
-                    if tried.insert((self.placed.clone(), after)) {
+                    self.put_in(operation);
+                    if tried.insert((self.placed(), after)) {
                         order.push((operation, state));
                         state = after;
                         self.place(operation);
                         node = self.moments.next[0];
                         continue;
                     }
-                    self.flip(operation);
+                    self.put_out(operation);
                 }
                 node = self.moments.next[node];
             } else {

@@ -96,10 +96,10 @@ fn report(faults: &[String]) -> usize {
 fn work(options: &Options, round: usize, cluster: &Cluster) -> Result<(Notes, Count), String> {
     let seed = options.seed.wrapping_mul(1_000).wrapping_add(round as u64);
     let start = Instant::now();
-    let work = Work { cluster, start, is_over: AtomicBool::new(false), values: AtomicU32::new(0) };
+    let work = Work { cluster, start, is_over: AtomicBool::new(false), values: AtomicU32::new(0), is_life: options.life };
     let mut notes = Notes::default();
     let count = thread::scope(|scope| {
-        let clients: Vec<_> = (0..2 * options.replicas)
+        let clients: Vec<_> = (0..options.clients)
             .map(|client| {
                 let (work, seed) = (&work, seed.wrapping_mul(97).wrapping_add(client as u64));
                 scope.spawn(move || work.run(client % options.replicas, seed.wrapping_mul(0x9e37_79b9_7f4a_7c15)))

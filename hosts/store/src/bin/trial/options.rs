@@ -11,9 +11,10 @@ trial: a cluster of stores on this machine, clients, kills and cuts; then what t
     --node PATH      the program `epaxos`
     --short          60 seconds, 6 kills, one machine replaced, two changes of generation or more: the default
     --long           10 rounds of 60 seconds with 10 kills each and two machines replaced, every round with fresh folders
+    --life           20 minutes, 32 clients without pauses, 100 kills, two machines replaced
     --smoke          no kills: `redis-cli` and `redis-benchmark`, where they are, are told what they should be
     --replicas N     3, the default, or 5 or 7
-    --seconds S, --kills K, --replaced M, --rounds R    other numbers
+    --seconds S, --kills K, --replaced M, --rounds R, --clients C    other numbers
     --seal-numbers N, --seal-dependencies N    when stores end a generation; default 300 and 200
     --audit          also has `epaxos collect` and `epaxos audit` judge the logs and receipts of each round: its generations as one chain
     --plant early    the stores answer a SET before its receipt has come
@@ -56,6 +57,9 @@ pub struct Options {
     /// So many changes of generation there have to be.
     pub least_changes: u32,
     pub rounds: usize,
+    pub clients: usize,
+    /// Whether clients don't pause, and go on to other keys.
+    pub life: bool,
     pub smoke: bool,
     pub audit: bool,
     pub plant: Option<Plant>,
@@ -78,6 +82,12 @@ pub fn read(words: impl IntoIterator<Item = String>) -> Result<Option<Options>, 
         match word.as_str() {
             "--help" | "-h" => return Ok(None),
             "--short" => options.play(60, 6, 1, 1),
+            "--life" => {
+                options.play(1_200, 100, 2, 1);
+                (options.life, options.clients) = (true, 32);
+                (options.numbers, options.dependencies) = (1_500, 600);
+            }
+            "--clients" => options.clients = number(&value()?)?,
             "--long" => options.play(60, 10, 2, 10),
             "--node" => options.node = PathBuf::from(value()?),
             "--store" => options.store = PathBuf::from(value()?),
@@ -95,6 +105,9 @@ pub fn read(words: impl IntoIterator<Item = String>) -> Result<Option<Options>, 
             "--plant" => options.plant = Some(read_plant(&value()?)?),
             _ => return Err(format!("unknown word {word}; --help tells the words")),
         }
+    }
+    if options.clients == 0 {
+        options.clients = 2 * options.replicas;
     }
     if options.node.as_os_str().is_empty() {
         return Err("--node is missing".into());
@@ -128,6 +141,8 @@ fn defaults() -> Result<Options, String> {
         dependencies: 200,
         least_changes: 2,
         rounds: 1,
+        clients: 0,
+        life: false,
         smoke: false,
         audit: false,
         plant: None,

@@ -2,7 +2,8 @@
 use crate::cluster::Cluster;
 use crate::linearizable::{self, Action, Operation, Verdict};
 use crate::options::Options;
-use crate::workers::{Note, keys};
+use crate::workers::Note;
+use std::collections::BTreeMap;
 use std::fs::File;
 use std::ops::RangeInclusive;
 use std::path::PathBuf;
@@ -26,9 +27,9 @@ pub fn judge(options: &Options, cluster: &Cluster, notes: &[Note]) -> Vec<String
 /// Key by key, as registers are linearizable together where each of them is.
 fn judge_notes(notes: &[Note]) -> Vec<String> {
     let mut faults = Vec::new();
-    for key in keys() {
-        let of_key = notes.iter().filter(|note| note.key == key);
-        let operations: Vec<Operation> = of_key.map(|note| note.operation).collect();
+    let mut of_keys: BTreeMap<u64, Vec<Operation>> = BTreeMap::new();
+    notes.iter().for_each(|note| of_keys.entry(note.key).or_default().push(note.operation));
+    for (key, operations) in of_keys {
         match linearizable::check(&operations) {
             Verdict::Linearizable => {}
             Verdict::NotLinearizable => {

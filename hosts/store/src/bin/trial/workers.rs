@@ -15,6 +15,10 @@ const HOT_KEYS: u64 = 3;
 const COLD_KEYS: u64 = 40;
 /// The mean pause of a client between two commands.
 const PAUSE: Duration = Duration::from_millis(45);
+/// In a life keys are used for so long, and then others, so that each has as many commands as can be judged: one that a fifth of all
+/// commands are of, and these.
+const AGE: Duration = Duration::from_secs(10);
+const LIFE_KEYS: u64 = 100;
 
 /// What a client asked of a key and was told.
 #[derive(Clone, Debug)]
@@ -45,11 +49,8 @@ pub struct Work<'a> {
     pub is_over: AtomicBool,
     /// The last value that was made.
     pub values: AtomicU32,
-}
-
-/// All keys. Some are long, and none is text alone.
-pub fn keys() -> impl Iterator<Item = u64> {
-    0..HOT_KEYS + COLD_KEYS
+    /// Whether clients don't pause, and go on to other keys.
+    pub is_life: bool,
 }
 
 fn key_bytes(key: u64) -> Vec<u8> {
@@ -95,13 +96,16 @@ impl Work<'_> {
         let mut connection = None;
         let mut count = 0;
         while !self.is_over.load(Ordering::Relaxed) {
-            thread::sleep(random.from_once_to_twice(PAUSE * 2 / 3));
+            if !self.is_life {
+                thread::sleep(random.from_once_to_twice(PAUSE * 2 / 3));
+            }
             let Some(client) = self.connection(&mut connection, replica) else {
                 replica = random.below(self.cluster.replicas as u64) as usize;
+                thread::sleep(Duration::from_millis(5));
                 continue;
             };
             let key = self.choose_key(&mut random);
-            let action = self.choose_action(&mut random);
+            let action = self.choose_action(&mut random, key);
             let told = self.note(client, replica, key, action, &mut notes);
             count += 1;
             match told {
@@ -126,11 +130,26 @@ impl Work<'_> {
     }
 
     fn choose_key(&self, random: &mut Random) -> u64 {
+        if self.is_life {
+            let age = (self.start.elapsed().as_millis() / AGE.as_millis()) as u64;
+            let place = if random.below(5) == 0 { 0 } else { 1 + random.below(LIFE_KEYS) };
+            return age * (LIFE_KEYS + 1) + place;
+        }
         if random.below(10) < 7 { random.below(HOT_KEYS) } else { HOT_KEYS + random.below(COLD_KEYS) }
     }
 
-    fn choose_action(&self, random: &mut Random) -> Action {
+    /// All keys that may have been used. Some are long, and none is text alone.
+    fn keys(&self) -> impl Iterator<Item = u64> + use<> {
+        let ages = self.start.elapsed().as_millis() / AGE.as_millis() + 1;
+        0..if self.is_life { ages as u64 * (LIFE_KEYS + 1) } else { HOT_KEYS + COLD_KEYS }
+    }
+
+    fn choose_action(&self, random: &mut Random, key: u64) -> Action {
         let value = || self.values.fetch_add(1, Ordering::Relaxed) + 1;
+        if self.is_life && key.is_multiple_of(LIFE_KEYS + 1) {
+            // (of others what nobody was told of can't be left out, and there is too much of it)
+            return if random.below(2) == 0 { Action::Get(None) } else { Action::Set(value()) };
+        }
         match random.below(20) {
             0..8 => Action::Get(None),
             8..14 => Action::Set(value()),
@@ -159,11 +178,11 @@ impl Work<'_> {
     /// Reads all keys at a replica, in the end, with patience.
     pub fn read_all(&self, replica: usize) -> Notes {
         let mut notes = Notes::default();
-        let start = Instant::now();
+        let mut told_at = Instant::now();
         let mut connection = None;
-        let mut left: Vec<u64> = keys().collect();
+        let mut left: Vec<u64> = self.keys().collect();
         while let Some(key) = left.pop() {
-            if start.elapsed() > Duration::from_secs(60) {
+            if told_at.elapsed() > Duration::from_secs(60) {
                 notes.faults.push(format!("replica {replica} doesn't answer in the end"));
                 return notes;
             }
@@ -172,7 +191,7 @@ impl Work<'_> {
                 None => Told::Nothing,
             };
             match told {
-                Told::Answer(_) => {}
+                Told::Answer(_) => told_at = Instant::now(),
                 Told::Refused => {
                     notes.faults.push(format!(
                         "replica {replica} is full, so its last reads can't be made; make rounds shorter"
