@@ -125,6 +125,15 @@ impl Owner<'_> {
     }
 }
 
+/// Ends the owners' work, also where the test fails.
+struct Ends<'a>(&'a AtomicBool);
+
+impl Drop for Ends<'_> {
+    fn drop(&mut self) {
+        self.0.store(true, Ordering::Relaxed);
+    }
+}
+
 #[test]
 fn no_two_have_a_lock() {
     let Some(node) = real_node() else { return };
@@ -150,6 +159,7 @@ fn no_two_have_a_lock() {
                 })
             })
             .collect();
+        let ends = Ends(&is_over);
         let mut random = Random::from_seed(7);
         while start.elapsed() < time {
             thread::sleep(PAUSE + Duration::from_millis(random.below(1_000)));
@@ -160,7 +170,7 @@ fn no_two_have_a_lock() {
             *stores[replica].lock().unwrap() = Some(places.start(replica, &node));
             kills += 1;
         }
-        is_over.store(true, Ordering::Relaxed);
+        drop(ends);
         owners.into_iter().flat_map(|owner| owner.join().unwrap()).collect()
     });
     let mut by_lock = HashMap::<u64, usize>::new();

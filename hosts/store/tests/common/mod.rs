@@ -16,7 +16,7 @@ pub const SYNCED: &str = "#!/bin/sh\nhead -c 10 >/dev/null; mkdir -p \"$7/1\"; p
      { printf 'EPOP\\3\\3\\0\\0\\0\\1'; head -c 49 /dev/zero; } > \"$7/1/opening\"; \
      printf '\\0\\0\\0\\5\\6\\0\\0\\0\\0\\0\\0\\0\\26\\10\\0\\0\\0\\1'; head -c 17 /dev/zero\n";
 /// How long a test waits, and a store has a client wait: other work may leave them little of the processors.
-const PATIENCE: Duration = Duration::from_secs(120);
+const PATIENCE: Duration = Duration::from_secs(300);
 const STORE_PATIENCE: &str = "60";
 
 /// A node of this script.
