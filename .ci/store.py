@@ -4,6 +4,7 @@ trial of 60 seconds over several generations, with 6 kills and a machine replace
 It is built without optimisation and without what debuggers need: with its tests that takes half of the processor time of a release build alone.
 """
 
+import glob
 import os
 import shutil
 import subprocess
@@ -33,12 +34,17 @@ def is_well(words, **how):
     return not subprocess.run(words, stdin=subprocess.DEVNULL, **how).returncode
 
 
+def has_packages():
+    """Whether the crates of all these packages are there."""
+    return all(glob.glob(f"{REGISTRY}/{it.removeprefix('librust-').removesuffix('-dev')}-[0-9]*") for it in PACKAGES)
+
+
 def source():
     """The words by which cargo takes the crates of Debian's packages, which are installed where they can be; or none."""
-    if not os.path.isdir(f"{REGISTRY}/hmac-0.12.1") and shutil.which("apt-get") and not os.geteuid():
+    if not has_packages() and shutil.which("apt-get") and not os.geteuid():
         for words in (["update", "-qq"], ["install", "-y", "-qq", "--no-install-recommends", *PACKAGES]):
             subprocess.run(["apt-get", *words], stdin=subprocess.DEVNULL, stdout=subprocess.DEVNULL)
-    return ["--config", "debian.toml", "--offline"] if os.path.isdir(f"{REGISTRY}/hmac-0.12.1") else []
+    return ["--config", "debian.toml", "--offline"] if has_packages() else []
 
 
 def python():
