@@ -1,15 +1,17 @@
 -- What the journals of a cluster give.
-use Rattle.std.proofs.Common.{Some, ◌≡◌, ◌≢◌, ◌<◌, ◌≤◌, ◌+◌, ◌⊎◌, inl, inr, ℕ, zero, suc, List, [], ◌∷◌, All, Contains, max, refl, sym, ap, subst, ◌∙◌, arith}
+use Rattle.std.proofs.Common.{Some, ◌≡◌, ◌≢◌, ◌<◌, ◌≤◌, ◌+◌, ◌⊎◌, inl, inr, ℕ, zero, suc, List, [], ◌∷◌, Option, All, Contains, max, refl, sym, ap, subst, ◌∙◌, arith}
 use Rattle.std.proofs.lemmas.Bool.{cases_lt}
 use Rattle.ep_base.specs.Places.{Has}
 use Rattle.ep_base.specs.Quorums.{size}
+use Rattle.ep_base.specs.declared.decree.Decree.{Decree}
+use Rattle.ep_exec.specs.Missing.{IsMissing}
 use Rattle.ep_journal.specs.Entries.{Collected, Log, entries_at, entries_of, journals_of}
 use Rattle.ep_journal.specs.Leaving.{standing}
 use Rattle.ep_journal.specs.Openings.{Opening, opens}
 use Rattle.ep_opening.specs.Files.{File}
 use Rattle.ep_rules.specs.Graph.{Reaches}
 use Rattle.ep_rules.specs.Journals.{AreLocalRuns, AreNumbered, Entry, left, stamp_after}
-use Rattle.ep_rules.specs.States.{fresh_state, graph_in}
+use Rattle.ep_rules.specs.States.{State, fresh_state, graph_in}
 use Rattle.ep_rules.specs.Worlds.{In}
 use Rattle.ep_audit.specs.Verdicts.{left_after}
 use Rattle.ep_audit.specs.declared.verdict.Verdict.{Verdict}
@@ -60,12 +62,26 @@ low_all c n since runs all h r e stands = elim (cases_lt r n) [
 pub left_open : (c : Collected) (me i : ℕ) (v : Verdict) → Accepts c v → Contains (commands_in v.committed.items) i → ¬ Has (state_of c me).executed i → IsLeftOpen c me i
 left_open c me i v accepted command undone = record { verdict = v; accepted = accepted; command = command; undone = undone }
 
-pub waits_for :
-    (c : Collected) (me i j : ℕ) (v : Verdict) (e : MoveFault) → Accepts c v → Contains (commands_in v.committed.items) i → ¬ Has (state_of c me).executed i →
-    Reaches (graph_in (state_of c me).records) i j → ((e ≡ Waits i j) × All (λ row. row.0 ≢ j) v.committed.items) ⊎ (e ≡ Unexecuted i) → IsUnended c me e
-waits_for c me i j v e accepted command undone reaches (inl h) =
-    subst (IsUnended c me) (sym h.0) (left_open c me i v accepted command undone, record { verdict = v; accepted = accepted; reaches = reaches; nowhere = h.1 })
-waits_for c me i j v e accepted command undone reaches (inr h) = subst (IsUnended c me) (sym h) (left_open c me i v accepted command undone)
+waits_for :
+    (c : Collected) (me i j : ℕ) (v : Verdict) (e : MoveFault) → Accepts c v → IsLeftOpen c me i → Reaches (graph_in (state_of c me).records) i j → e ≡ Waits i j →
+    All (λ (row : ℕ × Decree). row.0 ≢ j) v.committed.items → IsUnended c me e
+waits_for c me i j v e accepted left reaches is nowhere = subst (IsUnended c me) (sym is) (left, record { verdict = v; accepted = accepted; reaches = reaches; nowhere = nowhere })
+
+pub why_left :
+    (c : Collected) (me i : ℕ) (v : Verdict) (l : Log) (found : Option ℕ) (e : MoveFault) → Accepts c v → Contains (commands_in v.committed.items) i → ¬ Has (state_of c me).executed i →
+    (standing l).state ≡ state_of c me → IsMissing (graph_in (standing l).state.records) i found →
+    (e ≡ Unexecuted i) ⊎ ((j : ℕ) × (found ≡ Some j) × (e ≡ Waits i j) × All (λ (row : ℕ × Decree). row.0 ≢ j) v.committed.items) → IsUnended c me e
+why_left c me i v l found e accepted command undone same missing (inl h) = subst (IsUnended c me) (sym h) (left_open c me i v accepted command undone)
+why_left c me i v l found e accepted command undone same missing (inr h) =
+    let there : IsMissing (graph_in (standing l).state.records) i (Some h.0) = subst (IsMissing (graph_in (standing l).state.records) i) h.1 missing in
+    let here : IsMissing (graph_in (state_of c me).records) i (Some h.0) = subst (λ (s : State). IsMissing (graph_in s.records) i (Some h.0)) same there in
+    waits_for c me i h.0 v e accepted (left_open c me i v accepted command undone) here.0 h.2 h.3
+
+pub by_found :
+    (i j : ℕ) (v : Verdict) (e : MoveFault) → ((e ≡ Waits i j) × All (λ (row : ℕ × Decree). row.0 ≢ j) v.committed.items) ⊎ (e ≡ Unexecuted i) →
+    (e ≡ Unexecuted i) ⊎ ((k : ℕ) × (Some j ≡ Some k) × (e ≡ Waits i k) × All (λ (row : ℕ × Decree). row.0 ≢ k) v.committed.items)
+by_found i j v e (inl h) = inr (j, refl, h.0, h.1)
+by_found i j v e (inr h) = inl h
 
 -- The file.
 

@@ -15,13 +15,17 @@ use Rattle.ep_moving.specs.declared.move_fault.MoveFault.TheVariants.{Assemble, 
 abbrev pub refused : List ℕ → List ℕ
 refused why = codes "logs refused: " ++ why ++ codes "\n"
 
+-- an entry of a replica
+unfoldable pub place_text : ℕ → ℕ → List ℕ
+place_text r n = (codes "replica " ++ decimal r) ++ (codes " entry " ++ decimal n)
+
 abbrev pub waits_text : ℕ → ℕ → List ℕ
 waits_text i j = instance_text i ++ codes " is committed, and waits for " ++ instance_text j ++ codes ", which no log commits"
 
 -- of logs of these names
 abbrev pub move_line : List (List ℕ) → MoveFault → List ℕ
 move_line names (Assemble fault) = refusal_line names [] fault
-move_line names (NotClocked r n) = refused (codes "replica " ++ decimal r ++ codes " entry " ++ decimal n ++ codes " is not stamped by its clock")
+move_line names (NotClocked r n) = refused (place_text r n ++ codes " is not stamped by its clock")
 move_line names (Audit fault) = refused (fault_text (fault_of fault))
 move_line names (Waits i j) = refused (waits_text i j)
 move_line names (Unexecuted i) = refused (instance_text i ++ codes " is committed, and no stamp is left to execute it")

@@ -1,7 +1,7 @@
 //! The lines that are told of logs, by the names of their files.
 
 ghost use Rattle.std.specs.Prelude.{◌≡◌, ◌++◌, codes, decimal, map, string_bytes, OnOk};
-ghost use Rattle.ep_moving.specs.MovedFiles.{move_line, refused, waits_text};
+ghost use Rattle.ep_moving.specs.MovedFiles.{move_line, place_text, refused, waits_text};
 ghost use Rattle.ep_report.specs.Parts.{instance_text};
 ghost use Rattle.ep_audit.specs.Faults.{fault_of, fault_text};
 
@@ -12,15 +12,29 @@ use ep_base::{InstanceId, ReplicaId};
 use ep_report::{push_instance, push_number};
 use std::alloc::AllocError;
 
-/// Appends why the logs are refused together, in one line.
+/// Appends a name and the number after it.
+fn push_named(name: &[u8], number: u64, out: &mut Vec<u8>) -> Result<(), AllocError>
+    ensures { OnOk result (out.new.items ≡ out.old.items ++ (name.now ++ decimal number)) }
+{
+    out.extend_from_slice(name)?;
+    push_number(out, number)
+}
+
+/// Appends which entry of which replica it is.
+#[tactic(auto, unfolding(crate::specs::MovedFiles::place_text))]
+fn push_place(replica: ReplicaId, entry: u32, out: &mut Vec<u8>) -> Result<(), AllocError>
+    ensures { OnOk result (out.new.items ≡ out.old.items ++ place_text replica entry) }
+{
+    push_named(b"replica ", u64::from(replica.index()), out)?;
+    push_named(b" entry ", u64::from(entry), out)
+}
+
+/// Appends the line of an entry that isn't stamped by its replica's clock.
 fn push_unclocked(replica: ReplicaId, entry: u32, out: &mut Vec<u8>) -> Result<(), AllocError>
-    ensures { OnOk result (out.new.items ≡ out.old.items ++ refused (codes "replica " ++ decimal replica ++ codes " entry " ++ decimal entry ++ codes " is not stamped by its clock")) }
+    ensures { OnOk result (out.new.items ≡ out.old.items ++ refused (place_text replica entry ++ codes " is not stamped by its clock")) }
 {
     out.extend_from_slice(b"logs refused: ")?;
-    out.extend_from_slice(b"replica ")?;
-    push_number(out, u64::from(replica.index()))?;
-    out.extend_from_slice(b" entry ")?;
-    push_number(out, u64::from(entry))?;
+    push_place(replica, entry, out)?;
     out.extend_from_slice(b" is not stamped by its clock")?;
     out.extend_from_slice(b"\n")
 }

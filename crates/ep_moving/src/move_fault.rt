@@ -5,9 +5,9 @@ ghost use Rattle.ep_assemble.specs.declared.assemble_fault.AssembleFault.TheVari
 ghost use Rattle.ep_moving.specs.declared.move_fault.MoveFault.TheVariants.{Assemble as NotAssembled};
 
 use ep_assemble::AssembleFault;
+use ep_audit::AuditFault;
 use ep_base::{InstanceId, ReplicaId};
 use ep_collect::CollectFault;
-use ep_audit::AuditFault;
 use std::alloc::{AllocError, AllocFailed};
 use thiserror::Error;
 

@@ -1,6 +1,6 @@
 //! The opening after all that the journals of a cluster commit.
 
-ghost use Rattle.std.specs.Prelude.{◌≡◌, ◌≢◌, ◌≤◌, ◌<◌, ◌⊎◌, [], Some, All, Contains, IfOk, IfErr};
+ghost use Rattle.std.specs.Prelude.{◌≡◌, ◌≢◌, ◌≤◌, ◌<◌, ◌⊎◌, ℕ, [], Some, All, Contains, IfOk, IfErr};
 ghost use Rattle.ep_base.specs.Places.{Has};
 ghost use Rattle.ep_base.specs.Quorums.{size};
 ghost use Rattle.ep_journal.specs.Entries.{journals_of};
@@ -100,6 +100,16 @@ fn waiting(verdict: &Verdict, instance: InstanceId, other: InstanceId) -> MoveFa
     }
 }
 
+/// Why a command isn't executed, by what it was found to wait for.
+fn fault_by(verdict: &Verdict, instance: InstanceId, found: Option<InstanceId>) -> MoveFault
+    ensures { (result ≡ Unexecuted instance) ⊎ ((j : ℕ) × (found ≡ Some j) × (result ≡ Waits instance j) × All (λ e. e.0 ≢ j) verdict.now.committed.items) }
+{
+    match found {
+        Some(other) => waiting(verdict, instance, other),
+        None => MoveFault::Unexecuted(instance),
+    }
+}
+
 /// Why a command that is committed isn't executed.
 fn why_undone(
     alloc: Global,
@@ -115,8 +125,7 @@ fn why_undone(
     ensures { IsUnended journals.now me result }
 {
     match journal_of(journals, me).missing(alloc, instance) {
-        Ok(Some(other)) => waiting(verdict, instance, other),
-        Ok(None) => MoveFault::Unexecuted(instance),
+        Ok(found) => fault_by(verdict, instance, found),
         Err(_) => MoveFault::from(AllocError),
     }
 }
