@@ -50,10 +50,10 @@ low_next c n since last h is r lt = elim (cases_lt r n) [
 pub low_all : (c : Collected) (n since : ℕ) → AreLocalRuns (opens c.opening) c.faults (journals_of c) → size c.faults ≤ n → AreLow c n since → IsLate c since
 low_all c n since runs all h r e stands = elim (cases_lt r n) [
   | inl less ↦ (
-    let low : stamp_after c.opening.since (journals_of c r) ≤ since = h r less in
-    let own : e.stamp ≤ stamp_after c.opening.since (journals_of c r) = stamp_reached 1 0 c.opening.since (journals_of c r) e (runs.local r).0 stands in
-    omega arith
-  )
+      let low : stamp_after c.opening.since (journals_of c r) ≤ since = h r less in
+      let own : e.stamp ≤ stamp_after c.opening.since (journals_of c r) = stamp_reached 1 0 c.opening.since (journals_of c r) e (runs.local r).0 stands in
+      omega arith
+      )
   | inr ge ↦ absurd (subst (In e) (runs.others r (omega arith)) stands)
 ]
 
