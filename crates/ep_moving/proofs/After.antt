@@ -78,10 +78,10 @@ why_left c me i v l found e accepted command undone same missing (inr h) =
     waits_for c me i h.0 v e accepted (left_open c me i v accepted command undone) here.0 h.2 h.3
 
 pub by_found :
-    (i j : ℕ) (v : Verdict) (e : MoveFault) → ((e ≡ Waits i j) × All (λ (row : ℕ × Decree). row.0 ≢ j) v.committed.items) ⊎ (e ≡ Unexecuted i) →
-    (e ≡ Unexecuted i) ⊎ ((k : ℕ) × (Some j ≡ Some k) × (e ≡ Waits i k) × All (λ (row : ℕ × Decree). row.0 ≢ k) v.committed.items)
-by_found i j v e (inl h) = inr (j, refl, h.0, h.1)
-by_found i j v e (inr h) = inl h
+    (i j : ℕ) (found : Option ℕ) (v : Verdict) (e : MoveFault) → found ≡ Some j → ((e ≡ Waits i j) × All (λ (row : ℕ × Decree). row.0 ≢ j) v.committed.items) ⊎ (e ≡ Unexecuted i) →
+    (e ≡ Unexecuted i) ⊎ ((k : ℕ) × (found ≡ Some k) × (e ≡ Waits i k) × All (λ (row : ℕ × Decree). row.0 ≢ k) v.committed.items)
+by_found i j found v e is (inl h) = inr (j, is, h.0, h.1)
+by_found i j found v e is (inr h) = inl h
 
 -- The file.
 
