@@ -25,6 +25,7 @@ import disks
 import generations
 import lanes
 import launcher
+import moved
 import page
 import rows
 import store
@@ -169,6 +170,12 @@ def refused_memory():
                 file.write(it.bundle())
         for chain in (names, names[::-1]):
             yield swept("refused-memory", ["ep_main", "--", "audit", "--chain", *chain], b"")
+        print("logs of version 2 whose opening is made, and logs that are refused, with each allocation refused:", flush=True)
+        for name, it in (("both", moved.Apart(True)), ("waits", moved.Apart(False))):
+            for log, held in moved.kept(it).items():
+                with open(f"{folder}/{name}-{log}", "wb") as file:
+                    file.write(held)
+            yield swept("refused-memory", ["ep_server", MOST, "--", "upgrade", "--log", *(f"{folder}/{name}-{log}" for log in moved.kept(it))], b"")
 
 
 def refused_starts():

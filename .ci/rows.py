@@ -14,7 +14,7 @@ PROGRAM is ep_main as it was built; what begins with `node`, `collect` or `conte
 `draw` or `trace-events`, and traces, by ep_viewer, which were built as it was. Runs of `epaxos node`, and of `collect` on its logs, are in .ci/nodes.py.
 More rows are made of the scripts and reports in examples/ and .ci/scripts/ (NAME.script is played, NAME.run is run
 by both hosts, and where there is a NAME.trace or a NAME.svg, NAME.script is traced
-or drawn), and by .ci/made.py, .ci/words.py, .ci/cases.py, .ci/odd.py, .ci/faults.py, .ci/generations.py, .ci/collected.py and .ci/looks.py. What .ci/drawn.py draws by
+or drawn), and by .ci/made.py, .ci/words.py, .ci/cases.py, .ci/odd.py, .ci/faults.py, .ci/generations.py, .ci/collected.py, .ci/moved.py and .ci/looks.py. What .ci/drawn.py draws by
 chance is looked at too.
 """
 
@@ -40,6 +40,8 @@ def program_of(program, words):
     own = {"node": "ep_server", "collect": "ep_server", "contents": "ep_server", "show": "ep_viewer", "explain": "ep_viewer", "draw": "ep_viewer", "trace-events": "ep_viewer"}
     if words[:1] == ["replay"] and ("--emit=trace" in words or ["--emit", "trace"] in [words[at : at + 2] for at in range(len(words))]):
         return program.replace("ep_main", "ep_viewer")
+    if words[:1] == ["upgrade"] and "--log" in words:
+        return program.replace("ep_main", "ep_server")
     return program.replace("ep_main", own.get(words[0], "ep_main") if words else "ep_main")
 
 
@@ -220,11 +222,12 @@ def every():
     import generations
     import looks
     import made
+    import moved
     import odd
     import words
 
     yield from stored()
-    yield from (Row(**it) for it in (*words.every(), *cases.every(), *odd.every(), *faults.every(), *generations.every(), *collected.every(), *looks.every()))
+    yield from (Row(**it) for it in (*words.every(), *cases.every(), *odd.every(), *faults.every(), *generations.every(), *collected.every(), *moved.every(), *looks.every()))
     yield from written()
     for name, script, report in (*made.every(), *cases.played(), *generations.played()):
         yield from played(name, script, report)

@@ -13,6 +13,8 @@ import sys
 TOP = os.path.dirname(os.path.dirname(os.path.realpath(__file__)))
 HELP = f"{TOP}/tools/help"
 REFUSED = 2
+# The text of `epaxos upgrade --log --help`, which is another program's than that of `epaxos upgrade --help`.
+OF_LOGS = "upgrade-log"
 # The words that `./epaxos` itself takes in place of a command.
 OWN = ("--build", "--quiet", "--help", "--version")
 MORE = "\nFor more information, try '--help'.\n"
@@ -35,7 +37,14 @@ def program_of(words):
     every = commands()
     if words[:1] == ["replay"] and not {*emitted(words)} <= {"report", "bundle"}:
         return every["show"]
+    if name_of(words) == OF_LOGS:
+        return every["node"]
     return every.get(words[0]) if words else None
+
+
+def name_of(words):
+    """The name of the help that these words have."""
+    return OF_LOGS if words[:1] == ["upgrade"] and "--log" in words else words[0] if words else ""
 
 
 def emitted(words):
@@ -64,7 +73,7 @@ class Command:
     """A command as its help tells it: its options, those that can't be left out, and whether it takes other words."""
 
     def __init__(self, name):
-        self.name, text = name, help_of(name)
+        self.name, text = "upgrade" if name == OF_LOGS else name, help_of(name)
         usage = re.search(r"^Usage: (.*)$", text, re.M)[1]
         found = re.findall(r"^  (?:    |-\w, )--([\w-]+)(?: <([^>]+)>)?(?:\.\.\.)?(?:  .*)?$", text, re.M)
         self.options = {option: Option(option, value) for option, value in found}
@@ -211,7 +220,7 @@ def refusal(words):
     try:
         if not words or words[0] not in commands():
             raise Refused(of_top(words))
-        check(words[0], *Command(words[0]).read(words[1:]))
+        check(words[0], *Command(name_of(words)).read(words[1:]))
     except Refused as why:
         return f"command line refused\nerror: {why}{MORE}"
     return ""

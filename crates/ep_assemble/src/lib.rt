@@ -36,5 +36,6 @@ pub use generation_fault::GenerationFault;
 pub use generation_files::{collect_generation, read_opened_logs};
 pub use generation_lines::{push_named, push_opening_line};
 pub use generation_names::GenerationNames;
-pub use lines::{push_end, push_log_line};
+pub use lines::{push_end, push_log_line, push_refusal, push_torn};
+pub use logs::{Logs, read_logs};
 pub use opened_log::OpenedLog;

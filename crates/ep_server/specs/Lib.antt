@@ -4,3 +4,4 @@ pub mod Faults
 pub mod Outputs
 pub mod Served
 pub mod Shown
+pub mod Upgraded

@@ -16,6 +16,8 @@ pub enum Asked {
     Collect(Names),
     /// To make the bundle of a generation, of folders and receipts.
     CollectGeneration(GenerationAsked),
+    /// To make the opening of generation 2 of these logs.
+    Upgrade(Vec<String>),
     /// The map of the newest generation in this folder, in words.
     Contents(String),
     /// The program's name and its version.

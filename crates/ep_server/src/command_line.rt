@@ -75,6 +75,26 @@ Exit status:
   3  memory was refused
   4  a file could not be opened or read, or writing failed";
 
+/// What the help of `upgrade` says at its end.
+const AFTER_UPGRADE: &str = "\
+Each LOG is the log of one replica of a cluster of version 2, as `epaxos node --log` keeps it, of all its replicas, in any order; the
+cluster has stopped. Standard output is the opening of generation 2 (docs/FORMATS.md, section 12) of as many replicas: its map after all
+that any of the logs commits. A command that is committed is executed where no replica has done it yet. A log whose end is torn is taken
+up to it, which standard error says. The logs are not changed. Standard input is not read.
+
+The file is the first opening of each replica's folder. Once a replica has taken it, the old cluster must not be started again.
+
+Example:
+  epaxos upgrade --log zero.log one.log two.log > 2.opening
+  epaxos node --replicas 3 --replica 0 --dir zero --take 2.opening
+
+Exit status:
+  0  the opening is written
+  2  the command line or a log is refused, the logs aren't one for each replica of one cluster or don't fit together, or a command
+     that is committed waits for one that no log commits; standard error says why
+  3  memory was refused
+  4  a file could not be opened or read, or writing failed";
+
 /// What the words ask for, of which the first is the program's own name. `Words` where they are none that the program knows.
 pub(crate) fn read_words<T: AsStr>(alloc: Global, words: &[T]) -> Result<Asked, Declined> {
     let command = program(alloc)?;
@@ -230,6 +250,17 @@ fn contents_by(alloc: Global, matches: &ArgMatches<'_>) -> Result<Asked, Decline
             alloc,
             options.get_str("FOLDER").unwrap_or(""),
         )?)),
+        None => upgrade_by(alloc, matches),
+    }
+}
+
+/// The logs that an opening is to be made of.
+fn upgrade_by(alloc: Global, matches: &ArgMatches<'_>) -> Result<Asked, Declined> {
+    match matches.subcommand_matches("upgrade") {
+        Some(options) if options.get_flag("log") => {
+            Ok(Asked::Upgrade(texts_of(alloc, options, "LOG")?))
+        }
+        Some(_) => Err(declined(alloc, "'--log' is missing")),
         None => Err(Declined::Words(String::new(alloc))),
     }
 }
@@ -345,6 +376,7 @@ fn program<'a>(alloc: Global) -> Result<Command<'a>, AllocError> {
     let node = node_command(alloc)?;
     let collect = collect_command(alloc)?;
     let contents = contents_command(alloc)?;
+    let upgrade = upgrade_command(alloc)?;
     let command = Command::new(alloc, "epaxos")
         .about("A replicated key-value core without a leader")
         .version("0.1.0")
@@ -352,7 +384,8 @@ fn program<'a>(alloc: Global) -> Result<Command<'a>, AllocError> {
     command
         .subcommand(node)?
         .subcommand(collect)?
-        .subcommand(contents)
+        .subcommand(contents)?
+        .subcommand(upgrade)
 }
 
 fn collect_command<'a>(alloc: Global) -> Result<Command<'a>, AllocError> {
@@ -374,6 +407,21 @@ fn collect_command<'a>(alloc: Global) -> Result<Command<'a>, AllocError> {
         .about("Makes the bundle of the logs of a cluster's replicas, and of receipts")
         .after_help(AFTER_COLLECT);
     command.arg(receipts)?.arg(generation)?.arg(logs)
+}
+
+fn upgrade_command<'a>(alloc: Global) -> Result<Command<'a>, AllocError> {
+    let log = Arg::new(alloc, "log")
+        .long("log")
+        .help("Reads logs, and not a bundle on standard input")
+        .action(ArgAction::SetTrue);
+    let logs = Arg::new(alloc, "LOG")
+        .required(true)
+        .help("The log of a replica")
+        .action(ArgAction::Append);
+    let command = Command::new(alloc, "upgrade")
+        .about("Makes the opening of generation 2 of the logs of a cluster of version 2")
+        .after_help(AFTER_UPGRADE);
+    command.arg(log)?.arg(logs)
 }
 
 fn contents_command<'a>(alloc: Global) -> Result<Command<'a>, AllocError> {

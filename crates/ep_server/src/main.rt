@@ -1,12 +1,13 @@
 //! `epaxos node`: a replica with its log in a file, which serves requests on standard input. `epaxos collect`: the bundle of
-//! logs and receipts.
+//! logs and receipts. `epaxos contents`: the map of a folder. `epaxos upgrade --log`: the opening that the logs of version 2 give.
 //!
 //! `main` hands the words to `read_words`, in `command_line.rt`. For a node of version 2 it opens the log, and hands it and the standard
 //! streams to `serve_log`, in `program.rt`, which is all of the node: over any device, source and sinks, so that its contract can
 //! say what the bytes and the status mean. It does no more than call `Node::opened` and `ep_serve`'s `serve`. `serve_folder`, in
 //! `in_folder.rt`, does the same in the folder of a replica that lives through generations: `staging.rt` says which generation is opened,
 //! by `ep_folder`'s plan, and a generation that is closed is gone on from at once. `collect_named`, in
-//! `collecting.rt`, is the same for `epaxos collect`, of the bytes that the files gave: it calls `ep_assemble`'s `collect_files`.
+//! `collecting.rt`, is the same for `epaxos collect`, of the bytes that the files gave: it calls `ep_assemble`'s `collect_files`; and so is
+//! `upgrade_named`, in `upgrading.rt`, which calls `ep_moving`'s `upgrade_files`.
 //!
 //! Start with `program.rt` and specs/Served.antt, `collecting.rt` and specs/Collected.antt. A fault has one line on the fault
 //! output and one status (`fault.rt`, `telling.rt`, `status.rt`), as docs/FORMATS.md, sections 6.1 and 10, list them.
@@ -35,6 +36,7 @@ mod stage;
 mod staging;
 mod status;
 mod telling;
+mod upgrading;
 
 use crate::ahead::read_ahead;
 use crate::asked::Asked;
@@ -50,6 +52,7 @@ use crate::in_folder::serve_folder;
 use crate::options::Options;
 use crate::program::{decline, serve_log};
 use crate::status::Status;
+use crate::upgrading::upgrade_named;
 use ep_base::{Noted, Sink};
 use ep_device::{Cause, FileDevice};
 use ep_folder::lock_folder;
@@ -83,6 +86,7 @@ fn run<R: Env + AllocGlobal + Files<File = File>, I: Read + Drop, W: Sink, F: Si
         Asked::Folder(options) => run_folder(rt, &options, input, writer, fault_writer),
         Asked::Collect(names) => Ok(collect_named(rt, &names, writer, fault_writer)),
         Asked::CollectGeneration(asked) => collect_folders(rt, asked, writer, fault_writer),
+        Asked::Upgrade(logs) => Ok(upgrade_named(rt, &logs, writer, fault_writer)),
         Asked::Contents(folder) => show_contents(rt, folder.as_str(), writer, fault_writer),
         Asked::Version => show("epaxos 0.1.0\n", writer),
         Asked::Help(text) => show(text.as_str(), writer),

@@ -1,0 +1,4 @@
+mod After
+mod FromLogs
+mod Going
+mod Listings

@@ -1,0 +1,4 @@
+pub mod Ended
+pub mod Moved
+pub mod MovedFiles
+pub mod Settled
