@@ -21,7 +21,16 @@ pub fn run(options: &Options, cluster: &Cluster, seed: u64) -> Result<Count, Str
     let mut weather = Troubles { random: Random::from_seed(seed.rotate_left(32)), ..kills };
     thread::scope(|scope| {
         let weather = scope.spawn(move || weather.weather());
+        // (a third of the time with two more)
+        let resized = scope.spawn(move || {
+            if !options.resize {
+                return Ok(());
+            }
+            thread::sleep(options.time / 3);
+            cluster.resize(options.time / 3)
+        });
         let killed = kills.kills(options.kills, options.replaced);
+        resized.join().map_err(|_| "the resize failed")??;
         let (cuts, pauses) = weather.join().map_err(|_| "the weather failed")?;
         killed.map(|kills| Count { kills, replaced: options.replaced, cuts, pauses })
     })
