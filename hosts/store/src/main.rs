@@ -75,7 +75,8 @@ fn main() -> ExitCode {
 /// Begins the program anew, with its words, in this process. What it tells is why that can't be.
 fn begin_anew() -> io::Error {
     match std::env::current_exe() {
-        Ok(program) => Command::new(program).args(std::env::args_os().skip(1)).exec(),
+        // (what was begun isn't begun once more)
+        Ok(program) => Command::new(program).args(std::env::args_os().skip(1).filter(|word| word != "--new")).exec(),
         Err(error) => error,
     }
 }
