@@ -292,7 +292,8 @@ fn expire(name: &'static str, words: Words, unit: Unit, is_relative: bool) -> Re
 /// What this store alone knows: locks, and what somebody who runs it asks for.
 fn epaxos(mut words: Words) -> Result<Asked, CommandFault> {
     let sub = words.remove(0).to_ascii_lowercase();
-    let until = |name, time| coming(name, time, Unit::Milliseconds, true);
+    // (the millisecond that has begun doesn't count: nobody has a lock for less long than it asked for)
+    let until = |name, time| coming(name, time, Unit::Milliseconds, true).map(|deadline| deadline + 1);
     let (key, action) = match (sub.as_slice(), words.as_slice()) {
         (b"lock", [key, owner, time]) => {
             (key, Action::Lock { owner: named(owner)?, deadline: until("epaxos|lock", time)? })
