@@ -312,12 +312,7 @@ impl Session {
         lines + &self.shared.about_clients()
     }
 
-    /// Begins a command, once there is room: its number.
-    fn begin(&mut self, combine: Combine, parts: Vec<Part>) -> Result<u64, Over> {
-        self.begin_for(combine, parts, self.shared.patience, None)
-    }
-
-    /// Likewise, with another patience, and with what its bytes take.
+    /// Begins a command, once there is room, with what its bytes take: its number.
     fn begin_for(
         &mut self,
         combine: Combine,
@@ -329,7 +324,8 @@ impl Session {
         let command = self.commands;
         self.commands += 1;
         let begun = Instant::now();
-        let slot = Slot { combine, parts, version: self.version, begun, deadline: begun + patience, share };
+        let is_counted = !parts.iter().all(|part| matches!(part, Part::Come(_)));
+        let slot = Slot { combine, parts, version: self.version, begun, deadline: begun + patience, share, is_counted };
         self.messages.send(Message::Begun(slot)).map_err(|_| Over)?;
         Ok(command)
     }
@@ -338,8 +334,11 @@ impl Session {
         ReplyTo { messages: self.messages.clone(), command, part }
     }
 
+    /// Answers at once. What can't wait to be written isn't told.
     fn answer(&mut self, reply: Reply) -> Result<(), Over> {
-        self.begin(Combine::One, vec![Part::Come(reply)]).map(|_| ())
+        let share = self.shared.memory.share(OVERHEAD + reply.size());
+        let reply = if share.is_some() { reply } else { Reply::Error(CommandFault::NoMemory) };
+        self.begin_for(Combine::One, vec![Part::Come(reply)], self.shared.patience, share).map(|_| ())
     }
 
     fn fail(&mut self, fault: CommandFault) -> Result<(), Over> {

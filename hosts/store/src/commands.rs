@@ -292,7 +292,8 @@ fn expire(name: &'static str, words: Words, unit: Unit, is_relative: bool) -> Re
 /// What this store alone knows: locks, and what somebody who runs it asks for.
 fn epaxos(mut words: Words) -> Result<Asked, CommandFault> {
     let sub = words.remove(0).to_ascii_lowercase();
-    let until = |name, time| coming(name, time, Unit::Milliseconds, true);
+    // (the millisecond that has begun doesn't count: nobody has a lock for less long than it asked for)
+    let until = |name, time| coming(name, time, Unit::Milliseconds, true).map(|deadline| deadline + 1);
     let (key, action) = match (sub.as_slice(), words.as_slice()) {
         (b"lock", [key, owner, time]) => {
             (key, Action::Lock { owner: named(owner)?, deadline: until("epaxos|lock", time)? })
@@ -308,7 +309,8 @@ fn epaxos(mut words: Words) -> Result<Asked, CommandFault> {
         (b"replace", [replica, identity, address]) => {
             return Ok(Asked::Manage(replace(replica, identity, Some(address))?));
         }
-        (b"lock" | b"renew" | b"unlock" | b"holder" | b"seal" | b"members" | b"replace", _) => {
+        (b"resize", [size, new @ ..]) if new.len() % 3 == 0 => return Ok(Asked::Manage(resize(size, new)?)),
+        (b"lock" | b"renew" | b"unlock" | b"holder" | b"seal" | b"members" | b"replace" | b"resize", _) => {
             return Err(CommandFault::WrongCount(format!("epaxos|{}", printable(&sub))));
         }
         _ => return Err(CommandFault::UnknownSubcommand("EPAXOS", printable(&sub))),
@@ -324,6 +326,16 @@ fn replace(replica: &[u8], digits: &[u8], address: Option<&Vec<u8>>) -> Result<M
     let identity = std::str::from_utf8(digits).ok().and_then(identity).ok_or(CommandFault::Identity)?;
     let address = address.map(|address| String::from_utf8(address.clone()).map_err(|_| CommandFault::Syntax));
     Ok(Manage::Replace { replica, identity, address: address.transpose()? })
+}
+
+/// Each new replica by its number, its identity and its address.
+fn resize(size: &[u8], new: &[Vec<u8>]) -> Result<Manage, CommandFault> {
+    let size = u8::try_from(number(size)?).map_err(|_| CommandFault::NotAnInteger)?;
+    let one = |words: &[Vec<u8>]| match replace(&words[0], &words[1], words.get(2))? {
+        Manage::Replace { replica, identity, address: Some(address) } => Ok((replica, identity, address)),
+        _ => Err(CommandFault::Syntax),
+    };
+    Ok(Manage::Resize { size, new: new.chunks(3).map(one).collect::<Result<_, _>>()? })
 }
 
 fn named(owner: &[u8]) -> Result<Vec<u8>, CommandFault> {

@@ -258,6 +258,25 @@ impl Directory {
         Ok(())
     }
 
+    /// The newest generation that has an opening.
+    pub fn newest(&self) -> Option<u32> {
+        self.generations_with("opening").pop()
+    }
+
+    /// Takes back that the node has opened its newest generation, of which nobody was told: it was for another number of replicas than
+    /// the seal wants. The marks go first, or what is left of the generation would be missed.
+    pub fn take_back(&self, generation: u32) -> Result<(), DirectoryFault> {
+        let failed = |path: PathBuf| move |error| DirectoryFault::Unusable(path, error);
+        for left in self.generations_with("left") {
+            let folder = self.generations().join(left.to_string());
+            let removed = fs::remove_file(folder.join("left")).and_then(|()| File::open(&folder)?.sync_all());
+            removed.map_err(failed(folder))?;
+        }
+        let folder = self.generations().join(generation.to_string());
+        let removed = fs::remove_dir_all(&folder).and_then(|()| File::open(self.generations())?.sync_all());
+        removed.map_err(failed(folder))
+    }
+
     /// Drops what isn't needed of generations that were left: all but the last `kept` ones, whose marks go last.
     pub fn drop_left(&self, kept: usize) {
         let left = self.generations_with("left");
@@ -381,8 +400,11 @@ mod tests {
         assert_eq!(directory.generations_with("opening"), [2, 3, 4]);
         assert!(!directory.receipts(1).exists() && directory.receipts(2).exists());
         assert!(!directory.generations().join("1").exists());
+        directory.take_back(4).unwrap();
+        assert_eq!((directory.newest(), directory.generations_with("left")), (Some(3), vec![]));
+        fs::write(directory.generations().join("2/left"), "3").unwrap();
         directory.drop_left(0);
-        assert_eq!(directory.generations_with("opening"), [4]);
+        assert_eq!(directory.generations_with("opening"), [3]);
         fs::remove_dir_all(path).unwrap();
     }
 }

@@ -71,6 +71,8 @@ pub enum Manage {
     /// From the next generation on the replica is who has this identity, at this address of the peers' port; without one where
     /// `--peers` says.
     Replace { replica: u8, identity: Identity, address: Option<String> },
+    /// From the next generation on there are so many replicas. Each new one by its number, its identity and its address.
+    Resize { size: u8, new: Vec<(u8, Identity, String)> },
 }
 
 /// What a client is told.
@@ -112,6 +114,10 @@ pub enum Stop {
         seen: u32,
         entries: u32,
     },
+    /// From this generation on there are so many replicas: the store has to begin anew, for as many.
+    Resized(u32, u8),
+    /// From this generation on this replica takes part no more.
+    Left(u32),
     /// Another one has this replica's number, by the seal that began this generation.
     Replaced(u32),
     /// It was told to end.
@@ -125,7 +131,7 @@ impl Stop {
     pub fn is_lasting(&self) -> bool {
         match self {
             Stop::Node(fault) => fault.is_lasting(),
-            Stop::Forgotten { .. } | Stop::Replaced(_) => true,
+            Stop::Forgotten { .. } | Stop::Replaced(_) | Stop::Left(_) => true,
             _ => false,
         }
     }
@@ -142,6 +148,10 @@ impl std::fmt::Display for Stop {
                 "replica {peer} has seen entry {seen} of this one in generation {generation}, and here are {entries} entries: the folder is \
                  an older copy. This replica must not come back with it: it has forgotten what it promised"
             ),
+            Stop::Resized(generation, size) => {
+                write!(f, "from generation {generation} on there are {size} replicas: it begins anew")
+            }
+            Stop::Left(generation) => write!(f, "from generation {generation} on this replica takes part no more"),
             Stop::Replaced(generation) => write!(
                 f,
                 "from generation {generation} on another machine has this replica's number: this one must not come back"
@@ -220,7 +230,9 @@ pub struct Waiting {
 pub struct Wish {
     /// In which generation it was asked.
     pub generation: u32,
-    pub change: Option<(u8, Member)>,
+    /// How many replicas are wanted, where that was asked.
+    pub size: Option<u8>,
+    pub changes: Vec<(u8, Member)>,
     pub reply: Teller,
 }
 

@@ -47,7 +47,7 @@ impl Memory {
     fn write_opening(&self) {
         let folder = self.generations.join(self.state.generation.to_string());
         fs::create_dir_all(&folder).unwrap();
-        let mut bytes = b"EPOP\x03\x03".to_vec();
+        let mut bytes = b"EPOP\x03\x01".to_vec();
         bytes.extend(self.state.generation.to_be_bytes());
         bytes.extend(self.state.stamp.to_be_bytes());
         match &self.seal {
@@ -352,5 +352,30 @@ fn a_full_generation_is_waited_for_and_an_end_is_told() {
     ask(&sender, &told, 4, put(4));
     assert!(matches!(driver.turn(), Err(Stop::Asked)));
     assert!(matches!(answers.try_recv(), Ok((4, Told::Late))));
+    fs::remove_dir_all(&folder).unwrap();
+}
+
+#[test]
+fn another_number_of_replicas_is_for_a_new_beginning() {
+    let (mut driver, sender, folder) = driver("resize");
+    let (told, answers) = channel();
+    let manage = |manage: Manage| {
+        let told = told.clone();
+        let reply = Teller::new(move |it| _ = told.send(it));
+        assert!(sender.send(Event::Ask(Ask { what: What::Manage(manage), reply })).is_ok());
+    };
+    let new = |numbers: &[u8]| numbers.iter().map(|it| (*it, [*it; 16], format!("a:{it}"))).collect();
+    for (size, new) in [(2, new(&[1])), (1, new(&[])), (3, new(&[1])), (3, new(&[1, 3])), (3, new(&[0, 1, 2]))] {
+        manage(Manage::Resize { size, new });
+        driver.turn().unwrap();
+        assert!(matches!(answers.try_recv(), Ok(Told::Managed(Err(_)))));
+    }
+    manage(Manage::Resize { size: 3, new: new(&[1, 2]) });
+    assert!(matches!(driver.turn(), Err(Stop::Resized(2, 3))));
+    assert!(matches!(answers.try_recv(), Ok(Told::Managed(Ok(text))) if text == "generation 2, of 3 replicas"));
+    let opening = crate::opening::Opening::read(&driver.directory.opening(2)).unwrap();
+    let members = opening.members().unwrap().0;
+    assert_eq!((opening.replicas, opening.wanted(), members.len()), (1, 3, 3));
+    assert_eq!(members[2], Member { identity: Some([2; 16]), address: Some("a:2".into()) });
     fs::remove_dir_all(&folder).unwrap();
 }

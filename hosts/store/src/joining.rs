@@ -2,7 +2,6 @@
 use crate::directory::Directory;
 use crate::driver::{Ask, Event, Stop, Told, What};
 use crate::identities::digits;
-use crate::members::Members;
 use crate::messages::Message;
 use crate::node::Begin;
 use crate::opening::Opening;
@@ -28,7 +27,7 @@ impl Joining<'_> {
     pub fn wait(&self) -> Result<Begin, Stop> {
         let who = digits(&self.membership.identities.own());
         let replica = self.membership.place.replica;
-        say(&format!("it waits to be let in, by EPAXOS REPLACE {replica} {who} at another replica"));
+        say(&format!("it waits to be let in, by EPAXOS REPLACE {replica} {who} at another replica, or EPAXOS RESIZE"));
         // The last generation that was looked at and doesn't name this machine.
         let mut looked = 0;
         let mut fetch: Option<Fetch> = None;
@@ -89,8 +88,8 @@ impl Joining<'_> {
 
     /// Whether the seal that began the generation of this file names this machine.
     fn is_named(&self, path: &Path) -> bool {
-        let seal = Opening::read(path).ok().and_then(|opening| opening.seal);
-        let members = seal.as_deref().and_then(Members::read);
+        let Ok(opening) = Opening::read(path) else { return false };
+        let members = opening.members().filter(|_| usize::from(opening.replicas) == self.membership.place.replicas);
         let own = members.and_then(|members| members.0.get(usize::from(self.membership.place.replica)).cloned());
         own.is_some_and(|member| member.identity == Some(self.membership.identities.own()))
     }

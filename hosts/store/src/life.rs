@@ -1,7 +1,7 @@
 //! How a driver goes from generation to generation: seals, openings, and who takes part.
 use crate::driver::{Driver, Held, Manage, Stop, Told, Waiting, Wish};
 use crate::generation::{Generation, Stage};
-use crate::identities::digits;
+use crate::identities::{Identity, digits};
 use crate::members::{Member, Members};
 use crate::messages::Message;
 use crate::node::{Begin, Core, NodeFault};
@@ -14,7 +14,7 @@ use crate::receipts::Receipts;
 use crate::say::say;
 use crate::teller::Teller;
 use crate::timers::Timers;
-use std::collections::HashMap;
+use std::collections::{BTreeSet, HashMap};
 use std::fmt::Write;
 use std::sync::Mutex;
 use std::time::{Duration, Instant};
@@ -198,7 +198,14 @@ impl<C: Core> Driver<C> {
             return Ok(());
         }
         match self.taken.take() {
-            Some((generation, path)) if generation > self.generation.number => self.change(&Begin::Take(path)),
+            Some((generation, path)) if generation > self.generation.number => {
+                let opening = Opening::read(&path).map_err(|error| Stop::File(path.clone(), error))?;
+                if usize::from(opening.replicas) != self.place.replicas {
+                    // (it is taken by the next start)
+                    return Err(Stop::Resized(generation, opening.replicas));
+                }
+                self.change(&Begin::Take(path))
+            }
             _ => self.catch_up(now),
         }
     }
@@ -257,6 +264,11 @@ impl<C: Core> Driver<C> {
             let _ = std::fs::remove_file(path);
         }
         let opening = self.opening(state.generation)?;
+        let waiting = std::mem::take(&mut self.waiting);
+        settle(waiting, &opening, before);
+        if opening.wanted() != opening.replicas {
+            return Err(self.resize(&opening));
+        }
         let path = self.directory.receipts(state.generation);
         self.receipts = Receipts::open(&path).map_err(|error| Stop::File(path, error))?;
         let now = Instant::now();
@@ -265,13 +277,26 @@ impl<C: Core> Driver<C> {
         self.generation = Generation::new(state, now - start, now);
         self.others.begin();
         (self.fetch, self.taken, self.behind_since, self.is_unexecuted) = (None, None, None, true);
-        let waiting = std::mem::take(&mut self.waiting);
-        settle(waiting, &opening, before);
         self.meet(&opening)?;
         self.directory.drop_left(self.kept);
         self.greet_all();
         self.fulfil();
         Ok(())
+    }
+
+    /// The generation is to be for another number of replicas than it was opened for just now: nobody was told of it yet.
+    fn resize(&mut self, opening: &Opening) -> Stop {
+        let (generation, size) = (opening.generation, opening.wanted());
+        self.held.drain(..).for_each(|held| held.reply.send(Told::Late));
+        for wish in std::mem::take(&mut self.wishes) {
+            let told = if wish.size.is_none_or(|wanted| wanted == size) {
+                Ok(format!("generation {generation}, of {size} replicas"))
+            } else {
+                Err("others asked for something else".into())
+            };
+            wish.reply.send(Told::Managed(told));
+        }
+        Stop::Resized(generation, size)
     }
 
     fn opening(&self, generation: u32) -> Result<Opening, Stop> {
@@ -286,7 +311,7 @@ impl<C: Core> Driver<C> {
 
     /// Takes those for members whom the seal that began the generation names.
     fn meet(&mut self, opening: &Opening) -> Result<(), Stop> {
-        let Some(members) = opening.seal.as_deref().and_then(Members::read) else { return Ok(()) };
+        let Some(members) = opening.members() else { return Ok(()) };
         for (replica, member) in members.0.iter().take(self.place.replicas).enumerate() {
             let replica = replica as u8;
             if replica == self.place.replica {
@@ -314,20 +339,39 @@ impl<C: Core> Driver<C> {
     pub(crate) fn next_members(&self) -> Members {
         let mut members = self.members.clone();
         members.0.resize(self.place.replicas, Member::default());
+        let size = self.wishes.iter().rev().find_map(|wish| wish.size);
         for (replica, member) in members.0.iter_mut().enumerate() {
             member.identity = self.membership.identities.of(replica as u8);
         }
-        for (replica, member) in self.wishes.iter().filter_map(|wish| wish.change.clone()) {
-            members.0[usize::from(replica)] = member;
+        members.0.resize(size.map_or(self.place.replicas, usize::from), Member::default());
+        for (replica, member) in self.wishes.iter().flat_map(|wish| wish.changes.clone()) {
+            if let Some(place) = members.0.get_mut(usize::from(replica)) {
+                *place = member;
+            }
         }
         members
     }
 
     /// Takes what somebody who runs the store asks for.
     pub(crate) fn manage(&mut self, manage: Manage, reply: Teller) {
-        let change = match manage {
+        let mut size = None;
+        let changes = match manage {
             Manage::Members => return reply.send(Told::Managed(Ok(self.list_members()))),
-            Manage::Seal => None,
+            Manage::Seal => Vec::new(),
+            Manage::Resize { size: wanted, new } => {
+                let now = self.place.replicas as u8;
+                let numbers: BTreeSet<u8> = new.iter().map(|(replica, ..)| *replica).collect();
+                let is_fit = [3, 5, 7].contains(&wanted) && wanted != now && numbers == (now..wanted).collect();
+                if !is_fit {
+                    let what = "3, 5 or 7 replicas, and each new one by its number, identity and address";
+                    return reply.send(Told::Managed(Err(what.into())));
+                }
+                size = Some(wanted);
+                let member = |(replica, identity, address): (u8, Identity, String)| {
+                    (replica, Member { identity: Some(identity), address: Some(address) })
+                };
+                new.into_iter().map(member).collect()
+            }
             Manage::Replace { replica, .. } if usize::from(replica) >= self.place.replicas => {
                 return reply.send(Told::Managed(Err(format!("there is no replica {replica}"))));
             }
@@ -335,21 +379,19 @@ impl<C: Core> Driver<C> {
                 return reply.send(Told::Managed(Err("ask another replica: this one is here".into())));
             }
             Manage::Replace { replica, identity, address } => {
-                Some((replica, Member { identity: Some(identity), address }))
+                vec![(replica, Member { identity: Some(identity), address })]
             }
         };
         self.generation.is_asked = true;
-        self.wishes.push(Wish { generation: self.generation.number, change, reply });
+        self.wishes.push(Wish { generation: self.generation.number, size, changes, reply });
     }
 
     /// Tells who asked for something that is so by now; the rest is asked for again.
     fn fulfil(&mut self) {
         let now = self.generation.number;
         for wish in std::mem::take(&mut self.wishes) {
-            let is_so = match &wish.change {
-                None => now > wish.generation,
-                Some((replica, member)) => self.members.0.get(usize::from(*replica)) == Some(member),
-            };
+            let is_named = |(replica, member): &(u8, Member)| self.members.0.get(usize::from(*replica)) == Some(member);
+            let is_so = now > wish.generation && wish.size.is_none() && wish.changes.iter().all(is_named);
             if is_so {
                 wish.reply.send(Told::Managed(Ok(format!("generation {now}"))));
             } else if now >= wish.generation + MOST_GENERATIONS {

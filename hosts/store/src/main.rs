@@ -5,8 +5,9 @@ use std::ffi::OsString;
 use std::fmt;
 use std::io::{self, Write};
 use std::net::TcpListener;
+use std::os::unix::process::CommandExt;
 use std::path::PathBuf;
-use std::process::ExitCode;
+use std::process::{Command, ExitCode};
 use std::sync::atomic::AtomicU64;
 use std::sync::mpsc::{SyncSender, sync_channel};
 use std::sync::{Arc, Mutex};
@@ -19,10 +20,12 @@ use store::identities::Identities;
 use store::joining::Joining;
 use store::keys::Keys;
 use store::listing::Listing;
+use store::members::Members;
 use store::memory::Memory;
 use store::metrics::{self, Metrics};
 use store::node::{Begin, Core, Node, NodeFault, Settings};
 use store::numbers::Numbers;
+use store::opening::Opening;
 use store::options::{self, Options, Plant, Words, help, read};
 use store::password::Password;
 use store::peers::{self, Membership, Peers, Place, Receiving};
@@ -33,6 +36,8 @@ use store::say::{name, say};
 use store::sealed::{Key, KeyFault};
 use store::timers::Timers;
 
+/// The most replicas that there may be.
+const MOST_REPLICAS: usize = 7;
 /// How many events may wait for the driver.
 const WAITING_EVENTS: usize = 4_096;
 
@@ -56,11 +61,24 @@ fn main() -> ExitCode {
         Err(fault) => fault,
     };
     say(&fault.to_string());
+    if let Fault::Stop(Stop::Resized(..)) = fault {
+        thread::sleep(LAST_REPLIES);
+        say(&format!("it can't begin anew: {}", begin_anew()));
+    }
     if let Fault::Stop(Stop::Asked) = fault {
         // What clients were told is on its way to them.
         thread::sleep(LAST_REPLIES);
     }
     ExitCode::from(fault.status())
+}
+
+/// Begins the program anew, with its words, in this process. What it tells is why that can't be.
+fn begin_anew() -> io::Error {
+    match std::env::current_exe() {
+        // (what was begun isn't begun once more)
+        Ok(program) => Command::new(program).args(std::env::args_os().skip(1).filter(|word| word != "--new")).exec(),
+        Err(error) => error,
+    }
 }
 
 /// How long the last replies may take on their way.
@@ -73,6 +91,8 @@ enum Fault {
     Node(NodeFault),
     Stop(Stop),
     Key(KeyFault),
+    /// Neither `--peers` nor a seal says where this replica is.
+    NoAddress(usize),
     /// Others could reach the peers' port at this address, and there is no key.
     Unguarded(String),
     /// It can't listen at this address.
@@ -91,7 +111,7 @@ impl Fault {
         let is_lasting = match self {
             Fault::Stop(Stop::Asked) => return 0,
             Fault::Directory(fault) => fault.is_lasting(),
-            Fault::Identities(_) | Fault::Key(_) | Fault::Unguarded(_) => true,
+            Fault::Identities(_) | Fault::Key(_) | Fault::Unguarded(_) | Fault::NoAddress(_) => true,
             Fault::Node(fault) => fault.is_lasting(),
             Fault::Stop(stop) => stop.is_lasting(),
             Fault::Listen(..) | Fault::Receipts(..) | Fault::Thread(_) => false,
@@ -108,6 +128,7 @@ impl fmt::Display for Fault {
             Fault::Node(fault) => fault.fmt(f),
             Fault::Stop(stop) => stop.fmt(f),
             Fault::Key(fault) => fault.fmt(f),
+            Fault::NoAddress(replica) => write!(f, "neither --peers nor a seal says where replica {replica} is"),
             Fault::Unguarded(address) => write!(
                 f,
                 "others could send to the peers' port at {address}: give all replicas one key by --peer-key, or say --insecure where the \
@@ -127,7 +148,7 @@ fn words() -> Result<Vec<String>, String> {
 }
 
 fn start(options: Options) -> Result<Driver<Node>, Fault> {
-    let place = Place { replicas: options.peers.len(), replica: options.replica };
+    let mut place = Place { replicas: options.peers.len(), replica: options.replica };
     let own = &options.peers[usize::from(place.replica)];
     let key = options.peer_key.as_deref().map(Key::read).transpose().map_err(Fault::Key)?;
     let for_peers = bind(own)?;
@@ -166,11 +187,11 @@ fn start(options: Options) -> Result<Driver<Node>, Fault> {
     // has lost it.
     end_by_signals(sender.clone()).map_err(Fault::Thread)?;
     let key = key.unwrap_or_else(Key::none);
-    let open = |sender: &SyncSender<Event>, for_peers: TcpListener| {
-        let identities = Identities::open(&options.directory, place.replicas, place.replica);
+    let open = |place: Place, addresses: &[String], for_peers: TcpListener| {
+        let identities = Identities::open(&options.directory, MOST_REPLICAS, place.replica);
         let membership = Membership { place, identities: identities.map_err(Fault::Identities)?, key };
         let membership = Arc::new(membership);
-        let peers = Peers::start(&membership, &options.peers, sender).map_err(Fault::Thread)?;
+        let peers = Peers::start(&membership, addresses, &sender).map_err(Fault::Thread)?;
         let receiving = Arc::new(Receiving::new(membership.clone(), sender.clone()));
         spawn("peers", move || peers::listen(for_peers, &receiving)).map_err(Fault::Thread)?;
         Ok((membership, peers))
@@ -181,15 +202,17 @@ fn start(options: Options) -> Result<Driver<Node>, Fault> {
     };
     let (node, state, receipts, membership, peers);
     if joins {
-        (membership, peers) = open(&sender, for_peers)?;
+        (membership, peers) = open(place, &options.peers, for_peers)?;
         serve(for_clients, shared)?;
         let joining = Joining { membership: &membership, directory: &directory, peers: &peers, events: &events };
         let begin = joining.wait().map_err(Fault::Stop)?;
-        (node, state) = start_node(&options, place, &directory, &begin, &sender)?;
+        (node, state) = start_node(&options, place, &directory, (&begin, 0), &sender)?;
         receipts = open_receipts(&directory, state.generation)?;
         directory.end_joining().map_err(Fault::Directory)?;
     } else {
-        (node, state) = start_again(&options, place, &directory, &sender)?;
+        let opening;
+        (node, state, opening) = start_again(&options, &directory, &sender)?;
+        place.replicas = opening.replicas.into();
         receipts = open_receipts(&directory, state.generation)?;
         Numbers::new(&options.directory, place.replica).check(receipts.named.client).map_err(Fault::Identities)?;
         if !is_forgetful {
@@ -197,7 +220,7 @@ fn start(options: Options) -> Result<Driver<Node>, Fault> {
             checked.map_err(Fault::Directory)?;
         }
         directory.end_joining().map_err(Fault::Directory)?;
-        (membership, peers) = open(&sender, for_peers)?;
+        (membership, peers) = open(place, &addresses(&options, &opening)?, for_peers)?;
         serve(for_clients, shared)?;
     }
     let given = numbers.lock().map_err(|_| "the numbers are lost".to_string()).and_then(|mut numbers| numbers.give());
@@ -255,27 +278,67 @@ fn spawn(name: &str, work: impl FnOnce() + Send + 'static) -> io::Result<()> {
     thread::Builder::new().name(name.into()).spawn(work).map(|_| ())
 }
 
-/// Starts a node that isn't the first of its folder, or is by `--new`. Where it was ended while it took a peer's opening it takes that again.
+/// Where each replica is, as a seal or `--peers` says.
+fn addresses(options: &Options, opening: &Opening) -> Result<Vec<String>, Fault> {
+    let members = opening.members().unwrap_or(Members(Vec::new()));
+    let address = |replica: usize| {
+        let named = members.0.get(replica).and_then(|member| member.address.clone());
+        named.or_else(|| options.peers.get(replica).cloned()).ok_or(Fault::NoAddress(replica))
+    };
+    (0..opening.replicas.into()).map(address).collect()
+}
+
+/// Starts the node of a folder that has a replica, or is to have one by `--new`: what it is then, and what its generation opened with.
+/// Where it was ended while it took a peer's opening it takes that again. Where it closes a generation whose seal wants another number of
+/// replicas, which nobody knows before, that is taken back, and it closes it once more, for as many.
 fn start_again(
     options: &Options,
-    place: Place,
     directory: &Directory,
     events: &SyncSender<Event>,
-) -> Result<(Node, State), Fault> {
+) -> Result<(Node, State, Opening), Fault> {
     let whole = directory.whole();
+    let mut place = Place { replicas: options.peers.len(), replica: options.replica };
+    let mut run = 0;
+    let read = |path: PathBuf| Opening::read(&path).map_err(|error| Fault::Stop(Stop::File(path, error)));
+    if let Some(newest) = directory.newest() {
+        place.replicas = read(directory.opening(newest))?.replicas.into();
+    }
     if options.start != options::Start::New && whole.exists() {
-        let started = start_node(options, place, directory, &Begin::Take(whole.clone()), events);
-        // (one that is refused is of no use; any other fault may pass)
-        if !matches!(&started, Err(Fault::Node(fault)) if fault.is_lasting()) {
-            if started.is_ok() {
+        let opening = read(whole.clone())?;
+        let place = Place { replicas: opening.replicas.into(), ..place };
+        check_place(place, opening.generation)?;
+        let started = start_node(options, place, directory, (&Begin::Take(whole.clone()), run), events);
+        run += 1;
+        match started {
+            Ok((node, state)) => {
                 let _ = std::fs::remove_file(&whole);
+                return Ok((node, state, opening));
             }
-            return started;
+            // (one that is refused is of no use; any other fault may pass)
+            Err(Fault::Node(fault)) if fault.is_lasting() => _ = std::fs::remove_file(&whole),
+            Err(fault) => return Err(fault),
         }
-        let _ = std::fs::remove_file(&whole);
     }
     let begin = if options.start == options::Start::New { Begin::New } else { Begin::Again };
-    start_node(options, place, directory, &begin, events)
+    loop {
+        let (node, state) = start_node(options, place, directory, (&begin, run), events)?;
+        let opening = read(directory.opening(state.generation))?;
+        let wanted = opening.wanted();
+        if wanted == opening.replicas {
+            return Ok((node, state, opening));
+        }
+        node.end();
+        place.replicas = wanted.into();
+        check_place(place, opening.generation)?;
+        directory.take_back(opening.generation).map_err(Fault::Directory)?;
+        run += 1;
+    }
+}
+
+/// Whether this replica is one of so many.
+fn check_place(place: Place, generation: u32) -> Result<(), Fault> {
+    let is_one = usize::from(place.replica) < place.replicas;
+    if is_one { Ok(()) } else { Err(Fault::Stop(Stop::Left(generation))) }
 }
 
 /// Starts the node, and waits until it has read its log: what it is then.
@@ -283,11 +346,9 @@ fn start_node(
     options: &Options,
     place: Place,
     directory: &Directory,
-    begin: &Begin,
+    (begin, run): (&Begin, u64),
     events: &SyncSender<Event>,
 ) -> Result<(Node, State), Fault> {
-    // (who is started first may end as another one runs)
-    let run = if let Begin::Take(_) = begin { 0 } else { 1 };
     let events = events.clone();
     let settings = Settings {
         program: options.node.clone(),

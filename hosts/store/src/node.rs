@@ -120,6 +120,15 @@ impl Node {
     }
 }
 
+impl Node {
+    /// Ends it, and waits for that.
+    pub fn end(mut self) {
+        self.running.input = None;
+        while self.running.answers.recv().is_ok() {}
+        let _ = self.running.child.wait();
+    }
+}
+
 impl Settings {
     fn start(&self, begin: &Begin, run: u64) -> Result<Running, NodeFault> {
         let failed = |error| NodeFault::Start(self.program.clone(), error);

@@ -1,4 +1,5 @@
 //! What a file tells that a generation opens with.
+use crate::members::Members;
 use crate::protocol::Instance;
 use std::collections::HashSet;
 use std::fs::File;
@@ -23,6 +24,16 @@ pub struct Opening {
 }
 
 impl Opening {
+    /// Who takes part, where the seal tells it.
+    pub fn members(&self) -> Option<Members> {
+        self.seal.as_deref().and_then(Members::read)
+    }
+
+    /// How many replicas the seal wants. A node closes a generation for as many as it is started with, and knows nothing of it.
+    pub fn wanted(&self) -> u8 {
+        self.members().map_or(self.replicas, |members| members.0.len() as u8)
+    }
+
     pub fn read(path: &Path) -> io::Result<Opening> {
         Opening::from(BufReader::with_capacity(1 << 16, File::open(path)?))
     }

@@ -77,6 +77,8 @@ pub struct Slot {
     pub deadline: Instant,
     /// What its words and its reply take.
     pub share: Option<Share>,
+    /// Whether its wait is one: what is answered at once isn't.
+    pub is_counted: bool,
 }
 
 pub enum Part {
@@ -193,10 +195,9 @@ impl<W: Write> Replies<W> {
     fn write_ready(&mut self) -> io::Result<()> {
         while let Some(slot) = self.slots.pop_front_if(|slot| slot.is_ready()) {
             self.first += 1;
-            let (weight, version, begun) = (slot.parts.len(), slot.version, slot.begun);
-            let (reply, share) = slot.reply();
-            // (commands that touch no key have no share)
-            if share.is_some() {
+            let (weight, version, begun, is_counted) = (slot.parts.len(), slot.version, slot.begun, slot.is_counted);
+            let (reply, _share) = slot.reply();
+            if is_counted {
                 self.metrics.waits.note(begun.elapsed());
                 let is_fault = matches!(reply, Reply::Error(_));
                 if is_fault { &self.metrics.refused } else { &self.metrics.answered }.add(1);
@@ -228,8 +229,8 @@ impl<W: Write> Replies<W> {
                 // (what comes too late is of no use)
                 let place = command.checked_sub(self.first).map(|place| place as usize);
                 let Some(slot) = place.and_then(|place| self.slots.get_mut(place)) else { return };
-                if let (Reply::Bulk(bytes), Some(share)) = (&reply, &mut slot.share) {
-                    share.count(bytes.len());
+                if let Some(share) = &mut slot.share {
+                    share.count(reply.size());
                 }
                 if let Some(part) = slot.parts.get_mut(part) {
                     *part = Part::Come(reply);

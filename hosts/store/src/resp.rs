@@ -44,6 +44,17 @@ impl Reply {
         Reply::Bulk(text.as_bytes().to_vec())
     }
 
+    /// How many bytes it takes, about.
+    pub fn size(&self) -> usize {
+        let within = match self {
+            Reply::Bulk(bytes) => bytes.len(),
+            Reply::Array(items) => items.iter().map(Reply::size).sum(),
+            Reply::Map(pairs) => pairs.iter().map(|(name, item)| name.size() + item.size()).sum(),
+            Reply::Simple(_) | Reply::Error(_) | Reply::Integer(_) | Reply::Nil => 0,
+        };
+        size_of::<Reply>() + within
+    }
+
     pub fn write(&self, out: &mut impl Write, version: Version) -> io::Result<()> {
         match self {
             Reply::Simple(text) => write!(out, "+{text}\r\n"),

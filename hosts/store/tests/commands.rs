@@ -362,7 +362,7 @@ fn locks_end_by_themselves() {
     assert_eq!(tell("EPAXOS LOCK l you 1000"), "(nil)");
     let Reply::Array(holder) = ask(&mut client, "EPAXOS HOLDER l") else { panic!() };
     assert_eq!(holder[..2], [Reply::Bulk(Some(b"me".to_vec())), Reply::Integer(2)]);
-    assert!(matches!(holder[2], Reply::Integer(1..=100_000)), "{holder:?}");
+    assert!(matches!(holder[2], Reply::Integer(1..=100_001)), "{holder:?}");
 }
 
 #[test]

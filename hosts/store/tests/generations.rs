@@ -86,6 +86,59 @@ fn who_lags_takes_an_opening() {
     has_all(&zero, 0..170);
 }
 
+/// Starts a machine that is to be let in by these words, and waits until it has told its identity.
+fn join(places: &Places, words: Command, replica: usize) -> (Store, String) {
+    let mut command = Command::new(env!("CARGO_BIN_EXE_store"));
+    // (an empty folder gets `--new` there)
+    command.args(words.get_args().filter(|word| *word != "--new")).arg("--join");
+    let store = places.launch(&mut command, replica);
+    let wish = format!("EPAXOS REPLACE {replica} ");
+    wait("its identity", || store.told().contains(&wish));
+    let identity = store.told().split_once(&wish).unwrap().1[..32].to_string();
+    (store, identity)
+}
+
+#[test]
+fn three_become_five_and_three_again() {
+    let Some(node) = real_node() else { return };
+    let places = Places::new("resized");
+    let stores = [0, 1, 2].map(|replica| places.start_with(replica, &node, &SHORT));
+    set(&stores.each_ref(), 0..50);
+    let (mut three, of_three) = join(&places, places.command_of(3, 5, &node), 3);
+    let (mut four, of_four) = join(&places, places.command_of(4, 5, &node), 4);
+    let (at_three, at_four) = (places.peer(3), places.peer(4));
+    let line = format!("EPAXOS RESIZE 5 3 {of_three} {at_three} 4 {of_four} {at_four}");
+    assert!(matches!(stores[0].ask(&line), Reply::Bulk(Some(_))));
+    for store in [&three, &four] {
+        wait("the new ones", || store.told().contains("node process"));
+    }
+    for store in &stores {
+        wait("the others", || store.told().contains("of 5 in generation"));
+    }
+    let all = [&stores[0], &stores[1], &stores[2], &three, &four];
+    all.iter().for_each(|store| has_all(store, 0..50));
+    set(&all, 50..100);
+    // It stays so, whatever `--peers` of the first ones says.
+    let [zero, one, two] = stores;
+    drop(zero);
+    set(&[&one, &two, &three, &four], 100..120);
+    let zero = places.start_with(0, &node, &SHORT);
+    assert!(zero.told().contains("of 5 in generation"));
+    has_all(&zero, 0..120);
+    assert!(matches!(zero.ask("EPAXOS RESIZE 3"), Reply::Bulk(Some(_))));
+    for store in [&mut three, &mut four] {
+        assert_eq!(store.status(), Some(3));
+        assert!(store.told().contains("takes part no more"));
+    }
+    for store in [&zero, &one, &two] {
+        wait("the others", || {
+            store.told().matches("of 3 in generation").count() >= 1 && store.told().ends_with("reached\n")
+        });
+        has_all(store, 0..120);
+    }
+    set(&[&zero, &one, &two], 120..150);
+}
+
 #[test]
 fn a_lost_machine_is_replaced() {
     let Some(node) = real_node() else { return };
@@ -97,17 +150,9 @@ fn a_lost_machine_is_replaced() {
     // (its node may still be ending)
     wait("the end of its node", || fs::rename(places.directory(2), places.folder.join("lost")).is_ok());
     set(&[&zero, &one], 50..100);
-    let mut command = Command::new(env!("CARGO_BIN_EXE_store"));
-    let words = places.command(2, &node);
-    // (an empty folder gets `--new` there)
-    command.args(words.get_args().filter(|word| *word != "--new")).arg("--join");
-    let two = places.launch(&mut command, 2);
-    let wish = "EPAXOS REPLACE 2 ";
-    wait("its identity", || two.told().contains(wish));
-    let told = two.told();
-    let identity = &told.split_once(wish).unwrap().1[..32];
+    let (two, identity) = join(&places, places.command(2, &node), 2);
     assert!(matches!(ask(&mut two.client(), "SET x 1"), Reply::Error(_)));
-    assert!(matches!(one.ask(&format!("{wish}{identity}")), Reply::Bulk(Some(_))));
+    assert!(matches!(one.ask(&format!("EPAXOS REPLACE 2 {identity}")), Reply::Bulk(Some(_))));
     wait("the new machine", || two.told().contains("node process"));
     has_all(&two, 0..100);
     set(&[&zero, &one, &two], 100..130);

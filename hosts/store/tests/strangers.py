@@ -265,6 +265,27 @@ def at_clients(cluster, until):
     print(f"{waves} waves of connections at two clients' ports", flush=True)
 
 
+def judge_older(cluster, last):
+    """The folder of store 2 was put back from before generation `last`, in which it was: it ends, or comes in with a later one."""
+    start, generation = time.monotonic(), 0
+    while time.monotonic() - start < 90:
+        status = cluster.running[2].poll()
+        if status is not None:
+            print(f"the older copy ends with status {status}: {cluster.told(2).splitlines()[-1]}", flush=True)
+            if status != 3:
+                fault("an older copy ends by another status than 3")
+            return
+        try:
+            generation = redis.Redis(port=cluster.clients[2], socket_timeout=5).info().get("generation", 0)
+        except redis.RedisError:
+            generation = 0
+        if generation > last:
+            print(f"the older copy, which was in generation {last}, comes in with {generation}", flush=True)
+            return
+        time.sleep(0.5)
+    fault(f"the older copy runs in generation {generation}; it was in {last}: {cluster.told(2)[-1500:]}")
+
+
 def main():
     resource.setrlimit(resource.RLIMIT_NOFILE, (16_384, max(16_384, resource.getrlimit(resource.RLIMIT_NOFILE)[1])))
     store, epaxos = map(os.path.abspath, sys.argv[1:3])
@@ -294,17 +315,14 @@ def main():
         for at in range(3):
             if cluster.running[at].poll() is not None:
                 fault(f"store {at} has ended: {cluster.told(at)[-500:]}")
-        # The older copy speaks no more.
+        # The older copy speaks in no generation in which it has told more than it knows.
+        last = redis.Redis(port=cluster.clients[2], socket_timeout=60).info()["generation"]
         cluster.running[2].kill()
         cluster.running[2].wait()
         shutil.rmtree(f"{cluster.folder}/2")
         shutil.move(f"{cluster.folder}/older", f"{cluster.folder}/2")
         cluster.start(2)
-        try:
-            status = cluster.running[2].wait(timeout=60)
-            print(f"the older copy ends with status {status}: {cluster.told(2).splitlines()[-1]}", flush=True)
-        except subprocess.TimeoutExpired:
-            fault("an older copy of a folder still runs")
+        judge_older(cluster, last)
         clients.end()
         for key, told in clients.told.items():
             value = int(redis.Redis(port=cluster.clients[0], socket_timeout=60).get(key))

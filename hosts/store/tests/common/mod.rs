@@ -36,7 +36,8 @@ pub fn real_node() -> Option<PathBuf> {
     node
 }
 
-/// Three replicas: a folder, and where they listen for each other and for clients. The folder is removed when the test is over.
+/// Three replicas, and two that may come later: a folder, and where they listen for each other and for clients. The folder is removed
+/// when the test is over.
 pub struct Places {
     pub folder: PathBuf,
     peers: Vec<String>,
@@ -47,16 +48,26 @@ impl Places {
     pub fn new(name: &str) -> Places {
         let folder = std::env::temp_dir().join(format!("store-{name}-{}", std::process::id()));
         fs::create_dir_all(&folder).unwrap();
-        let listeners: Vec<_> = (0..6).map(|_| TcpListener::bind("127.0.0.1:0").unwrap()).collect();
+        let listeners: Vec<_> = (0..10).map(|_| TcpListener::bind("127.0.0.1:0").unwrap()).collect();
         let mut peers: Vec<_> = listeners.iter().map(|it| it.local_addr().unwrap().to_string()).collect();
-        let clients = peers.split_off(3);
+        let clients = peers.split_off(5);
         Places { folder, peers, clients }
     }
 
-    /// The words that start a replica with this node.
+    /// Where a replica listens for the others.
+    pub fn peer(&self, replica: usize) -> &str {
+        &self.peers[replica]
+    }
+
+    /// The words that start a replica of three with this node.
     pub fn command(&self, replica: usize, node: &Path) -> Command {
+        self.command_of(replica, 3, node)
+    }
+
+    /// Those that start a replica of so many.
+    pub fn command_of(&self, replica: usize, count: usize, node: &Path) -> Command {
         let mut command = Command::new(env!("CARGO_BIN_EXE_store"));
-        command.args(["--replica", &replica.to_string(), "--peers", &self.peers.join(",")]);
+        command.args(["--replica", &replica.to_string(), "--peers", &self.peers[..count].join(",")]);
         command.args(["--listen", &self.clients[replica], "--patience", STORE_PATIENCE]);
         let directory = self.folder.join(replica.to_string());
         if !directory.join("generations").exists() {

@@ -10,7 +10,7 @@ bench: three stores beside three members of etcd, on this machine, asked in turn
     --store PATH     the program `store`; default: beside this one
     --etcd PATH      the program `etcd`; default: the one on the PATH
     --clients A,B    how many clients ask at the same time, one line of the table for each; default 1,8,32
-    --commands N     of each kind and round; default 1200. A store has room for 6,000 commands, and 3 N are asked of it
+    --commands N     of each kind and round; default 1200
     --rounds R       default 5; each round has fresh clusters, and the table has the rounds' medians
     --dir DIR        a folder for logs, on the disk that is measured; default: one under the system's for temporary files
 
@@ -64,8 +64,8 @@ pub fn read(words: impl IntoIterator<Item = String>) -> Result<Option<Options>, 
     Ok(Some(options))
 }
 
-/// A number from 1 to 1,800.
+/// A number from 1 to 10,000,000.
 fn number(word: &str) -> Result<usize, String> {
-    let number = word.parse().ok().filter(|number| (1..=1_800).contains(number));
-    number.ok_or(format!("{word} isn't a number from 1 to 1800"))
+    let number = word.parse().ok().filter(|number| (1..=10_000_000).contains(number));
+    number.ok_or(format!("{word} isn't a number from 1 to 10000000"))
 }

@@ -21,6 +21,8 @@ const LAST_RECORDS: usize = 4;
 
 /// What a store tells that comes in the place of a lost machine.
 const COMES_IN: &str = "names this machine";
+/// So many machines may come for a while.
+const MORE: usize = 2;
 /// How often others are asked to let it in.
 const MOST_TRIES: usize = 60;
 
@@ -36,6 +38,7 @@ pub enum Target {
 pub struct Cluster {
     options: Options,
     directory: PathBuf,
+    /// How many the round begins with, and ends with: those that clients ask, and that are killed.
     pub replicas: usize,
     pub client_ports: Vec<u16>,
     peer_ports: Vec<u16>,
@@ -71,12 +74,14 @@ impl Cluster {
     /// Starts a cluster with empty logs in a folder of the round.
     pub fn start(options: &Options, round: usize) -> io::Result<Cluster> {
         let replicas = options.replicas;
-        let mut listeners = free_listeners(replicas * (replicas + 1))?;
-        let for_links = listeners.split_off(2 * replicas);
+        // (two more may come for a while)
+        let all = replicas + MORE;
+        let mut listeners = free_listeners(2 * all + replicas * (replicas - 1))?;
+        let for_links = listeners.split_off(2 * all);
         let ports: Vec<u16> = listeners.iter().map(port_of).collect::<io::Result<_>>()?;
         drop(listeners);
-        let (client_ports, peer_ports) = ports.split_at(replicas);
-        let links = make_links(peer_ports, for_links)?;
+        let (client_ports, peer_ports) = ports.split_at(all);
+        let links = make_links(&peer_ports[..replicas], for_links)?;
         let directory = options.directory.join(format!("round-{round}"));
         std::fs::create_dir_all(&directory)?;
         let cluster = Cluster {
@@ -86,8 +91,8 @@ impl Cluster {
             client_ports: client_ports.to_vec(),
             peer_ports: peer_ports.to_vec(),
             links,
-            running: (0..replicas).map(|_| Mutex::new(None)).collect(),
-            joined: (0..replicas).map(|_| AtomicBool::new(false)).collect(),
+            running: (0..all).map(|_| Mutex::new(None)).collect(),
+            joined: (0..all).map(|_| AtomicBool::new(false)).collect(),
             lost: Mutex::default(),
         };
         (0..replicas).try_for_each(|replica| cluster.launch(replica))?;
@@ -96,6 +101,11 @@ impl Cluster {
 
     fn folder(&self, replica: usize) -> PathBuf {
         self.directory.join(replica.to_string())
+    }
+
+    /// The numbers of all replicas that there ever were.
+    pub fn machines(&self) -> std::ops::Range<usize> {
+        0..self.replicas + MORE
     }
 
     /// The folder of the round.
@@ -112,7 +122,7 @@ impl Cluster {
 
     /// The newest generation that was opened anywhere.
     pub fn newest(&self) -> u32 {
-        let all = (0..self.replicas).flat_map(|replica| self.folders(replica));
+        let all = self.machines().flat_map(|replica| self.folders(replica));
         all.filter_map(|folder| newest(&folder)).max().unwrap_or(0)
     }
 
@@ -127,13 +137,14 @@ impl Cluster {
         self.directory.join(format!("told-{replica}"))
     }
 
-    /// As this replica knows its peers: itself at its own port, the others through the links.
+    /// As this replica knows its peers: itself at its own port, the others through the links, and those that come for a while directly.
     fn peers(&self, replica: usize) -> String {
-        let port = |to: usize| match &self.links[replica][to] {
-            Some(link) => link.port(),
-            None => self.peer_ports[to],
+        let port = |to: usize| match self.links.get(replica).and_then(|links| links.get(to)) {
+            Some(Some(link)) => link.port(),
+            _ => self.peer_ports[to],
         };
-        (0..self.replicas).map(|to| format!("127.0.0.1:{}", port(to))).collect::<Vec<_>>().join(",")
+        let count = if replica < self.replicas { self.replicas } else { self.replicas + MORE };
+        (0..count).map(|to| format!("127.0.0.1:{}", port(to))).collect::<Vec<_>>().join(",")
     }
 
     /// Starts a replica, in a group of processes of its own.
@@ -209,9 +220,8 @@ impl Cluster {
         self.joined[replica].store(true, Ordering::SeqCst);
         let before = std::fs::read_to_string(self.told(replica)).map_err(told)?.len();
         self.launch(replica).map_err(told)?;
-        let said = || Some(std::fs::read_to_string(self.told(replica)).ok()?.get(before..)?.to_string());
-        let word = || Some(said()?.split_once(&format!("EPAXOS REPLACE {replica} "))?.1.get(..32)?.to_string());
-        let identity = wait_for(word).ok_or(format!("the new machine of replica {replica} doesn't tell who it is"))?;
+        let said = || self.said(replica, before);
+        let identity = self.identity(replica, before)?;
         let others: Vec<usize> = (0..self.replicas).filter(|other| *other != replica).collect();
         let words = ["EPAXOS".to_string(), "REPLACE".to_string(), replica.to_string(), identity];
         let words: Vec<&[u8]> = words.iter().map(|word| word.as_bytes()).collect();
@@ -240,6 +250,65 @@ impl Cluster {
         let _ = std::fs::remove_dir_all(to);
         let copied = Command::new("cp").arg("-r").args([from, to]).status().map_err(|error| error.to_string())?;
         if copied.success() { Ok(()) } else { Err(format!("{} can't be copied", from.display())) }
+    }
+
+    /// What a store has told behind so many bytes.
+    fn said(&self, replica: usize, before: usize) -> Option<String> {
+        Some(std::fs::read_to_string(self.told(replica)).ok()?.get(before..)?.to_string())
+    }
+
+    /// Who a machine is that waits to be let in.
+    fn identity(&self, replica: usize, before: usize) -> Result<String, String> {
+        let line = format!("EPAXOS REPLACE {replica} ");
+        let word = || Some(self.said(replica, before)?.split_once(&line)?.1.get(..32)?.to_string());
+        wait_for(word).ok_or(format!("the new machine of replica {replica} doesn't tell who it is"))
+    }
+
+    /// Two more machines take part for a while, and none of them any more then.
+    pub fn resize(&self, wait: Duration) -> Result<(), String> {
+        let told = |error: io::Error| format!("a machine can't be started: {error}");
+        let more = self.replicas..self.replicas + MORE;
+        let mut words = format!("EPAXOS RESIZE {}", self.replicas + MORE);
+        for replica in more.clone() {
+            self.joined[replica].store(true, Ordering::SeqCst);
+            self.launch(replica).map_err(told)?;
+            let (identity, port) = (self.identity(replica, 0)?, self.peer_ports[replica]);
+            words += &format!(" {replica} {identity} 127.0.0.1:{port}");
+        }
+        let is_in = || more.clone().all(|replica| self.said(replica, 0).is_some_and(|told| told.contains(COMES_IN)));
+        self.ask_until(&words, is_in)?;
+        thread::sleep(wait);
+        let has_left = || more.clone().all(|replica| !self.is_running(replica));
+        self.ask_until(&format!("EPAXOS RESIZE {}", self.replicas), has_left)?;
+        for replica in more {
+            let child = self.running[replica].lock().unwrap().take();
+            let status = child.and_then(|mut child| child.wait().ok()).and_then(|status| status.code());
+            if status != Some(3) {
+                return Err(format!("replica {replica}, which takes part no more, ended with {status:?}"));
+            }
+        }
+        Ok(())
+    }
+
+    /// Asks one replica after the other until it is so.
+    fn ask_until(&self, line: &str, is_so: impl Fn() -> bool) -> Result<(), String> {
+        let words: Vec<&[u8]> = line.split(' ').map(str::as_bytes).collect();
+        let mut answer = String::new();
+        for count in 0..MOST_TRIES {
+            let port = self.client_ports[count % self.replicas];
+            let asked = Client::connect(port, Duration::from_secs(5)).and_then(|mut client| client.ask(&words));
+            answer = format!("{asked:?}");
+            let start = Instant::now();
+            // (where it was begun it takes a while)
+            let patience = Duration::from_secs(if matches!(asked, Ok(Reply::Bulk(_))) { 20 } else { 2 });
+            while start.elapsed() < patience {
+                if is_so() {
+                    return Ok(());
+                }
+                thread::sleep(Duration::from_millis(20));
+            }
+        }
+        Err(format!("{line} isn't done: {answer}"))
     }
 
     /// Asks a replica to end its generation, without waiting.
@@ -308,7 +377,7 @@ impl Cluster {
 
 impl Drop for Cluster {
     fn drop(&mut self) {
-        for replica in 0..self.replicas {
+        for replica in self.machines() {
             self.pause(replica, false);
             let _ = self.kill(replica, Target::Both);
         }

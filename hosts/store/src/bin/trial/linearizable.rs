@@ -177,37 +177,57 @@ impl<'a> Search<'a> {
         self.put_out(operation);
     }
 
+    /// Those that may come next: each that has started before the first end of all. A read that fits is the only one: where there is an
+    /// order, there is one with it here. Else those that end first go first, so that what may wait waits.
+    fn candidates(&self, state: Option<u32>) -> Vec<usize> {
+        let mut all = Vec::new();
+        let mut node = self.moments.next[0];
+        while let Some(operation) = self.starts[node] {
+            let action = self.operations[operation].action;
+            if matches!(action, Action::Get(_)) && apply(state, action).is_some() {
+                return vec![operation];
+            }
+            all.push(operation);
+            node = self.moments.next[node];
+        }
+        all.sort_by_key(|operation| self.operations[*operation].end.unwrap_or(u64::MAX));
+        all
+    }
+
     fn run(mut self) -> Verdict {
         let mut tried = HashSet::new();
-        let mut order = Vec::new();
         let mut state = None;
-        let mut node = self.moments.next[0];
+        // What may come at each place of the order, the next one to be tried last; and what has come there, with the state before it.
+        let mut order: Vec<(usize, Option<u32>)> = Vec::new();
+        let mut open = vec![self.reversed(state)];
         for _ in 0..MOST_STEPS {
             if self.left == 0 {
                 return Verdict::Linearizable;
             }
-            if let Some(operation) = self.starts[node] {
-                if let Some(after) = apply(state, self.operations[operation].action) {
-                    self.put_in(operation);
-                    if tried.insert((self.placed(), after)) {
-                        order.push((operation, state));
-                        state = after;
-                        self.place(operation);
-                        node = self.moments.next[0];
-                        continue;
-                    }
-                    self.put_out(operation);
-                }
-                node = self.moments.next[node];
-            } else {
-                // An end whose operation has no place: the last one placed mustn't be there.
+            let Some(operation) = open.last_mut().and_then(Vec::pop) else {
+                // Nothing fits here: the one before mustn't be there.
+                open.pop();
                 let Some((operation, before)) = order.pop() else { return Verdict::NotLinearizable };
                 state = before;
                 self.take_back(operation);
-                node = self.moments.next[self.nodes[operation].0];
+                continue;
+            };
+            let Some(after) = apply(state, self.operations[operation].action) else { continue };
+            self.put_in(operation);
+            if tried.insert((self.placed(), after)) {
+                order.push((operation, state));
+                state = after;
+                self.place(operation);
+                open.push(self.reversed(state));
+            } else {
+                self.put_out(operation);
             }
         }
         Verdict::TooLong
+    }
+
+    fn reversed(&self, state: Option<u32>) -> Vec<usize> {
+        self.candidates(state).into_iter().rev().collect()
     }
 }
 

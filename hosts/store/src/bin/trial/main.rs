@@ -96,7 +96,8 @@ fn report(faults: &[String]) -> usize {
 fn work(options: &Options, round: usize, cluster: &Cluster) -> Result<(Notes, Count), String> {
     let seed = options.seed.wrapping_mul(1_000).wrapping_add(round as u64);
     let start = Instant::now();
-    let work = Work { cluster, start, is_over: AtomicBool::new(false), values: AtomicU32::new(0), is_life: options.life };
+    let work =
+        Work { cluster, start, is_over: AtomicBool::new(false), values: AtomicU32::new(0), is_life: options.life };
     let mut notes = Notes::default();
     let count = thread::scope(|scope| {
         let clients: Vec<_> = (0..options.clients)

@@ -11,7 +11,8 @@ trial: a cluster of stores on this machine, clients, kills and cuts; then what t
     --node PATH      the program `epaxos`
     --short          60 seconds, 6 kills, one machine replaced, two changes of generation or more: the default
     --long           10 rounds of 60 seconds with 10 kills each and two machines replaced, every round with fresh folders
-    --life           20 minutes, 32 clients without pauses, 100 kills, two machines replaced
+    --life           20 minutes, 32 clients without pauses, 100 kills, two machines replaced, two more for a third of the time
+    --resize         two more machines take part for a third of the time
     --smoke          no kills: `redis-cli` and `redis-benchmark`, where they are, are told what they should be
     --replicas N     3, the default, or 5 or 7
     --seconds S, --kills K, --replaced M, --rounds R, --clients C    other numbers
@@ -60,6 +61,8 @@ pub struct Options {
     pub clients: usize,
     /// Whether clients don't pause, and go on to other keys.
     pub life: bool,
+    /// Whether two more machines take part for a while.
+    pub resize: bool,
     pub smoke: bool,
     pub audit: bool,
     pub plant: Option<Plant>,
@@ -84,9 +87,10 @@ pub fn read(words: impl IntoIterator<Item = String>) -> Result<Option<Options>, 
             "--short" => options.play(60, 6, 1, 1),
             "--life" => {
                 options.play(1_200, 100, 2, 1);
-                (options.life, options.clients) = (true, 32);
+                (options.life, options.resize, options.clients) = (true, true, 32);
                 (options.numbers, options.dependencies) = (1_500, 600);
             }
+            "--resize" => options.resize = true,
             "--clients" => options.clients = number(&value()?)?,
             "--long" => options.play(60, 10, 2, 10),
             "--node" => options.node = PathBuf::from(value()?),
@@ -143,6 +147,7 @@ fn defaults() -> Result<Options, String> {
         rounds: 1,
         clients: 0,
         life: false,
+        resize: false,
         smoke: false,
         audit: false,
         plant: None,

@@ -17,11 +17,21 @@ pub struct Count {
 /// Lets things go wrong until the time of a round is over; then all are running, and nothing is cut.
 pub fn run(options: &Options, cluster: &Cluster, seed: u64) -> Result<Count, String> {
     let random = Random::from_seed(seed);
-    let mut kills = Troubles { cluster, random, start: Instant::now(), time: options.time, plant: options.plant };
+    let calm = if options.life { 15 } else { 1 };
+    let mut kills = Troubles { cluster, random, start: Instant::now(), time: options.time, plant: options.plant, calm };
     let mut weather = Troubles { random: Random::from_seed(seed.rotate_left(32)), ..kills };
     thread::scope(|scope| {
         let weather = scope.spawn(move || weather.weather());
+        // (a third of the time with two more)
+        let resized = scope.spawn(move || {
+            if !options.resize {
+                return Ok(());
+            }
+            thread::sleep(options.time / 3);
+            cluster.resize(options.time / 3)
+        });
         let killed = kills.kills(options.kills, options.replaced);
+        resized.join().map_err(|_| "the resize failed")??;
         let (cuts, pauses) = weather.join().map_err(|_| "the weather failed")?;
         killed.map(|kills| Count { kills, replaced: options.replaced, cuts, pauses })
     })
@@ -33,6 +43,8 @@ struct Troubles<'a> {
     start: Instant,
     time: Duration,
     plant: Option<Plant>,
+    /// So many times longer than in a short round it is between two cuts or pauses.
+    calm: u64,
 }
 
 impl Troubles<'_> {
@@ -107,7 +119,8 @@ impl Troubles<'_> {
     fn weather(&mut self) -> (usize, usize) {
         let (mut cuts, mut pauses) = (0, 0);
         while self.start.elapsed() < self.time {
-            self.wait(20, 800);
+            // (in a life it clears up now and then)
+            self.wait(20 * self.calm, 800 * self.calm);
             if self.random.below(3) == 0 {
                 pauses += 1;
                 self.pause();

@@ -9,6 +9,7 @@ use std::ops::RangeInclusive;
 use std::path::PathBuf;
 use std::process::{Command, Stdio};
 use store::bytes::Fields;
+use store::opening::Opening;
 use store::protocol::Receipt;
 
 /// The faults of a round.
@@ -43,7 +44,7 @@ fn judge_notes(notes: &[Note]) -> Vec<String> {
 
 /// Each command that was told has a receipt that says that it was done. (Of what was done without a reply there is none.)
 fn judge_receipts(cluster: &Cluster, notes: &[Note]) -> Result<(), String> {
-    for replica in 0..cluster.replicas {
+    for replica in cluster.machines() {
         let (receipts, _) = count_receipts(cluster, replica)?;
         let is_told = |note: &&Note| note.replica == replica && note.operation.end.is_some();
         let is_get = |note: &&Note| matches!(note.operation.action, Action::Get(_));
@@ -80,7 +81,7 @@ fn receipts(cluster: &Cluster, replica: usize, generations: RangeInclusive<u32>)
 
 /// How many proposals of a round weren't done: lost, or behind a seal.
 pub fn count_lost(cluster: &Cluster) -> usize {
-    (0..cluster.replicas).filter_map(|replica| count_receipts(cluster, replica).ok()).map(|(_, not)| not).sum()
+    cluster.machines().filter_map(|replica| count_receipts(cluster, replica).ok()).map(|(_, not)| not).sum()
 }
 
 /// `epaxos collect` of each generation, and `epaxos audit --chain` of all of them.
@@ -91,11 +92,13 @@ fn audit(options: &Options, cluster: &Cluster) -> Result<(), String> {
         let file = File::create(&bundle).map_err(|error| format!("{}: {error}", bundle.display()))?;
         let mut command = Command::new(&options.node);
         command.args(["collect", "--generation", &generation.to_string()]);
-        for replica in 0..cluster.replicas {
+        let opening = an_opening(cluster, generation)?;
+        let count = Opening::read(&opening).map_err(|error| format!("{}: {error}", opening.display()))?.replicas;
+        for replica in 0..count.into() {
             for path in receipts(cluster, replica, generation..=generation) {
                 command.arg("--receipts").arg(path);
             }
-            command.arg(view(options, cluster, replica, generation)?);
+            command.arg(view(options, cluster, replica, (generation, count))?);
         }
         run(&mut command, Stdio::from(file))?;
         chain.push(bundle);
@@ -122,30 +125,39 @@ fn run(command: &mut Command, output: Stdio) -> Result<Vec<u8>, String> {
 }
 
 /// The folder that has a replica's opening and log of this generation. One who took no part told nothing: it is begun and ended there.
-fn view(options: &Options, cluster: &Cluster, replica: usize, generation: u32) -> Result<PathBuf, String> {
-    let with = |folders: Vec<PathBuf>, name: &str| -> Vec<PathBuf> {
-        let folders = folders.into_iter().map(|folder| folder.join("generations"));
-        folders.filter(|folder| folder.join(format!("{generation}/{name}")).exists()).collect()
-    };
-    let mut logs = with(cluster.folders(replica), "log");
+fn view(
+    options: &Options,
+    cluster: &Cluster,
+    replica: usize,
+    (generation, count): (u32, u8),
+) -> Result<PathBuf, String> {
+    let folders = cluster.folders(replica).into_iter().map(|folder| folder.join("generations"));
+    let mut logs: Vec<PathBuf> = folders.filter(|folder| folder.join(format!("{generation}/log")).exists()).collect();
     if logs.len() > 1 {
         return Err(format!("replica {replica} has two logs in generation {generation}: {logs:?}"));
     }
     if let Some(folder) = logs.pop() {
         return Ok(folder);
     }
-    let all = (0..cluster.replicas).flat_map(|replica| cluster.folders(replica)).collect();
-    let opening = with(all, "opening").pop().ok_or(format!("no opening of generation {generation}"))?;
     let folder = cluster.directory().join(format!("none-{replica}-{generation}"));
     std::fs::create_dir_all(&folder).map_err(|error| error.to_string())?;
     let mut command = Command::new(&options.node);
-    command.args(["node", "--replicas", &cluster.replicas.to_string(), "--replica", &replica.to_string(), "--dir"]);
+    command.args(["node", "--replicas", &count.to_string(), "--replica", &replica.to_string(), "--dir"]);
     command.arg(&folder);
     if generation == 1 {
         command.arg("--new");
     } else {
-        command.arg("--take").arg(opening.join(format!("{generation}/opening")));
+        command.arg("--take").arg(an_opening(cluster, generation)?);
     }
     run(&mut command, Stdio::piped())?;
     Ok(folder)
+}
+
+/// An opening of this generation, of one that took part in it. (Who left may have closed the one before for too many.)
+fn an_opening(cluster: &Cluster, generation: u32) -> Result<PathBuf, String> {
+    let all = cluster.machines().flat_map(|replica| cluster.folders(replica));
+    let openings = all.map(|folder| folder.join(format!("generations/{generation}/opening")));
+    let is_served = |path: &PathBuf| Opening::read(path).is_ok_and(|opening| opening.wanted() == opening.replicas);
+    let served: Vec<PathBuf> = openings.filter(is_served).collect();
+    served.into_iter().next().ok_or(format!("no opening of generation {generation}"))
 }

@@ -146,9 +146,13 @@ impl Work<'_> {
 
     fn choose_action(&self, random: &mut Random, key: u64) -> Action {
         let value = || self.values.fetch_add(1, Ordering::Relaxed) + 1;
-        if self.is_life && key.is_multiple_of(LIFE_KEYS + 1) {
+        if self.is_life {
             // (of others what nobody was told of can't be left out, and there is too much of it)
-            return if random.below(2) == 0 { Action::Get(None) } else { Action::Set(value()) };
+            return match random.below(10) {
+                0..5 => Action::Get(None),
+                5 if !key.is_multiple_of(LIFE_KEYS + 1) => Action::Exchange(value(), None),
+                _ => Action::Set(value()),
+            };
         }
         match random.below(20) {
             0..8 => Action::Get(None),
@@ -192,13 +196,7 @@ impl Work<'_> {
             };
             match told {
                 Told::Answer(_) => told_at = Instant::now(),
-                Told::Refused => {
-                    notes.faults.push(format!(
-                        "replica {replica} is full, so its last reads can't be made; make rounds shorter"
-                    ));
-                    return notes;
-                }
-                Told::Nothing => {
+                Told::Refused | Told::Nothing => {
                     connection = None;
                     left.push(key);
                     thread::sleep(Duration::from_millis(100));
@@ -233,7 +231,9 @@ fn ask(client: &mut Client, key: u64, action: Action) -> Result<Told, String> {
         (Action::New(value, _), Reply::Bulk(None)) => Ok(Told::Answer(Action::New(value, Some(false)))),
         (Action::Set(_), Reply::Simple(text)) if text == "OK" => Ok(Told::Answer(action)),
         (Action::Del(_), Reply::Integer(count @ 0..2)) => Ok(Told::Answer(Action::Del(Some(count == 1)))),
-        (_, Reply::Error(text)) if text.starts_with("FULL") => Ok(Told::Refused),
+        (_, Reply::Error(text)) if text.starts_with("FULL") || text.contains("the command wasn't done") => {
+            Ok(Told::Refused)
+        }
         (_, Reply::Error(text)) if text.starts_with("TRYAGAIN") || text.starts_with("OOM") => Ok(Told::Nothing),
         (_, reply) => Err(format!("an answer that doesn't fit: {reply:?}")),
     }
