@@ -28,7 +28,7 @@ use store::numbers::Numbers;
 use store::opening::Opening;
 use store::options::{self, Options, Plant, Words, help, read};
 use store::password::Password;
-use store::peers::{self, Membership, Peers, Place, Receiving};
+use store::peers::{self, MOST_REPLICAS, Membership, Peers, Place, Receiving};
 use store::protocol::{Answer, Request, State};
 use store::random::Random;
 use store::receipts::Receipts;
@@ -36,8 +36,6 @@ use store::say::{name, say};
 use store::sealed::{Key, KeyFault};
 use store::timers::Timers;
 
-/// The most replicas that there may be.
-const MOST_REPLICAS: usize = 7;
 /// How many events may wait for the driver.
 const WAITING_EVENTS: usize = 4_096;
 
