@@ -89,7 +89,7 @@ impl Joining<'_> {
     /// Whether the seal that began the generation of this file names this machine.
     fn is_named(&self, path: &Path) -> bool {
         let Ok(opening) = Opening::read(path) else { return false };
-        let members = opening.members().filter(|_| usize::from(opening.replicas) == self.membership.place.replicas);
+        let members = opening.members();
         let own = members.and_then(|members| members.0.get(usize::from(self.membership.place.replica)).cloned());
         own.is_some_and(|member| member.identity == Some(self.membership.identities.own()))
     }

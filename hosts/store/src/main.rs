@@ -28,7 +28,7 @@ use store::numbers::Numbers;
 use store::opening::Opening;
 use store::options::{self, Options, Plant, Words, help, read};
 use store::password::Password;
-use store::peers::{self, Membership, Peers, Place, Receiving};
+use store::peers::{self, MOST_REPLICAS, Membership, Peers, Place, Receiving};
 use store::protocol::{Answer, Request, State};
 use store::random::Random;
 use store::receipts::Receipts;
@@ -36,8 +36,6 @@ use store::say::{name, say};
 use store::sealed::{Key, KeyFault};
 use store::timers::Timers;
 
-/// The most replicas that there may be.
-const MOST_REPLICAS: usize = 7;
 /// How many events may wait for the driver.
 const WAITING_EVENTS: usize = 4_096;
 
@@ -206,9 +204,20 @@ fn start(options: Options) -> Result<Driver<Node>, Fault> {
         serve(for_clients, shared)?;
         let joining = Joining { membership: &membership, directory: &directory, peers: &peers, events: &events };
         let begin = joining.wait().map_err(Fault::Stop)?;
-        (node, state) = start_node(&options, place, &directory, (&begin, 0), &sender)?;
+        let opening = match &begin {
+            Begin::Take(path) => Opening::read(path).map_err(|error| Fault::Stop(Stop::File(path.clone(), error)))?,
+            _ => Opening::default(),
+        };
+        let of = Place { replicas: opening.replicas.into(), ..place };
+        check_place(of, opening.generation)?;
+        (node, state) = start_node(&options, of, &directory, (&begin, 0), &sender)?;
         receipts = open_receipts(&directory, state.generation)?;
         directory.end_joining().map_err(Fault::Directory)?;
+        if of.replicas != place.replicas {
+            // (it has met the others as one of another number of replicas)
+            node.end();
+            return Err(Fault::Stop(Stop::Resized(opening.generation, opening.replicas)));
+        }
     } else {
         let opening;
         (node, state, opening) = start_again(&options, &directory, &sender)?;

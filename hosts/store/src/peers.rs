@@ -41,6 +41,9 @@ const MOST_STRANGERS: usize = 64;
 const LEAST_PAUSE: Duration = Duration::from_millis(20);
 const GREATEST_PAUSE: Duration = Duration::from_millis(500);
 
+/// The most replicas that there may be.
+pub const MOST_REPLICAS: usize = 7;
+
 /// This replica among the others.
 #[derive(Clone, Copy)]
 pub struct Place {
@@ -385,7 +388,7 @@ struct Strangers {
 
 impl Receiving {
     pub fn new(membership: Arc<Membership>, events: SyncSender<Event>) -> Receiving {
-        let current = (0..membership.place.replicas).map(|_| Mutex::default()).collect();
+        let current = (0..MOST_REPLICAS).map(|_| Mutex::default()).collect();
         Receiving { membership, events, current, strangers: Mutex::default(), has_complained: AtomicBool::new(false) }
     }
 
@@ -461,7 +464,12 @@ impl Receiving {
         }
         let (GREETING, greeting) = greeting? else { return Ok(None) };
         let Ok(identity) = greeting.as_slice().try_into() else { return Ok(None) };
-        let is_known = self.membership.identities.meet(from, identity)?;
+        // (who isn't one of the replicas, by now or yet, is known by a seal alone)
+        let is_known = if usize::from(from) < self.membership.place.replicas {
+            self.membership.identities.meet(from, identity)?
+        } else {
+            self.membership.identities.of(from) == Some(identity)
+        };
         let mut answer = vec![if is_known { ACCEPTED } else { REFUSED }];
         answer.extend(self.membership.identities.own());
         channel.sending.write(&mut timed, GREETING, &answer)?;
@@ -526,10 +534,8 @@ impl Receiving {
 /// Who greets, where the hello is of another replica of such a cluster and for this one.
 fn greeter(place: Place, ends: Option<[u8; 3]>) -> Option<u8> {
     let [replicas, from, to] = ends?;
-    let is_ours = usize::from(replicas) == place.replicas
-        && usize::from(from) < place.replicas
-        && from != place.replica
-        && to == place.replica;
+    // (their number may have changed, and one of both not know it yet)
+    let is_ours = [3, 5, 7].contains(&replicas) && from < replicas && from != place.replica && to == place.replica;
     is_ours.then_some(from)
 }
 
@@ -541,7 +547,8 @@ mod tests {
     fn greeters() {
         let place = Place { replicas: 3, replica: 1 };
         assert_eq!(greeter(place, Some([3, 2, 1])), Some(2));
-        for ends in [[5, 2, 1], [3, 2, 0], [3, 1, 1], [3, 3, 1]] {
+        assert_eq!(greeter(place, Some([5, 4, 1])), Some(4));
+        for ends in [[4, 2, 1], [3, 2, 0], [3, 1, 1], [3, 3, 1], [7, 7, 1]] {
             assert_eq!(greeter(place, Some(ends)), None);
         }
         assert_eq!(greeter(place, None), None);

@@ -106,20 +106,23 @@ fn three_become_five_and_three_again() {
     set(&stores.each_ref(), 0..50);
     let (mut three, of_three) = join(&places, places.command_of(3, 5, &node), 3);
     let (mut four, of_four) = join(&places, places.command_of(4, 5, &node), 4);
+    // One of the three is down, and learns of it later.
+    let [zero, one, two] = stores;
+    drop(two);
     let (at_three, at_four) = (places.peer(3), places.peer(4));
     let line = format!("EPAXOS RESIZE 5 3 {of_three} {at_three} 4 {of_four} {at_four}");
-    assert!(matches!(stores[0].ask(&line), Reply::Bulk(Some(_))));
+    assert!(matches!(zero.ask(&line), Reply::Bulk(Some(_))));
     for store in [&three, &four] {
         wait("the new ones", || store.told().contains("node process"));
     }
-    for store in &stores {
+    let two = places.start_with(2, &node, &SHORT);
+    for store in [&zero, &one, &two] {
         wait("the others", || store.told().contains("of 5 in generation"));
     }
-    let all = [&stores[0], &stores[1], &stores[2], &three, &four];
+    let all = [&zero, &one, &two, &three, &four];
     all.iter().for_each(|store| has_all(store, 0..50));
     set(&all, 50..100);
     // It stays so, whatever `--peers` of the first ones says.
-    let [zero, one, two] = stores;
     drop(zero);
     set(&[&one, &two, &three, &four], 100..120);
     let zero = places.start_with(0, &node, &SHORT);
