@@ -122,6 +122,13 @@ fn three_become_five_and_three_again() {
     let all = [&zero, &one, &two, &three, &four];
     all.iter().for_each(|store| has_all(store, 0..50));
     set(&all, 50..100);
+    // A machine comes in the place of a lost one, and its words know of three.
+    drop(one);
+    wait("its folder", || fs::rename(places.directory(1), places.folder.join("lost")).is_ok());
+    let (one, identity) = join(&places, places.command(1, &node), 1);
+    assert!(matches!(zero.ask(&format!("EPAXOS REPLACE 1 {identity}")), Reply::Bulk(Some(_))));
+    wait("the new machine", || one.told().contains("of 5 in generation"));
+    has_all(&one, 0..100);
     // It stays so, whatever `--peers` of the first ones says.
     drop(zero);
     set(&[&one, &two, &three, &four], 100..120);
@@ -134,9 +141,8 @@ fn three_become_five_and_three_again() {
         assert!(store.told().contains("takes part no more"));
     }
     for store in [&zero, &one, &two] {
-        wait("the others", || {
-            store.told().matches("of 3 in generation").count() >= 1 && store.told().ends_with("reached\n")
-        });
+        let told = |size: usize| store.told().rfind(&format!("of {size} in generation"));
+        wait("the others", || told(3) > told(5));
         has_all(store, 0..120);
     }
     set(&[&zero, &one, &two], 120..150);
