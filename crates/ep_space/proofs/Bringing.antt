@@ -7,7 +7,6 @@ use Rattle.ep_base.specs.Parts.{IsInRange, IsSecond}
 use Rattle.ep_base.specs.Touched.{Touched}
 use Rattle.ep_base.proofs.Same.{Decides-same_list}
 use Rattle.ep_space.specs.Index.{brings}
-use Rattle.ep_space.specs.Keys.{NeedsNoRoom}
 
 -- a run that is changed unless its key stays
 
@@ -37,18 +36,7 @@ brings_one own key k = go (same_list k key) refl
 pub same_itself : (k : List ℕ) → same_list k k ≡ true
 same_itself k = (Decides-same_list k k).1 refl
 
-pub no_room_one : (own : List (List ℕ)) (key : List ℕ) → NeedsNoRoom own (key ∷ []) → has_key key own ≡ true
-no_room_one own key h = h key (ap (λ b. b || false) (same_itself key))
-
 -- two keys
-
-pub no_room_two : (own : List (List ℕ)) (p q : List ℕ) → NeedsNoRoom own (p ∷ q ∷ []) → (has_key p own ≡ true) × (has_key q own ≡ true)
-no_room_two own p q h = (h p (ap (λ b. b || (same_list p q || false)) (same_itself p)), h q (second (same_list q p) (same_list q q) (same_itself q)))
-  where
-    second : (a b : Bool) → b ≡ true → (a || (b || false)) ≡ true
-    second true b e = refl
-    second false true e = refl
-    second false false e = e
 
 -- one after the other is both
 pub two_steps : (f : List ℕ → List ℕ) (own : List (List ℕ)) (p q k : List ℕ) (xs : List ℕ) → p ≢ q
@@ -82,11 +70,6 @@ other_run f p q s xs apart = go (same_list q p) refl
     go : (b : Bool) → same_list q p ≡ b → cond (b && not s) (f xs) xs ≡ xs
     go true e = absurd (apart (sym ((Decides-same_list q p).0 e)))
     go false e = refl
-
--- what is put in and taken out again
-pub back_again : (f g : List ℕ → List ℕ) (b : Bool) (xs : List ℕ) → (b ≡ true → g (f xs) ≡ xs) → cond b (g (cond b (f xs) xs)) (cond b (f xs) xs) ≡ xs
-back_again f g true xs h = h refl
-back_again f g false xs h = refl
 
 -- the same, of what calls tell
 

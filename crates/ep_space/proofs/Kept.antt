@@ -179,15 +179,11 @@ module _ (m : Map Record) (i : ℕ) (o : Option Record) where
         changed k false own true new = gained k new own
         changed k false own false new = neither k new own
 
--- a run without i takes i and gives it back
-pub without-with : (i : ℕ) (xs : List ℕ) → IsRising xs → ¬ (Has xs i) → without i (with_instance i xs) ≡ xs
-without-with i xs rising none =
-    same_members (without i (with_instance i xs)) xs (rising-without i (with_instance i xs) (rising-with i xs rising none)) rising
-    (λ q has. elim (with-cases i xs q (Has-without i (with_instance i xs) q has)) [
-      | inl same ↦ absurd (without-gone i (with_instance i xs) (rising-with i xs rising none) (subst (Has (without i (with_instance i xs))) (sym same) has))
-      | inr t ↦ t
-    ])
-    (λ q has. without-Has i (with_instance i xs) q (with-Has i xs q (inr has)) (λ same. none (subst (Has xs) same has)))
+-- other room
+pub kept-same : (t : Held Record) (x y : Index) → IsKept t x → ((k : List ℕ) → run y k ≡ run x k) → IsKept t y
+kept-same t x y kept same = record {
+  runs = λ k. same k ∙ kept.runs k;
+}
 
 -- an instance without a key isn't in its run
 pub not_in_run : (t : Held Record) (es : Index) → IsKept t es → (k : List ℕ) (i : ℕ) → has_key k (keys_at t.held i) ≡ false → ¬ (Has (run es k) i)
