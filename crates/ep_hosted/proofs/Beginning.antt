@@ -1,0 +1,112 @@
+-- What a node begins as, by what its parts tell.
+use Rattle.std.proofs.Common.{◌≡◌, ℕ, List, [], Option, Some, refl, sym, ap, ◌∙◌, subst, take, true}
+use Rattle.ep_base.specs.Quorums.{size}
+use Rattle.ep_device.specs.Memory.{memory_bytes}
+use Rattle.ep_device.specs.declared.host_device.HostDevice.{HostDevice}
+use Rattle.ep_device.specs.declared.memory_device.MemoryDevice.{MemoryDevice}
+use Rattle.ep_journal.specs.declared.entry.Entry.{Entry}
+use Rattle.ep_log.specs.Origins.{Origin}
+use Rattle.ep_node.specs.Nodes.{IsLogOf, IsQuiet, Logged, origin_of}
+use Rattle.ep_node.specs.Opening.{IsOpened, IsUnopened, IsWrittenAnew}
+use Rattle.ep_node.specs.declared.begin.Begin.{Begin}
+use Rattle.ep_node.specs.declared.cut.Cut.{Cut}
+use Rattle.ep_node.specs.declared.open_fault.OpenFault.{OpenFault}
+use Rattle.ep_node.specs.declared.open_fault.OpenFault.TheVariants as unopened
+use Rattle.ep_opening.specs.Bytes.{opening_bytes}
+use Rattle.ep_opening.specs.Files.{File}
+use Rattle.ep_opening.specs.Reading.{IsRefused}
+use Rattle.ep_opening.specs.declared.opening_fault.OpeningFault.{OpeningFault}
+use Rattle.ep_opening.specs.declared.opening_fault.OpeningFault.TheVariants as unread
+use Rattle.ep_hosted.specs.Beginning.{begin_of, log_of, IsBegun, IsOriginOf, IsUnbegun, IsUnfounded}
+use Rattle.ep_hosted.specs.Faults.{of_open, of_opening}
+use Rattle.ep_hosted.specs.Hosting.{Buffer, Hosting, IsHosted}
+use Rattle.ep_hosted.specs.declared.seat.Seat.{Seat}
+use Rattle.ep_hosted.specs.declared.start_fault.StartFault.{StartFault}
+use Rattle.ep_hosted.specs.declared.start_fault.StartFault.TheVariants.{Memory, Opening, OtherSize, Log}
+
+-- Why there is none.
+
+pub unfounded : (cluster : ℕ) (bytes : List ℕ) (fault : OpeningFault) → IsRefused fault bytes → IsUnfounded cluster (Some bytes) (of_opening fault)
+unfounded cluster bytes unread.Memory refused = tt
+unfounded cluster bytes (unread.CutShort at) refused = (bytes, refl, refused, λ e. absurd cc)
+unfounded cluster bytes (unread.Damaged at) refused = (bytes, refl, refused, λ e. absurd cc)
+unfounded cluster bytes (unread.Wrong at field) refused = (bytes, refl, refused, λ e. absurd cc)
+
+pub of_another_size : (cluster : ℕ) (bytes : List ℕ) (file : File) (fault : StartFault) → bytes ≡ opening_bytes file → (fault ≡ OtherSize (size file.faults)) × (¬ (file.faults ≡ cluster)) → IsUnfounded cluster (Some bytes) fault
+of_another_size cluster bytes file fault spelled other = subst (λ (f : StartFault). IsUnfounded cluster (Some bytes) f) (sym other.0) (bytes, file, refl, spelled, other.1, refl)
+
+pub unbegun_so : (seat : Seat) (opening log : Option (List ℕ)) (fault : StartFault) → IsUnfounded seat.cluster opening fault → IsUnbegun seat opening log fault
+unbegun_so seat opening log Memory un = tt
+unbegun_so seat opening log (Opening fault) un = un
+unbegun_so seat opening log (OtherSize count) un = un
+unbegun_so seat opening log (Log fault) un = absurd un
+
+pub unopened_so : (seat : Seat) (opening log : Option (List ℕ)) (o : Origin) (fault : OpenFault) → IsOriginOf seat.cluster opening o → IsUnopened (begin_of log) o seat.cluster seat.me (log_of log) fault → IsUnbegun seat opening log (of_open fault)
+unopened_so seat opening log o unopened.OutOfRange origin un = (o, origin, un, λ e. absurd cc)
+unopened_so seat opening log o unopened.Memory origin un = tt
+unopened_so seat opening log o (unopened.Failed cause) origin un = tt
+unopened_so seat opening log o unopened.NoLog origin un = (o, origin, un, λ e. absurd cc)
+unopened_so seat opening log o unopened.LogExists origin un = (o, origin, un, λ e. absurd cc)
+unopened_so seat opening log o unopened.OtherLog origin un = (o, origin, un, λ e. absurd cc)
+unopened_so seat opening log o (unopened.Log fault) origin un = (o, origin, un, λ e. absurd cc)
+unopened_so seat opening log o (unopened.NotClocked number) origin un = (o, origin, un, λ e. absurd cc)
+
+-- What there is.
+
+-- a node of this origin was opened, and is handed on
+pub record IsHanded (n : Logged MemoryDevice) (h : Hosting) : Type 0 where
+  pub replica : h.node.replica ≡ n.replica
+  pub digest : h.node.digest ≡ n.digest
+  pub cut : h.node.cut ≡ n.cut
+  pub quiet : IsQuiet h.node
+  pub bytes : Buffer
+  pub lent : h.lent ≡ Some bytes
+  pub all : bytes.items ≡ memory_bytes n.device
+  pub anew : h.is_anew ≡ true
+  pub asked : h.dues ≡ []
+  pub told : h.answers.items ≡ []
+
+pub begun : (seat : Seat) (opening log : Option (List ℕ)) (o : Origin) (n : Logged MemoryDevice) (h : Hosting) → IsHanded n h → IsOriginOf seat.cluster opening o → origin_of n ≡ o → n.replica.faults ≡ seat.cluster → n.replica.me ≡ seat.me
+    → IsOpened (begin_of log) o seat.cluster seat.me (log_of log) n.replica.entries n.cut → (bytes : List ℕ) → Some (memory_bytes n.device) ≡ Some bytes → IsWrittenAnew (begin_of log) o seat.cluster seat.me (log_of log) bytes
+    → IsBegun seat opening log h
+begun seat opening log o n h handed origin of_it cluster me opened bytes seen written =
+    let same : origin_of h.node ≡ o = (λ t. record { version = (handed.replica t).version; opening = (handed.replica t).opening; digest = handed.digest t }) ∙ of_it in
+    let all : bytes ≡ handed.bytes.items = (let e : memory_bytes n.device ≡ bytes = cc in sym e ∙ sym handed.all) in
+    record {
+      origin = subst (λ (x : Origin). IsOriginOf seat.cluster opening x) (sym same) origin;
+      cluster = ap (λ k. k.faults) handed.replica ∙ cluster;
+      me = ap (λ k. k.me) handed.replica ∙ me;
+      opened = subst (λ (x : Origin). IsOpened (begin_of log) x seat.cluster seat.me (log_of log) h.node.replica.entries h.node.cut) (sym same)
+          (subst (λ (es : List Entry). IsOpened (begin_of log) o seat.cluster seat.me (log_of log) es h.node.cut) (sym (ap (λ k. k.entries) handed.replica))
+          (subst (λ (c : Option Cut). IsOpened (begin_of log) o seat.cluster seat.me (log_of log) n.replica.entries c) (sym handed.cut) opened));
+      quiet = handed.quiet;
+      bytes = handed.bytes;
+      lent = handed.lent;
+      anew = handed.anew;
+      written = subst (λ (x : Origin). IsWrittenAnew (begin_of log) x seat.cluster seat.me (log_of log) handed.bytes.items) (sym same) (subst (λ (l : List ℕ). IsWrittenAnew (begin_of log) o seat.cluster seat.me (log_of log) l) all written);
+      asked = handed.asked;
+      told = handed.told;
+    }
+
+-- its log, in memory, is what is lent
+pub lends_whole : (n : Logged MemoryDevice) (n' : Logged HostDevice) (d : HostDevice) (bytes : Buffer) → n' ≡ record { replica = n.replica; digest = n.digest; device = d; synced = n.synced; on_disk = n.on_disk; cut = n.cut; closed = n.closed } → IsQuiet n
+    → ((b : List ℕ) → Some (memory_bytes n.device) ≡ Some b → IsLogOf (origin_of n) n.replica.faults n.replica.me (take n.synced n.replica.entries) n.on_disk b) → bytes.items ≡ memory_bytes n.device → IsHosted n' true (Some bytes)
+lends_whole n n' d bytes same quiet log all =
+    let x : Logged HostDevice = record { replica = n.replica; digest = n.digest; device = d; synced = n.synced; on_disk = n.on_disk; cut = n.cut; closed = n.closed } in
+    subst (λ (y : Logged HostDevice). IsHosted y true (Some bytes)) (sym same) (record {
+      works = quiet.works;
+      lends = (record { works = quiet.works; synced = quiet.synced }, subst (λ (l : List ℕ). IsLogOf (origin_of n) n.replica.faults n.replica.me (take n.synced n.replica.entries) n.on_disk l) (sym all) (log (memory_bytes n.device) refl));
+    })
+
+-- the same, where it is told by a test whether the log is begun
+pub begun_as : (seat : Seat) (opening log : Option (List ℕ)) (begin : Begin) (o : Origin) (n : Logged MemoryDevice) (h : Hosting) → begin ≡ begin_of log → IsHanded n h → IsOriginOf seat.cluster opening o → origin_of n ≡ o → n.replica.faults ≡ seat.cluster → n.replica.me ≡ seat.me
+    → IsOpened begin o seat.cluster seat.me (log_of log) n.replica.entries n.cut → (bytes : List ℕ) × (Some (memory_bytes n.device) ≡ Some bytes) × IsWrittenAnew begin o seat.cluster seat.me (log_of log) bytes
+    → IsBegun seat opening log h
+begun_as seat opening log begin o n h is handed origin of_it cluster me opened written =
+    begun seat opening log o n h handed origin of_it cluster me (subst (λ (b : Begin). IsOpened b o seat.cluster seat.me (log_of log) n.replica.entries n.cut) is opened)
+    written.0 written.1 (subst (λ (b : Begin). IsWrittenAnew b o seat.cluster seat.me (log_of log) written.0) is written.2)
+
+pub unopened_as : (seat : Seat) (opening log : Option (List ℕ)) (begin : Begin) (o : Origin) (fault : OpenFault) (told : StartFault) → begin ≡ begin_of log → told ≡ of_open fault → IsOriginOf seat.cluster opening o
+    → IsUnopened begin o seat.cluster seat.me (log_of log) fault → IsUnbegun seat opening log told
+unopened_as seat opening log begin o fault told is as_told origin un =
+    subst (λ (f : StartFault). IsUnbegun seat opening log f) (sym as_told) (unopened_so seat opening log o fault origin (subst (λ (b : Begin). IsUnopened b o seat.cluster seat.me (log_of log) fault) is un))

@@ -1,0 +1,5 @@
+mod Beginning
+mod Refusals
+mod Requests
+mod Still
+mod Writing

@@ -1,0 +1,81 @@
+-- Which bytes are a request, and what it may leave undone.
+use Rattle.std.proofs.Common.{◌≡◌, ◌⊎◌, ℕ, true, false, List, [], Bool, Option, Some, None, Result, Ok, Err, inl, inr, refl, sym, ap, ◌∙◌, subst}
+use Rattle.std.specs.Prelude.{IsErr, IfOk, IfErr}
+use Rattle.std.proofs.lemmas.Bool.{false≢true}
+use Rattle.ep_bundle.specs.Reading.{Reading}
+use Rattle.ep_device.specs.declared.host_device.HostDevice.{HostDevice}
+use Rattle.ep_node.specs.Nodes.{Logged}
+use Rattle.ep_serve.specs.Acting.{IsUndone}
+use Rattle.ep_serve.specs.Serving.{dialect_of}
+use Rattle.ep_wire.specs.Requests.{next_request, ReadsRequest}
+use Rattle.ep_wire.specs.declared.dialect.Dialect.{Dialect}
+use Rattle.ep_wire.specs.declared.request.Request.{Request}
+use Rattle.ep_wire.specs.declared.request.Request.TheVariants as request
+use Rattle.ep_wire.specs.declared.request_fault.RequestFault.{RequestFault}
+use Rattle.ep_wire.specs.declared.request_fault.RequestFault.TheVariants as wire
+use Rattle.ep_hosted.specs.Asking.{is_several, IsRequest, IsUnasked, IsUnread}
+use Rattle.ep_hosted.specs.Faults.{of_request}
+use Rattle.ep_hosted.specs.Hosting.{Hosting}
+use Rattle.ep_hosted.specs.declared.ask_fault.AskFault.{AskFault}
+use Rattle.ep_hosted.specs.declared.ask_fault.AskFault.TheVariants.{Lent, Memory, NotOne}
+
+-- what is left behind what was read
+abbrev rest_of : Reading (Option Request) → List ℕ
+rest_of (Ok p) = p.1.bytes
+rest_of (Err fault) = []
+
+abbrev found_of : Reading (Option Request) → Option Request
+found_of (Ok p) = p.0
+found_of (Err fault) = None
+
+-- a request is all that the bytes are
+pub is_one : (how : Dialect) (zs rest : List ℕ) (place : ℕ) (found : Option Request) (is_over : Bool) (result : Result Request AskFault) → next_request how (record { at = 0; bytes = zs }) ≡ Ok (found, record { at = place; bytes = rest }) → (is_over ≡ true → rest ≡ [])
+    → IfOk result (λ r. (found ≡ Some r) × (is_over ≡ true)) → IfOk result (IsRequest how zs)
+is_one how zs rest place found is_over (Ok r) read over so = record {
+  after = record { at = place; bytes = rest };
+  read = read ∙ ap (λ (x : Option Request). Ok (x, record { at = place; bytes = rest })) so.0;
+  whole = over so.1;
+}
+is_one how zs rest place found is_over (Err fault) read over so = tt
+
+-- or some bytes are left, or none are there
+none_in : (how : Dialect) (zs rest : List ℕ) (place : ℕ) (found : Option Request) (is_over : Bool) (other : Request) → next_request how (record { at = 0; bytes = zs }) ≡ Ok (found, record { at = place; bytes = rest }) → (is_over ≡ false → ¬ (rest ≡ []))
+    → (found ≡ None) ⊎ (is_over ≡ false) → ¬ IsRequest how zs other
+none_in how zs rest place found is_over other read more (inl none) one = absurd (let e : None ≡ Some other = sym none ∙ ap found_of (sym read ∙ one.read) in cc)
+none_in how zs rest place found is_over other read more (inr left) one = more left (ap rest_of (sym read ∙ one.read) ∙ one.whole)
+
+pub is_none : (how : Dialect) (zs rest : List ℕ) (place : ℕ) (found : Option Request) (is_over : Bool) (result : Result Request AskFault) → next_request how (record { at = 0; bytes = zs }) ≡ Ok (found, record { at = place; bytes = rest }) → (is_over ≡ false → ¬ (rest ≡ []))
+    → IfErr result (λ fault. (fault ≡ NotOne) × ((found ≡ None) ⊎ (is_over ≡ false))) → IfErr result (IsUnread how zs)
+is_none how zs rest place found is_over (Ok r) read more so = tt
+is_none how zs rest place found is_over (Err fault) read more so = subst (λ (f : AskFault). IsUnread how zs f) (sym so.0) (λ other. none_in how zs rest place found is_over other read more so.1)
+
+failed : (read : Reading (Option Request)) (other : Request) → IsErr read → ¬ (found_of read ≡ Some other)
+failed (Ok p) other err is = absurd (false≢true err)
+failed (Err fault) other err is = absurd (let e : None ≡ Some other = is in cc)
+
+-- they are cut, or their length is out of range, or memory is wanted
+pub is_bad : (how : Dialect) (zs : List ℕ) (fault : RequestFault) (told : AskFault) (place : ℕ) (left : Option (List ℕ)) → told ≡ of_request fault → ReadsRequest how (record { at = 0; bytes = zs }) (Err fault) place left → IsUnread how zs told
+is_bad how zs wire.Memory told place left is read = subst (λ (f : AskFault). IsUnread how zs f) (sym is) tt
+is_bad how zs wire.ReadFailed told place left is read = subst (λ (f : AskFault). IsUnread how zs f) (sym is) tt
+is_bad how zs (wire.BadRequest at) told place left is read =
+    subst (λ (f : AskFault). IsUnread how zs f) (sym is) (λ other one. failed (next_request how (record { at = 0; bytes = zs })) other read.1 (ap found_of one.read))
+
+-- a request that a working node leaves undone has changed nothing, or executes several instances
+pub undone : (n : Logged HostDevice) (r : Request) (n' : Logged HostDevice) → n.closed ≡ false → IsUndone n r n' → (n' ≡ n) ⊎ (is_several r ≡ true)
+undone n (request.Event happening) n' works un = inl un.1
+undone n request.BadFrame n' works un = absurd un
+undone n request.Advance n' works un = inr refl
+undone n (request.Get key) n' works un = absurd un
+undone n (request.NextOpen after) n' works un = absurd un
+undone n (request.Leads i) n' works un = absurd un
+undone n request.Sync n' works un = absurd un
+undone n request.State n' works un = absurd un
+undone n request.ExecuteAll n' works un = inr refl
+undone n (request.Ready after most) n' works un = absurd un
+undone n (request.Malformed m) n' works un = absurd un
+
+-- why no request was read, and nothing has changed
+pub unasked : (h : Hosting) (bytes : List ℕ) (fault : AskFault) → IsUnread (dialect_of h.node.replica) bytes fault → IsUnasked h bytes fault h
+unasked h bytes Lent un = absurd un
+unasked h bytes Memory un = inl refl
+unasked h bytes NotOne un = (un, refl)

@@ -1,0 +1,12 @@
+use Rattle.std.proofs.Common.{◌∙◌, ap, subst}
+use Rattle.ep_serve.specs.Serving.{dialect_of}
+use Rattle.ep_wire.specs.declared.dialect.Dialect.{Dialect}
+use Rattle.ep_hosted.specs.Asking.{IsUnread}
+use Rattle.ep_hosted.specs.Hosting.{Hosting}
+use Rattle.ep_hosted.proofs.Requests.{unasked}
+use Rattle.ep_hosted.proofs.hosted.Hosted.ask.Goals as goal
+
+pub returns-in-Err-clause-err : goal.returns-in-Err-clause-err
+returns-in-Err-clause-err c =
+    unasked c.args.self.now c.args.bytes.now c.in-Err.fault
+    (subst (λ (d : Dialect). IsUnread d c.args.bytes.now c.in-Err.fault) (c.dialect_of.ensures ∙ ap (λ (h : Hosting). dialect_of h.node.replica) c.self.view_is) c.in-Err.ensures.err)

@@ -1,0 +1,6 @@
+pub mod Faults
+pub mod Hosting
+pub mod Beginning
+pub mod Taking
+pub mod Asking
+pub mod Telling

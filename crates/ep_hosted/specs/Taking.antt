@@ -1,0 +1,90 @@
+-- What a node takes, and why it takes nothing.
+use Rattle.std.specs.Prelude.{◌≡◌, ◌≢◌, ◌⊎◌, ℕ, zero, suc, Bool, true, false, List, length, Option, Some, None, Ok}
+use Rattle.ep_frame.specs.Spelling.{IsFrame}
+use Rattle.ep_journal.specs.declared.event.Event.{Event as Happening}
+use Rattle.ep_journal.specs.declared.event.Event.TheVariants.{Handle}
+use Rattle.ep_journal.specs.declared.step_fault.StepFault.TheVariants.{Memory}
+use Rattle.ep_replica.specs.Kept.{Kept}
+use Rattle.ep_replica.specs.Pending.{IsHeldUp, TriesNext}
+use Rattle.ep_serve.specs.Acting.{ExecutesAll, TakesNear}
+use Rattle.ep_serve.specs.declared.due.Due.{Due}
+use Rattle.ep_serve.specs.declared.due.Due.TheVariants as due
+use Rattle.ep_wire.specs.declared.take_fault.TakeFault.{TakeFault}
+use Rattle.ep_wire.specs.declared.take_fault.TakeFault.TheVariants.{BadFrame, Step}
+use Rattle.ep_hosted.specs.Hosting.{Hosting, with_replica}
+use Rattle.ep_hosted.specs.declared.taking_fault.TakingFault.{TakingFault}
+use Rattle.ep_hosted.specs.declared.taking_fault.TakingFault.TheVariants.{Lent, Refused}
+
+-- nothing is lent, and only the replica changes
+pub record Moves (h h' : Hosting) : Type 0 where
+  pub none : h.lent ≡ None
+  pub rest : h' ≡ with_replica h h'.node.replica
+
+-- bytes are lent, and nothing changes
+pub record IsBusy (h h' : Hosting) : Type 0 where
+  pub lent : h.lent ≢ None
+  pub same : h' ≡ h
+
+-- why an event was refused, where that is the answer
+abbrev pub refusal_of : Due → Option TakeFault
+refusal_of (due.Taken from count) = None
+refusal_of (due.Refused refusal) = Some refusal
+refusal_of (due.Value key) = None
+refusal_of (due.Open after) = None
+refusal_of (due.Leads i) = None
+refusal_of due.Synced = None
+refusal_of due.State = None
+refusal_of (due.Ready after most) = None
+refusal_of (due.Malformed m) = None
+
+-- the event's step was taken, the next entry, whose client has seen no stamp too far ahead
+abbrev pub HasTaken : Hosting → Happening → Hosting → Type 0
+HasTaken h event h' = Moves h h' × TakesNear h.node.replica event (due.Taken (length h.node.replica.entries) 1) h'.node.replica
+
+-- why it wasn't, and nothing changed
+abbrev pub IsNotTaken : Hosting → Happening → TakingFault → Hosting → Type 0
+IsNotTaken h event Lent h' = IsBusy h h'
+IsNotTaken h event (Refused refusal) h' = (h.lent ≡ None) × TakesNear h.node.replica event (due.Refused refusal) h.node.replica × (h' ≡ h)
+
+-- why the bytes weren't handled: they are no frame, or why the frame wasn't taken
+abbrev pub IsUnheard : Hosting → List ℕ → TakingFault → Hosting → Type 0
+IsUnheard h bytes Lent h' = IsBusy h h'
+IsUnheard h bytes (Refused BadFrame) h' = (h.lent ≡ None) × (¬ IsFrame bytes) × (h' ≡ h)
+IsUnheard h bytes (Refused (Step fault)) h' = IsNotTaken h (Handle bytes) (Refused (Step fault)) h'
+
+-- Executing own instances.
+
+-- the least that is ready was executed, or none is ready
+abbrev pub HasExecuted : Hosting → Bool → Hosting → Type 0
+HasExecuted h executed h' = Moves h h' × TriesNext h.node.replica (Ok executed) h'.node.replica
+
+-- why none was, and nothing changed
+abbrev pub IsNotExecuted : Hosting → TakingFault → Hosting → Type 0
+IsNotExecuted h Lent h' = IsBusy h h'
+IsNotExecuted h (Refused BadFrame) h' = ⊥
+IsNotExecuted h (Refused (Step fault)) h' = (h.lent ≡ None) × IsHeldUp h.node.replica fault × (h' ≡ h)
+
+-- so many were executed, each the least that was ready
+abbrev pub ExecutesSo : ℕ → Kept → Kept → Type 0
+ExecutesSo zero k k' = k' ≡ k
+ExecutesSo (suc n) k k' = (m : Kept) × ExecutesSo n k m × TriesNext m (Ok true) k'
+
+-- all that were ready were executed, and then none is
+abbrev pub HasAdvanced : Hosting → Hosting → Type 0
+HasAdvanced h h' = Moves h h' × ((times : ℕ) × ExecutesSo times h.node.replica h'.node.replica × TriesNext h'.node.replica (Ok false) h'.node.replica)
+
+-- some were executed, and the next one was refused
+abbrev pub HasStopped : Hosting → TakingFault → Hosting → Type 0
+HasStopped h Lent h' = IsBusy h h'
+HasStopped h (Refused BadFrame) h' = ⊥
+HasStopped h (Refused (Step fault)) h' = Moves h h' × ((times : ℕ) × ExecutesSo times h.node.replica h'.node.replica × ((fault ≡ Memory) ⊎ IsHeldUp h'.node.replica fault))
+
+-- Executing all instances that are ready.
+
+abbrev pub HasSwept : Hosting → Hosting → Type 0
+HasSwept h h' = Moves h h' × ((told : Due) × ExecutesAll h.node.replica told h'.node.replica)
+
+-- some of them were executed
+abbrev pub HasLeftOff : Hosting → TakingFault → Hosting → Type 0
+HasLeftOff h Lent h' = IsBusy h h'
+HasLeftOff h (Refused refusal) h' = Moves h h'

@@ -1,0 +1,89 @@
+-- What a node lends and tells.
+use Rattle.std.specs.Prelude.{◌≡◌, ◌≢◌, ◌⊎◌, ℕ, ◌+◌, ◌<◌, ◌^◌, ◌++◌, Bool, true, false, List, [], length, take, Some, None}
+use Rattle.ep_node.specs.Closing as node
+use Rattle.ep_node.specs.Nodes.{IsLogOf, origin_of, unwritten}
+use Rattle.ep_node.specs.declared.close_fault.CloseFault.{CloseFault}
+use Rattle.ep_node.specs.declared.close_fault.CloseFault.TheVariants as close
+use Rattle.ep_opening.specs.Bytes.{opening_bytes}
+use Rattle.ep_opening.specs.Closing.{IsClosing}
+use Rattle.ep_opening.specs.Files.{File}
+use Rattle.ep_replica.specs.Pending.{state_of}
+use Rattle.ep_rules.specs.OneMap.{value_at}
+use Rattle.ep_serve.specs.Answering.{AllAnswered}
+use Rattle.ep_hosted.specs.Hosting.{Buffer, Hosting, IsOnDisk}
+use Rattle.ep_hosted.specs.declared.sync_fault.SyncFault.{SyncFault}
+use Rattle.ep_hosted.specs.declared.sync_fault.SyncFault.TheVariants as sync
+use Rattle.ep_hosted.specs.declared.tell_fault.TellFault.{TellFault}
+use Rattle.ep_hosted.specs.declared.tell_fault.TellFault.TheVariants.{Memory, Unsynced}
+
+-- What is lent: what was lent before; nothing, where all is on the disk; or else the records of the entries that aren't.
+abbrev pub HasLent : Hosting → Hosting → Type 0
+HasLent h h' =
+    ((h.lent ≢ None) × (h' ≡ h)) ⊎ (IsOnDisk h × (h' ≡ h)) ⊎ ((h.lent ≡ None) × (¬ IsOnDisk h) × ((bytes : Buffer) × (bytes.items ≡ unwritten h.node) × (h' ≡ record h { lent = Some bytes })))
+
+-- how long the log is once what is lent is written
+abbrev pub end_of : Bool → ℕ → ℕ → ℕ
+end_of true on_disk count = on_disk
+end_of false on_disk count = on_disk + count
+
+-- what was lent, so many bytes, is on the disk, and with it all that the node took
+pub record IsNoted (h : Hosting) (count : ℕ) (h' : Hosting) : Type 0 where
+  pub bytes : Buffer
+  pub lent : h.lent ≡ Some bytes
+  pub long : length bytes.items ≡ count
+  pub end : h'.node.on_disk ≡ end_of h.is_anew h.node.on_disk count
+  pub is : h' ≡ record h { node = record h.node { device = h'.node.device; synced = length h.node.replica.entries; on_disk = h'.node.on_disk }; lent = None; is_anew = false }
+
+-- the same; or nothing was lent, and no bytes are said to be there
+abbrev pub HasNoted : Hosting → ℕ → Hosting → Type 0
+HasNoted h count h' = IsNoted h count h' ⊎ ((h.lent ≡ None) × (count ≡ 0) × (h' ≡ h))
+
+-- the log behind which the bytes are written, or whose place they take, and then
+abbrev pub log_after : Bool → List ℕ → List ℕ → List ℕ
+log_after true log bytes = bytes
+log_after false log bytes = log ++ bytes
+
+-- Where the bytes that were lent stand behind the log of the entries that were on the disk, or anew, they are the log of all entries.
+abbrev pub IsWritten : Hosting → Hosting → Type 0
+IsWritten h h' =
+    (log : List ℕ) → (bytes : Buffer) → h.lent ≡ Some bytes → length log < 2 ^ 64
+    → (h.is_anew ≡ false → IsLogOf (origin_of h.node) h.node.replica.faults h.node.replica.me (take h.node.synced h.node.replica.entries) h.node.on_disk log)
+    → IsLogOf (origin_of h'.node) h'.node.replica.faults h'.node.replica.me h'.node.replica.entries h'.node.on_disk (log_after h.is_anew log bytes.items)
+
+-- why it isn't
+abbrev pub IsUnnoted : Hosting → ℕ → SyncFault → Type 0
+IsUnnoted h count sync.NotLent = (h.lent ≡ None) × (count ≢ 0)
+IsUnnoted h count sync.NotAll = (bytes : Buffer) × (h.lent ≡ Some bytes) × (length bytes.items ≢ count)
+IsUnnoted h count sync.Memory = (bytes : Buffer) × (h.lent ≡ Some bytes) × (length bytes.items ≡ count)
+
+-- all was on the disk, and what waited was told, and what there is to tell
+pub record HasAnswered (h : Hosting) (after most : ℕ) (h' : Hosting) : Type 0 where
+  pub on_disk : IsOnDisk h
+  pub told : AllAnswered h.node.replica h.dues after most h'.answers.items
+  pub is : h' ≡ record h { dues = []; answers = h'.answers }
+
+-- why nothing is told
+abbrev pub IsUntold : Hosting → TellFault → Type 0
+IsUntold h Memory = IsOnDisk h
+IsUntold h Unsynced = ¬ IsOnDisk h
+
+-- all was on the disk, and the value that the map has at the key was told; or it has none
+abbrev pub HasLooked : Hosting → List ℕ → Bool → Hosting → Type 0
+HasLooked h key true h' = IsOnDisk h × (value_at (state_of h.node.replica).store.contents key ≡ Some h'.answers.items) × (h' ≡ record h { answers = h'.answers })
+HasLooked h key false h' = IsOnDisk h × (value_at (state_of h.node.replica).store.contents key ≡ None) × (h' ≡ h)
+
+-- all was on the disk, a seal was executed, and the file of the generation after is told
+pub record HasClosed (h : Hosting) (next : ℕ) (h' : Hosting) : Type 0 where
+  pub on_disk : IsOnDisk h
+  pub file : File
+  pub closing : IsClosing h.node.replica next file
+  pub told : h'.answers.items ≡ opening_bytes file
+  pub is : h' ≡ record h { answers = h'.answers }
+
+-- why it isn't
+abbrev pub IsUnclosed : Hosting → CloseFault → Type 0
+IsUnclosed h close.Memory = IsOnDisk h
+IsUnclosed h close.NotSealed = IsOnDisk h × node.IsUnclosed h.node close.NotSealed
+IsUnclosed h close.LastGeneration = IsOnDisk h × node.IsUnclosed h.node close.LastGeneration
+IsUnclosed h close.Unsynced = ¬ IsOnDisk h
+IsUnclosed h close.Closed = ⊥

@@ -1,0 +1,33 @@
+//! Why a request was not done.
+
+ghost use Rattle.std.specs.Prelude.{◌≡◌};
+ghost use Rattle.ep_hosted.specs.Faults.{of_request};
+
+use ep_wire::RequestFault;
+use thiserror::Error;
+
+/// Why a request was not done.
+#[derive(Clone, Copy, Debug, PartialEq, Eq, Error)]
+pub enum AskFault {
+    /// Bytes are lent that aren't on the disk yet: nothing is done before `synced` says that they are.
+    #[error("bytes are lent that aren't on the disk")]
+    Lent,
+    /// Memory was refused. Nothing was done, but of a request of kind 6 or 12, which execute several instances: some of them may have been executed.
+    #[error("E1 memory")]
+    Memory,
+    /// The bytes aren't just one request: its length is out of range, or isn't that of the bytes.
+    #[error("the bytes aren't one request")]
+    NotOne,
+}
+
+impl From<RequestFault> for AskFault {
+    ghost from_gives = { λ fault e. e ≡ of_request fault };
+
+    fn from(fault: RequestFault) -> AskFault {
+        match fault {
+            // Bytes in memory are read without fail.
+            RequestFault::Memory | RequestFault::ReadFailed => AskFault::Memory,
+            RequestFault::BadRequest(_) => AskFault::NotOne,
+        }
+    }
+}

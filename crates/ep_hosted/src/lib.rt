@@ -1,0 +1,30 @@
+//! A node whose log is in its caller's hands.
+//!
+//! A `Hosted` takes what happens, lends the bytes that its caller is to write, and tells nothing before the caller says that these are on the disk. What it
+//! takes and tells is what `ep_serve` says of a node's requests and answers.
+//!
+//! Start with `hosted.rt` and specs/Hosting.antt; then `opening.rt` (how one begins), `taking.rt` (what it takes), `asking.rt` (requests in bytes) and
+//! `telling.rt` (what it lends and tells), with specs/Beginning.antt and specs/Taking.antt.
+#![tactic(auto)]
+
+mod ask_fault;
+mod asking;
+mod call;
+mod hosted;
+mod opening;
+mod seat;
+mod start_fault;
+mod sync_fault;
+mod taking;
+mod taking_fault;
+mod tell_fault;
+mod telling;
+
+pub use ask_fault::AskFault;
+pub use call::Call;
+pub use hosted::Hosted;
+pub use seat::Seat;
+pub use start_fault::StartFault;
+pub use sync_fault::SyncFault;
+pub use taking_fault::TakingFault;
+pub use tell_fault::TellFault;

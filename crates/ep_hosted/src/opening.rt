@@ -1,0 +1,142 @@
+//! Beginning a node.
+
+ghost use Rattle.std.specs.Prelude.{◌≡◌, ◌≢◌, [], Some, true, false, IfOk, IfErr};
+ghost use Rattle.std.specs.Option.{option_map};
+ghost use Rattle.ep_device.specs.Memory.{memory_bytes};
+ghost use Rattle.ep_node.specs.Nodes.{IsQuiet};
+ghost use Rattle.ep_opening.specs.Bytes.{opening_bytes};
+ghost use Rattle.ep_hosted.specs.Beginning.{begin_of, log_of, IsFileOf, IsOriginOf, IsUnfounded};
+ghost use Rattle.ep_hosted.specs.Hosting.{Buffer};
+
+use crate::hosted::Hosted;
+use crate::seat::Seat;
+use crate::start_fault::StartFault;
+use ep_base::Size;
+use ep_device::{HostDevice, MemoryDevice};
+use ep_log::Beginning;
+use ep_node::{Begin, Node, Whose};
+use ep_opening::SpelledFile;
+use std::alloc::Global;
+
+fn is_same_size(size: Size, other: Size) -> bool
+    ensures yes { result ≡ true → size ≡ other }
+    ensures no { result ≡ false → size ≢ other }
+{
+    size == other
+}
+
+/// What a replica of a cluster of this size begins with, by this file.
+fn beginning_by(cluster: Size, spelled: SpelledFile) -> Result<Beginning, StartFault>
+    ensures ok { IfOk result (IsFileOf cluster (opening_bytes spelled)) }
+    ensures err { IfErr result (IsUnfounded cluster (Some (opening_bytes spelled))) }
+{
+    let digest = spelled.digest();
+    let file = spelled.into_file();
+    let found = file.size();
+    if !is_same_size(found, cluster) {
+        drop(file);
+        return Err(StartFault::OtherSize(found.count()));
+    }
+    let generation = file.generation();
+    Ok(Beginning::of(generation, file.into_opening(), digest))
+}
+
+/// What a replica of a cluster of this size begins with, by the file of these bytes.
+fn beginning_in(alloc: Global, cluster: Size, bytes: Vec<u8>) -> Result<Beginning, StartFault>
+    ensures ok { IfOk result (IsFileOf cluster bytes.items) }
+    ensures err { IfErr result (IsUnfounded cluster (Some bytes.items)) }
+{
+    match SpelledFile::read(alloc, bytes) {
+        Ok(spelled) => beginning_by(cluster, spelled),
+        Err(fault) => Err(StartFault::from(fault)),
+    }
+}
+
+/// What a replica of a cluster of this size begins with: nothing, in version 2; or what the file of these bytes says.
+fn beginning_of(
+    alloc: Global,
+    cluster: Size,
+    opening: Option<Vec<u8>>,
+) -> Result<Beginning, StartFault>
+    ensures ok { IfOk result (IsOriginOf cluster (option_map (λ v. v.items) opening)) }
+    ensures err { IfErr result (IsUnfounded cluster (option_map (λ v. v.items) opening)) }
+{
+    match opening {
+        None => Ok(Beginning::second(alloc)),
+        Some(bytes) => beginning_in(alloc, cluster, bytes),
+    }
+}
+
+/// Whether a log is begun.
+fn begin_of(log: &Option<Vec<u8>>) -> Begin
+    ensures { result ≡ begin_of (option_map (λ v. v.items) log.now) }
+{
+    match log {
+        None => Begin::New,
+        Some(_) => Begin::Existing,
+    }
+}
+
+/// The bytes that there are of a log.
+fn bytes_of(alloc: Global, log: Option<Vec<u8>>) -> Vec<u8>
+    ensures { result.items ≡ log_of (option_map (λ v. v.items) log) }
+{
+    match log {
+        None => Vec::new(alloc),
+        Some(bytes) => bytes,
+    }
+}
+
+/// The node, whose log was written anew in memory, is to be written anew by its caller.
+fn hosted_by(alloc: Global, node: Node<MemoryDevice>) -> Hosted
+    requires { IsQuiet node }
+    ensures node { (result.node.replica ≡ node.replica) × (result.node.digest ≡ node.digest) × (result.node.cut ≡ node.cut) }
+    ensures quiet { IsQuiet result.node }
+    ensures lent { (bytes : Buffer) × (result.lent ≡ Some bytes) × (bytes.items ≡ memory_bytes node.device) }
+    ensures anew { result.is_anew ≡ true }
+    ensures none { (result.dues ≡ []) × (result.answers.items ≡ []) }
+{
+    let (node, device) = node.onto(HostDevice);
+    Hosted {
+        node,
+        lent: Some(device.into_bytes()),
+        is_anew: true,
+        dues: Vec::new(alloc),
+        answers: Vec::new(alloc),
+    }
+}
+
+impl Hosted {
+    ghost use Rattle.std.specs.Prelude.{◌≡◌, IfOk, IfErr};
+    ghost use Rattle.std.specs.Option.{option_map};
+    ghost use Rattle.ep_hosted.specs.Beginning.{IsBegun, IsUnbegun};
+
+    /// The node of this seat. It is of version 2, or of the generation whose opening file's bytes these are. With no log it is new, and with the bytes of one
+    /// it goes on from there; a torn end is cut off (`cut` tells). In both cases the log comes first: `ready` lends it, to be written anew in place of what
+    /// was there, and nothing is taken or told before it is `synced`, since what a read returned may never have reached the disk.
+    pub fn open(
+        alloc: Global,
+        seat: Seat,
+        opening: Option<Vec<u8>>,
+        log: Option<Vec<u8>>,
+    ) -> Result<Hosted, StartFault>
+        ensures ok { IfOk result (IsBegun seat (option_map (λ v. v.items) opening) (option_map (λ v. v.items) log)) }
+        ensures err { IfErr result (IsUnbegun seat (option_map (λ v. v.items) opening) (option_map (λ v. v.items) log)) }
+    {
+        let origin = beginning_of(alloc, seat.cluster, opening)?;
+        let begin = begin_of(&log);
+        let device = MemoryDevice::new(alloc, bytes_of(alloc, log), 0)?;
+        let whose = Whose {
+            cluster: seat.cluster,
+            me: seat.me,
+            origin,
+        };
+        match Node::opened(alloc, device, whose, begin) {
+            Ok(node) => Ok(hosted_by(alloc, node)),
+            Err((fault, device)) => {
+                drop(device);
+                Err(StartFault::from(fault))
+            }
+        }
+    }
+}

@@ -1,0 +1,232 @@
+//! What a node takes.
+
+ghost use Rattle.std.specs.Prelude.{◌≡◌, ◌⊎◌, ℕ, false, length, None, Some, Ok, IfOk, IfErr, OnOk};
+ghost use Rattle.ep_journal.specs.declared.step_fault.StepFault.TheVariants.{Memory};
+ghost use Rattle.ep_replica.specs.Pending.{IsHeldUp, TriesNext};
+ghost use Rattle.ep_serve.specs.Acting.{ExecutesAll, TakesNear};
+ghost use Rattle.ep_serve.specs.declared.due.Due.{Due as Answer};
+ghost use Rattle.ep_serve.specs.declared.due.Due.TheVariants.{Refused, Taken};
+ghost use Rattle.ep_hosted.specs.Taking.{refusal_of, ExecutesSo};
+
+use crate::call::Call;
+use crate::hosted::Hosted;
+use crate::taking_fault::TakingFault;
+use bytes::Bytes;
+use ep_base::{Command, InstanceId};
+use ep_device::HostDevice;
+use ep_frame::Frame;
+use ep_journal::{Event, StepFault};
+use ep_node::{Node, NodeFault};
+use ep_serve::{Due, act};
+use ep_wire::{Request, TakeFault};
+use std::alloc::{AllocError, Global};
+
+/// Why an event was refused, where that is the answer.
+fn refusal_of(due: &Due) -> Option<TakeFault>
+    ensures { result ≡ refusal_of due.now }
+{
+    match due {
+        Due::Refused(refusal) => Some(*refusal),
+        Due::Taken { .. }
+        | Due::Value(_)
+        | Due::Open(_)
+        | Due::Leads(_)
+        | Due::Synced
+        | Due::State
+        | Due::Ready { .. }
+        | Due::Malformed(_) => None,
+    }
+}
+
+/// What came of an event whose answer this is.
+fn came_of(due: Due) -> Result<(), TakeFault>
+    ensures ok { OnOk result (refusal_of due ≡ None) }
+    ensures err { IfErr result (λ refusal. refusal_of due ≡ Some refusal) }
+{
+    let refusal = refusal_of(&due);
+    drop(due);
+    match refusal {
+        Some(refusal) => Err(refusal),
+        None => Ok(()),
+    }
+}
+
+/// The node takes an event, or refuses it.
+#[tactic(auto, using(crate::proofs::Refusals::taken_if, crate::proofs::Refusals::refused_if))]
+fn take_at(node: &mut Node<HostDevice>, event: Event) -> Result<(), TakeFault>
+    requires { node.old.closed ≡ false }
+    ensures ok { OnOk result (TakesNear node.old.replica event (Taken (length node.old.replica.entries) 1) node.new.replica) }
+    ensures same { node.new ≡ record node.old { replica = node.new.replica } }
+    ensures err { IfErr result (λ refusal. TakesNear node.old.replica event (Refused refusal) node.old.replica × (node.new ≡ node.old)) }
+{
+    let Ok(due) = act(node, Request::Event(event)) else {
+        // No event fails at a node whose device works.
+        unreachable!()
+    };
+    came_of(due)
+}
+
+/// The node executes the least own instance that is ready.
+fn execute_at(node: &mut Node<HostDevice>) -> Result<bool, StepFault>
+    requires { node.old.closed ≡ false }
+    ensures ok { IfOk result (λ executed. TriesNext node.old.replica (Ok executed) node.new.replica) }
+    ensures same { node.new ≡ record node.old { replica = node.new.replica } }
+    ensures err { IfErr result (λ fault. IsHeldUp node.old.replica fault × (node.new ≡ node.old)) }
+{
+    match node.try_next() {
+        Ok(executed) => Ok(executed),
+        Err(NodeFault::Refused(fault)) => Err(fault),
+        Err(_) => unreachable!(),
+    }
+}
+
+/// The node executes all own instances that are ready.
+fn advance_at(node: &mut Node<HostDevice>) -> Result<(), StepFault>
+    requires { node.old.closed ≡ false }
+    ensures some { (times : ℕ) × ExecutesSo times node.old.replica node.new.replica }
+    ensures ok { OnOk result (TriesNext node.new.replica (Ok false) node.new.replica) }
+    ensures same { node.new ≡ record node.old { replica = node.new.replica } }
+    ensures err { IfErr result (λ fault. (fault ≡ Memory) ⊎ IsHeldUp node.new.replica fault) }
+{
+    for _ in 0..u64::MAX {
+        let executed = match execute_at(node) {
+            Ok(executed) => executed,
+            Err(fault) => return Err(fault),
+        };
+        if !executed {
+            return Ok(());
+        }
+    }
+    // No replica has so many instances.
+    Err(StepFault::Memory)
+}
+
+/// The node executes all instances that are ready.
+fn sweep_at(node: &mut Node<HostDevice>) -> Result<(), AllocError>
+    ensures ok { OnOk result ((told : Answer) × ExecutesAll node.old.replica told node.new.replica) }
+    ensures same { node.new ≡ record node.old { replica = node.new.replica } }
+{
+    let _told = act(node, Request::ExecuteAll)?;
+    Ok(())
+}
+
+impl Hosted {
+    ghost use Rattle.std.specs.Prelude.{◌≡◌, IfOk, IfErr, OnOk};
+    ghost use Rattle.ep_journal.specs.declared.event.Event.TheVariants.{Propose, Handle, GiveUp, Recover, Execute};
+    ghost use Rattle.ep_hosted.specs.Taking.{HasAdvanced, HasExecuted, HasLeftOff, HasStopped, HasSwept, HasTaken, IsNotExecuted, IsNotTaken, IsUnheard};
+
+    /// Takes an event, which isn't on the disk before it was lent and `synced`. What is refused has changed nothing.
+    pub fn take(&mut self, event: Event) -> Result<(), TakingFault>
+        ensures ok { OnOk result (HasTaken self.old event self.new) }
+        ensures err { IfErr result (λ fault. IsNotTaken self.old event fault self.new) }
+    {
+        if self.is_lending() {
+            drop(event);
+            return Err(TakingFault::Lent);
+        }
+        take_at(&mut self.node, event)?;
+        Ok(())
+    }
+
+    /// Proposes a client's command. A seen stamp that is more than 2^40 above that of the last entry is refused (`StampFull`).
+    pub fn propose(&mut self, call: Call, command: Command) -> Result<(), TakingFault>
+        ensures ok { OnOk result (HasTaken self.old (Propose call.client call.request command call.seen) self.new) }
+        ensures err { IfErr result (λ fault. IsNotTaken self.old (Propose call.client call.request command call.seen) fault self.new) }
+    {
+        let Call {
+            client,
+            request,
+            seen,
+        } = call;
+        self.take(Event::Propose {
+            client,
+            request,
+            command,
+            seen,
+        })
+    }
+
+    /// Handles bytes that came from a peer; `BadFrame` where they are no frame.
+    pub fn handle(&mut self, alloc: Global, bytes: &[u8]) -> Result<(), TakingFault>
+        ensures ok { OnOk result (HasTaken self.old (Handle bytes.now) self.new) }
+        ensures err { IfErr result (λ fault. IsUnheard self.old bytes.now fault self.new) }
+    {
+        if self.is_lending() {
+            return Err(TakingFault::Lent);
+        }
+        let Ok(bytes) = Bytes::copy_from_slice(alloc, bytes) else {
+            return Err(TakingFault::Refused(TakeFault::Step(StepFault::Memory)));
+        };
+        match Frame::read(bytes) {
+            Ok(frame) => self.take(Event::Handle(frame)),
+            Err(_) => Err(TakingFault::Refused(TakeFault::BadFrame)),
+        }
+    }
+
+    /// Waits no longer for the fast quorum of an own instance.
+    pub fn give_up(&mut self, instance: InstanceId) -> Result<(), TakingFault>
+        ensures ok { OnOk result (HasTaken self.old (GiveUp instance) self.new) }
+        ensures err { IfErr result (λ fault. IsNotTaken self.old (GiveUp instance) fault self.new) }
+    {
+        self.take(Event::GiveUp(instance))
+    }
+
+    /// Takes over an instance, by explicit prepare.
+    pub fn recover(&mut self, instance: InstanceId) -> Result<(), TakingFault>
+        ensures ok { OnOk result (HasTaken self.old (Recover instance) self.new) }
+        ensures err { IfErr result (λ fault. IsNotTaken self.old (Recover instance) fault self.new) }
+    {
+        self.take(Event::Recover(instance))
+    }
+
+    /// Executes the instance, and before it all that it depends on; `NotCommitted` names one that it waits for.
+    pub fn execute(&mut self, instance: InstanceId) -> Result<(), TakingFault>
+        ensures ok { OnOk result (HasTaken self.old (Execute instance) self.new) }
+        ensures err { IfErr result (λ fault. IsNotTaken self.old (Execute instance) fault self.new) }
+    {
+        self.take(Event::Execute(instance))
+    }
+
+    /// Executes the least own instance that is ready, with all that it waits for: one entry more, and `true`; `false` where none is ready.
+    pub fn execute_next(&mut self) -> Result<bool, TakingFault>
+        ensures ok { IfOk result (λ executed. HasExecuted self.old executed self.new) }
+        ensures err { IfErr result (λ fault. IsNotExecuted self.old fault self.new) }
+    {
+        if self.is_lending() {
+            return Err(TakingFault::Lent);
+        }
+        let executed = match execute_at(&mut self.node) {
+            Ok(executed) => executed,
+            Err(fault) => return Err(TakingFault::Refused(TakeFault::Step(fault))),
+        };
+        Ok(executed)
+    }
+
+    /// Executes all own instances that are ready, in rising order, until none is. After `Refused`, for want of memory or of a stamp, those before the one that
+    /// was refused have been executed; after `Lent` none has.
+    pub fn advance(&mut self) -> Result<(), TakingFault>
+        ensures ok { OnOk result (HasAdvanced self.old self.new) }
+        ensures err { IfErr result (λ fault. HasStopped self.old fault self.new) }
+    {
+        if self.is_lending() {
+            return Err(TakingFault::Lent);
+        }
+        advance_at(&mut self.node)?;
+        Ok(())
+    }
+
+    /// Executes all instances that are ready, own or not: before a local read, or where a machine outside is to keep up. After `Refused`, for want of memory,
+    /// some have been executed; after `Lent` none has.
+    pub fn execute_all(&mut self) -> Result<(), TakingFault>
+        ensures ok { OnOk result (HasSwept self.old self.new) }
+        ensures err { IfErr result (λ fault. HasLeftOff self.old fault self.new) }
+    {
+        if self.is_lending() {
+            return Err(TakingFault::Lent);
+        }
+        match sweep_at(&mut self.node) {
+            Ok(()) => Ok(()),
+            Err(_) => Err(TakingFault::Refused(TakeFault::Step(StepFault::Memory))),
+        }
+    }
+}

@@ -1,0 +1,9 @@
+pub mod Arguments
+pub mod Calls
+pub mod Executing
+pub mod Places
+pub mod Statuses
+pub mod Syncing
+pub mod Telling
+pub mod Alone
+pub mod Opening

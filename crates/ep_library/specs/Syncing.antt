@@ -1,0 +1,51 @@
+-- What is lent and told, by the status.
+use Rattle.std.specs.Prelude.{◌≡◌, ◌⊎◌, ℕ, Bool, true, false, List, length, Option, Some, None}
+use Rattle.std.specs.Vec.{vec_ptr}
+use Rattle.ep_hosted.specs.Asking.{HasAsked, IsUnasked}
+use Rattle.ep_hosted.specs.Hosting.{Buffer, Hosting}
+use Rattle.ep_hosted.specs.Telling.{HasAnswered, HasLent, HasNoted, IsUnnoted, IsUntold}
+use Rattle.ep_hosted.specs.declared.ask_fault.AskFault.{AskFault}
+use Rattle.ep_hosted.specs.declared.sync_fault.SyncFault.{SyncFault}
+use Rattle.ep_hosted.specs.declared.tell_fault.TellFault.{TellFault}
+use Rattle.ep_library.specs.Statuses.{done, memory, ask_status, sync_status, tell_status}
+use Rattle.ep_library.specs.declared.lent.Lent.{Lent}
+
+abbrev pub flag : Bool → ℕ
+flag true = 1
+flag false = 0
+
+-- where these bytes stand, and how many they are
+abbrev pub IsRun : Buffer → Lent → Type 0
+IsRun buffer run = (run.at ≡ vec_ptr buffer) × (run.len ≡ length buffer.items)
+
+-- the same, if there are any
+abbrev pub IsRunOf : Option Buffer → Lent → Type 0
+IsRunOf None run = run.len ≡ 0
+IsRunOf (Some buffer) run = IsRun buffer run
+
+-- What came of it. (Calls take it whole, so it unfolds only where it is made.)
+
+unfoldable pub HasMadeReady : Hosting → Hosting → Type 0
+HasMadeReady h k = HasLent h k
+
+unfoldable pub HasSynced : Hosting → ℕ → Hosting → Type 0
+HasSynced h count k = HasNoted h count k
+
+unfoldable pub IsUnsynced : Hosting → ℕ → SyncFault → Hosting → Type 0
+IsUnsynced h count fault k = IsUnnoted h count fault × (k ≡ h)
+
+-- what is to be written is lent, and told; or there was no memory
+abbrev pub Lends : ℕ → Hosting → Hosting → Lent → ℕ → Type 0
+Lends status h k run anew = ((status ≡ done) × HasMadeReady h k × IsRunOf k.lent run × (anew ≡ flag k.is_anew)) ⊎ ((status ≡ memory) × (k ≡ h))
+
+-- so many bytes are on the disk; or they don't count so, as the status says
+abbrev pub Syncs : ℕ → Hosting → ℕ → Hosting → Type 0
+Syncs status h count k = ((status ≡ done) × HasSynced h count k) ⊎ ((fault : SyncFault) × (status ≡ sync_status fault) × IsUnsynced h count fault k)
+
+-- what waits was told, and all that there is to tell; or nothing was, as the status says
+abbrev pub Answers : ℕ → Hosting → ℕ → ℕ → Hosting → Lent → Type 0
+Answers status h told most k run = ((status ≡ done) × HasAnswered h told most k × IsRun k.answers run) ⊎ ((fault : TellFault) × (status ≡ tell_status fault) × IsUntold h fault × (k ≡ h))
+
+-- a request was done; or it wasn't, as the status says
+abbrev pub Asks : ℕ → Hosting → List ℕ → Hosting → Type 0
+Asks status h bytes k = ((status ≡ done) × HasAsked h bytes k) ⊎ ((fault : AskFault) × (status ≡ ask_status fault) × IsUnasked h bytes fault k)

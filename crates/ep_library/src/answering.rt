@@ -1,0 +1,230 @@
+//! What a replica knows.
+
+ghost use Rattle.std.specs.Prelude.{◌≡◌, ◌≢◌};
+ghost use Rattle.ep_library.specs.Calls.{Unless};
+ghost use Rattle.ep_library.specs.Telling.{phase_number, Closes, ClosesFor, Leads, Looks, LooksAt, LooksOn, LooksUp, NextOpens, Shows, ShowsLead};
+
+use crate::codes::{close_status, command_status, tell_status};
+use crate::instance::Instance;
+use crate::leading::Leading;
+use crate::lent::Lent;
+use crate::making::{instance_in, instance_out};
+use crate::status::{DONE, NO_REPLICA, NONE, OUT_OF_RANGE};
+use crate::syncing::point;
+use ep_base::{InstanceId, Key, Size};
+use ep_handle::Handle;
+use ep_hosted::Hosted;
+use ep_phase::LeadPhase;
+use std::alloc::Global;
+use std::mem;
+
+/// The replica tells what its map has at the key.
+fn looks(alloc: Global, hosted: &mut Hosted, key: &Key, value: &mut Lent) -> u8
+    ensures told { Looks result hosted.old key.now hosted.new value.new }
+    ensures untold { result ≢ 0 → value.new ≡ value.old }
+{
+    match hosted.look(alloc, key) {
+        Ok(true) => {
+            point(hosted.answers(), value);
+            DONE
+        }
+        Ok(false) => NONE,
+        Err(fault) => tell_status(fault),
+    }
+}
+
+/// The replica, if there is one, tells what its map has at the key.
+fn look_up(alloc: Global, handle: &mut Handle, key: &Key, value: &mut Lent) -> u8
+    ensures told { Unless result handle.old.value handle.new.value (λ h k. Looks result h key.now k value.new) }
+    ensures untold { result ≢ 0 → value.new ≡ value.old }
+{
+    let held = mem::replace(handle, Handle::empty());
+    match held.into_box(alloc) {
+        None => NO_REPLICA,
+        Some(mut hosted) => {
+            let status = looks(alloc, &mut hosted, key, value);
+            *handle = Handle::of(hosted);
+            status
+        }
+    }
+}
+
+/// Lends the value that the replica's own map has at the key, after all that it executed: a local read, which may be old. EP_NO_REPLICA, EP_UNSYNCED, EP_MEMORY; EP_NONE: the
+/// map has none; EP_OUT_OF_RANGE: the key has not 1 to 255 bytes.
+#[unsafe(no_mangle)]
+pub extern "C" fn ep_get(alloc: Global, handle: &mut Handle, key: &[u8], value: &mut Lent) -> u8
+    ensures told { LooksUp result handle.old.value key.now handle.new.value value.new }
+    ensures untold { result ≢ 0 → value.new ≡ value.old }
+{
+    match Key::new(alloc, key) {
+        Ok(key) => look_up(alloc, handle, &key, value),
+        Err(fault) => command_status(fault),
+    }
+}
+
+/// Tells an instance, if there is one.
+fn show(found: Option<InstanceId>, told: &mut Instance) -> u8
+    ensures { Shows result found told.old told.new }
+{
+    match found {
+        Some(instance) => {
+            *told = instance_out(instance);
+            DONE
+        }
+        None => NONE,
+    }
+}
+
+/// The replica tells the least open instance above this one.
+fn next_opens(hosted: &Hosted, above: Option<InstanceId>, told: &mut Instance) -> u8
+    ensures { NextOpens result hosted.now above told.old told.new }
+{
+    match hosted.next_open(above) {
+        Ok(found) => show(found, told),
+        Err(fault) => tell_status(fault),
+    }
+}
+
+/// The replica, if there is one, tells the least open instance above this one.
+fn next_open(
+    alloc: Global,
+    handle: &mut Handle,
+    above: Option<InstanceId>,
+    told: &mut Instance,
+) -> u8
+    ensures told { Unless result handle.old.value handle.new.value (λ h k. NextOpens result h above told.old told.new × (k ≡ h)) }
+    ensures untold { result ≢ 0 → told.new ≡ told.old }
+{
+    let held = mem::replace(handle, Handle::empty());
+    match held.into_box(alloc) {
+        None => NO_REPLICA,
+        Some(hosted) => {
+            let status = next_opens(&hosted, above, told);
+            *handle = Handle::of(hosted);
+            status
+        }
+    }
+}
+
+/// Tells the least instance that the replica knows of and hasn't committed, above this one, or, where its number is 0, of all. EP_NO_REPLICA, EP_UNSYNCED; EP_NONE: there is
+/// none; EP_OUT_OF_RANGE: there is no such instance.
+#[unsafe(no_mangle)]
+pub extern "C" fn ep_next_open(
+    alloc: Global,
+    handle: &mut Handle,
+    above: Instance,
+    instance: &mut Instance,
+) -> u8
+    ensures told { LooksOn result handle.old.value above instance.old handle.new.value instance.new }
+    ensures untold { result ≢ 0 → instance.new ≡ instance.old }
+{
+    if above.number == 0 {
+        return next_open(alloc, handle, None, instance);
+    }
+    match instance_in(above) {
+        Some(above) => next_open(alloc, handle, Some(above), instance),
+        None => OUT_OF_RANGE,
+    }
+}
+
+/// The phase's number.
+fn phase_number(phase: LeadPhase) -> u8
+    ensures { result ≡ phase_number phase }
+{
+    match phase {
+        LeadPhase::Proposing => 1,
+        LeadPhase::Accepting => 2,
+        LeadPhase::Preparing => 3,
+    }
+}
+
+/// Tells how far an instance is led, if it is.
+fn show_lead(found: Option<(LeadPhase, u8)>, told: &mut Leading) -> u8
+    ensures { ShowsLead result found told.old told.new }
+{
+    match found {
+        Some((phase, answers)) => {
+            *told = Leading {
+                phase: phase_number(phase),
+                answers,
+            };
+            DONE
+        }
+        None => NONE,
+    }
+}
+
+/// The replica tells how far it leads the instance.
+fn leads(hosted: &Hosted, instance: InstanceId, told: &mut Leading) -> u8
+    ensures { Leads result hosted.now instance told.old told.new }
+{
+    match hosted.leads(instance) {
+        Ok(found) => show_lead(found, told),
+        Err(fault) => tell_status(fault),
+    }
+}
+
+/// Tells how far the replica leads the instance. EP_NO_REPLICA, EP_UNSYNCED; EP_NONE: it doesn't lead it; EP_OUT_OF_RANGE: there is no such instance.
+#[unsafe(no_mangle)]
+pub extern "C" fn ep_leads(
+    alloc: Global,
+    handle: &mut Handle,
+    instance: Instance,
+    leading: &mut Leading,
+) -> u8
+    ensures told { LooksAt result handle.old.value instance leading.old handle.new.value leading.new }
+    ensures untold { result ≢ 0 → leading.new ≡ leading.old }
+{
+    let Some(instance) = instance_in(instance) else {
+        return OUT_OF_RANGE;
+    };
+    let held = mem::replace(handle, Handle::empty());
+    match held.into_box(alloc) {
+        None => NO_REPLICA,
+        Some(hosted) => {
+            let status = leads(&hosted, instance, leading);
+            *handle = Handle::of(hosted);
+            status
+        }
+    }
+}
+
+/// The replica tells the opening of the next generation.
+fn closes(alloc: Global, hosted: &mut Hosted, next: Size, opening: &mut Lent) -> u8
+    ensures told { Closes result hosted.old next hosted.new opening.new }
+    ensures untold { result ≢ 0 → opening.new ≡ opening.old }
+{
+    match hosted.closing(alloc, next) {
+        Ok(()) => {
+            point(hosted.answers(), opening);
+            DONE
+        }
+        Err(fault) => close_status(fault),
+    }
+}
+
+/// Lends the file that the next generation opens with, in a cluster of so many replicas, once a seal was executed here. The replica goes on, and those that lag may still
+/// need it. EP_NO_REPLICA, EP_UNSYNCED, EP_MEMORY; EP_NOT_SEALED; EP_LAST_GENERATION; EP_OUT_OF_RANGE: a cluster has 3, 5 or 7 replicas.
+#[unsafe(no_mangle)]
+pub extern "C" fn ep_close(
+    alloc: Global,
+    handle: &mut Handle,
+    replicas: u8,
+    opening: &mut Lent,
+) -> u8
+    ensures told { ClosesFor result handle.old.value replicas handle.new.value opening.new }
+    ensures untold { result ≢ 0 → opening.new ≡ opening.old }
+{
+    let Ok(next) = Size::new(replicas) else {
+        return OUT_OF_RANGE;
+    };
+    let held = mem::replace(handle, Handle::empty());
+    match held.into_box(alloc) {
+        None => NO_REPLICA,
+        Some(mut hosted) => {
+            let status = closes(alloc, &mut hosted, next, opening);
+            *handle = Handle::of(hosted);
+            status
+        }
+    }
+}

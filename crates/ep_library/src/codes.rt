@@ -1,0 +1,164 @@
+//! Faults by their statuses.
+
+ghost use Rattle.std.specs.Prelude.{◌≡◌, ◌≢◌};
+ghost use Rattle.ep_library.specs.Statuses.{ask_status, bundle_status, close_status, command_status, log_status, open_status, opening_status, start_status, sync_status, taking_status, tell_status};
+
+use crate::status::{
+    BAD_BUNDLE, BAD_CHECKSUM, BAD_ENTRY, BAD_FRAME, BAD_LENGTH, LAST_GENERATION, LENT, LOG_EXISTS,
+    MEMORY, NO_HEADER, NO_LOG, NOT_A_RUN, NOT_ALL, NOT_CLOCKED, NOT_LENT, NOT_NEXT, NOT_ONE,
+    NOT_SEALED, OPENING_DAMAGED, OPENING_SHORT, OPENING_WRONG, OTHER_GENERATION, OTHER_LOG,
+    OTHER_OPENING, OTHER_VERSION, OUT_OF_RANGE, TURNED, UNSYNCED,
+};
+use ep_base::CommandFault;
+use ep_bundle::BundleFault;
+use ep_hosted::{AskFault, StartFault, SyncFault, TakingFault, TellFault};
+use ep_log::LogFault;
+use ep_node::{CloseFault, OpenFault};
+use ep_opening::OpeningFault;
+use ep_wire::{TakeFault, step_code};
+
+/// Why no command was made.
+pub(crate) fn command_status(fault: CommandFault) -> u8
+    ensures value { result ≡ command_status fault }
+    ensures fault { result ≢ 0 }
+{
+    match fault {
+        CommandFault::Memory => MEMORY,
+        CommandFault::OutOfRange => OUT_OF_RANGE,
+    }
+}
+
+/// Why nothing was taken.
+pub(crate) fn taking_status(fault: TakingFault) -> u8
+    ensures value { result ≡ taking_status fault }
+    ensures fault { result ≢ 0 }
+{
+    match fault {
+        TakingFault::Lent => LENT,
+        TakingFault::Refused(TakeFault::BadFrame) => BAD_FRAME,
+        TakingFault::Refused(TakeFault::Step(fault)) => step_code(fault),
+    }
+}
+
+/// Why bytes don't count as on the disk.
+pub(crate) fn sync_status(fault: SyncFault) -> u8
+    ensures value { result ≡ sync_status fault }
+    ensures fault { result ≢ 0 }
+{
+    match fault {
+        SyncFault::NotLent => NOT_LENT,
+        SyncFault::NotAll => NOT_ALL,
+        SyncFault::Memory => MEMORY,
+    }
+}
+
+/// Why nothing is told.
+pub(crate) fn tell_status(fault: TellFault) -> u8
+    ensures value { result ≡ tell_status fault }
+    ensures fault { result ≢ 0 }
+{
+    match fault {
+        TellFault::Memory => MEMORY,
+        TellFault::Unsynced => UNSYNCED,
+    }
+}
+
+/// Why a request wasn't done.
+pub(crate) fn ask_status(fault: AskFault) -> u8
+    ensures value { result ≡ ask_status fault }
+    ensures fault { result ≢ 0 }
+{
+    match fault {
+        AskFault::Lent => LENT,
+        AskFault::Memory => MEMORY,
+        AskFault::NotOne => NOT_ONE,
+    }
+}
+
+/// Why there is no opening of the next generation.
+pub(crate) fn close_status(fault: CloseFault) -> u8
+    ensures value { result ≡ close_status fault }
+    ensures fault { result ≢ 0 }
+{
+    match fault {
+        CloseFault::Memory => MEMORY,
+        CloseFault::NotSealed => NOT_SEALED,
+        CloseFault::LastGeneration => LAST_GENERATION,
+        // (no device fails here)
+        CloseFault::Unsynced | CloseFault::Closed => UNSYNCED,
+    }
+}
+
+/// Why a log isn't read.
+fn log_status(fault: LogFault) -> u8
+    ensures value { result ≡ log_status fault }
+    ensures fault { result ≢ 0 }
+{
+    match fault {
+        LogFault::Memory => MEMORY,
+        LogFault::NoHeader => NO_HEADER,
+        LogFault::OtherVersion => OTHER_VERSION,
+        LogFault::OtherGeneration => OTHER_GENERATION,
+        LogFault::BadLength(_) => BAD_LENGTH,
+        LogFault::BadChecksum(_) => BAD_CHECKSUM,
+        LogFault::BadEntry(_) => BAD_ENTRY,
+        LogFault::NotNext(_) => NOT_NEXT,
+        LogFault::Turned(_, _) => TURNED,
+    }
+}
+
+/// Why a log isn't begun, or gone on from.
+fn open_status(fault: OpenFault) -> u8
+    ensures value { result ≡ open_status fault }
+    ensures fault { result ≢ 0 }
+{
+    match fault {
+        OpenFault::OutOfRange => OUT_OF_RANGE,
+        // (what stands in for a device is memory)
+        OpenFault::Memory | OpenFault::Failed(_) => MEMORY,
+        OpenFault::NoLog => NO_LOG,
+        OpenFault::LogExists => LOG_EXISTS,
+        OpenFault::OtherLog => OTHER_LOG,
+        OpenFault::Log(fault) => log_status(fault),
+        OpenFault::NotClocked(_) => NOT_CLOCKED,
+    }
+}
+
+/// Why an opening isn't read.
+fn opening_status(fault: OpeningFault) -> u8
+    ensures value { result ≡ opening_status fault }
+    ensures fault { result ≢ 0 }
+{
+    match fault {
+        OpeningFault::Memory => MEMORY,
+        OpeningFault::CutShort(_) => OPENING_SHORT,
+        OpeningFault::Damaged(_) => OPENING_DAMAGED,
+        OpeningFault::Wrong(_, _) => OPENING_WRONG,
+    }
+}
+
+/// Why no replica was opened.
+pub(crate) fn start_status(fault: StartFault) -> u8
+    ensures value { result ≡ start_status fault }
+    ensures fault { result ≢ 0 }
+{
+    match fault {
+        StartFault::Memory => MEMORY,
+        StartFault::Opening(fault) => opening_status(fault),
+        StartFault::OtherSize(_) => OTHER_OPENING,
+        StartFault::Log(fault) => open_status(fault),
+    }
+}
+
+/// Why bytes aren't a bundle.
+pub(crate) fn bundle_status(fault: BundleFault) -> u8
+    ensures value { result ≡ bundle_status fault }
+    ensures fault { result ≢ 0 }
+{
+    match fault {
+        // (a slice never fails)
+        BundleFault::Memory | BundleFault::ReadFailed => MEMORY,
+        BundleFault::BadBundle(_) => BAD_BUNDLE,
+        BundleFault::NotARun(_, _) => NOT_A_RUN,
+    }
+}

@@ -1,0 +1,18 @@
+//! Copies into buffers of C.
+
+ghost use Rattle.std.specs.Prelude.{◌≡◌, ◌<◌, true, false, length};
+ghost use Rattle.ep_library.specs.Alone.{BeginsWith};
+
+/// Copies the bytes to the front of the buffer, where there is room. How many they are is told in any case.
+pub(crate) fn copy_out(bytes: &[u8], out: &mut [u8], len: &mut usize) -> bool
+    ensures told { len.new ≡ length bytes.now }
+    ensures copied { result ≡ true → BeginsWith bytes.now out.new }
+    ensures short { result ≡ false → (length out.old < length bytes.now) × (out.new ≡ out.old) }
+{
+    *len = bytes.len();
+    if out.len() < bytes.len() {
+        return false;
+    }
+    out[..bytes.len()].copy_from_slice(bytes);
+    true
+}

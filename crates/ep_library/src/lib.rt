@@ -1,0 +1,31 @@
+//! The core as a C library: one replica behind a handle.
+//!
+//! Each export is a call that `tools/c-header` writes into bindings/c/epaxos.h, with the comment that it has here. It is given the handle, and
+//! answers a status of `status.rt`. Calls come in by arguments; answers go out as bytes of docs/FORMATS.md that lie in the replica until its next call.
+//!
+//! Nothing here decides anything: a call makes what its arguments say (`making.rt`), has the `Hosted` do it, and tells its fault by a number
+//! (`codes.rt`, specs/Statuses.antt). No call has a condition: what is wrong with a handle or an argument is a status.
+//!
+//! Start with `life.rt` and specs/Calls.antt.
+#![tactic(auto)]
+
+mod alone;
+mod answering;
+mod call;
+mod codes;
+mod copying;
+mod events;
+mod exchange;
+mod executing;
+mod instance;
+mod leading;
+mod lent;
+mod life;
+mod making;
+mod place;
+mod proposing;
+mod refusals;
+mod setup;
+mod status;
+mod syncing;
+mod touching;

@@ -1,0 +1,155 @@
+//! What clients ask for.
+
+ghost use Rattle.std.specs.Prelude.{◌≡◌};
+ghost use Rattle.ep_base.specs.Commands.{Get, Put, Del, Swap, Cas, Opaque, Seal};
+ghost use Rattle.ep_base.specs.Views.{touched};
+ghost use Rattle.ep_library.specs.Arguments.{part, touched_in};
+ghost use Rattle.ep_library.specs.Calls.{Made, Proposes};
+
+use crate::call::Call;
+use crate::codes::command_status;
+use crate::events::take;
+use crate::exchange::Exchange;
+use crate::making::part;
+use crate::touching::Touching;
+use ep_base::{Command, CommandFault};
+use ep_handle::Handle;
+use ep_journal::Event;
+use std::alloc::Global;
+
+/// The replica, if there is one, takes a client's proposal of the command, where that was made.
+fn propose(
+    alloc: Global,
+    handle: &mut Handle,
+    call: &Call,
+    made: Result<Command, CommandFault>,
+) -> u8
+    ensures { Made result handle.old.value call.now made handle.new.value }
+{
+    match made {
+        Err(fault) => command_status(fault),
+        Ok(command) => take(
+            alloc,
+            handle,
+            Event::Propose {
+                client: call.client,
+                request: call.request,
+                command,
+                seen: call.seen,
+            },
+        ),
+    }
+}
+
+/// A client asks for the value of a key. As any command it is put in order with all others that name the key, so it sees all that was answered before. What is answered
+/// comes by `ep_answers`, as a receipt, once the command was executed; so it is with each command. EP_NO_REPLICA, EP_LENT, EP_MEMORY; EP_OUT_OF_RANGE: a key has not 1 to 255
+/// bytes, a value more than 65,535, two keys are one, a client or a request is 0, or the version hasn't the command (version 2 has get, put, del and swap, and values of up to
+/// 1,024 bytes); EP_SPACE_FULL; EP_SEQ_EXHAUSTED; EP_STAMP_FULL.
+#[unsafe(no_mangle)]
+pub extern "C" fn ep_propose_get(alloc: Global, handle: &mut Handle, call: &Call, key: &[u8]) -> u8
+    ensures { Proposes result handle.old.value call.now (Get key.now) handle.new.value }
+{
+    propose(alloc, handle, call, Command::get(alloc, key))
+}
+
+/// A client gives a key a value. The answer is what it had. Statuses are those of `ep_propose_get`.
+#[unsafe(no_mangle)]
+pub extern "C" fn ep_propose_put(
+    alloc: Global,
+    handle: &mut Handle,
+    call: &Call,
+    key: &[u8],
+    value: &[u8],
+) -> u8
+    ensures { Proposes result handle.old.value call.now (Put key.now value.now) handle.new.value }
+{
+    propose(alloc, handle, call, Command::put(alloc, key, value))
+}
+
+/// A client takes a key's value away. The answer is what it had. Statuses are those of `ep_propose_get`.
+#[unsafe(no_mangle)]
+pub extern "C" fn ep_propose_del(alloc: Global, handle: &mut Handle, call: &Call, key: &[u8]) -> u8
+    ensures { Proposes result handle.old.value call.now (Del key.now) handle.new.value }
+{
+    propose(alloc, handle, call, Command::del(alloc, key))
+}
+
+/// A client has the values of two different keys change places. The answer is what the first had. Statuses are those of `ep_propose_get`.
+#[unsafe(no_mangle)]
+pub extern "C" fn ep_propose_swap(
+    alloc: Global,
+    handle: &mut Handle,
+    call: &Call,
+    first: &[u8],
+    second: &[u8],
+) -> u8
+    ensures { Proposes result handle.old.value call.now (Swap (record { first = first.now; second = second.now })) handle.new.value }
+{
+    propose(alloc, handle, call, Command::swap(alloc, first, second))
+}
+
+/// A client compares and sets: where the key has what is expected, it gets what is desired. The answer is what it had, so the client knows whether that was done. Statuses
+/// are those of `ep_propose_get`.
+#[unsafe(no_mangle)]
+pub extern "C" fn ep_propose_cas(
+    alloc: Global,
+    handle: &mut Handle,
+    call: &Call,
+    key: &[u8],
+    exchange: &Exchange<'_>,
+) -> u8
+    ensures { Proposes result handle.old.value call.now (Cas key.now (part exchange.now.has_expected exchange.now.expected.now) (part exchange.now.has_desired exchange.now.desired.now)) handle.new.value }
+{
+    let expected = part(exchange.has_expected, exchange.expected);
+    let desired = part(exchange.has_desired, exchange.desired);
+    propose(
+        alloc,
+        handle,
+        call,
+        Command::cas(alloc, key, expected, desired),
+    )
+}
+
+/// What the command of a machine outside touches.
+fn touching_of<'a>(touching: &Touching<'a>) -> ep_base::Touching<'a>
+    ensures { touched result ≡ touched_in touching.now }
+{
+    ep_base::Touching {
+        first: touching.first,
+        second: part(touching.has_second, touching.second),
+        reads: touching.is_reading != 0,
+    }
+}
+
+/// A client asks for a command of a machine of your own: the core puts it in order by its keys, and `ep_answers` tells when it is executed; what its body says only your
+/// machine knows. Statuses are those of `ep_propose_get`.
+#[unsafe(no_mangle)]
+pub extern "C" fn ep_propose_opaque(
+    alloc: Global,
+    handle: &mut Handle,
+    call: &Call,
+    touching: &Touching<'_>,
+    body: &[u8],
+) -> u8
+    ensures { Proposes result handle.old.value call.now (Opaque (touched_in touching.now) body.now) handle.new.value }
+{
+    propose(
+        alloc,
+        handle,
+        call,
+        Command::opaque(alloc, &touching_of(touching), body),
+    )
+}
+
+/// A client closes the map, and so ends the generation. The value is yours: say who takes part in the next one. Statuses are those of `ep_propose_get`.
+#[unsafe(no_mangle)]
+pub extern "C" fn ep_propose_seal(
+    alloc: Global,
+    handle: &mut Handle,
+    call: &Call,
+    value: &[u8],
+) -> u8
+    ensures { Proposes result handle.old.value call.now (Seal value.now) handle.new.value }
+{
+    propose(alloc, handle, call, Command::seal(alloc, value))
+}
